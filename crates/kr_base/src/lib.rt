@@ -1,0 +1,21 @@
+//! What every crate of the tool speaks of: places in files, the words of a call, cuts of the candidate order with
+//! their bounds and spans, entries, the sink that takes text, and want of memory.
+#![tactic(auto)]
+
+mod cut;
+mod entry;
+mod laws;
+mod memory;
+mod place;
+mod sink;
+mod span;
+mod words;
+
+pub use cut::Cut;
+pub use entry::{Entry, Mark};
+pub use laws::{order_law, resumption_law};
+pub use memory::NoMemory;
+pub use place::Place;
+pub use sink::{Failed, Sink, put_all};
+pub use span::{Bound, Span};
+pub use words::Words;
