@@ -1,0 +1,81 @@
+// Files in memory.
+ghost use Rattle.std.specs.Prelude.{◌≡◌, List, ℕ, None, option_map, string_bytes};
+ghost use Rattle.std.specs.Option.{option_copied};
+ghost use Rattle.kr_io.specs.Held.{held_by};
+
+use crate::{Files, ReadRefusal};
+use std::alloc::Global;
+
+/// A named text.
+#[derive(Drop)]
+pub struct MemFile {
+    pub name: String,
+    pub bytes: Vec<u8>,
+}
+
+/// Named bytes, and the numbers of the calls (from 1) that fail. A missing name is a fault too.
+#[derive(Drop)]
+pub struct MemFiles {
+    alloc: Global,
+    files: Vec<MemFile>,
+    failing: Vec<u32>,
+    calls: u32,
+    faults: u64,
+    last: Option<String>,
+}
+
+impl MemFiles {
+    ghost use Rattle.kr_io.specs.Memory.{files_held, files_faults, files_last};
+
+    /// Files of these names and bytes. Of two of one name the first is read.
+    pub fn new(alloc: Global, files: Vec<MemFile>, failing: Vec<u32>) -> Self
+        ensures held { (name : List ℕ) → files_held result name ≡ held_by files.items name }
+        ensures faults { files_faults result ≡ 0 }
+        ensures last { files_last result ≡ None }
+    {
+        MemFiles {
+            alloc,
+            files,
+            failing,
+            calls: 0,
+            faults: 0,
+            last: None,
+        }
+    }
+}
+
+fn find<'a>(files: &'a [MemFile], name: &str) -> Option<&'a [u8]>
+    ensures { option_copied result ≡ held_by files.now name.now }
+{
+    for file in files {
+        if file.name.as_str() == name {
+            return Some(&file.bytes);
+        }
+    }
+    None
+}
+
+impl Files for MemFiles {
+    ghost held = { λ s name. held_by s.files.items name };
+
+    ghost faults = { λ s. s.faults };
+
+    ghost last = { λ s. option_map string_bytes s.last };
+
+    fn read(&mut self, name: &str, most: usize) -> Result<Vec<u8>, ReadRefusal> {
+        self.calls = self.calls.saturating_add(1);
+        let kept = String::from_str(self.alloc, name)?;
+        let found = if self.failing.contains(&self.calls) {
+            None
+        } else {
+            find(&self.files, name)
+        };
+        let Some(bytes) = found else {
+            self.faults = self.faults.saturating_add(1);
+            self.last = Some(kept);
+            return Err(ReadRefusal::Failed);
+        };
+        let count = bytes.len().min(most);
+        Ok(Vec::from_slice(self.alloc, &bytes[..count])?)
+    }
+}

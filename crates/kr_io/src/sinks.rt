@@ -1,0 +1,85 @@
+// Sinks in memory, and one that keeps nothing.
+ghost use Rattle.std.specs.Prelude.{◌≡◌, ◌≤◌, ◌<◌, [], Some, None, IfOk, vec_len, vec_capacity};
+
+use kr_base::{Failed, NoMemory, Sink};
+use std::alloc::Global;
+
+/// Takes all, keeps and tells nothing, and never fails.
+#[derive(Clone, Copy, Debug)]
+pub struct SafeSink;
+
+impl Sink for SafeSink {
+    ghost taken = { λ _. None };
+
+    ghost faults = { λ _. 0 };
+
+    fn put(&mut self, piece: &[u8]) -> Result<usize, Failed> {
+        Ok(piece.len())
+    }
+}
+
+/// A buffer whose room is reserved when it is made. It takes at most `step` bytes a put, and fails at the calls whose
+/// numbers (from 1) are listed, and where it is full.
+#[derive(Drop)]
+pub struct MemSink {
+    bytes: Vec<u8>,
+    capacity: usize,
+    step: usize,
+    failing: Vec<u32>,
+    calls: u32,
+    faults: u64,
+    ghost reserved: { capacity ≤ vec_capacity bytes },
+    ghost within: { vec_len bytes ≤ capacity },
+    ghost steps: { 0 < step },
+}
+
+impl MemSink {
+    ghost use Rattle.kr_io.specs.Memory.{sink_bytes, sink_faults};
+
+    /// An empty sink. It takes all of its memory now.
+    pub fn new(
+        alloc: Global,
+        capacity: usize,
+        step: usize,
+        failing: Vec<u32>,
+    ) -> Result<Self, NoMemory>
+        requires { 0 < step }
+        ensures empty { IfOk result (λ s. sink_bytes s ≡ []) }
+        ensures faults { IfOk result (λ s. sink_faults s ≡ 0) }
+    {
+        let bytes = Vec::with_capacity(alloc, capacity)?;
+        Ok(MemSink {
+            bytes,
+            capacity,
+            step,
+            failing,
+            calls: 0,
+            faults: 0,
+        })
+    }
+
+    /// What was taken so far.
+    pub fn bytes(&self) -> &[u8]
+        ensures { result.now ≡ sink_bytes self.now }
+    {
+        &self.bytes
+    }
+}
+
+impl Sink for MemSink {
+    ghost taken = { λ s. Some s.bytes.items };
+
+    ghost faults = { λ s. s.faults };
+
+    fn put(&mut self, piece: &[u8]) -> Result<usize, Failed> {
+        self.calls = self.calls.saturating_add(1);
+        let room = self.capacity - self.bytes.len();
+        if self.failing.contains(&self.calls) || room == 0 && !piece.is_empty() {
+            self.faults = self.faults.saturating_add(1);
+            return Err(Failed);
+        }
+        let count = piece.len().min(self.step).min(room);
+        self.bytes.extend_from_slice(&piece[..count]).unwrap();
+        Ok(count)
+    }
+}
