@@ -1,0 +1,6 @@
+-- What a line has taken.
+use Rattle.std.specs.Prelude.{ℕ, List}
+use Rattle.kr_text.specs.declared.line.Line.{Line}
+
+abbrev pub line_bytes : Line → List ℕ
+line_bytes line = line.bytes.items

@@ -1,0 +1,9 @@
+//! Texts into a sink: numbers, places, refusals, and lines that are put together before they are put.
+#![tactic(auto)]
+
+mod line;
+mod texts;
+
+pub use kr_base::put_all;
+pub use line::Line;
+pub use texts::{put_decimal, put_pieces, put_place, put_refusal};

@@ -1,0 +1,58 @@
+// A line that is put together before it is put, so that it costs one write.
+ghost use Rattle.std.specs.Prelude.{◌≡◌, []};
+
+use kr_base::{Failed, Sink};
+use std::alloc::Global;
+
+/// A sink that keeps what it takes. It fails, and counts that, where it is refused memory.
+#[derive(Drop)]
+pub struct Line {
+    bytes: Vec<u8>,
+    faults: u64,
+}
+
+impl Line {
+    ghost use Rattle.kr_text.specs.Lines.{line_bytes};
+
+    /// An empty line. It takes no memory.
+    pub fn new(alloc: Global) -> Self
+        ensures { line_bytes result ≡ [] }
+    {
+        Line {
+            bytes: Vec::new(alloc),
+            faults: 0,
+        }
+    }
+
+    /// What was taken since the line was made or cleared.
+    pub fn bytes(&self) -> &[u8]
+        ensures { result.now ≡ line_bytes self.now }
+    {
+        &self.bytes
+    }
+
+    /// Empties the line, and keeps its memory.
+    pub fn clear(&mut self)
+        ensures { line_bytes self.new ≡ [] }
+    {
+        self.bytes.clear();
+    }
+}
+
+impl Sink for Line {
+    ghost use Rattle.std.specs.Prelude.{Some};
+
+    ghost taken = { λ s. Some s.bytes.items };
+
+    ghost faults = { λ s. s.faults };
+
+    fn put(&mut self, piece: &[u8]) -> Result<usize, Failed> {
+        match self.bytes.extend_from_slice(piece) {
+            Ok(()) => Ok(piece.len()),
+            Err(_) => {
+                self.faults = self.faults.saturating_add(1);
+                Err(Failed)
+            }
+        }
+    }
+}
