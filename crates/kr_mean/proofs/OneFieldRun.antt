@@ -1,0 +1,69 @@
+-- The run on a class of one `int` field: it reads the object and then its field, and says what the comparison says.
+use Rattle.std.proofs.Common.{◌≡◌, ℕ, ◌<◌, Bool, true, false, ℤ, pos, [], ◌∷◌, length, get_or, None, refl, ap}
+use Rattle.std.specs.Prelude.{if◌then◌else◌}
+use Rattle.kr_base.specs.declared.entry.Mark.TheVariants.{Valid, Invalid}
+use Rattle.kr_mean.specs.Problem.{Value, Int, Reference}
+use Rattle.kr_mean.specs.Heaps.{value_at, heap_of, walk}
+use Rattle.kr_mean.specs.Meaning.{holds_of, bind, eval, exec, value}
+use Rattle.kr_mean.specs.Runs.{End, True, False, end_on, reads_of, order_of, unread, is_accepted}
+use Rattle.kr_mean.specs.Entries.{mark_of, mark_for, row_of, entry_of}
+use Rattle.kr_mean.specs.OneField.{one_field_row, one_field_entry}
+use Rattle.kr_mean.proofs.OneFieldSpace.{Form, problem_of, choice_of}
+
+-- what the comparison says of a value
+abbrev pub says : Form → Value → Bool
+says form v = holds_of form.test v (Int form.number)
+
+abbrev pub end_for : Bool → End
+end_for b = if b then True else False
+
+-- whatever the comparison says, the same places are read
+reads_by : (form : Form) (i : ℕ) (b : Bool) → says form (value_at (problem_of form) (0 ∷ i ∷ []) 1) ≡ b → reads_of (problem_of form) (0 ∷ i ∷ []) ≡ 0 ∷ 1 ∷ []
+unfolding heap_of bind eval exec value reads_of
+reads_by form i true e = rw e refl
+reads_by form i false e = rw e refl
+
+ends_by : (form : Form) (i : ℕ) (b : Bool) → says form (value_at (problem_of form) (0 ∷ i ∷ []) 1) ≡ b → end_on (problem_of form) (0 ∷ i ∷ []) ≡ end_for b
+unfolding heap_of bind eval exec value end_on
+ends_by form i true e = rw e refl
+ends_by form i false e = rw e refl
+
+pub reads_both : (form : Form) (i : ℕ) → reads_of (problem_of form) (0 ∷ i ∷ []) ≡ 0 ∷ 1 ∷ []
+reads_both form i = reads_by form i (says form (value_at (problem_of form) (0 ∷ i ∷ []) 1)) refl
+
+pub walks_both : (form : Form) (i : ℕ) → i < length form.values → walk (problem_of form) (0 ∷ i ∷ []) ≡ 0 ∷ 1 ∷ []
+unfolding walk
+walks_both form i h = rw (choice_of (problem_of form) form.values i h) refl
+
+-- the value at the field
+value_there : (form : Form) (i : ℕ) → i < length form.values → value_at (problem_of form) (0 ∷ i ∷ []) 1 ≡ Int (get_or form.values i (pos 0))
+value_there form i h = ap (λ c. c.value) (choice_of (problem_of form) form.values i h)
+
+pub ends_so : (form : Form) (i : ℕ) → i < length form.values → end_on (problem_of form) (0 ∷ i ∷ []) ≡ end_for (says form (Int (get_or form.values i (pos 0))))
+ends_so form i h = ends_by form i (says form (Int (get_or form.values i (pos 0)))) (ap (says form) (value_there form i h))
+
+-- where the run accepts, the walk reaches nothing more
+nothing_more : (b : Bool) → (if is_accepted (end_for b) then unread (0 ∷ 1 ∷ []) (0 ∷ 1 ∷ []) else []) ≡ []
+nothing_more true = refl
+nothing_more false = refl
+
+pub orders_both : (form : Form) (i : ℕ) → i < length form.values → order_of (problem_of form) (0 ∷ i ∷ []) ≡ 0 ∷ 1 ∷ []
+unfolding order_of
+orders_both form i h =
+    rw (reads_both form i, walks_both form i h, ends_so form i h) (ap (λ ss. 0 ∷ 1 ∷ ss) (nothing_more (says form (Int (get_or form.values i (pos 0))))))
+
+row_there : (form : Form) (i : ℕ) → i < length form.values → row_of (problem_of form) (0 ∷ i ∷ []) ≡ one_field_row i (get_or form.values i (pos 0))
+row_there form i h =
+    rw (orders_both form i h, walks_both form i h) (ap (λ v. record { key = 0 ∷ i ∷ []; structure = (0, Reference 0) ∷ (1, v) ∷ []; verdict = None }) (value_there form i h))
+
+marked : (i : ℕ) (z : ℤ) (b : Bool) → mark_for (end_for b) (one_field_row i z) ≡ (if b then Valid (one_field_row i z) else Invalid)
+marked i z true = refl
+marked i z false = refl
+
+mark_there : (form : Form) (i : ℕ) → i < length form.values → mark_of (problem_of form) (0 ∷ i ∷ []) ≡ (one_field_entry form.test form.number i (get_or form.values i (pos 0))).mark
+unfolding mark_of
+mark_there form i h = rw (ends_so form i h, row_there form i h) (marked i (get_or form.values i (pos 0)) (says form (Int (get_or form.values i (pos 0)))))
+
+pub entry_there : (form : Form) (i : ℕ) → i < length form.values
+    → entry_of (order_of (problem_of form)) (mark_of (problem_of form)) (0 ∷ i ∷ []) ≡ one_field_entry form.test form.number i (get_or form.values i (pos 0))
+entry_there form i h = rw (orders_both form i h, mark_there form i h) refl

@@ -1,0 +1,113 @@
+-- Small problems, and the entries that the definitions give them, worked by hand.
+use Rattle.std.specs.Prelude.{◌≡◌, ℕ, ℤ, pos, List, [], ◌∷◌, map, Bool, true, false, codes}
+use Rattle.kr_base.specs.declared.entry.Entry.{Entry}
+use Rattle.kr_base.specs.declared.span.Bound.TheVariants.{At, End}
+use Rattle.kr_base.specs.Entries.{is_valid, is_spent, entries_in}
+use Rattle.kr_mean.specs.Program.{ClassOf, Method, Equal, Greater, Expression, number, field, compare, gives}
+use Rattle.kr_mean.specs.Problem.{Problem, ClassDomain, Domain, Spotted, Object, Array, Field, Length, Element, Listing, Int, Null, Plain, Objects}
+use Rattle.kr_mean.specs.Entries.{Row, all_entries}
+use Rattle.kr_mean.specs.OneField.{one_field}
+
+-- an entry without its row: its key, whether it is valid, and whether it is spent
+abbrev pub shown : Entry Row → List ℕ × Bool × Bool
+shown e = (e.key, is_valid e.mark, is_spent e.mark)
+
+abbrev pub listing : Problem → List (List ℕ × Bool × Bool)
+listing problem = map shown (all_entries problem)
+
+abbrev pub valid : List ℕ → List ℕ × Bool × Bool
+valid key = (key, true, false)
+
+abbrev pub invalid : List ℕ → List ℕ × Bool × Bool
+invalid key = (key, false, false)
+
+abbrev pub spent : List ℕ → List ℕ × Bool × Bool
+spent key = (key, false, true)
+
+-- ---- problems with a predicate that looks at nothing
+
+abbrev pub always : Expression
+always = compare Equal (number (pos 0)) (number (pos 0))
+
+abbrev pub rep_ok : Expression → Method
+rep_ok e = record { name = codes "repOk"; parameters = []; requires_all = []; body = gives e ∷ [] }
+
+abbrev pub root_class : List (List ℕ) → Expression → ClassOf
+root_class fields e = record { name = codes "R"; fields = fields; methods = rep_ok e ∷ [] }
+
+abbrev pub plain_class : List (List ℕ) → ClassOf
+plain_class fields = record { name = codes "P"; fields = fields; methods = [] }
+
+abbrev pub listed : List ClassOf → List ClassDomain → ℕ → Problem
+listed classes domains fuel = record {
+  program = record { classes = classes };
+  root = 0;
+  rep_ok = 0;
+  mode = Listing;
+  parameters = [];
+  fuel = fuel;
+  domains = domains;
+}
+
+abbrev pub at_field : ℕ → Domain → Spotted
+at_field f domain = record { spot = Field f; domain = domain }
+
+abbrev pub nodes_with : Domain → Problem
+nodes_with domain =
+    listed (root_class (codes "next" ∷ []) always ∷ []) (record { name = codes "R"; class = Object 0; count = 2; spots = at_field 0 domain ∷ [] } ∷ []) 1000
+
+-- two nodes, `next` in null and N
+abbrev pub two_nodes : Problem
+two_nodes = nodes_with (Plain Null ∷ Objects 0 ∷ [])
+
+-- the same, N before null
+abbrev pub nodes_before_null : Problem
+nodes_before_null = nodes_with (Objects 0 ∷ Plain Null ∷ [])
+
+-- fields x and y in P and Q, two objects of each
+abbrev pub two_subclasses : Problem
+two_subclasses = listed (root_class (codes "x" ∷ codes "y" ∷ []) always ∷ plain_class [] ∷ plain_class [] ∷ [])
+    (record { name = codes "R"; class = Object 0; count = 1; spots = at_field 0 (Objects 1 ∷ Objects 2 ∷ []) ∷ at_field 1 (Objects 1 ∷ Objects 2 ∷ []) ∷ [] }
+    ∷ record { name = codes "P"; class = Object 1; count = 2; spots = [] } ∷ record { name = codes "Q"; class = Object 2; count = 2; spots = [] } ∷ []) 1000
+
+abbrev pub int_items : List ℕ → Domain
+int_items numbers = map (λ n. Plain (Int (pos n))) numbers
+
+-- an array of length at most two over 0 and 1
+abbrev pub arrays : Problem
+arrays = listed (root_class (codes "a" ∷ []) always ∷ [])
+    (record { name = codes "R"; class = Object 0; count = 1; spots = at_field 0 (Objects 1 ∷ []) ∷ [] }
+    ∷ record {
+      name = codes "int[]";
+      class = Array 0;
+      count = 1;
+      spots = record { spot = Length; domain = int_items (0 ∷ 1 ∷ 2 ∷ []) } ∷ record { spot = Element 0; domain = int_items (0 ∷ 1 ∷ []) }
+          ∷ record { spot = Element 1; domain = int_items (0 ∷ 1 ∷ []) } ∷ [];
+    } ∷ []) 1000
+
+-- fields a and b, of which the predicate looks at a alone
+abbrev pub two_ints : Problem
+two_ints = listed (root_class (codes "a" ∷ codes "b" ∷ []) (compare Equal (field 0) (number (pos 1))) ∷ [])
+    (record { name = codes "R"; class = Object 0; count = 1; spots = at_field 0 (int_items (0 ∷ 1 ∷ [])) ∷ at_field 1 (int_items (7 ∷ 9 ∷ [])) ∷ [] } ∷ []) 1000
+
+abbrev pub cell : ℤ → ℕ → Problem
+cell n fuel = one_field (codes "Cell") (codes "v") Greater n (pos 0 ∷ pos 1 ∷ pos 2 ∷ []) fuel
+
+-- ---- what the definitions give them
+
+pub record Worked : Type 0 where
+  pub cell_listed : listing (cell (pos 0) 1000) ≡ invalid (0 ∷ 0 ∷ []) ∷ valid (0 ∷ 1 ∷ []) ∷ valid (0 ∷ 2 ∷ []) ∷ []
+  pub cell_with_none_valid : listing (cell (pos 2) 1000) ≡ invalid (0 ∷ 0 ∷ []) ∷ invalid (0 ∷ 1 ∷ []) ∷ invalid (0 ∷ 2 ∷ []) ∷ []
+  -- six units suffice; with five the number is not entered, and with four the field is not read
+  pub fuel_suffices : listing (cell (pos 0) 6) ≡ invalid (0 ∷ 0 ∷ []) ∷ valid (0 ∷ 1 ∷ []) ∷ valid (0 ∷ 2 ∷ []) ∷ []
+  pub number_not_entered : listing (cell (pos 0) 5) ≡ spent (0 ∷ 0 ∷ []) ∷ spent (0 ∷ 1 ∷ []) ∷ spent (0 ∷ 2 ∷ []) ∷ []
+  pub field_not_read : listing (cell (pos 0) 4) ≡ spent (0 ∷ []) ∷ []
+  pub two_ints_listed : listing two_ints ≡ invalid (0 ∷ 0 ∷ []) ∷ valid (0 ∷ 1 ∷ 0 ∷ []) ∷ valid (0 ∷ 1 ∷ 1 ∷ []) ∷ []
+  pub two_nodes_listed : listing two_nodes ≡ valid (0 ∷ 0 ∷ []) ∷ valid (0 ∷ 1 ∷ []) ∷ valid (0 ∷ 2 ∷ 0 ∷ []) ∷ valid (0 ∷ 2 ∷ 1 ∷ []) ∷ valid (0 ∷ 2 ∷ 2 ∷ []) ∷ []
+  pub nodes_before_null_listed : listing nodes_before_null ≡ valid (0 ∷ 0 ∷ []) ∷ valid (0 ∷ 1 ∷ 0 ∷ []) ∷ valid (0 ∷ 1 ∷ 1 ∷ []) ∷ valid (0 ∷ 1 ∷ 2 ∷ []) ∷ valid (0 ∷ 2 ∷ []) ∷ []
+  pub two_subclasses_listed : listing two_subclasses ≡ valid (0 ∷ 0 ∷ 0 ∷ []) ∷ valid (0 ∷ 0 ∷ 1 ∷ []) ∷ valid (0 ∷ 0 ∷ 2 ∷ []) ∷ valid (0 ∷ 2 ∷ 0 ∷ []) ∷ valid (0 ∷ 2 ∷ 2 ∷ []) ∷ valid (0 ∷ 2 ∷ 3 ∷ []) ∷ []
+  pub arrays_listed : listing arrays ≡ valid (0 ∷ 0 ∷ 0 ∷ []) ∷ valid (0 ∷ 0 ∷ 1 ∷ 0 ∷ []) ∷ valid (0 ∷ 0 ∷ 1 ∷ 1 ∷ []) ∷ valid (0 ∷ 0 ∷ 2 ∷ 0 ∷ 0 ∷ []) ∷ valid (0 ∷ 0 ∷ 2 ∷ 0 ∷ 1 ∷ []) ∷ valid (0 ∷ 0 ∷ 2 ∷ 1 ∷ 0 ∷ []) ∷ valid (0 ∷ 0 ∷ 2 ∷ 1 ∷ 1 ∷ []) ∷ []
+  -- a spent entry ends a span, and the entries behind it are those of a span that begins there
+  pub spent_ends_span : map shown (entries_in (At []) End (all_entries (cell (pos 0) 5))) ≡ spent (0 ∷ 0 ∷ []) ∷ []
+  pub behind_spent : map shown (entries_in (At (0 ∷ 0 ∷ [])) End (all_entries (cell (pos 0) 5))) ≡ spent (0 ∷ 1 ∷ []) ∷ []
+  pub above_and_not_above : map shown (entries_in (At (0 ∷ 0 ∷ [])) (At (0 ∷ 1 ∷ [])) (all_entries (cell (pos 0) 1000))) ≡ valid (0 ∷ 1 ∷ []) ∷ []

@@ -1,0 +1,13 @@
+pub mod Program
+pub mod Problem
+pub mod Space
+pub mod Heaps
+pub mod Meaning
+pub mod Runs
+pub mod Readings
+pub mod Classes
+pub mod Entries
+pub mod Purity
+pub mod Laws
+pub mod OneField
+pub mod Examples

@@ -1,0 +1,103 @@
+-- The predicate run on a vector, the order of the slots that decide it, and the key that they give.
+use Rattle.std.specs.Prelude.{ℕ, ◌==◌, Bool, true, false, ◌&&◌, ◌||◌, not, List, [], ◌∷◌, ◌++◌, length, map, flat_map, filter, Result, Ok, Err, if◌then◌else◌}
+use Rattle.std.proofs.Common.{get_or}
+use Rattle.kr_mean.specs.Program.{Program, Expression, this, call}
+use Rattle.kr_mean.specs.Problem.{Problem, Mode, Listing, Testing, Spot, Field, Length, Element, Place, This, Parameter, At, candidates, slot_at, slots, domain_at, upto}
+use Rattle.kr_mean.specs.Heaps.{distinct, heap_of, value_at, walk}
+use Rattle.kr_mean.specs.Meaning.{TrapKind, Stop, Trapped, OutOfFuel, State, Outcome, Run, give, ◌>>=◌, is_true, method_in, value}
+
+-- ---- the run
+
+-- how the predicate run ends
+pub data End : Type 0 where
+  True : End
+  False : End
+  Trap : TrapKind → End
+  Spent : End
+
+-- the preconditions of the method under test
+abbrev pub requires_of : Problem → Mode → List Expression
+requires_of problem Listing = []
+requires_of problem (Testing m) = (method_in problem.program (domain_at problem problem.root).class m).requires_all
+
+-- what has to hold: `this.repOk()`, and then each precondition in order
+abbrev pub conditions : Problem → List Expression
+conditions problem = call this problem.rep_ok ∷ requires_of problem problem.mode
+
+-- whether all hold, each looked at only where those before it do
+abbrev pub hold_all : Program → List Expression → Run Bool
+hold_all program [] = give true
+hold_all program (e ∷ es) = value program e >>= (λ v. if is_true v then hold_all program es else give false)
+
+abbrev pub start : Problem → List ℕ → State
+start problem vector = record {
+  this_value = value_at problem vector 0;
+  locals = [];
+  heap = heap_of problem vector;
+  candidates = length (candidates problem);
+  fuel = problem.fuel;
+  reads = This ∷ [];
+}
+
+abbrev pub end_of : Result Bool Stop → End
+end_of (Ok true) = True
+end_of (Ok false) = False
+end_of (Err (Trapped kind)) = Trap kind
+end_of (Err OutOfFuel) = Spent
+
+abbrev pub outcome_of : Problem → List ℕ → Outcome Bool
+outcome_of problem vector = hold_all problem.program (conditions problem) (start problem vector)
+
+unfoldable pub end_on : Problem → List ℕ → End
+end_on problem vector = end_of (outcome_of problem vector).said
+
+-- ---- the order
+
+abbrev pub is_same_spot : Spot → Spot → Bool
+is_same_spot (Field f) (Field g) = f == g
+is_same_spot Length Length = true
+is_same_spot (Element i) (Element j) = i == j
+is_same_spot _ _ = false
+
+abbrev pub is_same_place : Place → Place → Bool
+is_same_place This This = true
+is_same_place (Parameter i) (Parameter j) = i == j
+is_same_place (At o s) (At p t) = (o == p) && is_same_spot s t
+is_same_place _ _ = false
+
+-- the slot of a place
+abbrev pub slots_for : Problem → Place → List ℕ
+slots_for problem place = filter (λ s. is_same_place (slot_at problem s).place place) (upto (length (slots problem)))
+
+abbrev pub is_same_number : ℕ → ℕ → Bool
+is_same_number m n = m == n
+
+-- the slots that the run reads, each at its first read
+unfoldable pub reads_of : Problem → List ℕ → List ℕ
+reads_of problem vector = distinct is_same_number (flat_map (slots_for problem) (outcome_of problem vector).after.reads)
+
+abbrev pub is_accepted : End → Bool
+is_accepted True = true
+is_accepted False = false
+is_accepted (Trap kind) = false
+is_accepted Spent = false
+
+abbrev pub contains_number : List ℕ → ℕ → Bool
+contains_number [] x = false
+contains_number (y ∷ ys) x = (y == x) || contains_number ys x
+
+-- those that are not among others
+abbrev pub unread : List ℕ → List ℕ → List ℕ
+unread reads ss = filter (λ s. not (contains_number reads s)) ss
+
+-- the order of a vector's slots: those that the run reads and, where it accepts, the reachable ones that it didn't read
+unfoldable pub order_of : Problem → List ℕ → List ℕ
+order_of problem vector = reads_of problem vector ++ (if is_accepted (end_on problem vector) then unread (reads_of problem vector) (walk problem vector) else [])
+
+-- the indices of a vector along an order
+abbrev pub key_along : List ℕ → List ℕ → List ℕ
+key_along vector order = map (λ s. get_or vector s 0) order
+
+-- a vector's key
+abbrev pub key_of : Problem → List ℕ → List ℕ
+key_of problem vector = key_along vector (order_of problem vector)
