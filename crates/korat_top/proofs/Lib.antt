@@ -1,0 +1,9 @@
+pub mod Spelling
+pub mod Fronts
+pub mod Texts
+pub mod WholeFiles
+pub mod Rows
+pub mod Listings
+pub mod Endings
+pub mod Calls
+pub mod Answered

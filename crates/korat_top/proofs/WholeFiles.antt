@@ -1,0 +1,46 @@
+-- What is read of a file, at most one byte more than is taken, is the file, or both are too long.
+use Rattle.std.proofs.Common.{◌≡◌, ℕ, ◌+◌, ◌≤◌, List, length, take, arith, ap, sym, ◌∙◌, subst}
+use Rattle.std.specs.Prelude.{Option, Some, None, IfSome}
+use Rattle.std.proofs.lemmas.List.{length-take, take_all}
+use Rattle.korat_top.specs.Source.{Source, IsSource, source_of}
+use Rattle.korat_top.specs.Finitization.{Finitization, IsFinitization, finitization_of}
+use Rattle.korat_top.specs.Found.{Judges}
+use Rattle.korat_top.specs.declared.find.Found.{Found}
+use Rattle.korat_top.specs.declared.find.Found.TheVariants.{NoSource, NoFinitization, Cells}
+
+short_all : (n : ℕ) (all bytes : List ℕ) → bytes ≡ take (n + 1) all → length bytes ≤ n → length all ≤ n
+short_all n all bytes e h = omega (arith, ap length e, length-take (n + 1) all)
+
+same_all : (n : ℕ) (all bytes : List ℕ) → bytes ≡ take (n + 1) all → length all ≤ n → bytes ≡ all
+same_all n all bytes e h = e ∙ take_all (n + 1) all (omega arith)
+
+same_short : (all bytes : List ℕ) → bytes ≡ take 1048577 all → length bytes ≤ 1048576 → bytes ≡ all
+same_short all bytes e h = same_all 1048576 all bytes e (short_all 1048576 all bytes e h)
+
+same_whole : (all bytes : List ℕ) → bytes ≡ take 1048577 all → length all ≤ 1048576 → bytes ≡ all
+same_whole all bytes e h = same_all 1048576 all bytes e h
+
+source_up : (all bytes : List ℕ) (form : Source) → bytes ≡ take 1048577 all → IsSource bytes form → IsSource all form
+source_up all bytes form e h = let P : List ℕ → Type 0 = λ b. IsSource b form in subst P (same_short all bytes e h.is_short) h
+
+source_down : (all bytes : List ℕ) (form : Source) → bytes ≡ take 1048577 all → IsSource all form → IsSource bytes form
+source_down all bytes form e h = let P : List ℕ → Type 0 = λ b. IsSource b form in subst P (sym (same_whole all bytes e h.is_short)) h
+
+range_up : (all bytes : List ℕ) (form : Source) (range : Finitization) → bytes ≡ take 1048577 all → IsFinitization bytes form range → IsFinitization all form range
+range_up all bytes form range e h = let P : List ℕ → Type 0 = λ b. IsFinitization b form range in subst P (same_short all bytes e h.is_short) h
+
+range_down : (all bytes : List ℕ) (form : Source) (range : Finitization) → bytes ≡ take 1048577 all → IsFinitization all form range → IsFinitization bytes form range
+range_down all bytes form range e h = let P : List ℕ → Type 0 = λ b. IsFinitization b form range in subst P (sym (same_whole all bytes e h.is_short)) h
+
+judges_up : (f s fins sources : List ℕ) (found : Found) → f ≡ take 1048577 fins → s ≡ take 1048577 sources → Judges f s found → Judges fins sources found
+judges_up f s fins sources NoSource d e h = λ form x. h form (source_down sources s form e x)
+judges_up f s fins sources NoFinitization d e h = (h.0, source_up sources s h.0 e h.1, λ range x. h.2 range (range_down fins f h.0 range d x))
+judges_up f s fins sources (Cells source range) d e h =
+    (source_up sources s (source_of source) e h.0, range_up fins f (source_of source) (finitization_of range) d h.1)
+
+-- where the files' bytes are told
+pub judges_held : (fins sources : Option (List ℕ)) (f s : List ℕ) (found : Found) → IfSome fins (λ all. f ≡ take 1048577 all) → IfSome sources (λ all. s ≡ take 1048577 all)
+    → Judges f s found → IfSome fins (λ f. IfSome sources (λ s. Judges f s found))
+judges_held None sources f s found d e h = tt
+judges_held (Some fins) None f s found d e h = tt
+judges_held (Some fins) (Some sources) f s found d e h = judges_up f s fins sources found d e h

@@ -1,0 +1,56 @@
+use Rattle.std.proofs.Common.{refl, arith}
+use Rattle.korat_top.specs.Answer.{ListFiles, no_source_answer, no_finitization_answer}
+use Rattle.korat_top.specs.Cells.{cells_answer}
+use Rattle.korat_top.specs.Source.{source_of}
+use Rattle.korat_top.specs.Finitization.{finitization_of}
+use Rattle.korat_top.specs.Found.{word}
+use Rattle.korat_top.specs.declared.find.Found.TheVariants.{NoSource, NoFinitization, Cells}
+use Rattle.korat_top.proofs.Answered.{answered, reads_file}
+use Rattle.korat_top.proofs.Calls.{put_answer, put_read_fault, put_memory, end_listing}
+use Rattle.korat_top.proofs.top.serve.Goals as goal
+
+pub returns-in-Ok-NoSource : goal.returns-in-Ok-NoSource
+returns-in-Ok-NoSource g c =
+    let words = c.args.words.now in
+    let found = rw c.in-Ok-NoSource.field-0-is at c.in-Ok-NoSource.ensures in
+    let written = rw c.get.ensures at c.put_no_source.ensures in
+    put_answer g.F.Files.held g.F.Files.faults g.F.Files.last g.K.Sink.taken g.K.Sink.faults (ListFiles (word words 1) (word words 2)) c.args.files.now c.find.new.files
+    c.args.out.now c.put_no_source.new.out c.once_written.result (no_source_answer (word words 2)) c.put_no_source.result
+    (answered (g.F.Files.held c.args.files.now) (word words 1) (word words 2) NoSource c.one_field_law.ensures found.1) (λ e. omega (arith, e)) (omega arith) written
+    c.once_written.ensures
+
+pub returns-in-Ok-NoFinitization : goal.returns-in-Ok-NoFinitization
+returns-in-Ok-NoFinitization g c =
+    let words = c.args.words.now in
+    let found = rw c.in-Ok-NoFinitization.field-0-is at c.in-Ok-NoFinitization.ensures in
+    let written = rw c.get-in-Ok-NoFinitization.ensures at c.put_no_finitization.ensures in
+    put_answer g.F.Files.held g.F.Files.faults g.F.Files.last g.K.Sink.taken g.K.Sink.faults (ListFiles (word words 1) (word words 2)) c.args.files.now c.find.new.files
+    c.args.out.now c.put_no_finitization.new.out c.once_written-in-Ok-NoFinitization.result (no_finitization_answer (word words 1)) c.put_no_finitization.result
+    (answered (g.F.Files.held c.args.files.now) (word words 1) (word words 2) NoFinitization c.one_field_law.ensures found.1) (λ e. omega (arith, e)) (omega arith) written
+    c.once_written-in-Ok-NoFinitization.ensures
+
+pub returns-in-Ok-Cells : goal.returns-in-Ok-Cells
+returns-in-Ok-Cells g c =
+    let words = c.args.words.now in
+    let found = rw c.in-Ok-Cells.field-0-is at c.in-Ok-Cells.ensures in
+    end_listing g.F.Files.held g.F.Files.faults g.F.Files.last g.K.Sink.taken g.K.Sink.faults (ListFiles (word words 1) (word words 2)) c.args.files.now c.find.new.files
+    c.args.out.now c.list_range.new.out c.list_range.result (cells_answer (source_of c.in-Ok-Cells.source) (finitization_of c.in-Ok-Cells.range))
+    (answered (g.F.Files.held c.args.files.now) (word words 1) (word words 2) (Cells c.in-Ok-Cells.source c.in-Ok-Cells.range) c.one_field_law.ensures found.1) refl
+    c.list_range.ensures
+
+pub returns-in-Err-Read : goal.returns-in-Err-Read
+returns-in-Err-Read g c =
+    let words = c.args.words.now in
+    let failed = rw c.in-Err-Read.field-0-is at c.in-Err-Read.ensures in
+    let written = rw (c.get-in-Err-Read.ensures, c.in-Err-Read.at-is) at c.put_read_fault.ensures in
+    put_read_fault g.F.Files.held g.F.Files.faults g.F.Files.last g.K.Sink.taken g.K.Sink.faults (ListFiles (word words 1) (word words 2)) c.args.files.now c.find.new.files
+    c.args.out.now c.put_read_fault.new.out c.once_written-in-Err-Read.result (word words c.in-Err-Read.at) c.put_read_fault.result
+    (reads_file (g.F.Files.held c.args.files.now) words c.in-Err-Read.at failed.file) failed.named failed.cause written
+    c.once_written-in-Err-Read.ensures
+
+pub returns-in-Err-Memory : goal.returns-in-Err-Memory
+returns-in-Err-Memory g c =
+    let words = c.args.words.now in
+    put_memory g.F.Files.held g.F.Files.faults g.F.Files.last g.K.Sink.taken g.K.Sink.faults _ c.args.files.now c.find.new.files
+    c.args.out.now c.put_out_of_memory.new.out c.once_written-in-Err-Memory.result c.put_out_of_memory.result
+    c.put_out_of_memory.ensures c.once_written-in-Err-Memory.ensures

@@ -1,0 +1,11 @@
+pub use Rattle.kr_base.specs.Causes
+pub use Rattle.kr_base.specs.Told
+pub use Rattle.kr_io.specs.Reads
+pub mod Source
+pub mod Finitization
+pub mod Texts
+pub mod Answer
+pub mod Ends
+pub mod Cells
+pub mod Found
+pub mod Listed

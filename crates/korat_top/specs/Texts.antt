@@ -1,0 +1,140 @@
+-- The lines of a report.
+use Rattle.std.specs.Prelude.{ℕ, ◌-◌, ◌^◌, true, false, List, [], ◌∷◌, ◌++◌, map, flat_map, Option, Some, None, codes, decimal, min, if◌then◌else◌}
+use Rattle.std.specs.Fmt.{signed_decimal}
+use Rattle.std.proofs.Common.{get_or}
+use Rattle.kr_base.specs.Cuts.{cut_text}
+use Rattle.kr_mean.specs.Problem.{Problem, Candidate, Class, Object, Array, Spot, Field, Length, Element, Place, This, Parameter, At, Value, Int, Truth, Null, Reference, candidates, domain_at, slot_at, Mode, Listing, Testing}
+use Rattle.kr_mean.specs.Heaps.{distinct, is_same_candidate, is_owner}
+use Rattle.kr_mean.specs.Meaning.{TrapKind, NullPointerException, ArithmeticException, ArrayIndexOutOfBoundsException, NegativeArraySizeException, ClassCastException, NoSuchElementException, NoReturn, ArrayTooLong, class_in, method_in}
+use Rattle.kr_mean.specs.Entries.{Row, Verdict, Pass, Ensures, RepOk, Trap, CheckTrap, OutOfFuel}
+
+-- texts with another between each two
+abbrev pub behind : List ℕ → List (List ℕ) → List ℕ
+behind between [] = []
+behind between (t ∷ ts) = between ++ t ++ behind between ts
+
+abbrev pub joined_by : List ℕ → List (List ℕ) → List ℕ
+joined_by between [] = []
+joined_by between (t ∷ ts) = t ++ behind between ts
+
+-- ---- structures
+
+abbrev pub no_candidate : Candidate
+no_candidate = record { domain = 0; number = 0 }
+
+-- `Class#k`
+abbrev pub object_name : Problem → Candidate → List ℕ
+object_name problem o = (domain_at problem o.domain).name ++ codes "#" ++ decimal o.number
+
+abbrev pub value_text : Problem → Value → List ℕ
+value_text problem (Int n) = signed_decimal n
+value_text problem (Truth true) = codes "true"
+value_text problem (Truth false) = codes "false"
+value_text problem Null = codes "null"
+value_text problem (Reference o) = object_name problem (get_or (candidates problem) o no_candidate)
+
+abbrev pub parameters_of : Problem → Mode → List (List ℕ)
+parameters_of problem Listing = []
+parameters_of problem (Testing m) = (method_in problem.program (domain_at problem problem.root).class m).parameters
+
+-- `x=value` of a parameter
+abbrev pub parameter_text : Problem → Value → Place → List (List ℕ)
+parameter_text problem v (Parameter i) = (get_or (parameters_of problem problem.mode) i [] ++ codes "=" ++ value_text problem v) ∷ []
+parameter_text problem v This = []
+parameter_text problem v (At o spot) = []
+
+-- of a field `f=value`, of an element the value
+abbrev pub spot_text : Problem → Class → Value → Spot → List (List ℕ)
+spot_text problem class v (Field f) = (get_or (class_in problem.program class).fields f [] ++ codes "=" ++ value_text problem v) ∷ []
+spot_text problem class v Length = []
+spot_text problem class v (Element i) = value_text problem v ∷ []
+
+abbrev pub part_text : Problem → Class → Value → Place → List (List ℕ)
+part_text problem class v This = []
+part_text problem class v (Parameter i) = []
+part_text problem class v (At o spot) = spot_text problem class v spot
+
+-- what a structure has of an object
+abbrev pub parts_of : Problem → List (ℕ × Value) → Candidate → List (List ℕ)
+parts_of problem structure o =
+    flat_map (λ (p : ℕ × Value). if is_owner o (slot_at problem p.0).owner then part_text problem (domain_at problem o.domain).class p.1 (slot_at problem p.0).place else []) structure
+
+abbrev pub in_brackets : Class → List ℕ → List ℕ
+in_brackets (Object c) text = codes "{" ++ text ++ codes "}"
+in_brackets (Array t) text = codes "[" ++ text ++ codes "]"
+
+-- `Class#k{f=value,f=value}`, or of an array `int[]#k[value,value]`
+abbrev pub object_text : Problem → List (ℕ × Value) → Candidate → List ℕ
+object_text problem structure o =
+    object_name problem o ++ in_brackets (domain_at problem o.domain).class (joined_by (codes ",") (parts_of problem structure o))
+
+abbrev pub objects_in : Problem → Value → List Candidate
+objects_in problem (Reference o) = get_or (candidates problem) o no_candidate ∷ []
+objects_in problem (Int n) = []
+objects_in problem (Truth b) = []
+objects_in problem Null = []
+
+-- the objects of a structure, in the order in which it names them
+abbrev pub objects_named : Problem → List (ℕ × Value) → List Candidate
+objects_named problem structure = distinct is_same_candidate (flat_map (λ (p : ℕ × Value). objects_in problem p.1) structure)
+
+abbrev pub in_parentheses : List (List ℕ) → List ℕ
+in_parentheses [] = []
+in_parentheses (t ∷ ts) = codes "(" ++ joined_by (codes ",") (t ∷ ts) ++ codes ") "
+
+-- the parameters, where there are any, and the reachable objects, parted by one space
+unfoldable pub structure_text : Problem → List (ℕ × Value) → List ℕ
+structure_text problem structure =
+    in_parentheses (flat_map (λ (p : ℕ × Value). parameter_text problem p.1 (slot_at problem p.0).place) structure)
+    ++ joined_by (codes " ") (map (object_text problem structure) (objects_named problem structure))
+
+-- ---- lines
+
+abbrev pub trap_text : TrapKind → List ℕ
+trap_text NullPointerException = codes "NullPointerException"
+trap_text ArithmeticException = codes "ArithmeticException"
+trap_text ArrayIndexOutOfBoundsException = codes "ArrayIndexOutOfBoundsException"
+trap_text NegativeArraySizeException = codes "NegativeArraySizeException"
+trap_text ClassCastException = codes "ClassCastException"
+trap_text NoSuchElementException = codes "NoSuchElementException"
+trap_text NoReturn = codes "NoReturn"
+trap_text ArrayTooLong = codes "ArrayTooLong"
+
+-- a verdict and a space; nothing in a listing
+abbrev pub verdict_text : Option Verdict → List ℕ
+verdict_text None = []
+verdict_text (Some Pass) = codes "pass "
+verdict_text (Some (Ensures n)) = codes "ensures " ++ decimal n ++ codes " "
+verdict_text (Some RepOk) = codes "repOk "
+verdict_text (Some (Trap kind)) = codes "trap " ++ trap_text kind ++ codes " "
+verdict_text (Some (CheckTrap kind)) = codes "check-trap " ++ trap_text kind ++ codes " "
+verdict_text (Some OutOfFuel) = codes "spent "
+
+-- `KEY STRUCTURE`, of a test `KEY VERDICT STRUCTURE`
+abbrev pub row_text : Problem → Row → List ℕ
+row_text problem row = cut_text row.key ++ codes " " ++ verdict_text row.verdict ++ structure_text problem row.structure ++ codes "\n"
+
+abbrev pub capped : ℕ → ℕ
+capped n = min n (2 ^ 64 - 1)
+
+-- what stands in the last line
+abbrev pub listed_text : ℕ → ℕ → List ℕ
+listed_text valid tried = codes "valid " ++ decimal (capped valid) ++ codes " tried " ++ decimal (capped tried) ++ codes "\n"
+
+abbrev pub tested_text : ℕ → ℕ → ℕ → List ℕ
+tested_text valid failing tried = codes "valid " ++ decimal (capped valid) ++ codes " failing " ++ decimal (capped failing) ++ codes " tried " ++ decimal (capped tried) ++ codes "\n"
+
+abbrev pub more_text : List ℕ → List ℕ
+more_text key = codes "more " ++ cut_text key ++ codes "\n"
+
+abbrev pub spent_text : List ℕ → List ℕ
+spent_text key = codes "spent " ++ cut_text key ++ codes "\n"
+
+abbrev pub usage_text : List ℕ
+usage_text = codes "usage fault\n"
+
+abbrev pub read_fault_text : List ℕ → List ℕ
+read_fault_text name = codes "read fault " ++ name ++ codes "\n"
+
+abbrev pub memory_text : List ℕ
+memory_text = codes "out of memory\n"

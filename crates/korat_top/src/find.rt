@@ -1,0 +1,71 @@
+// The work for a command, before anything is written: both files are read, and then judged.
+ghost use Rattle.std.specs.Prelude.{◌≡◌, ◌<◌, IfOk, length};
+ghost use Rattle.korat_top.specs.Found.{HasRead, IsLater, Judges, Finds, IsLimited};
+
+use crate::finitization::{Finitization, read_finitization};
+use crate::source::{Source, read_source};
+use crate::words::{FINITIZATION, SOURCE};
+use kr_base::{NoMemory, Words};
+use kr_io::{Files, ReadRefusal};
+use std::alloc::Global;
+
+/// The longest file that is taken, in bytes.
+const LIMIT: usize = 1 << 20;
+
+/// Why the work stopped.
+#[derive(Clone, Copy, Debug, PartialEq, Eq)]
+pub(crate) enum Stop {
+    /// The read of the file that the word at this place names.
+    Read(usize),
+    Memory,
+}
+
+/// What the two files are.
+#[derive(Drop)]
+pub(crate) enum Found {
+    /// The source isn't of its form.
+    NoSource,
+    /// The finitization isn't of its form.
+    NoFinitization,
+    Cells(Source, Finitization),
+}
+
+/// Reads the file that a word names, at most one byte more than is taken.
+fn read<F: Files>(words: &Words, at: usize, files: &mut F) -> Result<Vec<u8>, Stop>
+    requires { at < length words.now }
+    ensures read { HasRead F.held F.faults F.last words.now at files.old files.new result }
+    ensures later { IsLater F.held F.faults files.old files.new }
+{
+    match files.read(words.get(at), LIMIT + 1) {
+        Ok(bytes) => Ok(bytes),
+        Err(ReadRefusal::Failed) => Err(Stop::Read(at)),
+        Err(ReadRefusal::NoMemory) => Err(Stop::Memory),
+    }
+}
+
+/// Judges the source first, and then the finitization.
+fn judge(alloc: Global, fin: &[u8], source: &[u8]) -> Result<Found, NoMemory>
+    ensures judged { IfOk result (Judges fin.now source.now) }
+    ensures limited { IfOk result IsLimited }
+{
+    let Some(source) = read_source(alloc, source)? else {
+        return Ok(Found::NoSource);
+    };
+    match read_finitization(alloc, fin, &source)? {
+        Some(range) => Ok(Found::Cells(source, range)),
+        None => Ok(Found::NoFinitization),
+    }
+}
+
+/// Reads both files, the finitization first, and judges them.
+pub(crate) fn find<F: Files>(alloc: Global, words: &Words, files: &mut F) -> Result<Found, Stop>
+    requires { length words.now ≡ 3 }
+    ensures { Finds F.held F.faults F.last words.now files.old files.new result }
+{
+    let fin = read(words, FINITIZATION, files)?;
+    let source = read(words, SOURCE, files)?;
+    match judge(alloc, &fin, &source) {
+        Ok(found) => Ok(found),
+        Err(NoMemory) => Err(Stop::Memory),
+    }
+}

@@ -1,0 +1,65 @@
+// The finitization form: the fuel, the one object and the range that the bytes of a finitization give a source.
+ghost use Rattle.std.specs.Prelude.{◌≡◌, ◌++◌, codes, IfOk, IfSome, IfNone, string_bytes};
+ghost use Rattle.korat_top.specs.Source.{source_of};
+ghost use Rattle.korat_top.specs.Finitization.{IsFinitization, field_key as key_of, finitization_of};
+ghost use Rattle.korat_top.specs.Finitization as spec;
+
+mod document;
+mod limits;
+
+use crate::source::Source;
+use kr_base::NoMemory;
+use std::alloc::Global;
+
+/// How long a finitization may be, in bytes.
+pub(crate) const MAX_FINITIZATION_BYTES: usize = 1_048_576;
+
+/// The steps that a run may take, and the first and the last value of the field.
+#[derive(Clone, Copy, Debug, PartialEq, Eq)]
+pub(crate) struct Finitization {
+    pub(crate) fuel: u32,
+    pub(crate) from: i32,
+    pub(crate) to: i32,
+}
+
+// The field's key, `C.f`.
+fn field_key(alloc: Global, source: &Source) -> Result<String, NoMemory>
+    ensures { IfOk result (λ key. string_bytes key ≡ key_of (source_of source.now)) }
+{
+    let mut key = String::from_str(alloc, source.class_name.as_str())?;
+    key.push_str(".")?;
+    key.push_str(source.field_name.as_str())?;
+    Ok(key)
+}
+
+/// The finitization that the bytes are of the source, if they are one.
+pub(crate) fn read_finitization(
+    alloc: Global,
+    bytes: &[u8],
+    source: &Source,
+) -> Result<Option<Finitization>, NoMemory>
+    ensures found { IfOk result (λ read. IfSome read (λ fin. IsFinitization bytes.now (source_of source.now) (finitization_of fin))) }
+    ensures none { IfOk result (λ read. IfNone read ((fin : spec.Finitization) → IsFinitization bytes.now (source_of source.now) fin → ⊥)) }
+{
+    if bytes.len() > MAX_FINITIZATION_BYTES {
+        return Ok(None);
+    }
+    let table = match toml::table_from_slice(alloc, bytes) {
+        Ok(table) => table,
+        Err(error) => {
+            return if error.is_memory() {
+                Err(NoMemory)
+            } else {
+                Ok(None)
+            };
+        }
+    };
+    let key = field_key(alloc, source)?;
+    match document::numbers_of(&table, source.class_name.as_str(), key.as_str()) {
+        Some(numbers) => Ok(limits::within(numbers)),
+        None => Ok(None),
+    }
+}
+
+#[cfg(test)]
+mod tests;
