@@ -7,3 +7,4 @@ pub mod Listings
 pub mod Endings
 pub mod Calls
 pub mod Answered
+pub mod OneAnswer

@@ -57,7 +57,7 @@ no_token_at_gap byte after (other ∷ text) rest g t e =
 
 -- ---- one step
 
-gap_on : (bytes : List ℕ) (byte : ℕ) (rest : List ℕ) (texts : List (List ℕ)) → bytes ≡ byte ∷ rest → IsGap byte → Spells texts bytes → Spells texts rest
+pub gap_on : (bytes : List ℕ) (byte : ℕ) (rest : List ℕ) (texts : List (List ℕ)) → bytes ≡ byte ∷ rest → IsGap byte → Spells texts bytes → Spells texts rest
 gap_on bytes byte rest texts e g end = absurd (cc)
 gap_on bytes byte rest texts e g (gap {tokens = tokens} {rest = others} h s) =
     let same : others ≡ rest = cc in
@@ -74,7 +74,7 @@ pub record GoesOn (texts : List (List ℕ)) (text rest : List ℕ) : Type 0 wher
 pub fronts_of : (bytes text rest : List ℕ) → bytes ≡ text ++ rest → text ≡ take (length text) bytes
 fronts_of bytes text rest e = sym (rw e (take-append-le (length text) text rest (omega arith) ∙ take_all (length text) text (omega arith)))
 
-token_on : (bytes text rest : List ℕ) (texts : List (List ℕ)) → Begins bytes text rest → Spells texts bytes → GoesOn texts text rest
+pub token_on : (bytes text rest : List ℕ) (texts : List (List ℕ)) → Begins bytes text rest → Spells texts bytes → GoesOn texts text rest
 token_on bytes text rest texts b end = absurd (no_token_at_end text rest b.is_token b.is_front)
 token_on bytes text rest texts b (gap {byte = byte} {rest = others} g s) = absurd (no_token_at_gap byte others text rest g b.is_token b.is_front)
 token_on bytes text rest texts b (token {text = other} {tokens = tokens} {rest = others} d s) =
@@ -109,7 +109,7 @@ cut_token bytes done before text rest c b = record {
       (g.others, o.1 ∙ (ap (λ x. done ++ x) g.is ∙ sym (append_assoc done (text ∷ []) g.others)), g.spelled));
 }
 
-nothing_left : (bytes : List ℕ) (texts : List (List ℕ)) → bytes ≡ [] → Spells texts bytes → texts ≡ []
+pub nothing_left : (bytes : List ℕ) (texts : List (List ℕ)) → bytes ≡ [] → Spells texts bytes → texts ≡ []
 nothing_left bytes texts e end = refl
 nothing_left bytes texts e (gap g s) = absurd (cc)
 nothing_left bytes texts e (token {text = text} {rest = others} b s) = absurd (no_token_at_end text others b.is_token (sym e ∙ b.is_front))

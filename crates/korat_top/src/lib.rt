@@ -3,10 +3,12 @@
 
 mod find;
 mod finitization;
+mod laws;
 mod listing;
 mod report;
 mod source;
 mod top;
 mod words;
 
+pub use laws::one_answer;
 pub use top::run;

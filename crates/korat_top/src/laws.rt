@@ -1,0 +1,7 @@
+// What holds of the answers that `run` gives.
+ghost use Rattle.korat_top.specs.Ends.{OneAnswer};
+
+/// Words and files have at most one answer.
+pub fn one_answer()
+    ensures { OneAnswer }
+{}
