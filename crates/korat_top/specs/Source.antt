@@ -1,7 +1,6 @@
 -- The source form: `class C { int f; boolean repOk() { return f OP n; } }`, for a class of one `int` field.
-use Rattle.std.specs.Prelude.{◌≡◌, ◌≤◌, ◌⊎◌, ℕ, List, [], ◌∷◌, ◌++◌, length, codes, decimal, All, Contains, IsTrue}
+use Rattle.std.specs.Prelude.{◌≡◌, ◌≤◌, ◌⊎◌, ℕ, List, [], ◌∷◌, ◌++◌, length, codes, decimal, All, Contains, IsTrue, map, string_bytes}
 use Rattle.std.specs.Char.{is_ascii_alphabetic, is_ascii_alphanumeric}
-use Rattle.std.specs.Prelude.{map, string_bytes}
 use Rattle.std.specs.Borrow.{Bor}
 use Rattle.kr_mean.specs.Program.{Comparison, Less, LessOrEqual, Greater, GreaterOrEqual, Equal, NotEqual}
 use Rattle.korat_top.specs.declared.source.Source.{Source as OwnedSource}

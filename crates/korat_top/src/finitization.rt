@@ -1,5 +1,5 @@
 // The finitization form: the fuel, the one object and the range that the bytes of a finitization give a source.
-ghost use Rattle.std.specs.Prelude.{◌≡◌, ◌++◌, codes, IfOk, IfSome, IfNone, string_bytes};
+ghost use Rattle.std.specs.Prelude.{◌≡◌, IfOk, IfSome, IfNone, string_bytes};
 ghost use Rattle.korat_top.specs.Source.{source_of};
 ghost use Rattle.korat_top.specs.Finitization.{IsFinitization, field_key as key_of, finitization_of};
 ghost use Rattle.korat_top.specs.Finitization as spec;

@@ -1,5 +1,5 @@
 // The source form: the class of one `int` field that the bytes of a source are.
-ghost use Rattle.std.specs.Prelude.{IfOk, IfSome, IfNone, IfErr};
+ghost use Rattle.std.specs.Prelude.{IfOk, IfSome, IfNone};
 ghost use Rattle.korat_top.specs.Source.{IsSource, source_of};
 ghost use Rattle.korat_top.specs.Source as spec;
 

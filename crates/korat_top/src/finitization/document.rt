@@ -1,5 +1,5 @@
 // The table of a finitization: exactly its keys, and the numbers at them.
-ghost use Rattle.std.specs.Prelude.{◌≡◌, ◌↔◌, ℤ, pos, IsTrue, MatchOption, codes};
+ghost use Rattle.std.specs.Prelude.{◌≡◌, ◌↔◌, ℤ, pos, IsTrue, MatchOption};
 ghost use Rattle.toml.specs.Data.{Data, string, integer, array, table as table_data, item, no_items, Members, member, no_members};
 ghost use Rattle.toml.specs.View.{view, table_view, members_view};
 ghost use Rattle.korat_top.specs.Finitization.{range_table, fields_table, objects_table, table_of};

@@ -1,5 +1,5 @@
 // The names of a source: identifiers of ASCII letters and digits that Java leaves free.
-ghost use Rattle.std.specs.Prelude.{◌≡◌, ◌↔◌, map, codes, All, Contains, IfOk, IsTrue, string_bytes};
+ghost use Rattle.std.specs.Prelude.{◌≡◌, ◌↔◌, codes, All, Contains, IfOk, IsTrue, string_bytes};
 ghost use Rattle.std.specs.Char.{is_ascii_alphanumeric};
 ghost use Rattle.korat_top.specs.Source.{BeginsWithLetter, IsName, texts_of};
 ghost use Rattle.korat_top.specs.Source as spec;

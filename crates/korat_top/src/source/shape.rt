@@ -1,5 +1,5 @@
 // The shape of a source: from its tokens to the names, the test and the number that it is made of.
-ghost use Rattle.std.specs.Prelude.{◌≡◌, ◌≤◌, ◌↔◌, ℕ, map, decimal, length, IsTrue, MatchOption};
+ghost use Rattle.std.specs.Prelude.{◌≡◌, ◌≤◌, ◌↔◌, ℕ, decimal, IsTrue, MatchOption};
 ghost use Rattle.korat_top.specs.Source.{test_text, tokens_of, texts_of, comparison_of, source_of_parts};
 ghost use Rattle.korat_top.specs.Source as spec;
 ghost use Rattle.kr_mean.specs.Program as program;

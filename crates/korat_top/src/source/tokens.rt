@@ -1,7 +1,7 @@
 // The tokens of a source: from its bytes to the texts between the gaps, each the longest at its place.
-ghost use Rattle.std.specs.Prelude.{◌≡◌, ◌<◌, ◌≤◌, ◌↔◌, ◌++◌, ℕ, List, length, take, drop, map, slice_index, All, Contains, IfOk, IsTrue, MatchOption};
+ghost use Rattle.std.specs.Prelude.{◌≡◌, ◌<◌, ◌≤◌, ◌↔◌, ◌++◌, ℕ, List, length, take, drop, slice_index, All, Contains, IfOk, IsTrue, MatchOption};
 ghost use Rattle.std.specs.Char.{is_ascii_alphanumeric};
-ghost use Rattle.korat_top.specs.Source.{Begins, IsGap, IsToken, Spells, signs as sign_texts};
+ghost use Rattle.korat_top.specs.Source.{Begins, IsGap, IsToken, Spells, texts_of, signs as sign_texts};
 
 use kr_base::NoMemory;
 use std::alloc::Global;
@@ -31,7 +31,7 @@ fn word_length(bytes: &[u8]) -> usize
 
 // The separators and operators, longer ones first.
 fn signs() -> [&'static [u8]; 11]
-    ensures { map (λ sign. sign.now) result ≡ sign_texts }
+    ensures { texts_of result ≡ sign_texts }
 {
     [
         b">=", b"<=", b"==", b"!=", b">", b"<", b"{", b"}", b"(", b")", b";",
@@ -68,8 +68,8 @@ fn token_length(bytes: &[u8]) -> usize
 pub(crate) fn cut<'t>(alloc: Global, bytes: &'t [u8]) -> Result<Option<Vec<&'t [u8]>>, NoMemory>
     ensures { IfOk result (λ found. MatchOption found
         ((texts : List (List ℕ)) → length texts ≤ 18 → Spells texts bytes.now → ⊥)
-        (λ tokens. Spells (map (λ text. text.now) tokens.items) bytes.now
-        × ((texts : List (List ℕ)) → Spells texts bytes.now → texts ≡ map (λ text. text.now) tokens.items))) }
+        (λ tokens. Spells (texts_of tokens.items) bytes.now
+        × ((texts : List (List ℕ)) → Spells texts bytes.now → texts ≡ texts_of tokens.items))) }
 {
     let mut tokens = Vec::new(alloc);
     let mut rest = bytes;
