@@ -1,0 +1,56 @@
+// What the machine is told, and what it answers.
+
+use kr_base::{Bound, Cut};
+
+/// What happens to the segments. Seats are the workers' numbers, and segments go by their numbers.
+#[derive(Debug, Drop)]
+pub enum Event {
+    /// The seat becomes the owner of a segment.
+    Take { seat: u32, segment: u64 },
+    /// A segment ends at the cut, and the rest of it is a new segment of the seat.
+    Steal {
+        seat: u32,
+        victim: u64,
+        cut: Cut,
+        segment: u64,
+    },
+    /// The seat has scanned its segment up to the reach: so many candidates were tried, and so many of them gave a row.
+    /// `spent` says that the last one ran out of fuel.
+    Report {
+        seat: u32,
+        segment: u64,
+        reach: Bound,
+        rows: u64,
+        tried: u64,
+        spent: bool,
+    },
+    /// The seat gives its segment back.
+    GiveUp { seat: u32, segment: u64 },
+    /// So many rows are taken out, from the first segment on.
+    Drain { rows: u64 },
+    /// All ends at the first segment's mark.
+    StopAt { mark: Cut },
+    /// The seat looks, and finds nothing to do.
+    Look { seat: u32 },
+}
+
+/// What a seat has to scan: a segment from its mark on.
+#[derive(Debug, Drop)]
+pub struct Lease {
+    pub seat: u32,
+    pub segment: u64,
+    pub mark: Cut,
+    pub upto: Bound,
+}
+
+/// What the machine answers an event that it took.
+#[derive(Debug, Drop)]
+pub enum Reply {
+    /// The lease of the segment that was taken or stolen.
+    Lease(Lease),
+    /// The segment has more to scan, under this lease.
+    Go(Lease),
+    /// The segment was scanned to its end.
+    Done,
+    Noted,
+}

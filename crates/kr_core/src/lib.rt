@@ -1,0 +1,18 @@
+//! The machine under the board: which parts of the candidate order are leased to whom, how far each is scanned, and
+//! what was counted there. It takes one event at a time, holds no handle and runs nothing.
+#![tactic(auto)]
+
+mod bounds;
+mod edits;
+mod event;
+mod fits;
+mod laws;
+mod leases;
+mod machine;
+mod opens;
+mod segment;
+
+pub use event::{Event, Lease, Reply};
+pub use laws::{counting_law, kept_law};
+pub use machine::{Core, CoreRefusal};
+pub use segment::Segment;
