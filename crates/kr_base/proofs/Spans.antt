@@ -22,7 +22,7 @@ through_none {R} (e ∷ es) h =
     let both : (through_spent es ≡ es) × NoneSpent es = through_none es rest in
     (rw here (ap (λ (l : List (Entry R)). e ∷ l) both.0), (here, both.1))
 
-through_append : {R : Type 0} (es fs : List (Entry R)) → NoneSpent es → through_spent (es ++ fs) ≡ es ++ through_spent fs
+pub through_append : {R : Type 0} (es fs : List (Entry R)) → NoneSpent es → through_spent (es ++ fs) ≡ es ++ through_spent fs
 through_append [] fs h = refl
 through_append {R} (e ∷ es) fs h = rw h.0 (ap (λ (l : List (Entry R)). e ∷ l) (through_append es fs h.1))
 
@@ -51,7 +51,7 @@ first_none a b e es above after = rw above (last (less a (At e.key)) (none_upto 
     last true rest = rest
     last false rest = rest
 
-within_two : {R : Type 0} (a b c : Bound) (es : List (Entry R)) → Ascends es → less b a ≡ false → less c b ≡ false → within a b es ++ within b c es ≡ within a c es
+pub within_two : {R : Type 0} (a b c : Bound) (es : List (Entry R)) → Ascends es → less b a ≡ false → less c b ≡ false → within a b es ++ within b c es ≡ within a c es
 within_two a b c [] s n m = refl
 within_two {R} a b c (e ∷ es) s n m = go (within_two a b c es s.1 n m) (less b (At e.key)) refl
   where

@@ -4,3 +4,9 @@ pub mod Fronts
 pub mod LeaseFacts
 pub mod Reports
 pub mod Openings
+pub mod Spent
+pub mod Chains
+pub mod Steps
+pub mod Runs
+pub mod Begins
+pub mod Ends
