@@ -1,5 +1,5 @@
 -- What every run keeps, and what it has counted.
-use Rattle.std.proofs.Common.{◌≡◌, ◌≢◌, ℕ, ◌+◌, ◌<◌, List, [], ◌∷◌, ◌++◌, Bool, true, false, length, length-append, refl, sym, ap, ◌∙◌, subst, arith, cond, Option, Some, None}
+use Rattle.std.proofs.Common.{◌≡◌, ◌≢◌, ℕ, ◌<◌, List, [], ◌∷◌, ◌++◌, Bool, true, false, length, length-append, refl, sym, ap, ◌∙◌, subst, arith, cond, Option, Some, None}
 use Rattle.std.specs.Prelude.{◌||◌, if◌then◌else◌}
 use Rattle.std.specs.List.{sum_by, flat_map}
 use Rattle.std.proofs.lemmas.List.{append-nil}
@@ -9,15 +9,15 @@ use Rattle.kr_base.specs.declared.span.Bound.TheVariants.{At}
 use Rattle.kr_base.specs.declared.span.Span.{Span}
 use Rattle.kr_base.specs.declared.entry.Entry.{Entry}
 use Rattle.kr_base.specs.Bounds.{less}
-use Rattle.kr_base.specs.Entries.{Ascends, within, through_spent, entries_in, NoneSpent}
+use Rattle.kr_base.specs.Entries.{Ascends, within, through_spent, entries_in}
 use Rattle.kr_base.proofs.Bounds.{irreflexive, connected, not_above}
 use Rattle.kr_core.specs.declared.segment.Segment.{Segment}
 use Rattle.kr_core.specs.declared.event.Event.{Event}
 use Rattle.kr_core.specs.declared.event.Event.TheVariants.{Take, Steal, Report, GiveUp, Drain, StopAt, Look}
 use Rattle.kr_core.specs.States.{State, capped, has_remainder, is_owned, is_closed, Each}
 use Rattle.kr_core.specs.Openings.{end_of}
-use Rattle.kr_core.specs.Kept.{NumbersDiffer, Adjoin, first_after, beginning, IsLastClosed, IsKept, KeptLaw}
-use Rattle.kr_core.specs.Counts.{EndsSpent, IsSpentFlag, HonestRuns, counted, IsCounted, last_stop, AllClosed, IsListed, CountingLaw}
+use Rattle.kr_core.specs.Kept.{NumbersDiffer, Adjoin, beginning, IsLastClosed, IsKept, KeptLaw}
+use Rattle.kr_core.specs.Counts.{IsSpentFlag, HonestRuns, counted, IsCounted, last_stop, AllClosed, IsListed, CountingLaw}
 use Rattle.kr_core.proofs.Spent.{within-append, within-none, flag-append, through_ends, through_all}
 use Rattle.kr_core.proofs.Chains.{IsLink, EndsAs, Chain}
 use Rattle.kr_core.proofs.Steps.{chain-up}

@@ -1,5 +1,5 @@
 -- A take or a report that fits is a step.
-use Rattle.std.proofs.Common.{◌≡◌, ℕ, List, [], ◌∷◌, Bool, true, false, ◌&&◌, not, refl, sym, ap, ◌∙◌, subst, cond, Option, Some, None}
+use Rattle.std.proofs.Common.{◌≡◌, ℕ, List, [], ◌∷◌, Bool, true, false, not, refl, sym, ap, ◌∙◌, subst, cond, Option, Some, None}
 use Rattle.kr_base.specs.declared.span.Bound.{Bound}
 use Rattle.kr_base.specs.Bounds.{less}
 use Rattle.kr_core.specs.declared.segment.Segment.{Segment}
@@ -53,7 +53,7 @@ done_step old seat n reach rows tried false segs is may whole changed =
       reply_is = elim (segment_of n old.segments) as (λ o. segment_of n old.segments ≡ o → closes reach o ≡ true → may_report seat reach rows tried false o ≡ true → keeps_owner (segment_of n segs) ≡ false) [
         | None ↦ λ q w f. absurd (cc (f))
         | Some s ↦ λ q w f. ap (λ (xs : List Segment). keeps_owner (segment_of n xs)) changed
-        ∙ (ap keeps_owner (segment_of_change n old.segments (scanned reach rows tried false) s (λ t. refl) q) ∙ stays reach rows tried s true w)
+            ∙ (ap keeps_owner (segment_of_change n old.segments (scanned reach rows tried false) s (λ t. refl) q) ∙ stays reach rows tried s true w)
       ] refl whole may;
     }
 
@@ -67,12 +67,12 @@ go_step old seat n reach rows tried false segs lease is may whole would changed 
       fit = may;
       new_is = λ i. record { segments = changed i; next = old.next; past = old.past; end = old.end; spent = old.spent };
       reply_is = elim (segment_of n old.segments) as (λ o. segment_of n old.segments ≡ o → closes reach o ≡ false → may_report seat reach rows tried false o ≡ true → WouldLease seat reach o lease
-      → IsLease seat (segment_of n segs) lease × (keeps_owner (segment_of n segs) ≡ true)) [
-        | None ↦ λ q w f l. absurd (cc (f))
-        | Some s ↦ λ q w f l.
-            let at : segment_of n segs ≡ Some (scanned reach rows tried false s) = ap (segment_of n) changed ∙ segment_of_change n old.segments (scanned reach rows tried false) s (λ t. refl) q in (
-              subst (λ (x : Option Segment). IsLease seat x lease) (sym at) l,
-              ap keeps_owner at ∙ (stays reach rows tried s false w ∙ owner_known seat s.owner (and-left (is_owned_by seat s.owner) _ f)),
-            )
-      ] refl whole may would;
+          → IsLease seat (segment_of n segs) lease × (keeps_owner (segment_of n segs) ≡ true)) [
+            | None ↦ λ q w f l. absurd (cc (f))
+            | Some s ↦ λ q w f l.
+                let at : segment_of n segs ≡ Some (scanned reach rows tried false s) = ap (segment_of n) changed ∙ segment_of_change n old.segments (scanned reach rows tried false) s (λ t. refl) q in (
+                  subst (λ (x : Option Segment). IsLease seat x lease) (sym at) l,
+                  ap keeps_owner at ∙ (stays reach rows tried s false w ∙ owner_known seat s.owner (and-left (is_owned_by seat s.owner) _ f)),
+                )
+          ] refl whole may would;
     }

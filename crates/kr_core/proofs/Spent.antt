@@ -1,12 +1,12 @@
 -- Entries in spans that adjoin, and which of them are spent.
-use Rattle.std.proofs.Common.{◌≡◌, ℕ, ◌+◌, List, [], ◌∷◌, ◌++◌, Bool, true, false, ◌&&◌, not, length, length-append, append_assoc, refl, sym, ap, ◌∙◌}
+use Rattle.std.proofs.Common.{◌≡◌, ◌+◌, List, [], ◌∷◌, ◌++◌, Bool, true, false, ◌&&◌, not, length, length-append, append_assoc, refl, sym, ap, ◌∙◌}
 use Rattle.std.specs.Prelude.{if◌then◌else◌}
 use Rattle.std.proofs.lemmas.List.{append-nil}
 use Rattle.kr_base.specs.declared.span.Bound.{Bound}
 use Rattle.kr_base.specs.declared.span.Bound.TheVariants.{At}
 use Rattle.kr_base.specs.declared.entry.Entry.{Entry}
 use Rattle.kr_base.specs.Bounds.{less}
-use Rattle.kr_base.specs.Entries.{Ascends, is_spent, within, through_spent, NoneSpent}
+use Rattle.kr_base.specs.Entries.{Ascends, within, through_spent, NoneSpent}
 use Rattle.kr_base.proofs.Bounds.{irreflexive, transitive, not_above_less}
 use Rattle.kr_base.proofs.Spans.{within_two, through_append}
 use Rattle.kr_core.specs.Counts.{EndsSpent, IsSpentFlag}

@@ -124,20 +124,17 @@ pub record Case (fits : Bool) (new state : State) (replies : Type 0) : Type 0 wh
   pub reply_is : replies
 
 abbrev pub Step : State → Event → Reply → State → Type 0
-
 -- the segment has a remainder and no owner: its owner is the seat, and the reply is its lease as it then stands
 Step old (Take seat n) reply new = Case
     (may_take (segment_of n old.segments))
     new (record old { segments = change n (λ s ss. owned (Some seat) s ∷ ss) old.segments })
     (IsLeased seat (segment_of n new.segments) reply)
-
 -- the victim has an owner, the cut is above its mark and below its upto, and the number is the next one and below the
 -- last of 64 bits: the victim ends at the cut, directly after it stands the rest, and the reply is the lease of that
 Step old (Steal seat victim cut n) reply new = Case
     (may_steal cut (segment_of victim old.segments) && ((n == old.next) && nat_lt n (2 ^ 64 - 1)))
     new (record old { segments = change victim (λ s ss. lowered cut s ∷ (stolen seat cut n s ∷ ss)) old.segments; next = old.next + 1 })
     (IsLeased seat (option_map (stolen seat cut n) (segment_of victim old.segments)) reply)
-
 -- the seat owns the segment, the reach is above its mark and not above its upto, there are no more rows than tried, and
 -- where a candidate was spent it is a cut and that one gave no row: the mark moves to the reach and the counts grow; the
 -- segment has no owner where that is its end; a spent candidate ends the listing there
@@ -149,26 +146,22 @@ Step old (Report seat n reach rows tried spent) reply new = Case
       spent = spent || old.spent;
     })
     (IsReported seat (segment_of n new.segments) reply)
-
 -- the seat owns the segment: it has no owner
 Step old (GiveUp seat n) reply new = Case
     (may_give_up seat (segment_of n old.segments))
     new (record old { segments = change n (λ s ss. owned None s ∷ ss) old.segments })
     (reply ≡ Noted)
-
 -- the rows are those of the front: they are taken out, and its closed segments go with what they tried, but the last stays
 Step old (Drain rows) reply new = Case
     (rows == capped (sum_by (λ s. s.rows) (front old.segments)))
     new (record old { segments = left old.segments; past = capped (old.past + sum_by (λ s. s.tried) (gone old.segments)) })
     (reply ≡ Noted)
-
 -- the mark of the first segment is this cut: all ends there, and the segment has no owner; nothing is spent then, but the
 -- flag stays as it was where this is the only segment
 Step old (StopAt mark) reply new = Case
     (may_stop mark old.segments)
     new (record old { segments = stopped mark old.segments; end = At mark; spent = (length old.segments == 1) && old.spent })
     (reply ≡ Noted)
-
 -- it always fits, and changes nothing
 Step old (Look seat) reply new = Case true new old (reply ≡ Noted)
 

@@ -6,7 +6,10 @@ use kr_base::{Bound, Cut};
 #[derive(Debug, Drop)]
 pub enum Event {
     /// The seat becomes the owner of a segment.
-    Take { seat: u32, segment: u64 },
+    Take {
+        seat: u32,
+        segment: u64,
+    },
     /// A segment ends at the cut, and the rest of it is a new segment of the seat.
     Steal {
         seat: u32,
@@ -25,13 +28,22 @@ pub enum Event {
         spent: bool,
     },
     /// The seat gives its segment back.
-    GiveUp { seat: u32, segment: u64 },
+    GiveUp {
+        seat: u32,
+        segment: u64,
+    },
     /// So many rows are taken out, from the first segment on.
-    Drain { rows: u64 },
+    Drain {
+        rows: u64,
+    },
     /// All ends at the first segment's mark.
-    StopAt { mark: Cut },
+    StopAt {
+        mark: Cut,
+    },
     /// The seat looks, and finds nothing to do.
-    Look { seat: u32 },
+    Look {
+        seat: u32,
+    },
 }
 
 /// What a seat has to scan: a segment from its mark on.

@@ -85,7 +85,12 @@ impl Core {
         let segments = self.segments.as_slice();
         match event {
             Event::Take { segment, .. } => may_take(segments, *segment),
-            Event::Steal { victim, cut, segment, .. } => {
+            Event::Steal {
+                victim,
+                cut,
+                segment,
+                ..
+            } => {
                 may_steal(segments, *victim, cut) && *segment == self.next && *segment < u64::MAX
             }
             Event::Report {

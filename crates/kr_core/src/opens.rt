@@ -33,7 +33,12 @@ fn untouched(number: u64, after: &Cut, upto: Bound) -> Result<Segment, NoMemory>
 }
 
 /// Segments that adjoin at the cuts, from a cut on to an end.
-pub fn segments_at(alloc: Global, after: &Cut, cuts: &[Cut], end: &Bound) -> Result<Vec<Segment>, NoMemory>
+pub fn segments_at(
+    alloc: Global,
+    after: &Cut,
+    cuts: &[Cut],
+    end: &Bound,
+) -> Result<Vec<Segment>, NoMemory>
     ensures { IfOk result (λ v. v.items ≡ segments_at 0 (Bound.At after.now) cuts.now end.now) }
 {
     let mut segments = Vec::new(alloc);

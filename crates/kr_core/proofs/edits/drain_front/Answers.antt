@@ -1,4 +1,4 @@
-use Rattle.std.proofs.Common.{◌≡◌, ◌<◌, ◌≤◌, ◌==◌, ℕ, List, length, drop, take, vec_len, refl, true, false, arith, sym, ◌∙◌, length-take}
+use Rattle.std.proofs.Common.{◌≡◌, ◌<◌, ◌≤◌, ◌==◌, ℕ, length, vec_len, refl, true, false, arith, sym, ◌∙◌, length-take}
 use Rattle.std.proofs.lemmas.Bool.Decides.{nat_tests}
 use Rattle.kr_core.proofs.Fronts.{count_within, tried_taken, left_none, left_some}
 use Rattle.kr_core.proofs.edits.drain_front.Goals as goal

@@ -1,4 +1,4 @@
-use Rattle.std.proofs.Common.{◌≡◌, ◌<◌, ◌+◌, ◌∙◌, ap, sym, subst, List, length, None, true, [], ◌∷◌}
+use Rattle.std.proofs.Common.{◌≡◌, ◌<◌, ◌∙◌, ap, sym, subst, List, length, None, true, [], ◌∷◌}
 use Rattle.kr_core.specs.States.{place_of, segment_of}
 use Rattle.kr_core.specs.Steps.{scanned}
 use Rattle.kr_core.specs.declared.segment.Segment.{Segment}

@@ -1,4 +1,3 @@
-use Rattle.std.proofs.Common.{sym, ◌∙◌}
 use Rattle.kr_core.specs.States.{segment_of}
 use Rattle.kr_core.proofs.LeaseFacts.{untaken_end}
 use Rattle.kr_core.proofs.leases.lease_of.Goals as goal

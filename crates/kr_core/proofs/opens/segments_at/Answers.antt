@@ -1,4 +1,3 @@
-use Rattle.std.proofs.Common.{◌≡◌, ◌∙◌, ap, sym}
 use Rattle.kr_base.specs.declared.span.Bound.TheVariants.{At}
 use Rattle.kr_core.proofs.Openings.{opened}
 use Rattle.kr_core.proofs.opens.segments_at.Goals as goal

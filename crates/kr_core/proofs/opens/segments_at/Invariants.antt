@@ -1,4 +1,4 @@
-use Rattle.std.proofs.Common.{◌≡◌, ◌+◌, ◌++◌, drop}
+use Rattle.std.proofs.Common.{◌≡◌, ◌++◌, drop}
 use Rattle.kr_base.specs.declared.span.Bound.TheVariants.{At}
 use Rattle.kr_core.specs.Openings.{segments_at}
 use Rattle.kr_core.proofs.opens.segments_at.Given as goal
