@@ -16,3 +16,6 @@ pub use event::{Event, Lease, Reply};
 pub use laws::{counting_law, kept_law};
 pub use machine::{Core, CoreRefusal};
 pub use segment::Segment;
+
+#[cfg(test)]
+mod tests;

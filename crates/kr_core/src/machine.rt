@@ -1,5 +1,5 @@
 // The machine: its state, and one step for an event.
-ghost use Rattle.std.specs.Prelude.{◌≡◌, true, IfOk, OnErr, IfErr};
+ghost use Rattle.std.specs.Prelude.{◌≡◌, ◌↔◌, true, IsTrue, IfOk, OnErr, IfErr};
 ghost use Rattle.kr_core.specs.Steps.{Step, fits};
 ghost use Rattle.kr_core.specs.Refusals.{IsRefused};
 ghost use Rattle.kr_core.specs.Openings.{opening, AreInside};
@@ -7,7 +7,7 @@ ghost use Rattle.kr_core.specs.Openings.{opening, AreInside};
 use crate::edits::{cut_segment, drain_front, end_at, scan_to, set_owner, stop_first};
 use crate::fits::{front_rows, may_give_up, may_report, may_steal, may_stop, may_take};
 use crate::leases::{lease_behind, lease_from, lease_of};
-use crate::opens::{end_of, segments_at};
+use crate::opens::{are_inside, end_of, segments_at};
 use crate::{Event, Reply, Segment};
 use kr_base::{Bound, Cut, NoMemory, Span};
 use std::alloc::Global;
@@ -64,6 +64,13 @@ impl Core {
             end,
             spent: false,
         })
+    }
+
+    /// Whether a span can be opened with these cuts: they ascend strictly and stand strictly inside it.
+    pub fn can_open(span: &Span, cuts: &[Cut]) -> bool
+        ensures { IsTrue result ↔ AreInside cuts.now span.now }
+    {
+        are_inside(cuts, span)
     }
 
     /// One step. GiveUp, Drain and Look take no memory.

@@ -1,6 +1,7 @@
 // The segments that a span and its cuts begin with.
-ghost use Rattle.std.specs.Prelude.{◌≡◌, IfOk};
-ghost use Rattle.kr_core.specs.Openings.{segments_at, untouched, end_of};
+ghost use Rattle.std.specs.Prelude.{◌≡◌, ◌&&◌, ◌↔◌, IsTrue, IfOk};
+ghost use Rattle.kr_base.specs.Bounds.{less};
+ghost use Rattle.kr_core.specs.Openings.{AreInside, segments_at, untouched, end_of};
 
 use crate::Segment;
 use crate::bounds::is_behind;
@@ -51,4 +52,26 @@ pub fn segments_at(
     }
     segments.push(untouched(number, begin, end.try_clone()?)?)?;
     Ok(segments)
+}
+
+// Whether a cut is above one and below a bound.
+#[tactic(auto, unfolding(kr_base::specs::Bounds::less))]
+fn is_between(begin: &Cut, cut: &Cut, upto: &Bound) -> bool
+    ensures { result ≡ (less (Bound.At begin.now) (Bound.At cut.now) && less (Bound.At cut.now) upto.now) }
+{
+    begin.is_below(cut) && is_behind(upto, cut)
+}
+
+/// Whether the cuts ascend strictly and stand strictly inside the span.
+pub fn are_inside(cuts: &[Cut], span: &Span) -> bool
+    ensures { IsTrue result ↔ AreInside cuts.now span.now }
+{
+    let mut begin = &span.after;
+    for cut in cuts {
+        if !is_between(begin, cut, &span.upto) {
+            return false;
+        }
+        begin = cut;
+    }
+    true
 }
