@@ -1,4 +1,4 @@
-pub mod Tests
+pub mod Bools
 pub mod Places
 pub mod Fronts
 pub mod LeaseFacts

@@ -11,7 +11,7 @@ use Rattle.kr_core.specs.Steps.{Step, may_take, may_report, owned, scanned, IsLe
 use Rattle.kr_core.specs.Reaches.{closes, WouldLease}
 use Rattle.kr_core.proofs.Places.{segment_of_change, segment_of_cut}
 use Rattle.kr_core.proofs.LeaseFacts.{leased}
-use Rattle.kr_core.proofs.Tests.{and-left, owner_known}
+use Rattle.kr_core.proofs.Bools.{and-left, owner_known}
 
 pub take_step : (old : State) (seat n : ℕ) (segs : List Segment) (lease : Lease) → may_take (segment_of n old.segments) ≡ true
     → segs ≡ change n (λ s ss. owned (Some seat) s ∷ ss) old.segments → IsLease seat (segment_of n old.segments) lease

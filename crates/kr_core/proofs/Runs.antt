@@ -18,7 +18,7 @@ use Rattle.kr_core.specs.States.{State, capped, has_remainder, is_owned, is_clos
 use Rattle.kr_core.specs.Steps.{Step, may_take, may_steal, may_report, may_give_up, may_stop, gone, left, stopped, owned, scanned, lowered, stolen}
 use Rattle.kr_core.specs.Kept.{Runs}
 use Rattle.kr_core.specs.Counts.{EndsSpent, TellsFrom, IsHonest, HonestRuns}
-use Rattle.kr_core.proofs.Tests.{and-left, and-right, not-true, owner_known}
+use Rattle.kr_core.proofs.Bools.{and-left, and-right, not-true, owner_known}
 use Rattle.kr_core.proofs.Spent.{within-append, within-length, NoneSpent-append}
 use Rattle.kr_core.proofs.Chains.{IsLink, Lacks, EndsAs, Chain, Front}
 use Rattle.kr_core.proofs.Steps.{kept-take, kept-give_up, kept-steal, reaches, kept-report, kept-report_spent, chain-up}

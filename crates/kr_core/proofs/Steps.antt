@@ -11,7 +11,7 @@ use Rattle.kr_core.specs.States.{capped, has_remainder, is_owned, is_owned_by, i
 use Rattle.kr_core.specs.Steps.{may_report, owned, lowered, stolen, scanned}
 use Rattle.kr_core.specs.Kept.{first_after}
 use Rattle.kr_core.specs.Counts.{EndsSpent}
-use Rattle.kr_core.proofs.Tests.{and-left, and-right, not-true, not-false, owner_known}
+use Rattle.kr_core.proofs.Bools.{and-left, and-right, not-true, not-false, owner_known}
 use Rattle.kr_core.proofs.Spent.{not_both, within-append, within-length, within-none, NoneSpent-append, EndsSpent-append}
 use Rattle.kr_core.proofs.Chains.{IsLink, Lacks, Free, EndsAs, Chain, Front, Change, chain-change}
 

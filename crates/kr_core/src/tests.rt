@@ -5,6 +5,7 @@
 use super::*;
 use kr_base::{Bound, Cut, Span};
 use std::alloc::Global;
+use std::process::Abort;
 use std::test::Fail;
 
 fn cut_of(alloc: Global, text: &str) -> Result<Cut, Fail> {
@@ -191,8 +192,13 @@ fn state_text(alloc: Global, core: &Core) -> Result<String, Fail> {
     Ok(format!(in alloc; "{text} | {next} {past} {end}{flag}")?)
 }
 
-fn opened(rt: &HostRuntime, after: &str, upto: &str, cuts: &[&str]) -> Result<Core, Fail> {
-    let alloc = rt.alloc();
+fn opened(
+    rt: &impl Abort,
+    alloc: Global,
+    after: &str,
+    upto: &str,
+    cuts: &[&str],
+) -> Result<Core, Fail> {
     let span = Span {
         after: cut_of(alloc, after)?,
         upto: bound_of(alloc, upto)?,
@@ -207,8 +213,12 @@ fn opened(rt: &HostRuntime, after: &str, upto: &str, cuts: &[&str]) -> Result<Co
 }
 
 // Takes the events one after another; an empty state stands for the one before.
-fn run(rt: &HostRuntime, core: &mut Core, rows: &[(&str, &str, &str)]) -> Result<(), Fail> {
-    let alloc = rt.alloc();
+fn run(
+    rt: &impl Abort,
+    alloc: Global,
+    core: &mut Core,
+    rows: &[(&str, &str, &str)],
+) -> Result<(), Fail> {
     for (line, reply, state) in rows {
         let before = state_text(alloc, core)?;
         let event = event_of(alloc, line)?;
@@ -250,7 +260,7 @@ fn openings(rt: HostRuntime) -> Result<(), Fail> {
         ("2", "1", none, "0 - 2 2 2 0 0 | 1 0 2"),
         ("2", "2", none, "0 - 2 2 2 0 0 | 1 0 2"),
     ] {
-        let core = opened(&rt, after, upto, cuts)?;
+        let core = opened(&rt, rt.alloc(), after, upto, cuts)?;
         assert_eq!(rt; state_text(rt.alloc(), &core)?.as_str(), state);
     }
     Ok(())
@@ -280,9 +290,10 @@ fn refused_cuts(rt: HostRuntime) -> Result<(), Fail> {
 
 #[test]
 fn three_segments(rt: HostRuntime) -> Result<(), Fail> {
-    let mut core = opened(&rt, ".", "end", &["1", "2"])?;
+    let mut core = opened(&rt, rt.alloc(), ".", "end", &["1", "2"])?;
     run(
         &rt,
+        rt.alloc(),
         &mut core,
         &[
             (
@@ -347,9 +358,10 @@ fn three_segments(rt: HostRuntime) -> Result<(), Fail> {
 
 #[test]
 fn stop_at_the_first_of_several(rt: HostRuntime) -> Result<(), Fail> {
-    let mut core = opened(&rt, ".", "3", &["1"])?;
+    let mut core = opened(&rt, rt.alloc(), ".", "3", &["1"])?;
     run(
         &rt,
+        rt.alloc(),
         &mut core,
         &[
             (
@@ -379,9 +391,10 @@ fn stop_at_the_first_of_several(rt: HostRuntime) -> Result<(), Fail> {
 
 #[test]
 fn greatest_counts(rt: HostRuntime) -> Result<(), Fail> {
-    let mut core = opened(&rt, ".", "end", &["1"])?;
+    let mut core = opened(&rt, rt.alloc(), ".", "end", &["1"])?;
     run(
         &rt,
+        rt.alloc(),
         &mut core,
         &[
             (
@@ -422,9 +435,10 @@ fn greatest_counts(rt: HostRuntime) -> Result<(), Fail> {
 
 #[test]
 fn events_that_fit_nowhere(rt: HostRuntime) -> Result<(), Fail> {
-    let mut core = opened(&rt, ".", "end", &["1", "2"])?;
+    let mut core = opened(&rt, rt.alloc(), ".", "end", &["1", "2"])?;
     run(
         &rt,
+        rt.alloc(),
         &mut core,
         &[
             (
@@ -473,9 +487,10 @@ fn events_that_fit_nowhere(rt: HostRuntime) -> Result<(), Fail> {
 fn a_span_with_nothing_in_it(rt: HostRuntime) -> Result<(), Fail> {
     kept_law();
     counting_law::<u8>();
-    let mut core = opened(&rt, "2", "1", &[])?;
+    let mut core = opened(&rt, rt.alloc(), "2", "1", &[])?;
     run(
         &rt,
+        rt.alloc(),
         &mut core,
         &[
             ("take 0 0", "illegal", ""),

@@ -1,4 +1,4 @@
--- What tests say.
+-- What the tests of a condition say.
 use Rattle.std.proofs.Common.{◌≡◌, ℕ, Bool, true, false, ◌&&◌, not, refl, Option, Some, None}
 use Rattle.kr_core.specs.States.{is_owned, is_owned_by}
 
