@@ -234,7 +234,11 @@ fn run(
         assert_eq!(rt; answer.as_str(), *reply, "at {line}");
         assert_eq!(rt; fits, *reply != "illegal", "at {line}");
         let after = state_text(alloc, core)?;
-        let wanted = if state.is_empty() { before.as_str() } else { *state };
+        let wanted = if state.is_empty() {
+            before.as_str()
+        } else {
+            *state
+        };
         assert_eq!(rt; after.as_str(), wanted, "after {line}");
     }
     Ok(())
@@ -283,7 +287,10 @@ fn refused_cuts(rt: HostRuntime) -> Result<(), Fail> {
         let mut cuts = Vec::new(alloc);
         cuts.push(cut_of(alloc, first)?)?;
         cuts.push(cut_of(alloc, second)?)?;
-        assert!(rt; !Core::can_open(&span, cuts.as_slice()), "at {first} and {second}");
+        assert!(rt;
+            !Core::can_open(&span, cuts.as_slice()),
+            "at {first} and {second}"
+        );
     }
     Ok(())
 }
@@ -498,4 +505,27 @@ fn a_span_with_nothing_in_it(rt: HostRuntime) -> Result<(), Fail> {
             ("stop 2", "noted", ""),
         ],
     )
+}
+
+#[test]
+fn what_segments_tell(rt: HostRuntime) -> Result<(), Fail> {
+    let alloc = rt.alloc();
+    let mut core = opened(&rt, alloc, ".", "end", &["1", "2"])?;
+    for line in ["take 5 0", "report 5 0 1 0 1", "take 6 1"] {
+        let answer = core.apply(event_of(alloc, line)?);
+        assert!(rt; answer.is_ok(), "at {line}");
+    }
+    let mut told = String::new(alloc);
+    for segment in core.segments() {
+        let remainder = segment.has_remainder();
+        let owned = segment.is_owned();
+        let by_six = segment.is_owned_by(6);
+        let closed = segment.is_closed();
+        told = format!(in alloc; "{told}{remainder} {owned} {by_six} {closed}; ")?;
+    }
+    assert_eq!(rt;
+        told.as_str(),
+        "false false false true; true true true false; true false false false; "
+    );
+    Ok(())
 }
