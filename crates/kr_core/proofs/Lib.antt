@@ -10,3 +10,4 @@ pub mod Steps
 pub mod Runs
 pub mod Begins
 pub mod Ends
+pub mod Logs
