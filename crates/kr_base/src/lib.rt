@@ -19,3 +19,6 @@ pub use place::Place;
 pub use sink::{Failed, Sink, put_all};
 pub use span::{Bound, Span};
 pub use words::Words;
+
+#[cfg(test)]
+mod tests;

@@ -25,13 +25,15 @@ pub struct MemFiles {
 }
 
 impl MemFiles {
-    ghost use Rattle.kr_io.specs.Memory.{files_held, files_faults, files_last};
+    ghost use Rattle.kr_io.specs.Memory.{files_held, files_faults, files_last, files_failing, files_calls};
 
     /// Files of these names and bytes. Of two of one name the first is read.
     pub fn new(alloc: Global, files: Vec<MemFile>, failing: Vec<u32>) -> Self
         ensures held { (name : List ℕ) → files_held result name ≡ held_by files.items name }
         ensures faults { files_faults result ≡ 0 }
         ensures last { files_last result ≡ None }
+        ensures failing { files_failing result ≡ failing.items }
+        ensures calls { files_calls result ≡ 0 }
     {
         MemFiles {
             alloc,
@@ -56,13 +58,25 @@ fn find<'a>(files: &'a [MemFile], name: &str) -> Option<&'a [u8]>
 }
 
 impl Files for MemFiles {
+    ghost use Rattle.std.specs.Prelude.{true, false, IfOk, IsErrOf};
+    ghost use Rattle.kr_io.specs.Reads.{Reads};
+    ghost use Rattle.kr_io.specs.Memory.{files_held, files_faults, files_last, files_failing, files_calls};
+    ghost use Rattle.kr_io.specs.Memory.{next_call, read_fails};
+    ghost use Rattle.kr_io.specs.declared.files.ReadRefusal.TheVariants.{Failed};
+
     ghost held = { λ s name. held_by s.files.items name };
 
     ghost faults = { λ s. s.faults };
 
     ghost last = { λ s. option_map string_bytes s.last };
 
-    fn read(&mut self, name: &str, most: usize) -> Result<Vec<u8>, ReadRefusal> {
+    fn read(&mut self, name: &str, most: usize) -> Result<Vec<u8>, ReadRefusal>
+        ensures reads { Reads files_held files_faults files_last self.old self.new name.now most result }
+        ensures call { files_calls self.new ≡ next_call (files_calls self.old) }
+        ensures fault { IsErrOf result Failed → read_fails self.old name.now ≡ true }
+        ensures passes { IfOk result (λ _. read_fails self.old name.now ≡ false) }
+        ensures alike { files_failing self.new ≡ files_failing self.old }
+    {
         self.calls = self.calls.saturating_add(1);
         let kept = String::from_str(self.alloc, name)?;
         let found = if self.failing.contains(&self.calls) {

@@ -34,7 +34,7 @@ pub struct MemSink {
 }
 
 impl MemSink {
-    ghost use Rattle.kr_io.specs.Memory.{sink_bytes, sink_faults};
+    ghost use Rattle.kr_io.specs.Memory.{sink_bytes, sink_faults, sink_capacity, sink_step, sink_failing, sink_calls};
 
     /// An empty sink. It takes all of its memory now.
     pub fn new(
@@ -46,6 +46,10 @@ impl MemSink {
         requires { 0 < step }
         ensures empty { IfOk result (λ s. sink_bytes s ≡ []) }
         ensures faults { IfOk result (λ s. sink_faults s ≡ 0) }
+        ensures capacity { IfOk result (λ s. sink_capacity s ≡ capacity) }
+        ensures step { IfOk result (λ s. sink_step s ≡ step) }
+        ensures failing { IfOk result (λ s. sink_failing s ≡ failing.items) }
+        ensures calls { IfOk result (λ s. sink_calls s ≡ 0) }
     {
         let bytes = Vec::with_capacity(alloc, capacity)?;
         Ok(MemSink {
@@ -67,11 +71,23 @@ impl MemSink {
 }
 
 impl Sink for MemSink {
+    ghost use Rattle.std.specs.Prelude.{true, false, min, length, IsErr};
+    ghost use Rattle.kr_base.specs.Told.{Puts};
+    ghost use Rattle.kr_io.specs.Memory.{sink_bytes, sink_faults, sink_calls, sink_step, sink_room};
+    ghost use Rattle.kr_io.specs.Memory.{next_call, put_fails, IsMadeAlike};
+
     ghost taken = { λ s. Some s.bytes.items };
 
     ghost faults = { λ s. s.faults };
 
-    fn put(&mut self, piece: &[u8]) -> Result<usize, Failed> {
+    fn put(&mut self, piece: &[u8]) -> Result<usize, Failed>
+        ensures puts { Puts (λ s. Some (sink_bytes s)) sink_faults self.old self.new piece.now result }
+        ensures call { sink_calls self.new ≡ next_call (sink_calls self.old) }
+        ensures fault { IsErr result → put_fails self.old piece.now ≡ true }
+        ensures passes { IfOk result (λ _. put_fails self.old piece.now ≡ false) }
+        ensures count { IfOk result (λ n. n ≡ min (min (length piece.now) (sink_step self.old)) (sink_room self.old)) }
+        ensures alike { IsMadeAlike self.old self.new }
+    {
         self.calls = self.calls.saturating_add(1);
         let room = self.capacity - self.bytes.len();
         if self.failing.contains(&self.calls) || room == 0 && !piece.is_empty() {

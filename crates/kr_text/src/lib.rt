@@ -7,3 +7,6 @@ mod texts;
 pub use kr_base::put_all;
 pub use line::Line;
 pub use texts::{put_decimal, put_pieces, put_place, put_refusal};
+
+#[cfg(test)]
+mod tests;

@@ -12,11 +12,12 @@ pub struct Line {
 }
 
 impl Line {
-    ghost use Rattle.kr_text.specs.Lines.{line_bytes};
+    ghost use Rattle.kr_text.specs.Lines.{line_bytes, line_faults};
 
     /// An empty line. It takes no memory.
     pub fn new(alloc: Global) -> Self
-        ensures { line_bytes result ≡ [] }
+        ensures empty { line_bytes result ≡ [] }
+        ensures faults { line_faults result ≡ 0 }
     {
         Line {
             bytes: Vec::new(alloc),
@@ -33,7 +34,8 @@ impl Line {
 
     /// Empties the line, and keeps its memory.
     pub fn clear(&mut self)
-        ensures { line_bytes self.new ≡ [] }
+        ensures empty { line_bytes self.new ≡ [] }
+        ensures faults { line_faults self.new ≡ line_faults self.old }
     {
         self.bytes.clear();
     }
