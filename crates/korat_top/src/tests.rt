@@ -1,4 +1,6 @@
 // What a call answers and writes over files and sinks in memory, worked by hand from the files.
+ghost use Rattle.std.specs.Prelude.{◌<◌};
+
 use crate::run;
 use kr_base::{NoMemory, Words};
 use kr_io::{MemFile, MemFiles, MemSink, OpenGate};
@@ -51,7 +53,7 @@ fn files_of(alloc: Global, files: &[(&str, &str)], failing: &[u32]) -> Result<Me
 /// A text, with line feeds behind it up to a length.
 fn padded(alloc: Global, text: &str, length: usize) -> Result<String, NoMemory> {
     let mut all = String::from_str(alloc, text)?;
-    while all.len() < length {
+    for _ in text.len()..length {
         all.push_str("\n")?;
     }
     Ok(all)
