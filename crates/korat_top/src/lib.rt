@@ -12,3 +12,6 @@ mod words;
 
 pub use laws::one_answer;
 pub use top::run;
+
+#[cfg(test)]
+mod tests;

@@ -1,0 +1,314 @@
+// What a call answers and writes over files and sinks in memory, worked by hand from the files.
+ghost use Rattle.std.specs.Prelude.{◌<◌};
+
+use crate::run;
+use kr_base::{NoMemory, Words};
+use kr_io::{MemFile, MemFiles, MemSink, OpenGate};
+use std::alloc::Global;
+use std::test::Fail;
+
+const CELL: &str = "class Cell { int v; boolean repOk() { return v > 0; } }";
+
+const TWO_FIELDS: &str = "class P { int v; int w; boolean repOk() { return v > 0; } }";
+
+const FIN: &str =
+    "root = \"Cell\"\nfuel = 1000\n[objects]\nCell = 1\n[fields]\n\"Cell.v\" = [{ from = 0, to = 2 }]\n";
+
+const FUEL_OF_FIVE: &str =
+    "root = \"Cell\"\nfuel = 5\n[objects]\nCell = 1\n[fields]\n\"Cell.v\" = [{ from = 0, to = 2 }]\n";
+
+const LIST: [&str; 3] = ["list", "fin.toml", "Cell.java"];
+
+const LISTED: &str = "0.1 Cell#0{v=1}\n0.2 Cell#0{v=2}\nvalid 2 tried 3\n";
+
+const USAGE_FAULT: &str = "usage fault\n";
+
+/// The longest file that is taken.
+const LIMIT: usize = 1_048_576;
+
+fn words_of(alloc: Global, words: &[&str]) -> Result<Words, NoMemory> {
+    let mut all = Words::new(alloc);
+    for word in words {
+        all.push(word)?;
+    }
+    Ok(all)
+}
+
+fn file_of(alloc: Global, name: &str, text: &str) -> Result<MemFile, NoMemory> {
+    Ok(MemFile {
+        name: String::from_str(alloc, name)?,
+        bytes: Vec::from_slice(alloc, text.as_bytes())?,
+    })
+}
+
+/// Files of these names and texts, and the numbers of the reads that fail.
+fn files_of(alloc: Global, files: &[(&str, &str)], failing: &[u32]) -> Result<MemFiles, NoMemory> {
+    let mut all = Vec::new(alloc);
+    for (name, text) in files {
+        all.push(file_of(alloc, name, text)?)?;
+    }
+    Ok(MemFiles::new(alloc, all, Vec::from_slice(alloc, failing)?))
+}
+
+/// A text, with line feeds behind it up to a length.
+fn padded(alloc: Global, text: &str, length: usize) -> Result<String, NoMemory> {
+    let mut all = String::from_str(alloc, text)?;
+    for _ in text.len()..length {
+        all.push_str("\n")?;
+    }
+    Ok(all)
+}
+
+/// `class Cell` whose field is compared with a number.
+fn source_of(alloc: Global, test: &str) -> Result<String, NoMemory> {
+    let mut text = String::from_str(alloc, "class Cell { int v; boolean repOk() { return v ")?;
+    text.push_str(test)?;
+    text.push_str("; } }")?;
+    Ok(text)
+}
+
+/// The cell's finitization, with these values of its field.
+fn finitization_of(alloc: Global, range: &str) -> Result<String, NoMemory> {
+    let mut text = String::from_str(alloc, "fuel = 6\nroot = 'Cell'\nobjects.Cell = 1\n")?;
+    text.push_str("fields = { 'Cell.v' = [{ ")?;
+    text.push_str(range)?;
+    text.push_str(" }] }\n")?;
+    Ok(text)
+}
+
+/// The cell's two files.
+fn cell(alloc: Global) -> Result<MemFiles, NoMemory> {
+    files_of(alloc, &[("fin.toml", FIN), ("Cell.java", CELL)], &[])
+}
+
+/// The status of a call with these words, over these files and an output of any room.
+fn call(
+    alloc: Global,
+    words: &[&str],
+    mut files: MemFiles,
+    out: &mut MemSink,
+) -> Result<u8, NoMemory> {
+    let words = words_of(alloc, words)?;
+    Ok(run(&(), alloc, &words, &mut files, out, &OpenGate))
+}
+
+/// An output that takes a kilobyte, `step` bytes a put.
+fn output(alloc: Global, step: usize) -> Result<MemSink, NoMemory>
+    requires { 0 < step }
+{
+    MemSink::new(alloc, 1024, step, Vec::new(alloc))
+}
+
+#[test]
+fn listings(rt: HostRuntime) -> Result<(), Fail> {
+    let alloc = rt.alloc();
+    for (test, range, listed) in [
+        ("> 0", "from = 0, to = 2", LISTED),
+        ("> 2", "from = 0, to = 2", "valid 0 tried 3\n"),
+        (
+            "> 1",
+            "from = 0, to = 2",
+            "0.2 Cell#0{v=2}\nvalid 1 tried 3\n",
+        ),
+        (
+            "< 1",
+            "from = 0, to = 2",
+            "0.0 Cell#0{v=0}\nvalid 1 tried 3\n",
+        ),
+        (
+            ">= 1",
+            "from = 0, to = 2",
+            "0.1 Cell#0{v=1}\n0.2 Cell#0{v=2}\nvalid 2 tried 3\n",
+        ),
+        (
+            "<= 1",
+            "from = 0, to = 2",
+            "0.0 Cell#0{v=0}\n0.1 Cell#0{v=1}\nvalid 2 tried 3\n",
+        ),
+        (
+            "== 1",
+            "from = 0, to = 2",
+            "0.1 Cell#0{v=1}\nvalid 1 tried 3\n",
+        ),
+        (
+            "!= 1",
+            "from = 0, to = 2",
+            "0.0 Cell#0{v=0}\n0.2 Cell#0{v=2}\nvalid 2 tried 3\n",
+        ),
+        (
+            "> 0",
+            "from = 5, to = 5",
+            "0.0 Cell#0{v=5}\nvalid 1 tried 1\n",
+        ),
+        (
+            "< 0",
+            "from = -2, to = 1",
+            "0.0 Cell#0{v=-2}\n0.1 Cell#0{v=-1}\nvalid 2 tried 4\n",
+        ),
+        (
+            ">= 2147483647",
+            "from = 2147483646, to = 2147483647",
+            "0.1 Cell#0{v=2147483647}\nvalid 1 tried 2\n",
+        ),
+        (
+            "< 2147483647",
+            "from = -2147483648, to = -2147483648",
+            "0.0 Cell#0{v=-2147483648}\nvalid 1 tried 1\n",
+        ),
+        (
+            "> 8",
+            "from = 0, to = 10",
+            "0.9 Cell#0{v=9}\n0.10 Cell#0{v=10}\nvalid 2 tried 11\n",
+        ),
+    ] {
+        let source = source_of(alloc, test)?;
+        let fin = finitization_of(alloc, range)?;
+        let files = files_of(alloc, &[("fin.toml", &fin), ("Cell.java", &source)], &[])?;
+        let mut out = output(alloc, 1024)?;
+        assert_eq!(rt; call(alloc, &LIST, files, &mut out)?, 0, "{test}, {range}");
+        assert_eq!(rt; out.bytes(), listed.as_bytes(), "{test}, {range}");
+    }
+    Ok(())
+}
+
+#[test]
+fn words(rt: HostRuntime) -> Result<(), Fail> {
+    let alloc = rt.alloc();
+    let table: [(&[&str], u8, &str); 17] = [
+        (&["list", "fin.toml", "Cell.java"], 0, LISTED),
+        (
+            &["list", "five.toml", "Cell.java"],
+            4,
+            "five.toml: N0 form\n",
+        ),
+        (&["list", "fin.toml", "P.java"], 3, "P.java:1:1: N0\n"),
+        (&["list", "five.toml", "P.java"], 3, "P.java:1:1: N0\n"),
+        (
+            &["list", "none.toml", "P.java"],
+            6,
+            "read fault none.toml\n",
+        ),
+        (&["list", "five.toml", "N.java"], 6, "read fault N.java\n"),
+        (
+            &["list", "none.toml", "N.java"],
+            6,
+            "read fault none.toml\n",
+        ),
+        (&["list", "", "Cell.java"], 6, "read fault \n"),
+        (&["list", "fin.toml", ""], 6, "read fault \n"),
+        (&[], 2, USAGE_FAULT),
+        (&["list"], 2, USAGE_FAULT),
+        (&["list", "fin.toml"], 2, USAGE_FAULT),
+        (
+            &["list", "fin.toml", "Cell.java", "Cell.java"],
+            2,
+            USAGE_FAULT,
+        ),
+        (&["test", "fin.toml", "Cell.java"], 2, USAGE_FAULT),
+        (&["list", "-x", "Cell.java"], 2, USAGE_FAULT),
+        (&["list", "fin.toml", "-x"], 2, USAGE_FAULT),
+        (&["list", "fin.toml", "-"], 2, USAGE_FAULT),
+    ];
+    for (words, status, text) in table {
+        let files = files_of(
+            alloc,
+            &[
+                ("fin.toml", FIN),
+                ("five.toml", FUEL_OF_FIVE),
+                ("Cell.java", CELL),
+                ("P.java", TWO_FIELDS),
+            ],
+            &[],
+        )?;
+        let mut out = output(alloc, 3)?;
+        assert_eq!(rt; call(alloc, words, files, &mut out)?, status, "{text}");
+        assert_eq!(rt; out.bytes(), text.as_bytes());
+    }
+    Ok(())
+}
+
+#[test]
+fn failing_reads(rt: HostRuntime) -> Result<(), Fail> {
+    let alloc = rt.alloc();
+    // Nothing is judged before both files are read.
+    for (failing, source, text) in [
+        (1, CELL, "read fault fin.toml\n"),
+        (2, CELL, "read fault Cell.java\n"),
+        (2, TWO_FIELDS, "read fault Cell.java\n"),
+    ] {
+        let files = files_of(
+            alloc,
+            &[("fin.toml", FIN), ("Cell.java", source)],
+            &[failing],
+        )?;
+        let mut out = output(alloc, 1024)?;
+        assert_eq!(rt; call(alloc, &LIST, files, &mut out)?, 6, "{text}");
+        assert_eq!(rt; out.bytes(), text.as_bytes());
+    }
+    Ok(())
+}
+
+#[test]
+fn small_steps(rt: HostRuntime) -> Result<(), Fail> {
+    let alloc = rt.alloc();
+    for step in 1..6 {
+        let mut out = output(alloc, step)?;
+        assert_eq!(rt; call(alloc, &LIST, cell(alloc)?, &mut out)?, 0, "{step}");
+        assert_eq!(rt; out.bytes(), LISTED.as_bytes(), "{step}");
+    }
+    Ok(())
+}
+
+#[test]
+fn failing_puts(rt: HostRuntime) -> Result<(), Fail> {
+    let alloc = rt.alloc();
+    let mut out = MemSink::new(alloc, 1024, 4, vec![in alloc; 2]?)?;
+    assert_eq!(rt; call(alloc, &LIST, cell(alloc)?, &mut out)?, 7);
+    assert!(rt; out.bytes().len() <= 4);
+    assert!(rt; LISTED.as_bytes().starts_with(out.bytes()));
+    // The texts of each other status, cut short.
+    let table: [(&[&str], &str); 4] = [
+        (&["list"], "us"),
+        (&["list", "Cell.java", "fin.toml"], "fi"),
+        (&["list", "Cell.java", "Cell.java"], "Ce"),
+        (&["list", "none.toml", "Cell.java"], "re"),
+    ];
+    for (words, front) in table {
+        let mut out = MemSink::new(alloc, 2, 1, Vec::new(alloc))?;
+        assert_eq!(rt; call(alloc, words, cell(alloc)?, &mut out)?, 7, "{front}");
+        assert_eq!(rt; out.bytes(), front.as_bytes());
+    }
+    Ok(())
+}
+
+#[test]
+fn full_outputs(rt: HostRuntime) -> Result<(), Fail> {
+    let alloc = rt.alloc();
+    let whole = LISTED.len();
+    for room in 0..whole + 1 {
+        let mut out = MemSink::new(alloc, room, 5, Vec::new(alloc))?;
+        let status = call(alloc, &LIST, cell(alloc)?, &mut out)?;
+        assert_eq!(rt; status, if room < whole { 7 } else { 0 }, "{room}");
+        assert_eq!(rt; out.bytes().len(), room);
+        assert!(rt; LISTED.as_bytes().starts_with(out.bytes()), "{room}");
+    }
+    Ok(())
+}
+
+#[test]
+fn long_files(rt: HostRuntime) -> Result<(), Fail> {
+    let alloc = rt.alloc();
+    for (fin, source, status, text) in [
+        (LIMIT, LIMIT, 0, LISTED),
+        (LIMIT + 1, LIMIT, 4, "fin.toml: N0 form\n"),
+        (LIMIT, LIMIT + 1, 3, "Cell.java:1:1: N0\n"),
+    ] {
+        let fin = padded(alloc, FIN, fin)?;
+        let source = padded(alloc, CELL, source)?;
+        let files = files_of(alloc, &[("fin.toml", &fin), ("Cell.java", &source)], &[])?;
+        let mut out = output(alloc, 1024)?;
+        assert_eq!(rt; call(alloc, &LIST, files, &mut out)?, status);
+        assert_eq!(rt; out.bytes(), text.as_bytes());
+    }
+    Ok(())
+}
