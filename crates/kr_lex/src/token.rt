@@ -1,8 +1,10 @@
 // The tokens of a source, as a list that keeps no memory for each of them but one small entry.
-ghost use Rattle.std.specs.Prelude.{◌≡◌, ◌<◌, length};
+ghost use Rattle.std.specs.Prelude.{◌≡◌, ◌+◌, ◌<◌, ◌≤◌, ◌^◌, length};
 ghost use Rattle.kr_lex.specs.Lexemes.{lexeme_at, number_value};
+ghost use Rattle.kr_lex.specs.Entries.{shown, AreEntries};
 
 use crate::Kind;
+use crate::cursor::Cursor;
 use kr_base::Place;
 use std::marker::Model;
 
@@ -14,6 +16,27 @@ pub struct Token {
     pub col: u32,
     pub start: u32,
     pub end: u32,
+}
+
+impl Token {
+    /// The token of that kind and length at a cursor.
+    pub fn new(cursor: Cursor, kind: Kind, len: usize) -> Token
+        requires column { cursor.origin ≤ cursor.at }
+        requires room { cursor.at + len < 2 ^ 30 }
+        ensures kind { result.kind ≡ kind }
+        ensures line { result.line ≡ cursor.line }
+        ensures col { result.col + cursor.origin ≡ cursor.at + 1 }
+        ensures start { result.start ≡ cursor.at }
+        ensures end { result.end ≡ cursor.at + len }
+    {
+        Token {
+            kind,
+            line: cursor.line,
+            col: (cursor.at + 1 - cursor.origin) as u32,
+            start: cursor.at as u32,
+            end: (cursor.at + len) as u32,
+        }
+    }
 }
 
 /// The tokens of a source. Contracts see the list of them, each with its spelling and its place, and the place just
@@ -30,14 +53,22 @@ impl Model for Tokens {
 
     ghost Value = { Lexemes };
 
-    ghost use Rattle.kr_lex.specs.Entries.{shown, AreWithin};
+    ghost use Rattle.kr_lex.specs.Entries.{shown, AreEntries};
 
     ghost view = { λ t. shown t.end t.source.items t.items.items };
 
-    ghost invariant = { λ t. AreWithin t.source.items t.items.items };
+    ghost invariant = { λ t. AreEntries t.source.items t.items.items };
 }
 
 impl Tokens {
+    /// The tokens of these entries.
+    pub(crate) fn new(source: Vec<u8>, items: Vec<Token>, end: Place) -> Tokens
+        requires { AreEntries source.items items.items }
+        ensures { result ≡ shown end source.items items.items }
+    {
+        Tokens { source, items, end }
+    }
+
     pub fn len(&self) -> usize
         ensures { result ≡ length self.now.list }
     {
