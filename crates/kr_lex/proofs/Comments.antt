@@ -11,8 +11,7 @@ bytes_at text other more e =
     let first : get_or (other ++ 42 ∷ 47 ∷ more) (length other) 0 ≡ 42 = get_or_at other 42 (47 ∷ more) 0 (length other) refl in
     let split : other ++ 42 ∷ 47 ∷ more ≡ (other ++ 42 ∷ []) ++ 47 ∷ more = sym (append_assoc other (42 ∷ []) (47 ∷ more)) in
     let long : length (other ++ 42 ∷ []) ≡ length other + 1 = length-append other (42 ∷ []) in
-    let second : get_or ((other ++ 42 ∷ []) ++ 47 ∷ more) (length other + 1) 0 ≡ 47 = get_or_at (other ++ 42 ∷ []) 47 more 0 (length other + 1) long in
-    (
+    let second : get_or ((other ++ 42 ∷ []) ++ 47 ∷ more) (length other + 1) 0 ≡ 47 = get_or_at (other ++ 42 ∷ []) 47 more 0 (length other + 1) long in (
       ap (λ t. get_or t (length other) 0) e ∙ first,
       ap (λ t. get_or t (length other + 1) 0) (e ∙ split) ∙ second,
       omega (arith, ap length e, length-append other (42 ∷ 47 ∷ more)),
@@ -33,10 +32,9 @@ block_gap text n l p q h =
     let size : length body ≡ n = length-take-le n (drop 2 text) (omega (arith, h.within)) in
     let left : drop 2 text ≡ body ++ 42 ∷ 47 ∷ drop (n + 4) text = h.closed ∙ ap (λ r. body ++ 42 ∷ 47 ∷ r) rest in
     let whole : text ≡ (47 ∷ 42 ∷ body ++ 42 ∷ 47 ∷ []) ++ drop (n + 4) text =
-        two_front text 47 42 l p q ∙ (ap (λ t. 47 ∷ 42 ∷ t) left ∙ sym (append_assoc (47 ∷ 42 ∷ body) (42 ∷ 47 ∷ []) (drop (n + 4) text))) in
+    two_front text 47 42 l p q ∙ (ap (λ t. 47 ∷ 42 ∷ t) left ∙ sym (append_assoc (47 ∷ 42 ∷ body) (42 ∷ 47 ∷ []) (drop (n + 4) text))) in
     let long : length (47 ∷ 42 ∷ body ++ 42 ∷ 47 ∷ []) ≡ n + 4 = omega (arith, length-append body (42 ∷ 47 ∷ []), size) in
-    let front : take (n + 4) text ≡ 47 ∷ 42 ∷ body ++ 42 ∷ 47 ∷ [] = ap (take (n + 4)) whole ∙ take_at (47 ∷ 42 ∷ body ++ 42 ∷ 47 ∷ []) (drop (n + 4) text) (n + 4) long in
-    (
+    let front : take (n + 4) text ≡ 47 ∷ 42 ∷ body ++ 42 ∷ 47 ∷ [] = ap (take (n + 4)) whole ∙ take_at (47 ∷ 42 ∷ body ++ 42 ∷ 47 ∷ []) (drop (n + 4) text) (n + 4) long in (
       within,
       block (record {
         body = body;

@@ -54,13 +54,13 @@ module _ (bytes : List ℕ) (valid : ℕ) (v : IsValidLength bytes valid) where
       let n = length front in
       let long : length (front ++ b ∷ []) ≡ n + 1 = length-append front (b ∷ []) in
       let there : slice_index bytes n ≡ b =
-          ap (λ t. slice_index t n) e ∙ (get_or_append_left (front ++ b ∷ []) rest 0 n (omega (arith, long)) ∙ get_or_at front b [] 0 n refl) in
+      ap (λ t. slice_index t n) e ∙ (get_or_append_left (front ++ b ∷ []) rest 0 n (omega (arith, long)) ∙ get_or_at front b [] 0 n refl) in
       let in_valid : slice_index (take valid bytes) n ≡ b = get_or-take valid bytes n 0 (omega (arith, long, l)) ∙ there in
       let long_valid : length (take valid bytes) ≡ valid = length-take-le valid bytes (valid_within bytes valid v) in
       let boundary = IsCharBoundary-after_ascii (take valid bytes) n (valid_utf8 bytes valid v) (omega (arith, long_valid, long, l)) (omega (arith, in_valid, low)) in
       let cut = IsUtf8-take (take valid bytes) (n + 1) (valid_utf8 bytes valid v) boundary in
       let same : take (n + 1) (take valid bytes) ≡ front ++ b ∷ [] =
-          take-take (n + 1) valid bytes (omega (arith, long, l)) ∙ (ap (take (n + 1)) e ∙ take_at (front ++ b ∷ []) rest (n + 1) long) in
+      take-take (n + 1) valid bytes (omega (arith, long, l)) ∙ (ap (take (n + 1)) e ∙ take_at (front ++ b ∷ []) rest (n + 1) long) in
       rw same at cut
 
   cut_before : (front rest : List ℕ) → bytes ≡ front ++ rest → EndsLine rest → length front ≤ valid → IsUtf8 front
@@ -92,7 +92,7 @@ module _ (bytes : List ℕ) (valid : ℕ) (v : IsValidLength bytes valid) where
   gap_utf8 front part rest e (block h) l =
       let inner : List ℕ = (47 ∷ 42 ∷ h.body) ++ 42 ∷ [] in
       let z : front ++ part ≡ (front ++ inner) ++ 47 ∷ [] =
-          ap (λ t. front ++ t) (h.spelled ∙ sym (append_assoc (47 ∷ 42 ∷ h.body) (42 ∷ []) (47 ∷ []))) ∙ sym (append_assoc front inner (47 ∷ [])) in
+      ap (λ t. front ++ t) (h.spelled ∙ sym (append_assoc (47 ∷ 42 ∷ h.body) (42 ∷ []) (47 ∷ []))) ∙ sym (append_assoc front inner (47 ∷ [])) in
       let low : 47 < 128 = omega arith in
       let long : length ((front ++ inner) ++ 47 ∷ []) ≤ valid = omega (arith, ap length z, l) in
       rw z (cut_behind (front ++ inner) rest 47 (e ∙ ap (λ t. t ++ rest) z) low long)

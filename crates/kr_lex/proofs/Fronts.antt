@@ -116,6 +116,7 @@ same_char text more rest c d e z = (encode_same c d more rest (sym e ∙ z)).0
 
 -- the test of the character that begins the text
 pub starts_iff : (text : List ℕ) (h : BeginsCharacter text) (b : Bool) → b ≡ is_start h.char → (IsTrue b → StartsName text) × (StartsName text → IsTrue b)
-starts_iff text h b e =
-    (λ t. record { char = h.char; rest = h.rest; scalar = h.scalar; starts = sym e ∙ t; spelled = h.spelled },
-    λ s. e ∙ (ap is_start (same_char text h.rest s.rest h.char s.char h.spelled s.spelled) ∙ s.starts))
+starts_iff text h b e = (
+  λ t. record { char = h.char; rest = h.rest; scalar = h.scalar; starts = sym e ∙ t; spelled = h.spelled },
+  λ s. e ∙ (ap is_start (same_char text h.rest s.rest h.char s.char h.spelled s.spelled) ∙ s.starts),
+)

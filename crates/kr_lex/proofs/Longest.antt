@@ -62,7 +62,7 @@ module _ (text : List ℕ) (n : ℕ) (w : IsWordLength text n) where
           cc
       go (c ∷ cs) p e =
           let z : text ≡ encode_utf8 c ++ (encode_utf8_all cs ++ drop n text) =
-              sym (take-append-drop n text) ∙ (ap (λ t. t ++ drop n text) e ∙ append_assoc (encode_utf8 c) (encode_utf8_all cs) (drop n text)) in
+          sym (take-append-drop n text) ∙ (ap (λ t. t ++ drop n text) e ∙ append_assoc (encode_utf8 c) (encode_utf8_all cs) (drop n text)) in
           let same : c ≡ h.char = same_char text (encode_utf8_all cs ++ drop n text) h.rest c h.char z h.spelled in
           record { first = c; others = cs; scalar = p.0.0; starts = ap is_start same ∙ h.starts; parts = p.1; spelled = e }
 
@@ -102,7 +102,7 @@ module _ (text : List ℕ) (s : IsSymbolic text) where
   pub only_fixed : (kind : Kind) (part rest : List ℕ) → text ≡ part ++ rest → IsToken kind part rest → (0 < length (spelling kind)) × (part ≡ spelling kind)
   only_fixed kind part rest e (name k h other) =
       let z : text ≡ encode_utf8 h.first ++ (encode_utf8_all h.others ++ rest) =
-          e ∙ (ap (λ t. t ++ rest) h.spelled ∙ append_assoc (encode_utf8 h.first) (encode_utf8_all h.others) rest) in
+      e ∙ (ap (λ t. t ++ rest) h.spelled ∙ append_assoc (encode_utf8 h.first) (encode_utf8_all h.others) rest) in
       absurd (s.no_name (record { char = h.first; rest = encode_utf8_all h.others ++ rest; scalar = h.scalar; starts = h.starts; spelled = z }))
   only_fixed kind part rest e (number k h w) =
       let first : slice_index text 0 ≡ slice_index part 0 = ap (λ t. slice_index t 0) e ∙ first_byte part rest h.some in
@@ -158,7 +158,7 @@ module _ (text : List ℕ) (s : IsSymbolic text) where
           let c = char_is (slice_index (spelling kind) 0) others q.0 (ap (λ x. slice_index x 0) e) in
           let k = single kind symbol in
           let z : text ≡ slice_index (spelling kind) 0 ∷ s.character.rest =
-              s.character.spelled ∙ ap (λ x. x ++ s.character.rest) (ap encode_utf8 c ∙ encode_ascii (slice_index (spelling kind) 0) q.0) in
+          s.character.spelled ∙ ap (λ x. x ++ s.character.rest) (ap encode_utf8 c ∙ encode_ascii (slice_index (spelling kind) 0) q.0) in
           h k.kind s.character.rest (omega (arith, ap length k.spelled)) (z ∙ ap (λ x. x ++ s.character.rest) (sym k.spelled))
 
   no_white_there : is_white s.character.char ≡ false

@@ -23,11 +23,11 @@ digit_from_value b h = grind (arith, nat_tests)
 pub value_front : (word : List ℕ) (i : ℕ) → digits_value 10 (take i word) ≤ digits_value 10 word
 value_front word i =
     let whole : digits_value 10 word ≡ number_from_digits_after 10 0 (map digit_value (take i word ++ drop i word)) =
-        ap (digits_value 10) (sym (take-append-drop i word)) ∙ digits_value_is 10 (take i word ++ drop i word) in
+    ap (digits_value 10) (sym (take-append-drop i word)) ∙ digits_value_is 10 (take i word ++ drop i word) in
     let parts : number_from_digits_after 10 0 (map digit_value (take i word ++ drop i word))
-        ≡ number_from_digits_after 10 (number_from_digits_after 10 0 (map digit_value (take i word))) (map digit_value (drop i word)) =
-        ap (number_from_digits_after 10 0) (map-append digit_value (take i word) (drop i word))
-        ∙ number_after_append 10 0 (map digit_value (take i word)) (map digit_value (drop i word)) in
+    ≡ number_from_digits_after 10 (number_from_digits_after 10 0 (map digit_value (take i word))) (map digit_value (drop i word)) =
+    ap (number_from_digits_after 10 0) (map-append digit_value (take i word) (drop i word))
+    ∙ number_after_append 10 0 (map digit_value (take i word)) (map digit_value (drop i word)) in
     let front : digits_value 10 (take i word) ≡ number_from_digits_after 10 0 (map digit_value (take i word)) = digits_value_is 10 (take i word) in
     let more = number_after_ge 10 (number_from_digits_after 10 0 (map digit_value (take i word))) (map digit_value (drop i word)) (omega arith) in
     omega (arith, whole, parts, front, more)
@@ -42,3 +42,11 @@ pub too_large : (word : List ℕ) (i value : ℕ) → i < length word → value 
 too_large word i value l e t large h =
     let d = digit_from_test (slice_index word i) t in
     omega (arith, digits_value_more 10 word i l, value_front word (i + 1), h.within, d.1, e)
+
+-- the value so far, with one digit more
+pub value_more : (word : List ℕ) (i value : ℕ) → IsNumber word → i < length word → value ≡ digits_value 10 (take i word)
+    → (48 ≤ slice_index word i) × (10 * value + (slice_index word i - 48) ≡ digits_value 10 (take (i + 1) word)) × (10 * value + (slice_index word i - 48) ≤ 2147483648)
+value_more word i value h l e =
+    let d = digit_from_test (slice_index word i) (digit_from_value (slice_index word i) (digit_at word i h.digits l)) in
+    let more = digits_value_more 10 word i l in
+    (d.2, omega (arith, more, e, d.1), omega (arith, more, e, d.1, value_front word (i + 1), h.within))

@@ -97,7 +97,7 @@ module _ (bytes : List ℕ) (cursor : Cursor) (h : Stands bytes cursor) (more : 
       let b = slice_index bytes cursor.at in
       let pushed = line_ends_push 0 b (take cursor.at bytes) in
       let same : one_if (ends_line (last 0 (take cursor.at bytes)) b) ≡ one_if (ends_line (byte_before bytes cursor.at) b) =
-          ap (λ x. one_if (ends_line x b)) (last_take bytes cursor.at more) in
+      ap (λ x. one_if (ends_line x b)) (last_take bytes cursor.at more) in
       omega (arith, ap (line_ends 0) front, pushed, same, h.line)
 
   pub line_bound : cursor.line ≤ cursor.at + 1
@@ -117,7 +117,7 @@ module _ (bytes : List ℕ) (cursor : Cursor) (h : Stands bytes cursor) (more : 
       → Stands bytes (record { at = cursor.at + 1; line = cursor.line; origin = origin })
   stands_in_line origin e o =
       let none : one_if (ends_line (byte_before bytes cursor.at) (slice_index bytes cursor.at)) ≡ 0 =
-          cond-false _ 1 0 (line_in_line (byte_before bytes cursor.at) (slice_index bytes cursor.at) e) in
+      cond-false _ 1 0 (line_in_line (byte_before bytes cursor.at) (slice_index bytes cursor.at) e) in
       record {
         within = omega arith;
         line = omega (arith, line_there, none);

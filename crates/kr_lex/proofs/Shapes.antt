@@ -349,7 +349,7 @@ spelled_once a b l e =
     let f : find (spelling a) (beginning_with (slice_index (spelling a) 0)) ≡ Some a = found a l in
     let g : find (spelling b) (beginning_with (slice_index (spelling b) 0)) ≡ Some b = found b (omega (arith, l, ap length e)) in
     let same : find (spelling a) (beginning_with (slice_index (spelling a) 0)) ≡ find (spelling b) (beginning_with (slice_index (spelling b) 0)) =
-        ap (λ t. find t (beginning_with (slice_index t 0))) e in
+    ap (λ t. find t (beginning_with (slice_index t 0))) e in
     cc
 
 abbrev all_ascii : List ℕ → Bool

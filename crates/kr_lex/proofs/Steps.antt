@@ -88,7 +88,7 @@ entry_lexeme : (file : ℕ) (bytes : List ℕ) (cursor : Cursor) (kind : Kind) (
     → lexeme_of file bytes t ≡ record { kind = kind; text = take n (drop cursor.at bytes); place = place_after file (take cursor.at bytes) }
 entry_lexeme file bytes cursor kind n t h e =
     let place : record { file = file; line = t.line; col = t.col } ≡ place_after file (take cursor.at bytes) =
-        ap (λ l. record { file = file; line = l; col = t.col }) e.line_is ∙ place_there file t.col bytes cursor h e.col_is in
+    ap (λ l. record { file = file; line = l; col = t.col }) e.line_is ∙ place_there file t.col bytes cursor h e.col_is in
     made (text_of bytes t) (take n (drop cursor.at bytes)) t.kind kind (record { file = file; line = t.line; col = t.col }) (place_after file (take cursor.at bytes))
     e.kind_is (entry_text bytes cursor kind n t e) place
   where
@@ -109,7 +109,7 @@ after_token file bytes valid items cursor kind n next t h l g e p =
     let text = drop cursor.at bytes in
     let list = map (lexeme_of file bytes) items in
     let tokens : map (lexeme_of file bytes) (items ++ t ∷ []) ≡ list ++ record { kind = kind; text = take n text; place = place_after file (take cursor.at bytes) } ∷ [] =
-        map_push (lexeme_of file bytes) items t ∙ ap (λ x. list ++ x ∷ []) (entry_lexeme file bytes cursor kind n t h.stands e) in
+    map_push (lexeme_of file bytes) items t ∙ ap (λ x. list ++ x ∷ []) (entry_lexeme file bytes cursor kind n t h.stands e) in
     let d = then_token kind (take n text) (drop n text) h.reached (sym (take-append-drop n text)) g in
     record {
       stands = p.stands;
@@ -167,7 +167,7 @@ past : (file : ℕ) (bytes : List ℕ) (valid at n : ℕ) (list : List Lexeme) (
     → n ≤ length (drop at bytes) → Reaches file [] bytes list (take at bytes ++ take n (drop at bytes)) left → IsPast file bytes valid (at + n) refusal → IsCause file bytes refusal
 past file bytes valid at n list left refusal v w l d p =
     let long : length (take at bytes ++ take n (drop at bytes)) ≡ at + n =
-        length-append (take at bytes) (take n (drop at bytes)) ∙ omega (arith, length-take-le at bytes w, length-take-le n (drop at bytes) l) in
+    length-append (take at bytes) (take n (drop at bytes)) ∙ omega (arith, length-take-le at bytes w, length-take-le n (drop at bytes) l) in
     rw p.at (encoding_first file bytes valid list (take at bytes ++ take n (drop at bytes)) left (place_after file (take valid bytes)) v d (omega (arith, long, p.before))
     (omega (arith, length-drop at bytes, l, p.before, w)) refl)
 

@@ -147,7 +147,7 @@ gap_length g h r q e (block d) (line f) =
     absurd (omega (arith, second))
 gap_length g h r q e (block d) (block f) =
     let z : 47 ∷ 42 ∷ (d.body ++ 42 ∷ 47 ∷ r) ≡ 47 ∷ 42 ∷ (f.body ++ 42 ∷ 47 ∷ q) =
-        sym (block_text d.body r) ∙ (ap (λ t. t ++ r) (sym d.spelled) ∙ (e ∙ (ap (λ t. t ++ q) f.spelled ∙ block_text f.body q))) in
+    sym (block_text d.body r) ∙ (ap (λ t. t ++ r) (sym d.spelled) ∙ (e ∙ (ap (λ t. t ++ q) f.spelled ∙ block_text f.body q))) in
     let t : d.body ++ 42 ∷ 47 ∷ r ≡ f.body ++ 42 ∷ 47 ∷ q = cc in
     let up = d.first f.body q t in
     let down = f.first d.body r (sym t) in
@@ -163,5 +163,5 @@ gap_no_token g s r q kind e i t = go (gap_cases g r i)
     go (inr c) = t.no_comment (rw e at (comment_begins g r c))
     go (inl w) =
         let first : slice_index s 0 ≡ w.0 =
-            sym (first_byte s q (token_some kind s q t.token)) ∙ (ap (λ x. slice_index x 0) (sym e) ∙ ap (λ x. slice_index (x ++ r) 0) w.1) in
+        sym (first_byte s q (token_some kind s q t.token)) ∙ (ap (λ x. slice_index x 0) (sym e) ∙ ap (λ x. slice_index (x ++ r) 0) w.1) in
         token_no_white kind s q t.token (ap is_white first ∙ w.2)

@@ -117,3 +117,41 @@ pub enum Kind {
     GreaterGreaterEqual,
     GreaterGreaterGreaterEqual,
 }
+
+impl Kind {
+    /// Whether it is a keyword of Java that the language doesn't use.
+    #[tactic(auto, unfolding(crate::specs::Spelling::is_outside_profile))]
+    pub fn is_outside_profile(self) -> bool
+        ensures { result ≡ is_outside_profile self }
+    {
+        match self {
+            Kind::Abstract
+            | Kind::Assert
+            | Kind::Byte
+            | Kind::Case
+            | Kind::Catch
+            | Kind::Char
+            | Kind::Const
+            | Kind::Default
+            | Kind::Double
+            | Kind::Enum
+            | Kind::Finally
+            | Kind::Float
+            | Kind::Goto
+            | Kind::Implements
+            | Kind::Interface
+            | Kind::Long
+            | Kind::Native
+            | Kind::Short
+            | Kind::Strictfp
+            | Kind::Switch
+            | Kind::Synchronized
+            | Kind::Throw
+            | Kind::Throws
+            | Kind::Transient
+            | Kind::Try
+            | Kind::Volatile => true,
+            _ => false,
+        }
+    }
+}

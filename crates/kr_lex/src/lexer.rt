@@ -42,7 +42,12 @@ fn valid_len(bytes: &[u8]) -> usize
 }
 
 /// Reads all pieces, up to the end of what is UTF-8.
-fn read_all(items: &mut Vec<Token>, file: u32, bytes: &[u8], valid: usize) -> Result<Cursor, LexRefusal>
+fn read_all(
+    items: &mut Vec<Token>,
+    file: u32,
+    bytes: &[u8],
+    valid: usize,
+) -> Result<Cursor, LexRefusal>
     requires room { length bytes.now < 2 ^ 30 }
     requires valid { IsValidLength bytes.now valid }
     requires empty { items.old.items ≡ [] }
@@ -64,7 +69,13 @@ fn read_all(items: &mut Vec<Token>, file: u32, bytes: &[u8], valid: usize) -> Re
 }
 
 /// Reads one piece.
-fn read_piece(items: &mut Vec<Token>, file: u32, bytes: &[u8], valid: usize, cursor: Cursor) -> Result<Cursor, LexRefusal>
+fn read_piece(
+    items: &mut Vec<Token>,
+    file: u32,
+    bytes: &[u8],
+    valid: usize,
+    cursor: Cursor,
+) -> Result<Cursor, LexRefusal>
     requires room { length bytes.now < 2 ^ 30 }
     requires valid { IsValidLength bytes.now valid }
     requires reading { IsReading file bytes.now valid items.old.items cursor }
@@ -87,7 +98,13 @@ fn read_piece(items: &mut Vec<Token>, file: u32, bytes: &[u8], valid: usize, cur
 }
 
 /// Passes a piece, unless it goes on past what is UTF-8.
-fn pass(file: u32, bytes: &[u8], valid: usize, cursor: Cursor, len: usize) -> Result<Cursor, LexRefusal>
+fn pass(
+    file: u32,
+    bytes: &[u8],
+    valid: usize,
+    cursor: Cursor,
+    len: usize,
+) -> Result<Cursor, LexRefusal>
     requires room { length bytes.now < 2 ^ 30 }
     requires valid { valid ≤ length bytes.now }
     requires stands { Stands bytes.now cursor }

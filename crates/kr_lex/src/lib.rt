@@ -11,6 +11,8 @@ mod lexer;
 mod piece;
 mod refusal;
 mod table;
+#[cfg(test)]
+mod tests;
 mod token;
 mod words;
 

@@ -5,8 +5,8 @@ ghost use Rattle.kr_lex.specs.Broken.{BeginsEscape};
 ghost use Rattle.kr_lex.specs.Pieces.{IsPiece, BeginsCharacter, StartsName, IsSymbolic};
 
 use crate::characters::{is_start, is_white};
-use crate::gaps::{body_len, line_len};
 use crate::fixed::{fixed_word, longest_fixed};
+use crate::gaps::{body_len, line_len};
 use crate::table::spelling;
 use crate::words::{is_number, word_len};
 use crate::{Kind, LexRule};

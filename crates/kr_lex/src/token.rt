@@ -1,10 +1,11 @@
 // The tokens of a source, as a list that keeps no memory for each of them but one small entry.
 ghost use Rattle.std.specs.Prelude.{◌≡◌, ◌+◌, ◌<◌, ◌≤◌, ◌^◌, length};
+ghost use Rattle.kr_lex.specs.declared.kind.Kind.TheVariants.{Number};
 ghost use Rattle.kr_lex.specs.Lexemes.{lexeme_at, number_value};
 ghost use Rattle.kr_lex.specs.Entries.{shown, AreEntries};
 
-use crate::Kind;
 use crate::cursor::Cursor;
+use crate::{Kind, words};
 use kr_base::Place;
 use std::marker::Model;
 
@@ -89,6 +90,18 @@ impl Tokens {
     {
         let token = self.items[at];
         &self.source[token.start as usize..token.end as usize]
+    }
+
+    /// The value of a number, at most 2147483648.
+    pub fn value(&self, at: usize) -> u32
+        requires within { at < length self.now.list }
+        requires number { (lexeme_at self.now at).kind ≡ Number }
+        ensures value { result ≡ number_value (lexeme_at self.now at).text }
+        ensures small { result ≤ 2147483648 }
+    {
+        let token = self.items[at];
+        let text = &self.source[token.start as usize..token.end as usize];
+        words::number_value(text)
     }
 
     pub fn place(&self, at: usize) -> Place

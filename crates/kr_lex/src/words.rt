@@ -1,5 +1,6 @@
 // Names and numbers at the front of a text.
 ghost use Rattle.std.specs.Prelude.{◌≡◌, ◌≤◌, ◌<◌, ◌↔◌, IsTrue, length};
+ghost use Rattle.kr_lex.specs.Lexemes.{number_value};
 ghost use Rattle.kr_lex.specs.Words.{IsNumber};
 ghost use Rattle.kr_lex.specs.Pieces.{IsPartLength, IsWordLength};
 
@@ -17,13 +18,7 @@ pub fn part_len(text: &[u8]) -> usize
         return if is_part(first as char) { 1 } else { 0 };
     }
     match bstr::decode_utf8(text) {
-        (Some(c), size) => {
-            if is_part(c) {
-                size
-            } else {
-                0
-            }
-        }
+        (Some(c), size) => { if is_part(c) { size } else { 0 } }
         (None, _) => 0,
     }
 }
@@ -61,4 +56,16 @@ pub fn is_number(word: &[u8]) -> bool
         }
     }
     true
+}
+
+/// The value of a number.
+pub fn number_value(word: &[u8]) -> u32
+    requires { IsNumber word.now }
+    ensures { result ≡ number_value word.now }
+{
+    let mut value = 0;
+    for b in word {
+        value = 10 * value + (*b - b'0') as u32;
+    }
+    value
 }

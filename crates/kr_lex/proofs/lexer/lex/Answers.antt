@@ -8,6 +8,6 @@ returns-clause-tokens c =
     let bytes = c.args.bytes.now in
     let items = c.read_all.new.items.items in
     let copied : c.extend_from_slice.new.self.items ≡ bytes =
-        c.in_ok-extend_from_slice.ensures.items ∙ ap (λ s. s ++ bytes) c.in_ok-source.ensures.items in
+    c.in_ok-extend_from_slice.ensures.items ∙ ap (λ s. s ++ bytes) c.in_ok-source.ensures.items in
     rw (c.new.ensures, copied)
     (all_read c.args.file bytes c.valid_len-valid.result items c.in_ok-cursor.cursor c.place.result c.valid_len-valid.ensures c.in_ok-cursor.ensures.read c.in_ok-cursor.ensures.whole c.place.ensures)

@@ -12,7 +12,7 @@ symbol-requires c =
     let line = starts_is Decides-eqb text (47 ∷ 47 ∷ []) c.starts_with.result c.starts_with.ensures.value in
     let block = starts_is Decides-eqb text (47 ∷ 42 ∷ []) c.starts_with-else-starts_with.result c.starts_with-else-starts_with.ensures.value in
     slash_symbolic text c.requires.some c.requires.slash (λ b.
-        elim (comment_cases text b) [
-          inl e ↦ both_ways c.starts_with.result c.if-starts_with.false (line.1 (drop 2 text) e)
-        | inr e ↦ both_ways c.starts_with-else-starts_with.result c.if-starts_with-2.false (block.1 (drop 2 text) e)
-        ])
+    elim (comment_cases text b) [
+      | inl e ↦ both_ways c.starts_with.result c.if-starts_with.false (line.1 (drop 2 text) e)
+      | inr e ↦ both_ways c.starts_with-else-starts_with.result c.if-starts_with-2.false (block.1 (drop 2 text) e)
+    ])

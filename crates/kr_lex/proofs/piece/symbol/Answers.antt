@@ -16,7 +16,7 @@ returns-in-Some c =
     let h = c.in-Some.ensures.found in
     let size : length c.spelling.result.now ≡ length (spelling kind) = ap length c.spelling.ensures in
     let whole : length text ≡ length (spelling kind) + length (drop (length (spelling kind)) text) =
-        ap length h.spelled ∙ length-append (spelling kind) (drop (length (spelling kind)) text) in
+    ap length h.spelled ∙ length-append (spelling kind) (drop (length (spelling kind)) text) in
     (omega (arith, h.some, size), omega (arith, whole, size), fixed_longest text c.requires kind (length c.spelling.result.now) size h)
 
 pub returns-else-begins_escape : goal.returns-else-begins_escape

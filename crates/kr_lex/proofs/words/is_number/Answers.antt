@@ -19,8 +19,7 @@ loop-b-preserved c =
     let word = c.args.word.now in
     let i = c.loop-b.b-index in
     let t : is_ascii_digit (slice_index word i) ≡ true = sym c.is_ascii_digit.ensures.value ∙ c.if-not-is_ascii_digit.false in
-    let d = digit_from_test (slice_index word i) t in
-    (
+    let d = digit_from_test (slice_index word i) t in (
       digits_more 10 word i c.loop-b-test.true c.loop-b.invariant.0 d.0,
       omega (arith, digits_value_more 10 word i c.loop-b-test.true, c.loop-b.invariant.1, d.1),
       c.if-value-gt2147483648.false,
