@@ -17,7 +17,8 @@ use Rattle.kr_lex.specs.Words.{IsName, IsNumber, IsToken, name, number, fixed}
 use Rattle.kr_lex.specs.Pieces.{StartsName, BeginsCharacter}
 use Rattle.kr_lex.proofs.Fronts.{encode_some, char_some, no_char_in_nothing, same_char}
 use Rattle.kr_lex.proofs.Numbers.{digit_from_value, digit_from_test}
-use Rattle.kr_lex.proofs.Shapes.{all_small, is_symbol, shape}
+use Rattle.kr_lex.proofs.Listing.{is_symbol, all_small}
+use Rattle.kr_lex.proofs.Shapes.{shape}
 
 -- the ASCII characters that start names, and those that go on with them
 pub start_ascii : (b : ℕ) → b < 128 → is_start b ≡ (is_ascii_alphabetic b || (b == 95 || b == 36))

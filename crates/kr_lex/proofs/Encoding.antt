@@ -39,7 +39,7 @@ parts_utf8 cs text h e = (cs, (parts_scalar cs h, e))
 pub token_utf8 : (kind : Kind) (text rest : List ℕ) → IsToken kind text rest → IsUtf8 text
 token_utf8 kind text rest (name e h n) = parts_utf8 (h.first ∷ h.others) text ((h.scalar, start_is_part h.first h.starts), h.parts) (sym h.spelled)
 token_utf8 kind text rest (number e h w) = let r = digits_run text h.digits in parts_utf8 text text r.0 r.1
-token_utf8 kind text rest (fixed l e) = rw e (spelled_utf8 kind)
+token_utf8 kind text rest (fixed l e) = rw e (spelled_utf8 kind (omega (arith, l, ap length e)))
 
 white_low : (b : ℕ) → is_white b ≡ true → b < 128
 white_low b t = grind (arith, nat_tests)

@@ -18,7 +18,7 @@ use Rattle.kr_lex.specs.Pieces.{IsWordLength, StartsName, BeginsCharacter, IsLon
 use Rattle.kr_lex.specs.Broken.{IsBadNumber, IsStray, BeginsEscape}
 use Rattle.kr_lex.proofs.Fronts.{char_some, encode_some, same_char, ascii_front}
 use Rattle.kr_lex.proofs.Numbers.{digit_from_test, digit_at, digit_from_value}
-use Rattle.kr_lex.proofs.Shapes.{is_symbol, all_small, shape, single}
+use Rattle.kr_lex.proofs.Listing.{is_symbol, all_small, IsSingle, listed}
 use Rattle.kr_lex.proofs.Classes.{start_ascii, start_is_part, digit_no_start, symbol_facts, no_symbol_at_name, no_symbol_at_digit, run_is_longest, token_some, first_byte, small_starts}
 
 -- a comment begins with a slash
@@ -143,20 +143,19 @@ module _ (text : List ℕ) (s : IsSymbolic text) where
       let t : is_ascii_digit (slice_index text 0) ≡ true = ap is_ascii_digit (sym (same_byte others)) ∙ digit_from_value (slice_index (encode_utf8 s.character.char ++ others) 0) (digit_at (encode_utf8 s.character.char ++ others) 0 i.digits i.some) in
       let f : is_ascii_digit (slice_index text 0) ≡ false = s.no_digit in
       cc
-  no_token_with h kind others rest (fixed l e) = go (shape kind (omega (arith, l, ap length e)))
+  no_token_with h kind others rest (fixed l e) = go (listed kind (omega (arith, l, ap length e))).shape
     where
       byte : slice_index (spelling kind) 0 ≡ slice_index text 0
       byte = ap (λ t. slice_index t 0) (sym e) ∙ same_byte others
 
-      go : (all_small (spelling kind) ≡ true) ⊎ (is_symbol (slice_index (spelling kind) 0) ≡ true) → ⊥
+      go : (all_small (spelling kind) ≡ true) ⊎ IsSingle (slice_index (spelling kind) 0) → ⊥
       go (inl small) =
           let t = small_starts (spelling kind) (omega (arith, l, ap length e)) small in
           let c = char_is (slice_index (spelling kind) 0) others t.0 (ap (λ x. slice_index x 0) e) in
           s.no_name (record { char = s.character.char; rest = s.character.rest; scalar = s.character.scalar; starts = ap is_start c ∙ t.1; spelled = s.character.spelled })
-      go (inr symbol) =
-          let q = symbol_facts (slice_index (spelling kind) 0) symbol in
+      go (inr k) =
+          let q = symbol_facts (slice_index (spelling kind) 0) k.symbol in
           let c = char_is (slice_index (spelling kind) 0) others q.0 (ap (λ x. slice_index x 0) e) in
-          let k = single kind symbol in
           let z : text ≡ slice_index (spelling kind) 0 ∷ s.character.rest =
           s.character.spelled ∙ ap (λ x. x ++ s.character.rest) (ap encode_utf8 c ∙ encode_ascii (slice_index (spelling kind) 0) q.0) in
           h k.kind s.character.rest (omega (arith, ap length k.spelled)) (z ∙ ap (λ x. x ++ s.character.rest) (sym k.spelled))

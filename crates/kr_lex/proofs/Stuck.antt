@@ -17,7 +17,8 @@ use Rattle.kr_lex.specs.Spells.{IsLongest}
 use Rattle.kr_lex.specs.Broken.{BreaksHere, IsStray, IsUnclosed, IsBadNumber, BeginsEscape, BeginsContract}
 use Rattle.kr_lex.proofs.Fronts.{char_some, same_char}
 use Rattle.kr_lex.proofs.Numbers.{digit_from_test}
-use Rattle.kr_lex.proofs.Shapes.{is_symbol, all_small, shape}
+use Rattle.kr_lex.proofs.Listing.{is_symbol, all_small}
+use Rattle.kr_lex.proofs.Shapes.{shape}
 use Rattle.kr_lex.proofs.Classes.{start_ascii, digit_no_start, small_starts, symbol_facts, token_shape, token_some, first_byte, run_longest, digits_run}
 use Rattle.kr_lex.proofs.Unique.{same_split, gap_cases, comment_begins, block_text, name_byte, number_byte, fixed_no_digit}
 

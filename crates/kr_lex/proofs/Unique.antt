@@ -16,7 +16,8 @@ use Rattle.kr_lex.specs.Gaps.{IsGap, white, line, block, IsLineComment, IsBlockC
 use Rattle.kr_lex.specs.Spells.{IsLongest}
 use Rattle.kr_lex.proofs.Fronts.{char_some, encode_some}
 use Rattle.kr_lex.proofs.Numbers.{digit_at, digit_from_value, digit_from_test}
-use Rattle.kr_lex.proofs.Shapes.{is_symbol, all_small, shape, spelled_once}
+use Rattle.kr_lex.proofs.Listing.{is_symbol, all_small}
+use Rattle.kr_lex.proofs.Shapes.{shape, spelled_once}
 use Rattle.kr_lex.proofs.Classes.{start_ascii, digit_no_start, small_starts, symbol_facts, token_some, first_byte}
 
 -- two splits of one text at the same length
