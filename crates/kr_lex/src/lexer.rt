@@ -1,8 +1,6 @@
 // The lexer: reads a source once, piece by piece.
-ghost use Rattle.std.specs.Prelude.{◌≡◌, ◌+◌, ◌<◌, ◌≤◌, ◌^◌, [], length, take, IfErr, IfOk};
-ghost use Rattle.kr_lex.specs.declared.refusal.LexRule.TheVariants.{NotUtf8};
+ghost use Rattle.std.specs.Prelude.{◌≡◌, ◌+◌, ◌<◌, ◌≤◌, ◌^◌, [], length, IfErr, IfOk};
 ghost use Rattle.kr_lex.specs.Spells.{AreTokens};
-ghost use Rattle.kr_lex.specs.Places.{place_after};
 ghost use Rattle.kr_lex.specs.Broken.{IsCause};
 ghost use Rattle.kr_lex.specs.Cursors.{Stands};
 ghost use Rattle.kr_lex.specs.Reading.{IsValidLength, IsReading, IsPassed, IsPast};
@@ -10,7 +8,7 @@ ghost use Rattle.kr_lex.specs.Reading.{IsValidLength, IsReading, IsPassed, IsPas
 use crate::cursor::Cursor;
 use crate::piece::{Piece, first_piece};
 use crate::token::{Token, Tokens};
-use crate::{Kind, LexRefusal, LexRule};
+use crate::{LexRefusal, LexRule};
 use std::alloc::Global;
 use std::str;
 
