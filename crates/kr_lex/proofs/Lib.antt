@@ -1,0 +1,15 @@
+pub mod Fronts
+pub mod Comments
+pub mod Listing
+pub mod Lookup
+pub mod Numbers
+pub mod Positions
+pub mod Shapes
+pub mod Classes
+pub mod Longest
+pub mod Unique
+pub mod Stuck
+pub mod Paths
+pub mod Encoding
+pub mod First
+pub mod Steps

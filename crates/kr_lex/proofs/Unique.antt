@@ -1,0 +1,168 @@
+-- At most one gap or token stands at a place.
+use Rattle.std.proofs.Common.{◌≡◌, ℕ, zero, suc, ◌+◌, ◌<◌, ◌≤◌, ◌⊎◌, inl, inr, Bool, true, false, List, [], ◌∷◌, ◌++◌, length, slice_index, take, drop, refl, sym, ap, ◌∙◌, arith, length-append, append_assoc}
+use Rattle.std.specs.Char.{encode_utf8, is_ascii_digit}
+use Rattle.std.specs.Str.{encode_utf8_all}
+use Rattle.std.specs.List.{AllByRecursion}
+use Rattle.std.proofs.lemmas.Str.{char_from_byte}
+use Rattle.std.proofs.lemmas.List.{append_cancel_left}
+use Rattle.std.proofs.lemmas.Bool.{both_ways}
+use Rattle.std.proofs.lemmas.Bool.Decides.{nat_tests}
+use Rattle.kr_lex.specs.declared.kind.Kind.{Kind}
+use Rattle.kr_lex.specs.declared.kind.Kind.TheVariants as kinds
+use Rattle.kr_lex.specs.Characters.{is_start, is_white, is_line_end}
+use Rattle.kr_lex.specs.Spelling.{spelling}
+use Rattle.kr_lex.specs.Words.{IsName, IsNumber, IsToken, name, number, fixed}
+use Rattle.kr_lex.specs.Gaps.{IsGap, white, line, block, IsLineComment, IsBlockComment, EndsLine, BeginsComment}
+use Rattle.kr_lex.specs.Spells.{IsLongest}
+use Rattle.kr_lex.proofs.Fronts.{char_some, encode_some}
+use Rattle.kr_lex.proofs.Numbers.{digit_at, digit_from_value, digit_from_test}
+use Rattle.kr_lex.proofs.Listing.{is_symbol, all_small}
+use Rattle.kr_lex.proofs.Shapes.{shape, spelled_once}
+use Rattle.kr_lex.proofs.Classes.{start_ascii, digit_no_start, small_starts, symbol_facts, token_some, first_byte}
+
+-- two splits of one text at the same length
+pub same_split : (a b r s : List ℕ) → a ++ r ≡ b ++ s → length a ≡ length b → (a ≡ b) × (r ≡ s)
+same_split [] [] r s e l = (refl, e)
+same_split [] (y ∷ b) r s e l = absurd (omega (arith, l))
+same_split (x ∷ a) [] r s e l = absurd (omega (arith, l))
+same_split (x ∷ a) (y ∷ b) r s e l =
+    let h : x ≡ y = cc in
+    let t : a ++ r ≡ b ++ s = cc in
+    let p = same_split a b r s t (omega (arith, l)) in
+    (rw (h, p.0) refl, p.1)
+
+white_low : (b : ℕ) → is_white b ≡ true → (b < 128) × (is_start b ≡ false) × (is_ascii_digit b ≡ false) × (b ≡ 47 → ⊥)
+white_low b t =
+    let low : b < 128 = grind (arith, nat_tests) in
+    (low, start_ascii b low ∙ grind (arith, nat_tests), grind (arith, nat_tests), λ e. grind (arith, nat_tests))
+
+-- the first byte of a name, a number and any other token
+pub name_byte : (text rest : List ℕ) → IsName text → slice_index text 0 < 128 → is_start (slice_index text 0) ≡ true
+name_byte text rest h low =
+    let same : h.first ≡ slice_index text 0 = char_from_byte text (encode_utf8_all h.others) h.first h.spelled low (char_some text (encode_utf8_all h.others) h.first h.spelled) in
+    ap is_start (sym same) ∙ h.starts
+
+pub number_byte : (text : List ℕ) → IsNumber text → is_ascii_digit (slice_index text 0) ≡ true
+number_byte text h = digit_from_value (slice_index text 0) (digit_at text 0 h.digits h.some)
+
+-- a token doesn't begin with white space
+pub token_no_white : (kind : Kind) (text rest : List ℕ) → IsToken kind text rest → is_white (slice_index text 0) ≡ true → ⊥
+token_no_white kind text rest (name k h o) w =
+    let q = white_low (slice_index text 0) w in both_ways (is_start (slice_index text 0)) q.1 (name_byte text rest h q.0)
+token_no_white kind text rest (number k h o) w =
+    let q = white_low (slice_index text 0) w in both_ways (is_ascii_digit (slice_index text 0)) q.2 (number_byte text h)
+token_no_white kind text rest (fixed l e) w = go (shape kind (omega (arith, l, ap length e)))
+  where
+    there : is_white (slice_index (spelling kind) 0) ≡ true
+    there = ap (λ t. is_white (slice_index t 0)) (sym e) ∙ w
+
+    go : (all_small (spelling kind) ≡ true) ⊎ (is_symbol (slice_index (spelling kind) 0) ≡ true) → ⊥
+    go (inl s) =
+        let q = white_low (slice_index (spelling kind) 0) there in
+        both_ways (is_start (slice_index (spelling kind) 0)) q.1 (small_starts (spelling kind) (omega (arith, l, ap length e)) s).1
+    go (inr s) = both_ways (is_white (slice_index (spelling kind) 0)) (symbol_facts (slice_index (spelling kind) 0) s).3 there
+
+-- a digit begins no token of one spelling
+pub fixed_no_digit : (kind : Kind) → 0 < length (spelling kind) → is_ascii_digit (slice_index (spelling kind) 0) ≡ true → ⊥
+fixed_no_digit kind l d = go (shape kind l)
+  where
+    go : (all_small (spelling kind) ≡ true) ⊎ (is_symbol (slice_index (spelling kind) 0) ≡ true) → ⊥
+    go (inl s) = both_ways (is_start (slice_index (spelling kind) 0)) (digit_no_start (slice_index (spelling kind) 0) d) (small_starts (spelling kind) l s).1
+    go (inr s) = both_ways (is_ascii_digit (slice_index (spelling kind) 0)) (symbol_facts (slice_index (spelling kind) 0) s).2 d
+
+-- the kind of a token is that of its spelling
+name_no_number : (text rest : List ℕ) → IsName text → IsNumber text → ⊥
+name_no_number text rest h i =
+    let d = number_byte text i in
+    both_ways (is_start (slice_index text 0)) (digit_no_start (slice_index text 0) d) (name_byte text rest h (omega (arith, (digit_from_test (slice_index text 0) d).3)))
+
+number_no_fixed : (kind : Kind) (text : List ℕ) → IsNumber text → 0 < length text → text ≡ spelling kind → ⊥
+number_no_fixed kind text h l e = fixed_no_digit kind (omega (arith, l, ap length e)) (ap (λ t. is_ascii_digit (slice_index t 0)) (sym e) ∙ number_byte text h)
+
+pub same_kind : (a b : Kind) (text rest : List ℕ) → IsToken a text rest → IsToken b text rest → a ≡ b
+same_kind a b text rest (name j g n) (name k h o) = j ∙ sym k
+same_kind a b text rest (name j g n) (number k h w) = absurd (name_no_number text rest g h)
+same_kind a b text rest (name j g n) (fixed l e) = absurd (n b e)
+same_kind a b text rest (number j g v) (name k h o) = absurd (name_no_number text rest h g)
+same_kind a b text rest (number j g v) (number k h w) = j ∙ sym k
+same_kind a b text rest (number j g v) (fixed l e) = absurd (number_no_fixed b text g l e)
+same_kind a b text rest (fixed m d) (name k h o) = absurd (o a d)
+same_kind a b text rest (fixed m d) (number k h w) = absurd (number_no_fixed a text h m d)
+same_kind a b text rest (fixed m d) (fixed l e) = spelled_once a b (omega (arith, m, ap length d)) (sym d ∙ e)
+
+pub same_token : (a b : Kind) (s t r q : List ℕ) → s ++ r ≡ t ++ q → IsLongest a s r → IsLongest b t q → (a ≡ b) × (s ≡ t) × (r ≡ q)
+same_token a b s t r q e g h =
+    let up : length t ≤ length s = g.longest b t q e h.token in
+    let down : length s ≤ length t = h.longest a s r (sym e) g.token in
+    let p = same_split s t r q e (omega (arith, up, down)) in
+    let moved : IsToken b s r = rw (p.0, p.1) h.token in
+    (same_kind a b s r g.token moved, p.0, p.1)
+
+-- gaps
+line_same : (b c r q : List ℕ) → AllByRecursion (λ x. is_line_end x ≡ false) b → AllByRecursion (λ x. is_line_end x ≡ false) c → EndsLine r → EndsLine q → b ++ r ≡ c ++ q
+    → length b ≡ length c
+line_same [] [] r q g h u v e = refl
+line_same [] (y ∷ c) r q g h u v e = absurd (both_ways (is_line_end y) h.0 (rw e at u))
+line_same (x ∷ b) [] r q g h u v e = absurd (both_ways (is_line_end x) g.0 (rw (← e) at v))
+line_same (x ∷ b) (y ∷ c) r q g h u v e =
+    let t : b ++ r ≡ c ++ q = cc in
+    omega (arith, line_same b c r q g.1 h.1 u v t)
+
+pub block_text : (body r : List ℕ) → (47 ∷ 42 ∷ body ++ 42 ∷ 47 ∷ []) ++ r ≡ 47 ∷ 42 ∷ (body ++ 42 ∷ 47 ∷ r)
+block_text body r = append_assoc (47 ∷ 42 ∷ body) (42 ∷ 47 ∷ []) r
+
+-- the first bytes of a gap
+pub gap_cases : (g r : List ℕ) → IsGap g r → ((b : ℕ) × (g ≡ b ∷ []) × (is_white b ≡ true)) ⊎ (IsLineComment g r ⊎ IsBlockComment g r)
+gap_cases g r (white b e w) = inl (b, e, w)
+gap_cases g r (line h) = inr (inl h)
+gap_cases g r (block h) = inr (inr h)
+
+pub comment_begins : (g r : List ℕ) → IsLineComment g r ⊎ IsBlockComment g r → BeginsComment (g ++ r)
+comment_begins g r (inl h) = rw h.spelled (refl, inl refl)
+comment_begins g r (inr h) = rw h.spelled (refl, inr refl)
+
+white_no_comment : (b : ℕ) (g r : List ℕ) → is_white b ≡ true → g ≡ b ∷ [] → BeginsComment (g ++ r) → ⊥
+white_no_comment b g r w e c = go r (rw e at c)
+  where
+    go : (r : List ℕ) → BeginsComment (b ∷ r) → ⊥
+    go [] c = c
+    go (x ∷ r) c = (white_low b w).3 c.0
+
+pub gap_length : (g h r q : List ℕ) → g ++ r ≡ h ++ q → IsGap g r → IsGap h q → length g ≡ length h
+gap_length g h r q e (white b i w) (white c j v) = ap length i ∙ sym (ap length j)
+gap_length g h r q e (white b i w) (line d) = absurd (white_no_comment b g r w i (rw (← e) at (comment_begins h q (inl d))))
+gap_length g h r q e (white b i w) (block d) = absurd (white_no_comment b g r w i (rw (← e) at (comment_begins h q (inr d))))
+gap_length g h r q e (line d) (white c j v) = absurd (white_no_comment c h q v j (rw e at (comment_begins g r (inl d))))
+gap_length g h r q e (block d) (white c j v) = absurd (white_no_comment c h q v j (rw e at (comment_begins g r (inr d))))
+gap_length g h r q e (line d) (line f) =
+    let z : 47 ∷ 47 ∷ (d.body ++ r) ≡ 47 ∷ 47 ∷ (f.body ++ q) = ap (λ t. t ++ r) (sym d.spelled) ∙ (e ∙ ap (λ t. t ++ q) f.spelled) in
+    let t : d.body ++ r ≡ f.body ++ q = cc in
+    omega (arith, ap length d.spelled, ap length f.spelled, line_same d.body f.body r q d.in_line f.in_line d.through f.through t)
+gap_length g h r q e (line d) (block f) =
+    let z : 47 ∷ 47 ∷ (d.body ++ r) ≡ 47 ∷ 42 ∷ (f.body ++ 42 ∷ 47 ∷ q) = ap (λ t. t ++ r) (sym d.spelled) ∙ (e ∙ (ap (λ t. t ++ q) f.spelled ∙ block_text f.body q)) in
+    let second : 47 ≡ 42 = ap (λ t. slice_index t 1) z in
+    absurd (omega (arith, second))
+gap_length g h r q e (block d) (line f) =
+    let z : 47 ∷ 42 ∷ (d.body ++ 42 ∷ 47 ∷ r) ≡ 47 ∷ 47 ∷ (f.body ++ q) = sym (block_text d.body r) ∙ (ap (λ t. t ++ r) (sym d.spelled) ∙ (e ∙ ap (λ t. t ++ q) f.spelled)) in
+    let second : 42 ≡ 47 = ap (λ t. slice_index t 1) z in
+    absurd (omega (arith, second))
+gap_length g h r q e (block d) (block f) =
+    let z : 47 ∷ 42 ∷ (d.body ++ 42 ∷ 47 ∷ r) ≡ 47 ∷ 42 ∷ (f.body ++ 42 ∷ 47 ∷ q) =
+    sym (block_text d.body r) ∙ (ap (λ t. t ++ r) (sym d.spelled) ∙ (e ∙ (ap (λ t. t ++ q) f.spelled ∙ block_text f.body q))) in
+    let t : d.body ++ 42 ∷ 47 ∷ r ≡ f.body ++ 42 ∷ 47 ∷ q = cc in
+    let up = d.first f.body q t in
+    let down = f.first d.body r (sym t) in
+    omega (arith, ap length d.spelled, ap length f.spelled, length-append d.body (42 ∷ 47 ∷ []), length-append f.body (42 ∷ 47 ∷ []), up, down)
+
+pub same_gap : (g h r q : List ℕ) → g ++ r ≡ h ++ q → IsGap g r → IsGap h q → (g ≡ h) × (r ≡ q)
+same_gap g h r q e i j = same_split g h r q e (gap_length g h r q e i j)
+
+pub gap_no_token : (g s r q : List ℕ) (kind : Kind) → g ++ r ≡ s ++ q → IsGap g r → IsLongest kind s q → ⊥
+gap_no_token g s r q kind e i t = go (gap_cases g r i)
+  where
+    go : ((b : ℕ) × (g ≡ b ∷ []) × (is_white b ≡ true)) ⊎ (IsLineComment g r ⊎ IsBlockComment g r) → ⊥
+    go (inr c) = t.no_comment (rw e at (comment_begins g r c))
+    go (inl w) =
+        let first : slice_index s 0 ≡ w.0 =
+        sym (first_byte s q (token_some kind s q t.token)) ∙ (ap (λ x. slice_index x 0) (sym e) ∙ ap (λ x. slice_index (x ++ r) 0) w.1) in
+        token_no_white kind s q t.token (ap is_white first ∙ w.2)

@@ -1,0 +1,13 @@
+use Rattle.std.proofs.Common.{◌≡◌, ℕ, List, ◌++◌, refl, sym, ap, ◌∙◌, arith}
+use Rattle.kr_lex.specs.Entries.{shown}
+use Rattle.kr_lex.proofs.Steps.{all_read}
+use Rattle.kr_lex.proofs.lexer.lex.Goals as goal
+
+pub returns-clause-tokens : goal.returns-clause-tokens
+returns-clause-tokens c =
+    let bytes = c.args.bytes.now in
+    let items = c.read_all.new.items.items in
+    let copied : c.extend_from_slice.new.self.items ≡ bytes =
+    c.in_ok-extend_from_slice.ensures.items ∙ ap (λ s. s ++ bytes) c.in_ok-source.ensures.items in
+    rw (c.new.ensures, copied)
+    (all_read c.args.file bytes c.valid_len-valid.result items c.in_ok-cursor.cursor c.place.result c.valid_len-valid.ensures c.in_ok-cursor.ensures.read c.in_ok-cursor.ensures.whole c.place.ensures)

@@ -1,0 +1,92 @@
+-- The lexical rules, and which one a source breaks first.
+use Rattle.std.specs.Prelude.{◌≡◌, ℕ, ◌<◌, ◌≤◌, ◌⊎◌, Bool, true, false, List, [], ◌∷◌, ◌++◌, length, slice_index}
+use Rattle.std.specs.Char.{IsScalar, is_ascii_digit, encode_utf8}
+use Rattle.std.specs.Str.{encode_utf8_all, IsValidUpTo}
+use Rattle.kr_base.specs.declared.place.Place.{Place}
+use Rattle.kr_lex.specs.declared.kind.Kind.{Kind}
+use Rattle.kr_lex.specs.declared.refusal.LexRule.{LexRule}
+use Rattle.kr_lex.specs.declared.refusal.LexRule.TheVariants as rules
+use Rattle.kr_lex.specs.declared.refusal.LexRefusal.{LexRefusal}
+use Rattle.kr_lex.specs.declared.refusal.LexRefusal.TheVariants as refusals
+use Rattle.kr_lex.specs.Characters.{is_white, AllParts, EndsWord}
+use Rattle.kr_lex.specs.Words.{IsNumber, IsToken}
+use Rattle.kr_lex.specs.Lexemes.{Lexeme, Lexemes}
+use Rattle.kr_lex.specs.Spells.{Reaches, AreTokens}
+use Rattle.kr_lex.specs.Places.{place_after}
+
+-- a backslash before `u`
+abbrev pub BeginsEscape : List ℕ → Type 0
+BeginsEscape (a ∷ b ∷ more) = (a ≡ 92) × (b ≡ 117)
+BeginsEscape _ = ⊥
+
+-- two slashes and `@`
+abbrev pub BeginsContract : List ℕ → Type 0
+BeginsContract (a ∷ b ∷ c ∷ more) = (a ≡ 47) × (b ≡ 47) × (c ≡ 64)
+BeginsContract _ = ⊥
+
+-- A character that begins no token stands at the front, and it is no white space. A backslash before `u` has a rule of
+-- its own.
+pub record IsStray (text : List ℕ) : Type 0 where
+  pub char : ℕ
+  pub more : List ℕ
+  pub scalar : IsScalar char
+  pub spelled : text ≡ encode_utf8 char ++ more
+  pub no_token : (kind : Kind) (others rest : List ℕ) → IsToken kind (encode_utf8 char ++ others) rest → ⊥
+  pub no_white : is_white char ≡ false
+  pub no_escape : BeginsEscape text → ⊥
+
+-- a slash and a star, and nowhere behind them a star and a slash
+pub record IsUnclosed (text : List ℕ) : Type 0 where
+  pub body : List ℕ
+  pub spelled : text ≡ 47 ∷ 42 ∷ body
+  pub unclosed : (inner more : List ℕ) → body ≡ inner ++ 42 ∷ 47 ∷ more → ⊥
+
+-- an ASCII digit, and with it the longest run of characters that names may go on with is no number
+pub record IsBadNumber (text : List ℕ) : Type 0 where
+  pub chars : List ℕ
+  pub rest : List ℕ
+  pub spelled : text ≡ encode_utf8_all chars ++ rest
+  pub digit : is_ascii_digit (slice_index text 0) ≡ true
+  pub parts : AllParts chars
+  pub longest : EndsWord rest
+  pub bad : IsNumber (encode_utf8_all chars) → ⊥
+
+-- What breaks a rule where a token or a gap may begin.
+abbrev pub BreaksHere : LexRule → List ℕ → Type 0
+BreaksHere rules.NotUtf8 text = ⊥
+BreaksHere rules.StrayCharacter text = IsStray text
+BreaksHere rules.UnclosedComment text = IsUnclosed text
+BreaksHere rules.BadNumber text = IsBadNumber text
+BreaksHere rules.UnicodeEscape text = BeginsEscape text
+BreaksHere rules.ContractLine text = BeginsContract text
+
+-- The bytes break the rule just behind the front: it is the longest front that is UTF-8; or tokens and gaps lead there,
+-- and what follows breaks the rule.
+pub data Breaks (file : ℕ) (bytes front : List ℕ) (rule : LexRule) : Type 0 where
+  encoding : (rest : List ℕ) → rule ≡ rules.NotUtf8 → bytes ≡ front ++ rest → IsValidUpTo bytes (length front) → Breaks file bytes front rule
+  reached : (list : List Lexeme) (rest : List ℕ) → Reaches file [] bytes list front rest → BreaksHere rule rest → Breaks file bytes front rule
+
+-- the rules' order
+abbrev pub rank : LexRule → ℕ
+rank rules.NotUtf8 = 1
+rank rules.StrayCharacter = 2
+rank rules.UnclosedComment = 3
+rank rules.BadNumber = 4
+rank rules.UnicodeEscape = 5
+rank rules.ContractLine = 6
+
+-- The broken rule of the least place, and there the least rule.
+pub record IsFirstBroken (file : ℕ) (bytes : List ℕ) (place : Place) (rule : LexRule) : Type 0 where
+  pub front : List ℕ
+  pub breaks : Breaks file bytes front rule
+  pub at : place ≡ place_after file front
+  pub least : (other : List ℕ) (r : LexRule) → Breaks file bytes other r → (length front < length other) ⊎ ((front ≡ other) × (rank rule ≤ rank r))
+
+-- Why a source was refused. Want of memory may come at any time.
+abbrev pub IsCause : ℕ → List ℕ → LexRefusal → Type 0
+IsCause file bytes (refusals.Broken place rule) = IsFirstBroken file bytes place rule
+IsCause file bytes refusals.NoMemory = Unit {0}
+
+-- a source that tokens spell breaks no rule
+abbrev pub UnbrokenLaw : Type 0
+UnbrokenLaw = (file : ℕ) (bytes front : List ℕ) (tokens : Lexemes) (rule : LexRule) → AreTokens file bytes tokens → Breaks file bytes front rule → ⊥

@@ -1,0 +1,14 @@
+pub mod Spelling
+pub mod Table
+pub mod Characters
+pub mod Words
+pub mod Gaps
+pub mod Places
+pub mod Lexemes
+pub mod Entries
+pub mod Spells
+pub mod Rules
+pub mod Broken
+pub mod Pieces
+pub mod Cursors
+pub mod Reading

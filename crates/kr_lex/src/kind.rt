@@ -1,0 +1,157 @@
+// What kinds of token there are, and how those of one spelling are written.
+ghost use Rattle.std.specs.Prelude.{◌≡◌};
+ghost use Rattle.kr_lex.specs.Spelling.{is_outside_profile};
+
+/// What kind of token it is (Java Language Specification 3.8 to 3.12).
+#[derive(Clone, Copy, Debug, PartialEq, Eq)]
+pub enum Kind {
+    // names and literals
+    Identifier,
+    Number,
+    True,
+    False,
+    Null,
+
+    // keywords that the language uses
+    Boolean,
+    Break,
+    Class,
+    Continue,
+    Do,
+    Else,
+    Extends,
+    Final,
+    For,
+    If,
+    Import,
+    Instanceof,
+    Int,
+    New,
+    Package,
+    Private,
+    Protected,
+    Public,
+    Return,
+    Static,
+    Super,
+    This,
+    Void,
+    While,
+
+    // keywords of Java that it doesn't use
+    Abstract,
+    Assert,
+    Byte,
+    Case,
+    Catch,
+    Char,
+    Const,
+    Default,
+    Double,
+    Enum,
+    Finally,
+    Float,
+    Goto,
+    Implements,
+    Interface,
+    Long,
+    Native,
+    Short,
+    Strictfp,
+    Switch,
+    Synchronized,
+    Throw,
+    Throws,
+    Transient,
+    Try,
+    Volatile,
+
+    // separators
+    LeftParenthesis,
+    RightParenthesis,
+    LeftBrace,
+    RightBrace,
+    LeftBracket,
+    RightBracket,
+    Semicolon,
+    Comma,
+    Dot,
+    At,
+
+    // operators
+    Equal,
+    Greater,
+    Less,
+    Exclamation,
+    Tilde,
+    Question,
+    Colon,
+    EqualEqual,
+    GreaterEqual,
+    LessEqual,
+    ExclamationEqual,
+    AmpersandAmpersand,
+    BarBar,
+    PlusPlus,
+    MinusMinus,
+    Plus,
+    Minus,
+    Star,
+    Slash,
+    Ampersand,
+    Bar,
+    Caret,
+    Percent,
+    LessLess,
+    GreaterGreater,
+    GreaterGreaterGreater,
+    PlusEqual,
+    MinusEqual,
+    StarEqual,
+    SlashEqual,
+    AmpersandEqual,
+    BarEqual,
+    CaretEqual,
+    PercentEqual,
+    LessLessEqual,
+    GreaterGreaterEqual,
+    GreaterGreaterGreaterEqual,
+}
+
+impl Kind {
+    /// Whether it is a keyword of Java that the language doesn't use.
+    #[tactic(auto, unfolding(crate::specs::Spelling::is_outside_profile))]
+    pub fn is_outside_profile(self) -> bool
+        ensures { result ≡ is_outside_profile self }
+    {
+        match self {
+            Kind::Abstract
+            | Kind::Assert
+            | Kind::Byte
+            | Kind::Case
+            | Kind::Catch
+            | Kind::Char
+            | Kind::Const
+            | Kind::Default
+            | Kind::Double
+            | Kind::Enum
+            | Kind::Finally
+            | Kind::Float
+            | Kind::Goto
+            | Kind::Implements
+            | Kind::Interface
+            | Kind::Long
+            | Kind::Native
+            | Kind::Short
+            | Kind::Strictfp
+            | Kind::Switch
+            | Kind::Synchronized
+            | Kind::Throw
+            | Kind::Throws
+            | Kind::Transient
+            | Kind::Try
+            | Kind::Volatile => true,
+            _ => false,
+        }
+    }
+}

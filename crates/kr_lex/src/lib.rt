@@ -1,0 +1,24 @@
+//! Cuts a source into its tokens, each with its place, or names the first lexical rule that the source breaks.
+#![tactic(auto)]
+
+mod characters;
+mod cursor;
+mod fixed;
+mod gaps;
+mod kind;
+mod laws;
+mod lexer;
+mod piece;
+mod refusal;
+mod table;
+#[cfg(test)]
+mod tests;
+mod token;
+mod words;
+
+pub use kind::Kind;
+pub use laws::{one_list_law, unbroken_law};
+pub use lexer::lex;
+pub use refusal::{LexRefusal, LexRule};
+pub use table::spelling;
+pub use token::Tokens;

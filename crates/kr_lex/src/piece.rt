@@ -1,0 +1,146 @@
+// What stands at the front of a text: a gap, a token, or what breaks a rule.
+ghost use Rattle.std.specs.Prelude.{◌≡◌, ◌<◌, ◌↔◌, IsTrue, true, length, slice_index};
+ghost use Rattle.std.specs.Char.{is_ascii_digit};
+ghost use Rattle.kr_lex.specs.Broken.{BeginsEscape};
+ghost use Rattle.kr_lex.specs.Pieces.{IsPiece, BeginsCharacter, StartsName, IsSymbolic};
+
+use crate::characters::{is_start, is_white};
+use crate::fixed::{fixed_word, longest_fixed};
+use crate::gaps::{body_len, line_len};
+use crate::table::spelling;
+use crate::words::{is_number, word_len};
+use crate::{Kind, LexRule};
+
+/// What stands at the front of a text.
+#[derive(Clone, Copy, Debug)]
+pub enum Piece {
+    /// White space or a comment of this length.
+    Gap(usize),
+    /// A token of this length.
+    Token(Kind, usize),
+    Broken(LexRule),
+}
+
+/// What stands at the front of a text.
+pub fn first_piece(text: &[u8]) -> Piece
+    requires { BeginsCharacter text.now }
+    ensures { IsPiece text.now result }
+{
+    let first = text[0];
+    if is_white(first) {
+        Piece::Gap(1)
+    } else if first == b'/' {
+        slash(text)
+    } else if first.is_ascii_digit() {
+        number(text)
+    } else if starts_name(text) {
+        name(text)
+    } else {
+        symbol(text)
+    }
+}
+
+/// What stands at a slash: a comment, a contract line or an operator.
+fn slash(text: &[u8]) -> Piece
+    requires some { 0 < length text.now }
+    requires slash { slice_index text.now 0 ≡ 47 }
+    ensures { IsPiece text.now result }
+{
+    if text.starts_with(b"//") {
+        line_comment(text)
+    } else if text.starts_with(b"/*") {
+        block_comment(text)
+    } else {
+        symbol(text)
+    }
+}
+
+/// A comment up to the line's end, or a contract line.
+fn line_comment(text: &[u8]) -> Piece
+    requires some { 1 < length text.now }
+    requires first { slice_index text.now 0 ≡ 47 }
+    requires second { slice_index text.now 1 ≡ 47 }
+    ensures { IsPiece text.now result }
+{
+    if text.len() > 2 && text[2] == b'@' {
+        return Piece::Broken(LexRule::ContractLine);
+    }
+    Piece::Gap(2 + line_len(&text[2..]))
+}
+
+/// A comment up to the first star and slash.
+fn block_comment(text: &[u8]) -> Piece
+    requires some { 1 < length text.now }
+    requires first { slice_index text.now 0 ≡ 47 }
+    requires second { slice_index text.now 1 ≡ 42 }
+    ensures { IsPiece text.now result }
+{
+    match body_len(&text[2..]) {
+        Some(len) => Piece::Gap(len + 4),
+        None => Piece::Broken(LexRule::UnclosedComment),
+    }
+}
+
+/// The number at a digit, which goes on as far as a name would.
+fn number(text: &[u8]) -> Piece
+    requires { is_ascii_digit (slice_index text.now 0) ≡ true }
+    ensures { IsPiece text.now result }
+{
+    let len = word_len(text);
+    if is_number(&text[..len]) {
+        Piece::Token(Kind::Number, len)
+    } else {
+        Piece::Broken(LexRule::BadNumber)
+    }
+}
+
+/// Whether the first character starts a name.
+fn starts_name(text: &[u8]) -> bool
+    requires { BeginsCharacter text.now }
+    ensures { IsTrue result ↔ StartsName text.now }
+{
+    let first = text[0];
+    if first < 128 {
+        return is_start(first as char);
+    }
+    match bstr::decode_utf8(text) {
+        (Some(c), _) => is_start(c),
+        (None, _) => false,
+    }
+}
+
+/// The name or the word of the language at a character that starts names.
+fn name(text: &[u8]) -> Piece
+    requires { StartsName text.now }
+    ensures { IsPiece text.now result }
+{
+    let len = word_len(text);
+    match fixed_word(&text[..len]) {
+        Some(kind) => Piece::Token(kind, len),
+        None => Piece::Token(Kind::Identifier, len),
+    }
+}
+
+/// The separator or operator at a character that begins no gap, number or name, or the rule that it breaks.
+fn symbol(text: &[u8]) -> Piece
+    requires { IsSymbolic text.now }
+    ensures { IsPiece text.now result }
+{
+    match longest_fixed(text) {
+        Some(kind) => Piece::Token(kind, spelling(kind).len()),
+        None => {
+            if begins_escape(text) {
+                Piece::Broken(LexRule::UnicodeEscape)
+            } else {
+                Piece::Broken(LexRule::StrayCharacter)
+            }
+        }
+    }
+}
+
+/// Whether a backslash and `u` stand at the front.
+fn begins_escape(text: &[u8]) -> bool
+    ensures { IsTrue result ↔ BeginsEscape text.now }
+{
+    text.starts_with(b"\\u")
+}

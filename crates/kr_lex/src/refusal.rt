@@ -1,0 +1,63 @@
+// Why a source is no list of tokens.
+ghost use Rattle.std.specs.Prelude.{◌≡◌};
+ghost use Rattle.kr_lex.specs.declared.refusal.LexRefusal.TheVariants.{NoMemory};
+ghost use Rattle.kr_lex.specs.Rules.{rule_code};
+
+use kr_base::Place;
+use std::alloc::{AllocError, AllocFailed};
+
+/// A lexical rule, by what breaks it.
+#[derive(Clone, Copy, Debug, PartialEq, Eq)]
+pub enum LexRule {
+    /// L1: bytes that are no UTF-8.
+    NotUtf8,
+    /// L2: a character that begins no token.
+    StrayCharacter,
+    /// L3: a comment that is never closed.
+    UnclosedComment,
+    /// L4: a number that isn't decimal, has a leading zero, or is past 2147483648.
+    BadNumber,
+    /// L5: a backslash before `u` outside a comment.
+    UnicodeEscape,
+    /// L6: a contract line, which the language doesn't have yet.
+    ContractLine,
+}
+
+impl LexRule {
+    /// The rule's code, as `L1`.
+    pub fn code(self) -> &'static str
+        ensures { result.now ≡ rule_code self }
+    {
+        match self {
+            LexRule::NotUtf8 => "L1",
+            LexRule::StrayCharacter => "L2",
+            LexRule::UnclosedComment => "L3",
+            LexRule::BadNumber => "L4",
+            LexRule::UnicodeEscape => "L5",
+            LexRule::ContractLine => "L6",
+        }
+    }
+}
+
+/// A source was refused: it breaks a rule at a place, or memory was refused.
+#[derive(Clone, Copy, Debug, PartialEq, Eq)]
+pub enum LexRefusal {
+    Broken { place: Place, rule: LexRule },
+    NoMemory,
+}
+
+impl From<AllocError> for LexRefusal {
+    ghost from_gives = { λ _ refusal. refusal ≡ NoMemory };
+
+    fn from(_: AllocError) -> LexRefusal {
+        LexRefusal::NoMemory
+    }
+}
+
+impl<T: Drop> From<AllocFailed<T>> for LexRefusal {
+    ghost from_gives = { λ _ refusal. refusal ≡ NoMemory };
+
+    fn from(_: AllocFailed<T>) -> LexRefusal {
+        LexRefusal::NoMemory
+    }
+}
