@@ -1,18 +1,23 @@
 -- Words and files have at most one answer.
-use Rattle.std.proofs.Common.{◌≡◌, ℕ, ◌≤◌, ◌⊎◌, List, [], ◌∷◌, refl, sym, ap, ◌∙◌, subst, inl, inr, arith}
-use Rattle.std.specs.Prelude.{Option, Some, None, decimal, true, false}
+use Rattle.std.proofs.Common.{◌≡◌, ℕ, ◌<◌, ◌≤◌, ◌⊎◌, List, [], ◌∷◌, length, refl, sym, ap, ◌∙◌, subst, inl, inr, arith}
+use Rattle.std.specs.Prelude.{Option, Some, None, codes, decimal, true, false, ◌==◌, if◌then◌else◌}
 use Rattle.std.specs.Str.{bytes_eq}
 use Rattle.std.proofs.lemmas.Fmt.{decimal_is_IsNumeral}
 use Rattle.std.proofs.lemmas.Bool.{false≢true}
 use Rattle.std.specs.Str.Parse.{digits_value}
 use Rattle.kr_base.specs.declared.span.Bound.TheVariants.{At, End}
 use Rattle.kr_base.specs.Entries.{entries_in}
+use Rattle.kr_base.specs.declared.place.Place.{Place}
+use Rattle.kr_lex.specs.declared.refusal.LexRule.{LexRule}
+use Rattle.kr_lex.specs.declared.refusal.LexRule.TheVariants as rules
+use Rattle.kr_lex.specs.Places.{place_after}
+use Rattle.kr_lex.specs.Broken.{IsFirstBroken, rank, UnbrokenLaw}
 use Rattle.kr_mean.specs.Program.{Comparison, Less, LessOrEqual, Greater, GreaterOrEqual, Equal, NotEqual}
 use Rattle.kr_mean.specs.Entries.{all_entries}
 use Rattle.korat_top.specs.Source.{Source, IsSource, Spells, end, gap, token, tokens_of, test_text}
 use Rattle.korat_top.specs.Finitization.{Finitization, IsFinitization}
 use Rattle.korat_top.specs.Texts.{usage_text}
-use Rattle.korat_top.specs.Answer.{Answer, Command, ListFiles, Held, IsAnswer, usage, no_source, no_finitization, listed, line_answer, no_source_answer, no_finitization_answer, listing_answer, problem_of, NO_LIMIT}
+use Rattle.korat_top.specs.Answer.{Answer, Command, ListFiles, Held, IsAnswer, IsLexed, usage, too_long, no_tokens, no_source, no_finitization, listed, line_answer, too_long_answer, no_tokens_answer, no_source_answer, no_finitization_answer, listing_answer, problem_of, NO_LIMIT}
 use Rattle.korat_top.specs.Ends.{OneAnswer}
 use Rattle.korat_top.proofs.Spelling.{gap_on, token_on, nothing_left}
 
@@ -93,15 +98,49 @@ one_range bytes form f g x y =
     ∙ (ap (λ z. let r : Finitization = record { fuel = g.fuel; from = z; to = f.to } in r) froms
     ∙ ap (λ z. let r : Finitization = record { fuel = g.fuel; from = g.from; to = z } in r) tos)
 
+-- ---- one broken rule
+
+same_rank : (a b : LexRule) → rank a ≡ rank b → a ≡ b
+same_rank a b e = from_rank a ∙ (ap rule_at e ∙ sym (from_rank b))
+  where
+    rule_at : ℕ → LexRule
+    rule_at n = if n == 1 then rules.NotUtf8 else (if n == 2 then rules.StrayCharacter else (if n == 3 then rules.UnclosedComment else (if n == 4 then rules.BadNumber else (if n == 5 then rules.UnicodeEscape else rules.ContractLine))))
+
+    from_rank : (a : LexRule) → a ≡ rule_at (rank a)
+    from_rank rules.NotUtf8 = refl
+    from_rank rules.StrayCharacter = refl
+    from_rank rules.UnclosedComment = refl
+    from_rank rules.BadNumber = refl
+    from_rank rules.UnicodeEscape = refl
+    from_rank rules.ContractLine = refl
+
+both_least : (a b : List ℕ) (m n : ℕ) → (length a < length b) ⊎ ((a ≡ b) × (m ≤ n)) → (length b < length a) ⊎ ((b ≡ a) × (n ≤ m)) → (a ≡ b) × (m ≡ n)
+both_least a b m n (inl x) (inl y) = absurd (omega (arith, x, y))
+both_least a b m n (inl x) (inr y) = absurd (omega (arith, x, ap length y.0))
+both_least a b m n (inr x) (inl y) = absurd (omega (arith, y, ap length x.0))
+both_least a b m n (inr x) (inr y) = (x.0, omega (arith, x.1, y.1))
+
+one_broken : (file : ℕ) (bytes : List ℕ) (p q : Place) (r t : LexRule) → IsFirstBroken file bytes p r → IsFirstBroken file bytes q t → (p ≡ q) × (r ≡ t)
+one_broken file bytes p q r t x y =
+    let same = both_least x.front y.front (rank r) (rank t) (x.least y.front t y.breaks) (y.least x.front r x.breaks) in
+    (x.at ∙ (ap (place_after file) same.0 ∙ sym y.at), same_rank r t same.1)
+
 -- ---- one answer
 
--- the answer over these bytes
-abbrev Judged : List ℕ → List ℕ → List ℕ → List ℕ → Answer → Type 0
-Judged fin source f s a =
+-- the answer over these bytes, of which the source is spelled by tokens
+abbrev Formed : List ℕ → List ℕ → List ℕ → List ℕ → Answer → Type 0
+Formed fin source f s a =
     (((form : Source) → IsSource s form → ⊥) × (a ≡ no_source_answer source))
     ⊎ ((form : Source) × IsSource s form × ((range : Finitization) → IsFinitization f form range → ⊥) × (a ≡ no_finitization_answer fin))
     ⊎ ((form : Source) × (range : Finitization) × IsSource s form × IsFinitization f form range
     × (a ≡ listing_answer (problem_of form range) NO_LIMIT (entries_in (At []) End (all_entries (problem_of form range)))))
+
+-- the answer over these bytes
+abbrev Judged : List ℕ → List ℕ → List ℕ → List ℕ → Answer → Type 0
+Judged fin source f s a =
+    ((1048576 < length s) × (a ≡ too_long_answer source))
+    ⊎ ((length s ≤ 1048576) × (place : Place) × (rule : LexRule) × IsFirstBroken 0 s place rule × (a ≡ no_tokens_answer source place rule))
+    ⊎ (IsLexed s × Formed fin source f s a)
 
 abbrev Seen : Held → Option Command → Answer → Type 0
 Seen held None a = a ≡ line_answer 2 usage_text
@@ -109,34 +148,49 @@ Seen held (Some (ListFiles fin source)) a = (f s : List ℕ) × (held fin ≡ So
 
 seen : (held : Held) (asked : Option Command) (a : Answer) → IsAnswer held asked a → Seen held asked a
 seen held asked a usage = refl
-seen held asked a (no_source {f = f} {s = s} hf hs none) = (f, s, hf, hs, inl (none, refl))
-seen held asked a (no_finitization {f = f} {s = s} form hf hs is none) = (f, s, hf, hs, inr (inl (form, is, none, refl)))
-seen held asked a (listed {f = f} {s = s} form range hf hs is ranges) = (f, s, hf, hs, inr (inr (form, range, is, ranges, refl)))
+seen held asked a (too_long {f = f} {s = s} hf hs long) = (f, s, hf, hs, inl (long, refl))
+seen held asked a (no_tokens {f = f} {s = s} place rule hf hs short broken) = (f, s, hf, hs, inr (inl (short, place, rule, broken, refl)))
+seen held asked a (no_source {f = f} {s = s} hf hs lexed none) = (f, s, hf, hs, inr (inr (lexed, inl (none, refl))))
+seen held asked a (no_finitization {f = f} {s = s} form hf hs lexed is none) = (f, s, hf, hs, inr (inr (lexed, inr (inl (form, is, none, refl)))))
+seen held asked a (listed {f = f} {s = s} form range hf hs lexed is ranges) = (f, s, hf, hs, inr (inr (lexed, inr (inr (form, range, is, ranges, refl)))))
 
-one_judged : (fin source f s : List ℕ) (a b : Answer) → Judged fin source f s a → Judged fin source f s b → a ≡ b
-one_judged fin source f s a b (inl x) (inl y) = x.1 ∙ sym y.1
-one_judged fin source f s a b (inl x) (inr (inl y)) = absurd (x.0 y.0 y.1)
-one_judged fin source f s a b (inl x) (inr (inr y)) = absurd (x.0 y.0 y.2)
-one_judged fin source f s a b (inr (inl x)) (inl y) = absurd (y.0 x.0 x.1)
-one_judged fin source f s a b (inr (inl x)) (inr (inl y)) = x.3 ∙ sym y.3
-one_judged fin source f s a b (inr (inl x)) (inr (inr y)) = absurd (x.2 y.1 (subst (λ (form : Source). IsFinitization f form y.1) (one_source s y.0 x.0 y.2 x.1) y.3))
-one_judged fin source f s a b (inr (inr x)) (inl y) = absurd (y.0 x.0 x.2)
-one_judged fin source f s a b (inr (inr x)) (inr (inl y)) = absurd (y.2 x.1 (subst (λ (form : Source). IsFinitization f form x.1) (one_source s x.0 y.0 x.2 y.1) x.3))
-one_judged fin source f s a b (inr (inr x)) (inr (inr y)) =
+one_formed : (fin source f s : List ℕ) (a b : Answer) → Formed fin source f s a → Formed fin source f s b → a ≡ b
+one_formed fin source f s a b (inl x) (inl y) = x.1 ∙ sym y.1
+one_formed fin source f s a b (inl x) (inr (inl y)) = absurd (x.0 y.0 y.1)
+one_formed fin source f s a b (inl x) (inr (inr y)) = absurd (x.0 y.0 y.2)
+one_formed fin source f s a b (inr (inl x)) (inl y) = absurd (y.0 x.0 x.1)
+one_formed fin source f s a b (inr (inl x)) (inr (inl y)) = x.3 ∙ sym y.3
+one_formed fin source f s a b (inr (inl x)) (inr (inr y)) = absurd (x.2 y.1 (subst (λ (form : Source). IsFinitization f form y.1) (one_source s y.0 x.0 y.2 x.1) y.3))
+one_formed fin source f s a b (inr (inr x)) (inl y) = absurd (y.0 x.0 x.2)
+one_formed fin source f s a b (inr (inr x)) (inr (inl y)) = absurd (y.2 x.1 (subst (λ (form : Source). IsFinitization f form x.1) (one_source s x.0 y.0 x.2 y.1) x.3))
+one_formed fin source f s a b (inr (inr x)) (inr (inr y)) =
     let forms : x.0 ≡ y.0 = one_source s x.0 y.0 x.2 y.2 in
     let ranges : x.1 ≡ y.1 = one_range f y.0 x.1 y.1 (subst (λ (form : Source). IsFinitization f form x.1) forms x.3) y.3 in
     x.4
     ∙ (ap (λ (form : Source). listing_answer (problem_of form x.1) NO_LIMIT (entries_in (At []) End (all_entries (problem_of form x.1)))) forms
     ∙ (ap (λ (range : Finitization). listing_answer (problem_of y.0 range) NO_LIMIT (entries_in (At []) End (all_entries (problem_of y.0 range)))) ranges ∙ sym y.4))
 
-one_seen : (held : Held) (asked : Option Command) (a b : Answer) → Seen held asked a → Seen held asked b → a ≡ b
-one_seen held None a b x y = x ∙ sym y
-one_seen held (Some (ListFiles fin source)) a b x y =
+one_judged : (fin source f s : List ℕ) (a b : Answer) → UnbrokenLaw → Judged fin source f s a → Judged fin source f s b → a ≡ b
+one_judged fin source f s a b law (inl x) (inl y) = x.1 ∙ sym y.1
+one_judged fin source f s a b law (inl x) (inr (inl y)) = absurd (omega (arith, x.0, y.0))
+one_judged fin source f s a b law (inl x) (inr (inr y)) = absurd (omega (arith, x.0, y.0.short))
+one_judged fin source f s a b law (inr (inl x)) (inl y) = absurd (omega (arith, x.0, y.0))
+one_judged fin source f s a b law (inr (inl x)) (inr (inl y)) =
+    let same = one_broken 0 s x.1 y.1 x.2 y.2 x.3 y.3 in
+    x.4 ∙ (ap (λ p. no_tokens_answer source p x.2) same.0 ∙ (ap (λ r. no_tokens_answer source y.1 r) same.1 ∙ sym y.4))
+one_judged fin source f s a b law (inr (inl x)) (inr (inr y)) = absurd (law 0 s x.3.front y.0.tokens x.2 y.0.spelled x.3.breaks)
+one_judged fin source f s a b law (inr (inr x)) (inl y) = absurd (omega (arith, x.0.short, y.0))
+one_judged fin source f s a b law (inr (inr x)) (inr (inl y)) = absurd (law 0 s y.3.front x.0.tokens y.2 x.0.spelled y.3.breaks)
+one_judged fin source f s a b law (inr (inr x)) (inr (inr y)) = one_formed fin source f s a b x.1 y.1
+
+one_seen : (held : Held) (asked : Option Command) (a b : Answer) → UnbrokenLaw → Seen held asked a → Seen held asked b → a ≡ b
+one_seen held None a b law x y = x ∙ sym y
+one_seen held (Some (ListFiles fin source)) a b law x y =
     let fs : Some x.0 ≡ Some y.0 = sym x.2 ∙ y.2 in
     let ss : Some x.1 ≡ Some y.1 = sym x.3 ∙ y.3 in
     let f : x.0 ≡ y.0 = cc (fs) in
     let s : x.1 ≡ y.1 = cc (ss) in
-    one_judged fin source y.0 y.1 a b (subst (λ u. Judged fin source y.0 u a) s (subst (λ u. Judged fin source u x.1 a) f x.4)) y.4
+    one_judged fin source y.0 y.1 a b law (subst (λ u. Judged fin source y.0 u a) s (subst (λ u. Judged fin source u x.1 a) f x.4)) y.4
 
-pub one_answer : OneAnswer
-one_answer held asked a b x y = one_seen held asked a b (seen held asked a x) (seen held asked b y)
+pub one_answer : UnbrokenLaw → OneAnswer
+one_answer law held asked a b x y = one_seen held asked a b law (seen held asked a x) (seen held asked b y)

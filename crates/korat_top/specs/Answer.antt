@@ -1,5 +1,5 @@
 -- What a call answers over what its files hold: a status, the lines of rows, and the last line.
-use Rattle.std.specs.Prelude.{◌≡◌, ℕ, Bool, true, false, ◌&&◌, not, ◌⊎◌, List, [], ◌∷◌, ◌++◌, length, take, map, filter, flat_map, Option, Some, None, codes, nat_lt, pos, if◌then◌else◌}
+use Rattle.std.specs.Prelude.{◌≡◌, ℕ, ◌<◌, ◌≤◌, Bool, true, false, ◌&&◌, not, ◌⊎◌, List, [], ◌∷◌, ◌++◌, length, take, map, filter, flat_map, Option, Some, None, codes, nat_lt, pos, if◌then◌else◌}
 use Rattle.std.specs.Str.{bytes_eq}
 use Rattle.kr_base.specs.declared.place.Place.{Place}
 use Rattle.kr_base.specs.declared.span.Bound.TheVariants.{At, End}
@@ -8,6 +8,11 @@ use Rattle.kr_base.specs.declared.entry.Mark.TheVariants.{Valid, Invalid, Spent}
 use Rattle.kr_base.specs.declared.entry.Entry.{Entry}
 use Rattle.kr_base.specs.Entries.{entries_in}
 use Rattle.kr_text.specs.Texts.{refusal_text}
+use Rattle.kr_lex.specs.declared.refusal.LexRule.{LexRule}
+use Rattle.kr_lex.specs.Lexemes.{Lexemes}
+use Rattle.kr_lex.specs.Rules.{rule_code}
+use Rattle.kr_lex.specs.Spells.{AreTokens}
+use Rattle.kr_lex.specs.Broken.{IsFirstBroken}
 use Rattle.kr_mean.specs.Problem.{Problem, Mode, Listing, Testing}
 use Rattle.kr_mean.specs.Entries.{Row, Verdict, Pass, Ensures, RepOk, Trap, CheckTrap, OutOfFuel, all_entries}
 use Rattle.kr_mean.specs.OneField.{one_field}
@@ -120,6 +125,22 @@ NO_LIMIT = 4294967295
 abbrev pub first_place : Place
 first_place = record { file = 0; line = 1; col = 1 }
 
+-- the longest file that is taken, in bytes
+abbrev pub LIMIT : ℕ
+LIMIT = 1048576
+
+abbrev pub too_long_answer : List ℕ → Answer
+too_long_answer name = line_answer 3 (refusal_text name (Some first_place) (codes "B1") [])
+
+abbrev pub no_tokens_answer : List ℕ → Place → LexRule → Answer
+no_tokens_answer name place rule = line_answer 3 (refusal_text name (Some place) (rule_code rule) [])
+
+-- a source of such a length that tokens spell
+pub record IsLexed (s : List ℕ) : Type 0 where
+  pub short : length s ≤ LIMIT
+  pub tokens : Lexemes
+  pub spelled : AreTokens 0 s tokens
+
 abbrev pub no_source_answer : List ℕ → Answer
 no_source_answer name = line_answer 3 (refusal_text name (Some first_place) (codes "N0") [])
 
@@ -130,15 +151,19 @@ abbrev pub Held : Type 0
 Held = List ℕ → Option (List ℕ)
 
 -- The answer to a command, or to words that give none, over what the files hold: the first step that is broken, in the
--- order of the source's form and the finitization's form, else the report.
+-- order of the source's length, its tokens, its form and the finitization's form; else the report.
 pub data IsAnswer (held : Held) : Option Command → Answer → Type 0 where
   usage : IsAnswer held None (line_answer 2 usage_text)
+  too_long : {fin source f s : List ℕ} → held fin ≡ Some f → held source ≡ Some s
+      → LIMIT < length s → IsAnswer held (Some (ListFiles fin source)) (too_long_answer source)
+  no_tokens : {fin source f s : List ℕ} (place : Place) (rule : LexRule) → held fin ≡ Some f → held source ≡ Some s
+      → length s ≤ LIMIT → IsFirstBroken 0 s place rule → IsAnswer held (Some (ListFiles fin source)) (no_tokens_answer source place rule)
   no_source : {fin source f s : List ℕ} → held fin ≡ Some f → held source ≡ Some s
-      → ((form : Source) → IsSource s form → ⊥) → IsAnswer held (Some (ListFiles fin source)) (no_source_answer source)
+      → IsLexed s → ((form : Source) → IsSource s form → ⊥) → IsAnswer held (Some (ListFiles fin source)) (no_source_answer source)
   no_finitization : {fin source f s : List ℕ} (form : Source) → held fin ≡ Some f → held source ≡ Some s
-      → IsSource s form → ((range : Finitization) → IsFinitization f form range → ⊥) → IsAnswer held (Some (ListFiles fin source)) (no_finitization_answer fin)
+      → IsLexed s → IsSource s form → ((range : Finitization) → IsFinitization f form range → ⊥) → IsAnswer held (Some (ListFiles fin source)) (no_finitization_answer fin)
   listed : {fin source f s : List ℕ} (form : Source) (range : Finitization) → held fin ≡ Some f → held source ≡ Some s
-      → IsSource s form → IsFinitization f form range
+      → IsLexed s → IsSource s form → IsFinitization f form range
       → IsAnswer held (Some (ListFiles fin source)) (listing_answer (problem_of form range) NO_LIMIT (entries_in (At []) End (all_entries (problem_of form range))))
 
 abbrev pub TellsBoth : Option (List ℕ) → Option (List ℕ) → Type 0

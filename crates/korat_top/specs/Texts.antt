@@ -3,8 +3,8 @@ use Rattle.std.specs.Prelude.{ℕ, ◌-◌, ◌^◌, true, false, List, [], ◌�
 use Rattle.std.specs.Fmt.{signed_decimal}
 use Rattle.std.proofs.Common.{get_or}
 use Rattle.kr_base.specs.Cuts.{cut_text}
-use Rattle.kr_mean.specs.Problem.{Problem, Candidate, Class, Object, Array, Spot, Field, Length, Element, Place, This, Parameter, At, Value, Int, Truth, Null, Reference, candidates, domain_at, slot_at, Mode, Listing, Testing}
-use Rattle.kr_mean.specs.Heaps.{distinct, is_same_candidate, is_owner}
+use Rattle.kr_mean.specs.Problem.{Problem, DomainObject, Class, Object, Array, Spot, Field, Length, Element, Place, This, Parameter, At, Value, Int, Truth, Null, Reference, all_objects, domain_at, slot_at, Mode, Listing, Testing}
+use Rattle.kr_mean.specs.Heaps.{distinct, is_same_object, is_owner}
 use Rattle.kr_mean.specs.Meaning.{TrapKind, NullPointerException, ArithmeticException, ArrayIndexOutOfBoundsException, NegativeArraySizeException, ClassCastException, NoSuchElementException, NoReturn, ArrayTooLong, class_in, method_in}
 use Rattle.kr_mean.specs.Entries.{Row, Verdict, Pass, Ensures, RepOk, Trap, CheckTrap, OutOfFuel}
 
@@ -19,11 +19,11 @@ joined_by between (t ∷ ts) = t ++ behind between ts
 
 -- ---- structures
 
-abbrev pub no_candidate : Candidate
-no_candidate = record { domain = 0; number = 0 }
+abbrev pub no_domain_object : DomainObject
+no_domain_object = record { domain = 0; number = 0 }
 
 -- `Class#k`
-abbrev pub object_name : Problem → Candidate → List ℕ
+abbrev pub object_name : Problem → DomainObject → List ℕ
 object_name problem o = (domain_at problem o.domain).name ++ codes "#" ++ decimal o.number
 
 abbrev pub value_text : Problem → Value → List ℕ
@@ -31,7 +31,7 @@ value_text problem (Int n) = signed_decimal n
 value_text problem (Truth true) = codes "true"
 value_text problem (Truth false) = codes "false"
 value_text problem Null = codes "null"
-value_text problem (Reference o) = object_name problem (get_or (candidates problem) o no_candidate)
+value_text problem (Reference o) = object_name problem (get_or (all_objects problem) o no_domain_object)
 
 abbrev pub parameters_of : Problem → Mode → List (List ℕ)
 parameters_of problem Listing = []
@@ -55,7 +55,7 @@ part_text problem class v (Parameter i) = []
 part_text problem class v (At o spot) = spot_text problem class v spot
 
 -- what a structure has of an object
-abbrev pub parts_of : Problem → List (ℕ × Value) → Candidate → List (List ℕ)
+abbrev pub parts_of : Problem → List (ℕ × Value) → DomainObject → List (List ℕ)
 parts_of problem structure o =
     flat_map (λ (p : ℕ × Value). if is_owner o (slot_at problem p.0).owner then part_text problem (domain_at problem o.domain).class p.1 (slot_at problem p.0).place else []) structure
 
@@ -64,19 +64,19 @@ in_brackets (Object c) text = codes "{" ++ text ++ codes "}"
 in_brackets (Array t) text = codes "[" ++ text ++ codes "]"
 
 -- `Class#k{f=value,f=value}`, or of an array `int[]#k[value,value]`
-abbrev pub object_text : Problem → List (ℕ × Value) → Candidate → List ℕ
+abbrev pub object_text : Problem → List (ℕ × Value) → DomainObject → List ℕ
 object_text problem structure o =
     object_name problem o ++ in_brackets (domain_at problem o.domain).class (joined_by (codes ",") (parts_of problem structure o))
 
-abbrev pub objects_in : Problem → Value → List Candidate
-objects_in problem (Reference o) = get_or (candidates problem) o no_candidate ∷ []
+abbrev pub objects_in : Problem → Value → List DomainObject
+objects_in problem (Reference o) = get_or (all_objects problem) o no_domain_object ∷ []
 objects_in problem (Int n) = []
 objects_in problem (Truth b) = []
 objects_in problem Null = []
 
 -- the objects of a structure, in the order in which it names them
-abbrev pub objects_named : Problem → List (ℕ × Value) → List Candidate
-objects_named problem structure = distinct is_same_candidate (flat_map (λ (p : ℕ × Value). objects_in problem p.1) structure)
+abbrev pub objects_named : Problem → List (ℕ × Value) → List DomainObject
+objects_named problem structure = distinct is_same_object (flat_map (λ (p : ℕ × Value). objects_in problem p.1) structure)
 
 abbrev pub in_parentheses : List (List ℕ) → List ℕ
 in_parentheses [] = []

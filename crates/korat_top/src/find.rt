@@ -1,12 +1,14 @@
 // The work for a command, before anything is written: both files are read, and then judged.
 ghost use Rattle.std.specs.Prelude.{◌≡◌, ◌<◌, IfOk, length};
+ghost use Rattle.korat_top.specs.Answer.{IsLexed};
 ghost use Rattle.korat_top.specs.Found.{HasRead, IsLater, Judges, Finds, IsLimited};
 
 use crate::finitization::{Finitization, read_finitization};
 use crate::source::{Source, read_source};
 use crate::words::{FINITIZATION, SOURCE};
-use kr_base::{NoMemory, Words};
+use kr_base::{NoMemory, Place, Words};
 use kr_io::{Files, ReadRefusal};
+use kr_lex::{LexRefusal, LexRule, lex};
 use std::alloc::Global;
 
 /// The longest file that is taken, in bytes.
@@ -23,6 +25,10 @@ pub(crate) enum Stop {
 /// What the two files are.
 #[derive(Drop)]
 pub(crate) enum Found {
+    /// The source has more bytes than are taken.
+    TooLong,
+    /// The source breaks a rule of tokens at a place.
+    Broken(Place, LexRule),
     /// The source isn't of its form.
     NoSource,
     /// The finitization isn't of its form.
@@ -43,8 +49,9 @@ fn read<F: Files>(words: &Words, at: usize, files: &mut F) -> Result<Vec<u8>, St
     }
 }
 
-/// Judges the source first, and then the finitization.
-fn judge(alloc: Global, fin: &[u8], source: &[u8]) -> Result<Found, NoMemory>
+/// Judges the form of a source that tokens spell, and then that of the finitization.
+fn judge_forms(alloc: Global, fin: &[u8], source: &[u8]) -> Result<Found, NoMemory>
+    requires { IsLexed source.now }
     ensures judged { IfOk result (Judges fin.now source.now) }
     ensures limited { IfOk result IsLimited }
 {
@@ -54,6 +61,21 @@ fn judge(alloc: Global, fin: &[u8], source: &[u8]) -> Result<Found, NoMemory>
     match read_finitization(alloc, fin, &source)? {
         Some(range) => Ok(Found::Cells(source, range)),
         None => Ok(Found::NoFinitization),
+    }
+}
+
+/// Judges the source's length, its tokens and then the forms.
+fn judge(alloc: Global, fin: &[u8], source: &[u8]) -> Result<Found, NoMemory>
+    ensures judged { IfOk result (Judges fin.now source.now) }
+    ensures limited { IfOk result IsLimited }
+{
+    if source.len() > LIMIT {
+        return Ok(Found::TooLong);
+    }
+    match lex(alloc, 0, source) {
+        Ok(_) => judge_forms(alloc, fin, source),
+        Err(LexRefusal::Broken { place, rule }) => Ok(Found::Broken(place, rule)),
+        Err(LexRefusal::NoMemory) => Err(NoMemory),
     }
 }
 

@@ -228,6 +228,32 @@ fn words(rt: HostRuntime) -> Result<(), Fail> {
 }
 
 #[test]
+fn broken_tokens(rt: HostRuntime) -> Result<(), Fail> {
+    let alloc = rt.alloc();
+    for (source, text) in [
+        ("/* x", "X.java:1:1: L3\n"),
+        ("class X { #", "X.java:1:11: L2\n"),
+        ("class X {\n  //@ requires x;\n", "X.java:2:3: L6\n"),
+        ("class X {\r\n\\u0041", "X.java:2:1: L5\n"),
+        ("class X { int v = 08; }", "X.java:1:19: L4\n"),
+        // Tokens that are well spelled, in a source of another form.
+        ("class X { int v = 2147483648; }", "X.java:1:1: N0\n"),
+        ("\tclass X { }", "X.java:1:1: N0\n"),
+        ("// class X", "X.java:1:1: N0\n"),
+        ("", "X.java:1:1: N0\n"),
+    ] {
+        for fin in [FIN, FUEL_OF_FIVE] {
+            let files = files_of(alloc, &[("fin.toml", fin), ("X.java", source)], &[])?;
+            let mut out = output(alloc, 1024)?;
+            let words = ["list", "fin.toml", "X.java"];
+            assert_eq!(rt; call(alloc, &words, files, &mut out)?, 3, "{text}");
+            assert_eq!(rt; out.bytes(), text.as_bytes());
+        }
+    }
+    Ok(())
+}
+
+#[test]
 fn failing_reads(rt: HostRuntime) -> Result<(), Fail> {
     let alloc = rt.alloc();
     // Nothing is judged before both files are read.
@@ -301,7 +327,8 @@ fn long_files(rt: HostRuntime) -> Result<(), Fail> {
     for (fin, source, status, text) in [
         (LIMIT, LIMIT, 0, LISTED),
         (LIMIT + 1, LIMIT, 4, "fin.toml: N0 form\n"),
-        (LIMIT, LIMIT + 1, 3, "Cell.java:1:1: N0\n"),
+        (LIMIT, LIMIT + 1, 3, "Cell.java:1:1: B1\n"),
+        (LIMIT + 1, LIMIT + 1, 3, "Cell.java:1:1: B1\n"),
     ] {
         let fin = padded(alloc, FIN, fin)?;
         let source = padded(alloc, CELL, source)?;

@@ -12,8 +12,8 @@ use crate::find::{Found, Stop, find};
 use crate::finitization::Finitization;
 use crate::listing::{Halt, count, put_range};
 use crate::report::{
-    put_listed, put_no_finitization, put_no_source, put_out_of_memory, put_read_fault,
-    put_usage_fault,
+    put_broken, put_listed, put_no_finitization, put_no_source, put_out_of_memory, put_read_fault,
+    put_too_long, put_usage_fault,
 };
 use crate::source::Source;
 use crate::words::{FINITIZATION, SOURCE, is_listing};
@@ -49,6 +49,10 @@ fn serve<F: Files, K: Sink>(alloc: Global, words: &Words, files: &mut F, out: &m
 {
     one_field_law();
     match find(alloc, words, files) {
+        Ok(Found::TooLong) => once_written(put_too_long(words.get(SOURCE), out), 3),
+        Ok(Found::Broken(place, rule)) => {
+            once_written(put_broken(words.get(SOURCE), place, rule, out), 3)
+        }
         Ok(Found::NoSource) => once_written(put_no_source(words.get(SOURCE), out), 3),
         Ok(Found::NoFinitization) => {
             once_written(put_no_finitization(words.get(FINITIZATION), out), 4)

@@ -2,7 +2,7 @@
 -- change nothing.
 use Rattle.std.proofs.Common.{◌≡◌, ℕ, zero, suc, ◌+◌, ◌-◌, ◌*◌, ◌<◌, ℤ, pos, List, [], ◌∷◌, length, map, get_or, Some, None, refl, sym, ap, ◌∙◌, subst, arith}
 use Rattle.kr_mean.specs.Program.{Comparison}
-use Rattle.kr_mean.specs.Problem.{Problem, Candidate, Choice, Int, choices_in}
+use Rattle.kr_mean.specs.Problem.{Problem, DomainObject, Choice, Int, choices_in}
 use Rattle.kr_mean.specs.Space.{Space, no_choice, space_of, IsVector, IsRenaming, IsRenamed, IsBlock, IsPart, IsSpace, moved, on_slot, on_index}
 use Rattle.kr_mean.specs.OneField.{one_field, int_domain}
 
@@ -69,7 +69,7 @@ is_vector form i h = record { long = refl; within = within_domains form i h }
 
 -- ---- the space
 
-abbrev pub cell : Candidate
+abbrev pub cell : DomainObject
 cell = record { domain = 0; number = 0 }
 
 some_is : {A : Type 0} (a b : A) → Some a ≡ Some b → a ≡ b
@@ -91,7 +91,7 @@ one_block form = record {
   all = λ k h. let e : 0 ≡ k = omega (arith, h) in subst (λ k. (space_for form).object_at 0 (0 - 0 + k) ≡ Some (record { domain = 0; number = k })) e refl;
 }
 
-blocks : (form : Form) (s i : ℕ) (o : Candidate) → s < (space_for form).slots → i < (space_for form).size s → (space_for form).object_at s i ≡ Some o → IsBlock (space_for form) s i o
+blocks : (form : Form) (s i : ℕ) (o : DomainObject) → s < (space_for form).slots → i < (space_for form).size s → (space_for form).object_at s i ≡ Some o → IsBlock (space_for form) s i o
 unfolding space_of
 blocks form zero zero o b h e = subst (λ o. IsBlock (space_for form) 0 0 o) (some_is cell o e) (one_block form)
 blocks form zero (suc i) o b h e = absurd (omega (arith, h))
@@ -110,7 +110,7 @@ one_part form = record {
   objects = λ k i h. let e : 0 ≡ k = omega (arith, h) in subst (λ k. (space_for form).object_at (1 - 0 * 1 + k * 1) i ≡ (space_for form).object_at 1 i) e refl;
 }
 
-parts : (form : Form) (s : ℕ) (o : Candidate) → s < (space_for form).slots → (space_for form).owner s ≡ Some o → IsPart (space_for form) s o
+parts : (form : Form) (s : ℕ) (o : DomainObject) → s < (space_for form).slots → (space_for form).owner s ≡ Some o → IsPart (space_for form) s o
 unfolding space_of
 parts form zero o b e = absurd (cc (e))
 parts form (suc zero) o b e = subst (λ o. IsPart (space_for form) 1 o) (some_is cell o e) (one_part form)

@@ -62,7 +62,7 @@ pub record Problem : Type 0 where
 -- ---- objects
 
 -- an object of a class domain
-pub record Candidate : Type 0 where
+pub record DomainObject : Type 0 where
   pub domain : ℕ
   pub number : ℕ
 
@@ -75,16 +75,16 @@ domain_at problem d = get_or problem.domains d no_objects
 abbrev pub upto : ℕ → List ℕ
 upto n = range_with_len 0 n
 
-abbrev pub candidates_of : ℕ → ClassDomain → List Candidate
-candidates_of d domain = map (λ k. record { domain = d; number = k }) (upto domain.count)
+abbrev pub objects_of_domain : ℕ → ClassDomain → List DomainObject
+objects_of_domain d domain = map (λ k. record { domain = d; number = k }) (upto domain.count)
 
-abbrev pub candidates_from : ℕ → List ClassDomain → List Candidate
-candidates_from d [] = []
-candidates_from d (domain ∷ domains) = candidates_of d domain ++ candidates_from (d + 1) domains
+abbrev pub objects_from : ℕ → List ClassDomain → List DomainObject
+objects_from d [] = []
+objects_from d (domain ∷ domains) = objects_of_domain d domain ++ objects_from (d + 1) domains
 
--- all candidate objects, in the order of their numbers in the heap
-abbrev pub candidates : Problem → List Candidate
-candidates problem = candidates_from 0 problem.domains
+-- the objects of all class domains, in the order of their numbers in the heap
+abbrev pub all_objects : Problem → List DomainObject
+all_objects problem = objects_from 0 problem.domains
 
 -- how many objects the class domains before one have
 abbrev pub objects_before : ℕ → List ClassDomain → ℕ
@@ -92,7 +92,7 @@ objects_before d [] = 0
 objects_before d (domain ∷ domains) = if d == 0 then 0 else domain.count + objects_before (d - 1) domains
 
 -- an object's number in the heap
-abbrev pub heap_number : Problem → Candidate → ℕ
+abbrev pub heap_number : Problem → DomainObject → ℕ
 heap_number problem o = objects_before o.domain problem.domains + o.number
 
 -- ---- slots and their domains
@@ -105,7 +105,7 @@ pub data Place : Type 0 where
 
 pub record Slot : Type 0 where
   pub place : Place
-  pub owner : Option Candidate
+  pub owner : Option DomainObject
   pub domain : Domain
 
 abbrev pub this_slot : Problem → Slot
@@ -115,13 +115,13 @@ abbrev pub parameter_slots : ℕ → List Domain → List Slot
 parameter_slots i [] = []
 parameter_slots i (domain ∷ domains) = record { place = Parameter i; owner = None; domain = domain } ∷ parameter_slots (i + 1) domains
 
-abbrev pub slots_of_object : Problem → Candidate → List Slot
+abbrev pub slots_of_object : Problem → DomainObject → List Slot
 slots_of_object problem o =
     map (λ s. record { place = At (heap_number problem o) s.spot; owner = Some o; domain = s.domain }) (domain_at problem o.domain).spots
 
 -- all slots: `this`, the parameters, and what each object has
 abbrev pub slots : Problem → List Slot
-slots problem = this_slot problem ∷ (parameter_slots 0 problem.parameters ++ flat_map (slots_of_object problem) (candidates problem))
+slots problem = this_slot problem ∷ (parameter_slots 0 problem.parameters ++ flat_map (slots_of_object problem) (all_objects problem))
 
 abbrev pub no_slot : Slot
 no_slot = record { place = This; owner = None; domain = [] }
@@ -132,14 +132,14 @@ slot_at problem s = get_or (slots problem) s no_slot
 -- a value of a domain, and the object that it is where it is one
 pub record Choice : Type 0 where
   pub value : Value
-  pub object : Option Candidate
+  pub object : Option DomainObject
 
-abbrev pub object_choice : Problem → Candidate → Choice
+abbrev pub object_choice : Problem → DomainObject → Choice
 object_choice problem o = record { value = Reference (heap_number problem o); object = Some o }
 
 abbrev pub item_choices : Problem → Item → List Choice
 item_choices problem (Plain v) = record { value = v; object = None } ∷ []
-item_choices problem (Objects d) = map (object_choice problem) (candidates_of d (domain_at problem d))
+item_choices problem (Objects d) = map (object_choice problem) (objects_of_domain d (domain_at problem d))
 
 -- the values of a domain, in order
 abbrev pub choices_in : Problem → Domain → List Choice

@@ -2,7 +2,7 @@
 use Rattle.std.specs.Prelude.{ℕ, ◌==◌, Bool, true, false, ◌&&◌, ◌||◌, not, List, [], ◌∷◌, ◌++◌, length, map, flat_map, filter, Result, Ok, Err, if◌then◌else◌}
 use Rattle.std.proofs.Common.{get_or}
 use Rattle.kr_mean.specs.Program.{Program, Expression, this, call}
-use Rattle.kr_mean.specs.Problem.{Problem, Mode, Listing, Testing, Spot, Field, Length, Element, Place, This, Parameter, At, candidates, slot_at, slots, domain_at, upto}
+use Rattle.kr_mean.specs.Problem.{Problem, Mode, Listing, Testing, Spot, Field, Length, Element, Place, This, Parameter, At, all_objects, slot_at, slots, domain_at, upto}
 use Rattle.kr_mean.specs.Heaps.{distinct, heap_of, value_at, walk}
 use Rattle.kr_mean.specs.Meaning.{TrapKind, Stop, Trapped, OutOfFuel, State, Outcome, Run, give, ◌>>=◌, is_true, method_in, value}
 
@@ -34,7 +34,7 @@ start problem vector = record {
   this_value = value_at problem vector 0;
   locals = [];
   heap = heap_of problem vector;
-  candidates = length (candidates problem);
+  candidates = length (all_objects problem);
   fuel = problem.fuel;
   reads = This ∷ [];
 }

@@ -1,7 +1,7 @@
 -- Candidates: vectors of indices, and what other names for the objects make of them.
 use Rattle.std.specs.Prelude.{◌≡◌, ℕ, ◌+◌, ◌-◌, ◌*◌, ◌<◌, ◌≤◌, List, length, Option, Some, None}
 use Rattle.std.proofs.Common.{get_or}
-use Rattle.kr_mean.specs.Problem.{Problem, Candidate, ClassDomain, Slot, Choice, slots, slot_at, choices_at, domain_at}
+use Rattle.kr_mean.specs.Problem.{Problem, DomainObject, ClassDomain, Slot, Choice, slots, slot_at, choices_at, domain_at}
 
 -- The slots of a problem with their domains, as far as candidates need them: how many slots there are; how many values
 -- a slot's domain has; the object that an index of a slot stands for, if it is one; whose slot it is; how many slots
@@ -9,8 +9,8 @@ use Rattle.kr_mean.specs.Problem.{Problem, Candidate, ClassDomain, Slot, Choice,
 pub record Space : Type 0 where
   pub slots : ℕ
   pub size : ℕ → ℕ
-  pub object_at : ℕ → ℕ → Option Candidate
-  pub owner : ℕ → Option Candidate
+  pub object_at : ℕ → ℕ → Option DomainObject
+  pub owner : ℕ → Option DomainObject
   pub width : ℕ → ℕ
   pub domains : ℕ
   pub count : ℕ → ℕ
@@ -40,11 +40,11 @@ pub record IsRenaming (space : Space) (name : ℕ → ℕ → ℕ) : Type 0 wher
   pub apart : (d j k : ℕ) → j < space.count d → k < space.count d → name d j ≡ name d k → j ≡ k
 
 -- The objects of a class domain stand one after another, in steps of a width: where a place goes when they change numbers.
-abbrev pub moved : (ℕ → ℕ → ℕ) → Option Candidate → ℕ → ℕ → ℕ
+abbrev pub moved : (ℕ → ℕ → ℕ) → Option DomainObject → ℕ → ℕ → ℕ
 moved name None width i = i
 moved name (Some o) width i = i - o.number * width + name o.domain o.number * width
 
-abbrev pub width_of : Space → Option Candidate → ℕ
+abbrev pub width_of : Space → Option DomainObject → ℕ
 width_of space None = 0
 width_of space (Some o) = space.width o.domain
 
@@ -61,7 +61,7 @@ pub record IsRenamed (space : Space) (name : ℕ → ℕ → ℕ) (v w : List �
   pub values : (s : ℕ) → s < space.slots → get_or w (on_slot space name s) 0 ≡ on_index space name s (get_or v s 0)
 
 -- An object's block in a slot's domain: where one stands, all of its class domain do, in order.
-pub record IsBlock (space : Space) (s i : ℕ) (o : Candidate) : Type 0 where
+pub record IsBlock (space : Space) (s i : ℕ) (o : DomainObject) : Type 0 where
   pub domain : o.domain < space.domains
   pub number : o.number < space.count o.domain
   pub room : o.number ≤ i
@@ -69,7 +69,7 @@ pub record IsBlock (space : Space) (s i : ℕ) (o : Candidate) : Type 0 where
   pub all : (k : ℕ) → k < space.count o.domain → space.object_at s (i - o.number + k) ≡ Some (record { domain = o.domain; number = k })
 
 -- The same of the slots that objects own; like slots of one class domain have like domains.
-pub record IsPart (space : Space) (s : ℕ) (o : Candidate) : Type 0 where
+pub record IsPart (space : Space) (s : ℕ) (o : DomainObject) : Type 0 where
   pub domain : o.domain < space.domains
   pub number : o.number < space.count o.domain
   pub room : o.number * space.width o.domain ≤ s
@@ -81,5 +81,5 @@ pub record IsPart (space : Space) (s : ℕ) (o : Candidate) : Type 0 where
 -- what holds of the slots and domains of every problem
 pub record IsSpace (space : Space) : Type 0 where
   pub filled : (s : ℕ) → s < space.slots → 0 < space.size s
-  pub blocks : (s i : ℕ) (o : Candidate) → s < space.slots → i < space.size s → space.object_at s i ≡ Some o → IsBlock space s i o
-  pub parts : (s : ℕ) (o : Candidate) → s < space.slots → space.owner s ≡ Some o → IsPart space s o
+  pub blocks : (s i : ℕ) (o : DomainObject) → s < space.slots → i < space.size s → space.object_at s i ≡ Some o → IsBlock space s i o
+  pub parts : (s : ℕ) (o : DomainObject) → s < space.slots → space.owner s ≡ Some o → IsPart space s o

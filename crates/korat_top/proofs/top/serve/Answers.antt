@@ -1,23 +1,43 @@
 use Rattle.std.proofs.Common.{refl, arith}
-use Rattle.korat_top.specs.Answer.{ListFiles, no_source_answer, no_finitization_answer}
+use Rattle.korat_top.specs.Answer.{ListFiles, too_long_answer, no_tokens_answer, no_source_answer, no_finitization_answer}
 use Rattle.korat_top.specs.Cells.{cells_answer}
 use Rattle.korat_top.specs.Source.{source_of}
 use Rattle.korat_top.specs.Finitization.{finitization_of}
 use Rattle.korat_top.specs.Found.{word}
-use Rattle.korat_top.specs.declared.find.Found.TheVariants.{NoSource, NoFinitization, Cells}
+use Rattle.korat_top.specs.declared.find.Found.TheVariants.{TooLong, Broken, NoSource, NoFinitization, Cells}
 use Rattle.korat_top.proofs.Answered.{answered, reads_file}
 use Rattle.korat_top.proofs.Calls.{put_answer, put_read_fault, put_memory, end_listing}
 use Rattle.korat_top.proofs.top.serve.Goals as goal
+
+pub returns-in-Ok-TooLong : goal.returns-in-Ok-TooLong
+returns-in-Ok-TooLong g c =
+    let words = c.args.words.now in
+    let found = rw c.in-Ok-TooLong.field-0-is at c.in-Ok-TooLong.ensures in
+    let written = rw c.get.ensures at c.put_too_long.ensures in
+    put_answer g.F.Files.held g.F.Files.faults g.F.Files.last g.K.Sink.taken g.K.Sink.faults (ListFiles (word words 1) (word words 2)) c.args.files.now c.find.new.files
+    c.args.out.now c.put_too_long.new.out c.once_written.result (too_long_answer (word words 2)) c.put_too_long.result
+    (answered (g.F.Files.held c.args.files.now) (word words 1) (word words 2) TooLong c.one_field_law.ensures found.1) (λ e. omega (arith, e)) (omega arith) written
+    c.once_written.ensures
+
+pub returns-in-Ok-Broken : goal.returns-in-Ok-Broken
+returns-in-Ok-Broken g c =
+    let words = c.args.words.now in
+    let found = rw c.in-Ok-Broken.field-0-is at c.in-Ok-Broken.ensures in
+    let written = rw c.get-in-Ok-Broken.ensures at c.put_broken.ensures in
+    put_answer g.F.Files.held g.F.Files.faults g.F.Files.last g.K.Sink.taken g.K.Sink.faults (ListFiles (word words 1) (word words 2)) c.args.files.now c.find.new.files
+    c.args.out.now c.put_broken.new.out c.once_written-in-Ok-Broken.result (no_tokens_answer (word words 2) c.in-Ok-Broken.place c.in-Ok-Broken.rule) c.put_broken.result
+    (answered (g.F.Files.held c.args.files.now) (word words 1) (word words 2) (Broken c.in-Ok-Broken.place c.in-Ok-Broken.rule) c.one_field_law.ensures found.1) (λ e. omega (arith, e)) (omega arith) written
+    c.once_written-in-Ok-Broken.ensures
 
 pub returns-in-Ok-NoSource : goal.returns-in-Ok-NoSource
 returns-in-Ok-NoSource g c =
     let words = c.args.words.now in
     let found = rw c.in-Ok-NoSource.field-0-is at c.in-Ok-NoSource.ensures in
-    let written = rw c.get.ensures at c.put_no_source.ensures in
+    let written = rw c.get-in-Ok-NoSource.ensures at c.put_no_source.ensures in
     put_answer g.F.Files.held g.F.Files.faults g.F.Files.last g.K.Sink.taken g.K.Sink.faults (ListFiles (word words 1) (word words 2)) c.args.files.now c.find.new.files
-    c.args.out.now c.put_no_source.new.out c.once_written.result (no_source_answer (word words 2)) c.put_no_source.result
+    c.args.out.now c.put_no_source.new.out c.once_written-in-Ok-NoSource.result (no_source_answer (word words 2)) c.put_no_source.result
     (answered (g.F.Files.held c.args.files.now) (word words 1) (word words 2) NoSource c.one_field_law.ensures found.1) (λ e. omega (arith, e)) (omega arith) written
-    c.once_written.ensures
+    c.once_written-in-Ok-NoSource.ensures
 
 pub returns-in-Ok-NoFinitization : goal.returns-in-Ok-NoFinitization
 returns-in-Ok-NoFinitization g c =
