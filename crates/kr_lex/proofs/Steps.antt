@@ -123,14 +123,14 @@ after_token file bytes valid items cursor kind n next t h l g e p =
     }
 
 -- nothing was read yet
-pub nothing_read : (file : ℕ) (bytes : List ℕ) (valid : ℕ) (cursor : Cursor) → cursor.at ≡ 0 → Stands bytes cursor → IsReading file bytes valid [] cursor
-nothing_read file bytes valid cursor z h =
-    record {
-      stands = h;
-      before = omega (arith, z);
-      reached = rw z here;
+pub nothing_read : (file : ℕ) (bytes : List ℕ) (valid : ℕ) (cursor : Cursor) → cursor ≡ record { at = 0; line = 1; origin = 0 } → IsReading file bytes valid [] cursor
+nothing_read file bytes valid cursor e =
+    rw e (record {
+      stands = record { within = omega arith; line = omega arith; column = omega arith };
+      before = omega arith;
+      reached = here;
       entries = λ k d l. absurd (omega (arith, l));
-    }
+    })
 
 -- a character begins where the bytes go on
 pub character_there : (file : ℕ) (bytes : List ℕ) (valid : ℕ) (items : List Token) (cursor : Cursor) → IsValidLength bytes valid → IsReading file bytes valid items cursor
