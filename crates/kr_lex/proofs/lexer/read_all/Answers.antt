@@ -1,5 +1,3 @@
-use Rattle.std.proofs.Common.{◌≡◌, ℕ, ◌<◌, ◌≤◌, [], length, refl, sym, ap, ◌∙◌, arith}
-use Rattle.kr_lex.specs.Reading.{IsReading}
 use Rattle.kr_lex.proofs.Steps.{nothing_read, encoding_at_end}
 use Rattle.kr_lex.proofs.lexer.read_all.Goals as goal
 
