@@ -1,11 +1,11 @@
 -- What may begin a token, by its first character.
-use Rattle.std.proofs.Common.{◌≡◌, ℕ, zero, suc, ◌+◌, ◌<◌, ◌≤◌, ◌⊎◌, inl, inr, Bool, true, false, not, ◌&&◌, ◌||◌, ◌==◌, nat_lt, List, [], ◌∷◌, ◌++◌, length, slice_index, get_or, take, drop, refl, sym, ap, subst, ◌∙◌, arith, length-append, append_assoc}
-use Rattle.std.specs.Char.{IsScalar, encode_utf8, is_ascii_alphabetic, is_ascii_alphanumeric, is_ascii_digit, is_ascii_lowercase, digit_value}
+use Rattle.std.proofs.Common.{◌≡◌, ℕ, ◌<◌, ◌≤◌, ◌⊎◌, inl, inr, true, false, ◌||◌, ◌==◌, List, [], ◌∷◌, ◌++◌, length, slice_index, refl, sym, ap, ◌∙◌, arith, length-append, append_assoc}
+use Rattle.std.specs.Char.{encode_utf8, is_ascii_alphabetic, is_ascii_alphanumeric, is_ascii_digit, is_ascii_lowercase}
 use Rattle.std.specs.Str.{encode_utf8_all}
 use Rattle.std.specs.Str.Parse.{AllDigits}
-use Rattle.std.proofs.lemmas.Str.{encode_same, encode_ascii, encodes-append, char_from_byte, byte_from_char}
+use Rattle.std.proofs.lemmas.Str.{encode_same, encode_ascii, char_from_byte}
 use Rattle.std.proofs.lemmas.List.{get_or_append_left}
-use Rattle.std.proofs.lemmas.Bool.{and_parts, cases_Bool, or_cases, or_left, or_right, not-true}
+use Rattle.std.proofs.lemmas.Bool.{and_parts, cases_Bool, or_cases, or_left}
 use Rattle.std.proofs.lemmas.Bool.Decides.{nat_tests}
 use lib.Utf8.{low_scalar}
 use Rattle.unicode_ident.specs.Ident.{is_xid_start, is_xid_continue}
@@ -13,9 +13,9 @@ use Rattle.unicode_ident.proofs.IdentLemmas.{is_xid_start-ascii, is_xid_continue
 use Rattle.kr_lex.specs.declared.kind.Kind.{Kind}
 use Rattle.kr_lex.specs.Characters.{is_start, is_part, is_white, AllParts, EndsWord}
 use Rattle.kr_lex.specs.Spelling.{spelling}
-use Rattle.kr_lex.specs.Words.{IsName, IsNumber, IsToken, name, number, fixed}
-use Rattle.kr_lex.specs.Pieces.{StartsName, BeginsCharacter}
-use Rattle.kr_lex.proofs.Fronts.{encode_some, char_some, no_char_in_nothing, same_char}
+use Rattle.kr_lex.specs.Words.{IsName, IsToken, name, number, fixed}
+use Rattle.kr_lex.specs.Pieces.{StartsName}
+use Rattle.kr_lex.proofs.Fronts.{char_some}
 use Rattle.kr_lex.proofs.Numbers.{digit_from_value, digit_from_test}
 use Rattle.kr_lex.proofs.Listing.{is_symbol, all_small}
 use Rattle.kr_lex.proofs.Shapes.{shape}

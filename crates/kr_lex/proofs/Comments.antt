@@ -1,7 +1,7 @@
 -- Comments that a star and a slash close.
-use Rattle.std.proofs.Common.{◌≡◌, ℕ, suc, ◌+◌, ◌<◌, ◌≤◌, ◌⊎◌, inl, inr, List, [], ◌∷◌, ◌++◌, length, slice_index, get_or, take, drop, refl, sym, ap, ◌∙◌, arith, length-append, append_assoc}
+use Rattle.std.proofs.Common.{◌≡◌, ℕ, ◌+◌, ◌<◌, ◌≤◌, List, [], ◌∷◌, ◌++◌, length, slice_index, get_or, take, drop, refl, sym, ap, ◌∙◌, arith, length-append, append_assoc}
 use Rattle.std.proofs.lemmas.List.{drop_more, drop-drop, take_at, get_or_at, length-take-le, length-drop}
-use Rattle.kr_lex.specs.Gaps.{IsGap, IsBlockComment, block}
+use Rattle.kr_lex.specs.Gaps.{IsGap, block}
 use Rattle.kr_lex.specs.Pieces.{IsBodyLength}
 
 -- the two bytes behind a front

@@ -1,25 +1,25 @@
 -- The token that stands at the front of a text.
-use Rattle.std.proofs.Common.{◌≡◌, ℕ, zero, suc, ◌+◌, ◌<◌, ◌≤◌, ◌⊎◌, inl, inr, Bool, true, false, List, [], ◌∷◌, ◌++◌, length, slice_index, take, drop, refl, sym, ap, ◌∙◌, arith, length-append}
-use Rattle.std.specs.Char.{IsScalar, encode_utf8, is_ascii_digit}
+use Rattle.std.proofs.Common.{◌≡◌, ℕ, ◌<◌, ◌≤◌, ◌⊎◌, inl, inr, true, false, List, [], ◌∷◌, ◌++◌, length, slice_index, take, drop, refl, sym, ap, ◌∙◌, arith}
+use Rattle.std.specs.Char.{encode_utf8, is_ascii_digit}
 use Rattle.std.specs.Str.{encode_utf8_all}
-use Rattle.std.proofs.lemmas.Str.{encode_same, encode_ascii, char_from_byte, byte_from_char}
-use Rattle.std.proofs.lemmas.List.{take-append-drop, length-take-le, append_assoc, take_at, drop_at}
+use Rattle.std.proofs.lemmas.Str.{encode_ascii, char_from_byte, byte_from_char}
+use Rattle.std.proofs.lemmas.List.{take-append-drop, length-take-le, append_assoc, take_at}
 use lib.Utf8.{low_scalar}
 use Rattle.std.proofs.lemmas.Bool.{cases_lt}
 use Rattle.std.proofs.lemmas.Bool.Decides.{nat_tests}
 use Rattle.kr_lex.specs.declared.kind.Kind.{Kind}
 use Rattle.kr_lex.specs.declared.kind.Kind.TheVariants as kinds
-use Rattle.kr_lex.specs.Characters.{is_start, is_part, is_white, AllParts, EndsWord}
+use Rattle.kr_lex.specs.Characters.{is_start, is_part, is_white, AllParts}
 use Rattle.kr_lex.specs.Spelling.{spelling}
 use Rattle.kr_lex.specs.Words.{IsName, IsNumber, IsToken, name, number, fixed}
 use Rattle.kr_lex.specs.Gaps.{BeginsComment}
 use Rattle.kr_lex.specs.Spells.{IsLongest}
-use Rattle.kr_lex.specs.Pieces.{IsWordLength, StartsName, BeginsCharacter, IsLongestFixed, BeginsNoFixed, IsNoFixed, IsSymbolic}
+use Rattle.kr_lex.specs.Pieces.{IsWordLength, StartsName, IsLongestFixed, BeginsNoFixed, IsSymbolic}
 use Rattle.kr_lex.specs.Broken.{IsBadNumber, IsStray, BeginsEscape}
 use Rattle.kr_lex.proofs.Fronts.{char_some, encode_some, same_char, ascii_front}
 use Rattle.kr_lex.proofs.Numbers.{digit_from_test, digit_at, digit_from_value}
 use Rattle.kr_lex.proofs.Listing.{is_symbol, all_small, IsSingle, listed}
-use Rattle.kr_lex.proofs.Classes.{start_ascii, start_is_part, digit_no_start, symbol_facts, no_symbol_at_name, no_symbol_at_digit, run_is_longest, token_some, first_byte, small_starts}
+use Rattle.kr_lex.proofs.Classes.{start_ascii, start_is_part, symbol_facts, no_symbol_at_name, no_symbol_at_digit, run_is_longest, first_byte, small_starts}
 
 -- a comment begins with a slash
 pub comment_slash : (text : List ℕ) → BeginsComment text → slice_index text 0 ≡ 47

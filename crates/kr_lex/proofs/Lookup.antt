@@ -1,12 +1,12 @@
 -- What a search of the table finds.
-use Rattle.std.proofs.Common.{◌≡◌, ℕ, ◌+◌, ◌<◌, ◌≤◌, ◌⊎◌, inl, inr, List, [], ◌∷◌, ◌++◌, length, slice_index, get_or, take, drop, refl, sym, ap, subst, ◌∙◌, arith}
-use Rattle.std.proofs.lemmas.List.{get_or_append_left, get_or_default, get_or_read}
+use Rattle.std.proofs.Common.{◌≡◌, ℕ, ◌+◌, ◌<◌, ◌≤◌, ◌⊎◌, inl, inr, List, ◌++◌, length, slice_index, get_or, drop, sym, ap, subst, ◌∙◌, arith}
+use Rattle.std.proofs.lemmas.List.{get_or_append_left, get_or_default}
 use Rattle.std.proofs.lemmas.Bool.{cases_lt, cases_eq}
 use Rattle.kr_lex.specs.declared.kind.Kind.{Kind}
 use Rattle.kr_lex.specs.Spelling.{spelling}
 use Rattle.kr_lex.specs.Table.{beginning_with}
 use Rattle.kr_lex.specs.Pieces.{IsLongestFixed, BeginsNoFixed, IsNoFixed}
-use Rattle.kr_lex.proofs.Listing.{IsListed, listed, peers, not_longer_in_table, some_in_table}
+use Rattle.kr_lex.proofs.Listing.{listed, not_longer_in_table, some_in_table}
 
 -- the first byte of what begins a text
 pub same_first : (text part more : List ℕ) → 0 < length part → text ≡ part ++ more → slice_index part 0 ≡ slice_index text 0

@@ -1,12 +1,12 @@
 -- Tokens of one spelling are words of small letters, or begin with a symbol; no two are spelled alike.
-use Rattle.std.proofs.Common.{◌≡◌, ℕ, zero, suc, ◌<◌, ◌⊎◌, inl, inr, Bool, true, false, ◌&&◌, nat_lt, List, [], ◌∷◌, Some, length, slice_index, ap, arith}
+use Rattle.std.proofs.Common.{◌≡◌, ℕ, zero, suc, ◌<◌, ◌⊎◌, inl, inr, true, nat_lt, List, [], ◌∷◌, Some, length, slice_index, ap, arith}
 use Rattle.std.specs.Str.{IsUtf8, IsAscii}
 use Rattle.std.proofs.lemmas.Str.{IsUtf8-from_ascii}
 use Rattle.std.proofs.lemmas.Bool.{and_parts, ltb-true}
 use Rattle.kr_lex.specs.declared.kind.Kind.{Kind}
 use Rattle.kr_lex.specs.Spelling.{spelling}
 use Rattle.kr_lex.specs.Table.{beginning_with}
-use Rattle.kr_lex.proofs.Listing.{all_small, all_ascii, is_symbol, find, peers, IsSingle, IsListed, listed}
+use Rattle.kr_lex.proofs.Listing.{all_small, all_ascii, is_symbol, find, peers, IsSingle, listed}
 
 pub shape : (kind : Kind) → 0 < length (spelling kind) → (all_small (spelling kind) ≡ true) ⊎ (is_symbol (slice_index (spelling kind) 0) ≡ true)
 shape kind l = go (listed kind l).shape

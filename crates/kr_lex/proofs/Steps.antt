@@ -1,5 +1,5 @@
 -- One piece further.
-use Rattle.std.proofs.Common.{◌≡◌, ℕ, zero, suc, ◌+◌, ◌-◌, ◌<◌, ◌≤◌, ◌⊎◌, inl, inr, List, [], ◌∷◌, ◌++◌, length, take, drop, map, refl, sym, ap, subst, ◌∙◌, arith, length-append}
+use Rattle.std.proofs.Common.{◌≡◌, ℕ, ◌+◌, ◌-◌, ◌<◌, ◌≤◌, inl, inr, List, [], ◌∷◌, ◌++◌, length, take, drop, map, refl, sym, ap, subst, ◌∙◌, arith, length-append}
 use Rattle.std.specs.Str.{IsUtf8}
 use Rattle.std.proofs.lemmas.List.{take-append-drop, length-take-le, length-drop, drop-drop, map_push, take_all, drop_all}
 use Rattle.std.proofs.lemmas.List.Elements.{All-push}
@@ -15,17 +15,17 @@ use Rattle.kr_lex.specs.declared.refusal.LexRule.TheVariants as rules
 use Rattle.kr_lex.specs.declared.refusal.LexRefusal.{LexRefusal}
 use Rattle.kr_lex.specs.Spelling.{spelling}
 use Rattle.kr_lex.specs.Lexemes.{Lexeme}
-use Rattle.kr_lex.specs.Entries.{lexeme_of, text_of, shown, IsEntry, AreEntries}
+use Rattle.kr_lex.specs.Entries.{lexeme_of, text_of, shown, IsEntry}
 use Rattle.kr_lex.specs.Words.{IsNumber, IsToken, name, number, fixed}
 use Rattle.kr_lex.specs.Gaps.{IsGap}
-use Rattle.kr_lex.specs.Places.{place_after, line_after, column_after}
+use Rattle.kr_lex.specs.Places.{place_after, column_after}
 use Rattle.kr_lex.specs.Spells.{Reaches, here, IsLongest, AreTokens}
 use Rattle.kr_lex.specs.Broken.{BreaksHere, IsFirstBroken, IsCause}
 use Rattle.kr_lex.specs.Cursors.{Stands}
 use Rattle.kr_lex.specs.Reading.{IsReading, IsPassed, IsPast, IsValidLength}
 use Rattle.kr_lex.specs.Pieces.{BeginsCharacter}
-use Rattle.kr_lex.proofs.Paths.{then_gap, then_token, whole, none_before}
-use Rattle.kr_lex.proofs.Encoding.{reached_utf8, begins_character_at, valid_within}
+use Rattle.kr_lex.proofs.Paths.{then_gap, then_token, none_before}
+use Rattle.kr_lex.proofs.Encoding.{reached_utf8, begins_character_at}
 use Rattle.kr_lex.proofs.First.{first_reached, first_encoding}
 
 -- the place of a cursor
@@ -123,14 +123,14 @@ after_token file bytes valid items cursor kind n next t h l g e p =
     }
 
 -- nothing was read yet
-pub nothing_read : (file : ℕ) (bytes : List ℕ) (valid : ℕ) (cursor : Cursor) → cursor.at ≡ 0 → Stands bytes cursor → IsReading file bytes valid [] cursor
-nothing_read file bytes valid cursor z h =
-    record {
-      stands = h;
-      before = omega (arith, z);
-      reached = rw z here;
+pub nothing_read : (file : ℕ) (bytes : List ℕ) (valid : ℕ) (cursor : Cursor) → cursor ≡ record { at = 0; line = 1; origin = 0 } → IsReading file bytes valid [] cursor
+nothing_read file bytes valid cursor e =
+    rw e (record {
+      stands = record { within = omega arith; line = omega arith; column = omega arith };
+      before = omega arith;
+      reached = here;
       entries = λ k d l. absurd (omega (arith, l));
-    }
+    })
 
 -- a character begins where the bytes go on
 pub character_there : (file : ℕ) (bytes : List ℕ) (valid : ℕ) (items : List Token) (cursor : Cursor) → IsValidLength bytes valid → IsReading file bytes valid items cursor

@@ -1,9 +1,9 @@
 -- Where a rule is broken no gap and no token stands, and only one rule is broken.
-use Rattle.std.proofs.Common.{◌≡◌, ℕ, zero, suc, ◌+◌, ◌<◌, ◌≤◌, ◌⊎◌, inl, inr, Bool, true, false, ◌&&◌, ◌==◌, cond, List, [], ◌∷◌, ◌++◌, length, slice_index, take, drop, refl, sym, ap, ◌∙◌, arith, length-append, append_assoc}
+use Rattle.std.proofs.Common.{◌≡◌, ℕ, ◌<◌, ◌⊎◌, inl, inr, Bool, true, false, ◌&&◌, ◌==◌, cond, List, [], ◌∷◌, ◌++◌, length, slice_index, refl, sym, ap, ◌∙◌, arith, append_assoc}
 use Rattle.std.specs.Char.{encode_utf8, is_ascii_digit}
 use Rattle.std.specs.Str.{encode_utf8_all}
 use Rattle.std.proofs.lemmas.Str.{char_from_byte, encode_ascii}
-use Rattle.std.proofs.lemmas.Bool.{both_ways, cases_Bool, eq-eqb, ne_eqb, eqb-true, and_parts, false_from_ne_true}
+use Rattle.std.proofs.lemmas.Bool.{both_ways, eq-eqb, ne_eqb, eqb-true, and_parts, false_from_ne_true}
 use Rattle.std.proofs.lemmas.Bool.Decides.{nat_tests}
 use Rattle.kr_lex.specs.declared.kind.Kind.{Kind}
 use Rattle.kr_lex.specs.declared.kind.Kind.TheVariants as kinds
@@ -11,8 +11,8 @@ use Rattle.kr_lex.specs.declared.refusal.LexRule.{LexRule}
 use Rattle.kr_lex.specs.declared.refusal.LexRule.TheVariants as rules
 use Rattle.kr_lex.specs.Characters.{is_start, is_white, is_line_end, AllParts, EndsWord}
 use Rattle.kr_lex.specs.Spelling.{spelling}
-use Rattle.kr_lex.specs.Words.{IsName, IsNumber, IsToken, name, number, fixed}
-use Rattle.kr_lex.specs.Gaps.{IsGap, white, line, block, IsLineComment, IsBlockComment, EndsLine, BeginsComment}
+use Rattle.kr_lex.specs.Words.{IsNumber, IsToken, name, number, fixed}
+use Rattle.kr_lex.specs.Gaps.{IsGap, IsLineComment, IsBlockComment, EndsLine, BeginsComment}
 use Rattle.kr_lex.specs.Spells.{IsLongest}
 use Rattle.kr_lex.specs.Broken.{BreaksHere, IsStray, IsUnclosed, IsBadNumber, BeginsEscape, BeginsContract}
 use Rattle.kr_lex.proofs.Fronts.{char_some, same_char}

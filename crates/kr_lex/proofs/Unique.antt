@@ -1,20 +1,18 @@
 -- At most one gap or token stands at a place.
-use Rattle.std.proofs.Common.{◌≡◌, ℕ, zero, suc, ◌+◌, ◌<◌, ◌≤◌, ◌⊎◌, inl, inr, Bool, true, false, List, [], ◌∷◌, ◌++◌, length, slice_index, take, drop, refl, sym, ap, ◌∙◌, arith, length-append, append_assoc}
-use Rattle.std.specs.Char.{encode_utf8, is_ascii_digit}
+use Rattle.std.proofs.Common.{◌≡◌, ℕ, ◌<◌, ◌≤◌, ◌⊎◌, inl, inr, true, false, List, [], ◌∷◌, ◌++◌, length, slice_index, refl, sym, ap, ◌∙◌, arith, length-append, append_assoc}
+use Rattle.std.specs.Char.{is_ascii_digit}
 use Rattle.std.specs.Str.{encode_utf8_all}
 use Rattle.std.specs.List.{AllByRecursion}
 use Rattle.std.proofs.lemmas.Str.{char_from_byte}
-use Rattle.std.proofs.lemmas.List.{append_cancel_left}
 use Rattle.std.proofs.lemmas.Bool.{both_ways}
 use Rattle.std.proofs.lemmas.Bool.Decides.{nat_tests}
 use Rattle.kr_lex.specs.declared.kind.Kind.{Kind}
-use Rattle.kr_lex.specs.declared.kind.Kind.TheVariants as kinds
 use Rattle.kr_lex.specs.Characters.{is_start, is_white, is_line_end}
 use Rattle.kr_lex.specs.Spelling.{spelling}
 use Rattle.kr_lex.specs.Words.{IsName, IsNumber, IsToken, name, number, fixed}
 use Rattle.kr_lex.specs.Gaps.{IsGap, white, line, block, IsLineComment, IsBlockComment, EndsLine, BeginsComment}
 use Rattle.kr_lex.specs.Spells.{IsLongest}
-use Rattle.kr_lex.proofs.Fronts.{char_some, encode_some}
+use Rattle.kr_lex.proofs.Fronts.{char_some}
 use Rattle.kr_lex.proofs.Numbers.{digit_at, digit_from_value, digit_from_test}
 use Rattle.kr_lex.proofs.Listing.{is_symbol, all_small}
 use Rattle.kr_lex.proofs.Shapes.{shape, spelled_once}

@@ -1,5 +1,5 @@
 -- The lexical rules, and which one a source breaks first.
-use Rattle.std.specs.Prelude.{◌≡◌, ℕ, ◌<◌, ◌≤◌, ◌⊎◌, Bool, true, false, List, [], ◌∷◌, ◌++◌, length, slice_index}
+use Rattle.std.specs.Prelude.{◌≡◌, ℕ, ◌<◌, ◌≤◌, ◌⊎◌, true, false, List, [], ◌∷◌, ◌++◌, length, slice_index}
 use Rattle.std.specs.Char.{IsScalar, is_ascii_digit, encode_utf8}
 use Rattle.std.specs.Str.{encode_utf8_all, IsValidUpTo}
 use Rattle.kr_base.specs.declared.place.Place.{Place}

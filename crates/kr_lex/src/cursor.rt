@@ -17,9 +17,8 @@ pub struct Cursor {
 
 impl Cursor {
     /// The cursor at the first byte.
-    pub fn start(bytes: &[u8]) -> Cursor
-        ensures at { result.at ≡ 0 }
-        ensures stands { Stands bytes.now result }
+    pub fn start() -> Cursor
+        ensures { result ≡ record { at = 0; line = 1; origin = 0 } }
     {
         Cursor {
             at: 0,

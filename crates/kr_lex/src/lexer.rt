@@ -53,7 +53,7 @@ fn read_all(
     ensures whole { IfOk result (λ cursor. cursor.at ≡ length bytes.now) }
     ensures refused { IfErr result (IsCause file bytes.now) }
 {
-    let mut cursor = Cursor::start(bytes);
+    let mut cursor = Cursor::start();
     while cursor.at < valid {
         cursor = read_piece(items, file, bytes, valid, cursor)?;
     }

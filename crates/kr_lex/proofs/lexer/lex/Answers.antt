@@ -1,5 +1,4 @@
-use Rattle.std.proofs.Common.{◌≡◌, ℕ, List, ◌++◌, refl, sym, ap, ◌∙◌, arith}
-use Rattle.kr_lex.specs.Entries.{shown}
+use Rattle.std.proofs.Common.{◌≡◌, ◌++◌, ap, ◌∙◌}
 use Rattle.kr_lex.proofs.Steps.{all_read}
 use Rattle.kr_lex.proofs.lexer.lex.Goals as goal
 

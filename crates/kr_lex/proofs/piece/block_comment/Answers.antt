@@ -1,6 +1,5 @@
-use Rattle.std.proofs.Common.{◌≡◌, ℕ, ◌+◌, ◌<◌, ◌≤◌, length, take, drop, arith}
+use Rattle.std.proofs.Common.{arith}
 use Rattle.std.proofs.lemmas.List.{take_rest}
-use Rattle.kr_lex.specs.Pieces.{IsBodyLength}
 use Rattle.kr_lex.proofs.Comments.{block_gap}
 use Rattle.kr_lex.proofs.piece.block_comment.Goals as goal
 

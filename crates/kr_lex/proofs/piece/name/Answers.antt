@@ -1,4 +1,4 @@
-use Rattle.std.proofs.Common.{◌≡◌, ℕ, ◌<◌, ◌≤◌, length, take, drop, refl, sym, arith}
+use Rattle.std.proofs.Common.{◌<◌, length, take, refl, arith}
 use Rattle.std.proofs.lemmas.List.{length-take-le}
 use Rattle.kr_lex.specs.declared.kind.Kind.TheVariants as kinds
 use Rattle.kr_lex.specs.Words.{name, fixed}

@@ -1,8 +1,7 @@
-use Rattle.std.proofs.Common.{◌≡◌, ℕ, ◌<◌, [], ◌∷◌, ◌⊎◌, inl, inr, length, drop, arith}
+use Rattle.std.proofs.Common.{[], ◌∷◌, inl, inr, drop}
 use Rattle.std.proofs.lemmas.Slice.Eq.{starts_is}
 use Rattle.std.proofs.lemmas.Bool.{both_ways}
 use Rattle.std.proofs.lemmas.Bool.Decides.{Decides-eqb}
-use Rattle.kr_lex.specs.Gaps.{BeginsComment}
 use Rattle.kr_lex.proofs.Longest.{slash_symbolic, comment_cases}
 use Rattle.kr_lex.proofs.piece.slash.Goals as goal
 

@@ -1,6 +1,5 @@
-use Rattle.std.proofs.Common.{◌≡◌, ℕ, ◌<◌, length, slice_index, arith, refl, ap, sym, ◌∙◌, Some, None}
+use Rattle.std.proofs.Common.{◌≡◌, slice_index, ap, sym, ◌∙◌}
 use Rattle.std.proofs.lemmas.Str.{char_from_byte}
-use Rattle.bstr.specs.Utf8.{decoded}
 use Rattle.kr_lex.specs.Characters.{is_start}
 use Rattle.kr_lex.proofs.Fronts.{char_some, decoded_char, decoded_none, starts_iff}
 use Rattle.kr_lex.proofs.piece.starts_name.Goals as goal

@@ -1,4 +1,4 @@
-use Rattle.std.proofs.Common.{ℕ, arith}
+use Rattle.std.proofs.Common.{arith}
 use Rattle.kr_lex.proofs.Numbers.{value_more}
 use Rattle.kr_lex.proofs.words.number_value.Goals as goal
 

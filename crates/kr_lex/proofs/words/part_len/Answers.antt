@@ -1,6 +1,6 @@
-use Rattle.std.proofs.Common.{◌≡◌, ℕ, ◌<◌, length, slice_index, arith, refl, ap, sym, ◌∙◌, Some, None}
+use Rattle.std.proofs.Common.{◌≡◌, ◌<◌, length, sym, ◌∙◌, Some}
 use Rattle.bstr.specs.Utf8.{decoded}
-use Rattle.kr_lex.proofs.Fronts.{length_none, length_some, part_len_some, part_len_none, part_len_empty, part_ascii, no_part_ascii, part_decoded, no_part_decoded, no_part_none}
+use Rattle.kr_lex.proofs.Fronts.{length_none, length_some, part_len_some, part_len_none, part_len_empty, no_part_ascii, part_decoded, no_part_decoded, no_part_none}
 use Rattle.kr_lex.proofs.words.part_len.Goals as goal
 
 pub returns-then-is_empty : goal.returns-then-is_empty

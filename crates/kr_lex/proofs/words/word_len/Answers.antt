@@ -1,4 +1,4 @@
-use Rattle.std.proofs.Common.{◌≡◌, ℕ, ◌<◌, ◌≤◌, length, drop, arith, refl}
+use Rattle.std.proofs.Common.{arith}
 use Rattle.std.proofs.lemmas.List.{drop_all, take_rest}
 use Rattle.kr_lex.proofs.Fronts.{ends_nothing, word_more}
 use Rattle.kr_lex.proofs.words.word_len.Goals as goal

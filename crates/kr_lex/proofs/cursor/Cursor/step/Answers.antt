@@ -1,5 +1,5 @@
-use Rattle.std.proofs.Common.{◌≡◌, ℕ, ◌+◌, ◌<◌, ◌≤◌, length, slice_index, arith, refl, ap, sym, ◌∙◌, true, false}
-use Rattle.kr_lex.specs.Characters.{is_line_end, begins_character}
+use Rattle.std.proofs.Common.{◌≡◌, ◌+◌, slice_index, arith, ap, sym, ◌∙◌}
+use Rattle.kr_lex.specs.Characters.{begins_character}
 use Rattle.kr_lex.specs.Places.{ends_line}
 use Rattle.kr_lex.specs.Cursors.{byte_before, one_if}
 use Rattle.kr_lex.proofs.Positions.{line_bound, stands_at_end, stands_in_line, one_at_most}
