@@ -11,14 +11,16 @@ use Rattle.korat_top.specs.Listed.{MayBegin, EndsListing}
 
 -- an answer's status
 pub given_end : {F K : Type 0} (held : F → Held) (read_faults : F → ℕ) (last : F → Option (List ℕ)) (taken : K → Option (List ℕ)) (faults : K → ℕ) (command : Command) (files files' : F) (out out' : K) (status : ℕ) (answer : Answer)
-    → (IsTold (held files) (Some command) → IsAnswer (held files) (Some command) answer) → status ≡ answer.status → (status ≡ 2 → ⊥) → status < 6 → Added taken faults out out' (bytes_of answer)
+    → (IsTold (held files) (Some command) → IsAnswer (held files) (Some command) answer) → status ≡ answer.status → (status ≡ 2 → ⊥) → status < 6 → read_faults files' ≡ read_faults files → Added taken faults out out' (bytes_of answer)
     → EndsFor held read_faults last taken faults (Some command) files files' out out' status
-given_end held read_faults last taken faults command files files' out out' status answer told e no_usage low x = record {
+given_end held read_faults last taken faults command files files' out out' status answer told e no_usage low reads x = record {
   known = omega (arith, low);
   given = λ _ t. record { answer = answer; is_answer = told t; status_is = e; written = x };
   usage = λ f. absurd (no_usage f);
   no_command = λ f. absurd (cc (f));
   read_fault = λ f. absurd (omega (arith, low, f));
+  no_write_fault = λ _. x.no_fault;
+  no_read_fault = λ _ _. reads;
   write_fault = λ f. absurd (omega (arith, low, f));
   front = λ f _. absurd (omega (arith, low, f));
   memory = λ f. absurd (omega (arith, low, f));
@@ -34,6 +36,8 @@ fault_end held read_faults last taken faults asked files files' out out' status 
   usage = λ f. absurd (omega (arith, e, f));
   no_command = λ _. inr (inl e);
   read_fault = λ f. absurd (omega (arith, e, f));
+  no_write_fault = λ g. absurd (g e);
+  no_read_fault = λ _ g. absurd (g e);
   write_fault = λ _. x.cause;
   front = λ _ t. record { text = text; may = may t; written = x };
   memory = λ f. absurd (omega (arith, e, f));
@@ -41,14 +45,16 @@ fault_end held read_faults last taken faults asked files files' out out' status 
 
 -- want of memory
 pub memory_end : {F K : Type 0} (held : F → Held) (read_faults : F → ℕ) (last : F → Option (List ℕ)) (taken : K → Option (List ℕ)) (faults : K → ℕ) (asked : Option Command) (files files' : F) (out out' : K) (status : ℕ) (rows : List ℕ)
-    → (IsTold (held files) asked → IsFront (held files) asked rows) → Added taken faults out out' (rows ++ memory_text) → status ≡ 8
+    → (IsTold (held files) asked → IsFront (held files) asked rows) → read_faults files' ≡ read_faults files → Added taken faults out out' (rows ++ memory_text) → status ≡ 8
     → EndsFor held read_faults last taken faults asked files files' out out' status
-memory_end held read_faults last taken faults asked files files' out out' status rows front x e = record {
+memory_end held read_faults last taken faults asked files files' out out' status rows front reads x e = record {
   known = omega (arith, e);
   given = λ f _. absurd (omega (arith, e, f));
   usage = λ f. absurd (omega (arith, e, f));
   no_command = λ _. inr (inr e);
   read_fault = λ f. absurd (omega (arith, e, f));
+  no_write_fault = λ _. x.no_fault;
+  no_read_fault = λ _ _. reads;
   write_fault = λ f. absurd (omega (arith, e, f));
   front = λ f _. absurd (omega (arith, e, f));
   memory = λ _. record { rows = rows; front = front; written = x };
@@ -56,12 +62,12 @@ memory_end held read_faults last taken faults asked files files' out out' status
 
 -- an answer that is put
 pub put_answer : {F K T E : Type 0} (held : F → Held) (read_faults : F → ℕ) (last : F → Option (List ℕ)) (taken : K → Option (List ℕ)) (faults : K → ℕ) (command : Command) (files files' : F) (out out' : K) (status : ℕ) (answer : Answer) (r : Result T E)
-    → (IsTold (held files) (Some command) → IsAnswer (held files) (Some command) answer) → (answer.status ≡ 2 → ⊥) → answer.status < 6
+    → (IsTold (held files) (Some command) → IsAnswer (held files) (Some command) answer) → (answer.status ≡ 2 → ⊥) → answer.status < 6 → read_faults files' ≡ read_faults files
     → Writes taken faults out out' (bytes_of answer) r → status ≡ (if is_ok r then answer.status else 7)
     → EndsFor held read_faults last taken faults (Some command) files files' out out' status
-put_answer held read_faults last taken faults command files files' out out' status answer (Ok v) told no_usage low x e =
-    given_end held read_faults last taken faults command files files' out out' status answer told e (λ f. no_usage (sym e ∙ f)) (omega (arith, low, e)) x
-put_answer held read_faults last taken faults command files files' out out' status answer (Err v) told no_usage low x e =
+put_answer held read_faults last taken faults command files files' out out' status answer (Ok v) told no_usage low reads x e =
+    given_end held read_faults last taken faults command files files' out out' status answer told e (λ f. no_usage (sym e ∙ f)) (omega (arith, low, e)) reads x
+put_answer held read_faults last taken faults command files files' out out' status answer (Err v) told no_usage low reads x e =
     fault_end held read_faults last taken faults (Some command) files files' out out' status (bytes_of answer) (λ t. inl (answer, told t, refl)) x e
 
 -- words that are no command
@@ -76,6 +82,8 @@ put_usage {F} {K} held read_faults last taken faults asked files out out' status
       usage = λ _. refl;
       no_command = λ _. inl e;
       read_fault = λ f. absurd (omega (arith, e, f));
+      no_write_fault = λ _. x.no_fault;
+      no_read_fault = λ _ _. refl;
       write_fault = λ f. absurd (omega (arith, e, f));
       front = λ f _. absurd (omega (arith, e, f));
       memory = λ f. absurd (omega (arith, e, f));
@@ -95,6 +103,8 @@ put_read_fault held read_faults last taken faults command files files' out out' 
   usage = λ f. absurd (omega (arith, e, f));
   no_command = λ f. absurd (cc (f));
   read_fault = λ _. record { command = command; name = name; asked_for = refl; read = read; named = named; cause = cause; written = x };
+  no_write_fault = λ _. x.no_fault;
+  no_read_fault = λ g _. absurd (g e);
   write_fault = λ f. absurd (omega (arith, e, f));
   front = λ f _. absurd (omega (arith, e, f));
   memory = λ f. absurd (omega (arith, e, f));
@@ -104,11 +114,11 @@ put_read_fault held read_faults last taken faults command files files' out out' 
 
 -- want of memory before any row
 pub put_memory : {F K T E : Type 0} (held : F → Held) (read_faults : F → ℕ) (last : F → Option (List ℕ)) (taken : K → Option (List ℕ)) (faults : K → ℕ) (asked : Option Command) (files files' : F) (out out' : K) (status : ℕ) (r : Result T E)
-    → Writes taken faults out out' memory_text r → status ≡ (if is_ok r then 8 else 7)
+    → read_faults files' ≡ read_faults files → Writes taken faults out out' memory_text r → status ≡ (if is_ok r then 8 else 7)
     → EndsFor held read_faults last taken faults asked files files' out out' status
-put_memory held read_faults last taken faults asked files files' out out' status (Ok v) x e =
-    memory_end held read_faults last taken faults asked files files' out out' status [] (λ _. inl refl) x e
-put_memory held read_faults last taken faults asked files files' out out' status (Err v) x e =
+put_memory held read_faults last taken faults asked files files' out out' status (Ok v) reads x e =
+    memory_end held read_faults last taken faults asked files files' out out' status [] (λ _. inl refl) reads x e
+put_memory held read_faults last taken faults asked files files' out out' status (Err v) reads x e =
     fault_end held read_faults last taken faults asked files files' out out' status memory_text (λ _. inr (inr ([], inl refl, refl))) x e
 
 may_tell : (held : Held) (asked : Option Command) (answer : Answer) (text : List ℕ) → IsAnswer held asked answer → MayBegin answer text → MayTell held asked text
@@ -117,18 +127,18 @@ may_tell held asked answer text is (inr m) = inr (inr (front_of answer m.0, inr 
 
 -- a listing that ended
 pub end_listing : {F K : Type 0} (held : F → Held) (read_faults : F → ℕ) (last : F → Option (List ℕ)) (taken : K → Option (List ℕ)) (faults : K → ℕ) (command : Command) (files files' : F) (out out' : K) (status : ℕ) (answer : Answer)
-    → (IsTold (held files) (Some command) → IsAnswer (held files) (Some command) answer) → answer.status ≡ 0 → EndsListing taken faults answer out out' status
+    → (IsTold (held files) (Some command) → IsAnswer (held files) (Some command) answer) → answer.status ≡ 0 → read_faults files' ≡ read_faults files → EndsListing taken faults answer out out' status
     → EndsFor held read_faults last taken faults (Some command) files files' out out' status
-end_listing {F} {K} held read_faults last taken faults command files files' out out' status answer told zero x = by_case x.known
+end_listing {F} {K} held read_faults last taken faults command files files' out out' status answer told zero reads x = by_case x.known
   where
     by_case : (status ≡ 0) ⊎ (status ≡ 7) ⊎ (status ≡ 8) → EndsFor held read_faults last taken faults (Some command) files files' out out' status
-    by_case (inl e) = given_end held read_faults last taken faults command files files' out out' status answer told (e ∙ sym zero) (λ f. omega (arith, e, f)) (omega (arith, e)) (x.whole e)
+    by_case (inl e) = given_end held read_faults last taken faults command files files' out out' status answer told (e ∙ sym zero) (λ f. omega (arith, e, f)) (omega (arith, e)) reads (x.whole e)
     by_case (inr (inl e)) =
         let f = x.fault e in
         fault_end held read_faults last taken faults (Some command) files files' out out' status f.0 (λ t. may_tell (held files) (Some command) answer f.0 (told t) f.1) f.2 e
     by_case (inr (inr e)) =
         let m = x.memory e in
-        memory_end held read_faults last taken faults (Some command) files files' out out' status (front_of answer m.0) (λ t. inr (answer, told t, m.0, refl)) m.1 e
+        memory_end held read_faults last taken faults (Some command) files files' out out' status (front_of answer m.0) (λ t. inr (answer, told t, m.0, refl)) reads m.1 e
 
 split : (n : ℕ) → n ≤ 8 → (n < 6) ⊎ (n ≡ 6) ⊎ (n ≡ 7) ⊎ (n ≡ 8)
 split n h = elim (leb_tells n 5) [

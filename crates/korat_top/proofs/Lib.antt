@@ -8,3 +8,4 @@ pub mod Endings
 pub mod Calls
 pub mod Answered
 pub mod OneAnswer
+pub mod Examples

@@ -2,6 +2,7 @@
 use Rattle.std.specs.Prelude.{◌≡◌, ℕ, ◌<◌, ◌≤◌, Bool, true, false, ◌&&◌, not, ◌⊎◌, List, [], ◌∷◌, ◌++◌, length, take, map, filter, flat_map, Option, Some, None, codes, nat_lt, pos, if◌then◌else◌}
 use Rattle.std.specs.Str.{bytes_eq}
 use Rattle.kr_base.specs.declared.place.Place.{Place}
+use Rattle.kr_base.specs.declared.span.Bound.{Bound}
 use Rattle.kr_base.specs.declared.span.Bound.TheVariants.{At, End}
 use Rattle.kr_base.specs.declared.entry.Mark.{Mark}
 use Rattle.kr_base.specs.declared.entry.Mark.TheVariants.{Valid, Invalid, Spent}
@@ -74,7 +75,7 @@ status_of rows = if nat_lt 0 (length (failing_in rows)) then 1 else 0
 
 abbrev pub summary_text : Mode → List Row → ℕ → List ℕ
 summary_text Listing rows tried = listed_text (length rows) tried
-summary_text (Testing m) rows tried = tested_text (length rows) (length (failing_in rows)) tried
+summary_text (Testing m domains) rows tried = tested_text (length rows) (length (failing_in rows)) tried
 
 abbrev pub last_key : List Row → List ℕ
 last_key [] = []
@@ -125,6 +126,16 @@ NO_LIMIT = 4294967295
 abbrev pub first_place : Place
 first_place = record { file = 0; line = 1; col = 1 }
 
+-- the span of keys that a command asks for, and how many rows: all, where it says nothing
+abbrev pub after_of : Command → List ℕ
+after_of (ListFiles fin source) = []
+
+abbrev pub upto_of : Command → Bound
+upto_of (ListFiles fin source) = End
+
+abbrev pub limit_of : Command → ℕ
+limit_of (ListFiles fin source) = NO_LIMIT
+
 -- the longest file that is taken, in bytes
 abbrev pub LIMIT : ℕ
 LIMIT = 1048576
@@ -164,7 +175,7 @@ pub data IsAnswer (held : Held) : Option Command → Answer → Type 0 where
       → IsLexed s → IsSource s form → ((range : Finitization) → IsFinitization f form range → ⊥) → IsAnswer held (Some (ListFiles fin source)) (no_finitization_answer fin)
   listed : {fin source f s : List ℕ} (form : Source) (range : Finitization) → held fin ≡ Some f → held source ≡ Some s
       → IsLexed s → IsSource s form → IsFinitization f form range
-      → IsAnswer held (Some (ListFiles fin source)) (listing_answer (problem_of form range) NO_LIMIT (entries_in (At []) End (all_entries (problem_of form range))))
+      → IsAnswer held (Some (ListFiles fin source)) (listing_answer (problem_of form range) (limit_of (ListFiles fin source)) (entries_in (At (after_of (ListFiles fin source))) (upto_of (ListFiles fin source)) (all_entries (problem_of form range))))
 
 abbrev pub TellsBoth : Option (List ℕ) → Option (List ℕ) → Type 0
 TellsBoth (Some f) (Some s) = Unit {0}

@@ -60,6 +60,9 @@ pub record EndsFor {F K : Type 0} (held : F → Held) (read_faults : F → ℕ) 
   pub read_fault : status ≡ 6 → TellsReadFault held read_faults last taken faults asked files files' out out'
   -- 7: a counted write fault, after a prefix
   pub write_fault : status ≡ 7 → Rose (faults out) (faults out')
+  -- and no other status where a write failed, nor but 6 or 7 where a read did
+  pub no_write_fault : (status ≡ 7 → ⊥) → faults out' ≡ faults out
+  pub no_read_fault : (status ≡ 6 → ⊥) → (status ≡ 7 → ⊥) → read_faults files' ≡ read_faults files
   pub front : status ≡ 7 → IsTold (held files) asked → BeginsText (held files) taken faults asked out out'
   -- 8: want of memory, after rows
   pub memory : status ≡ 8 → TellsMemory (held files) taken faults asked out out'

@@ -37,6 +37,12 @@ pub record IsLater {F : Type 0} (held : F → Held) (faults : F → ℕ) (files 
   pub constant : (other : List ℕ) → held files' other ≡ held files other
   pub count : faults files ≤ faults files'
 
+-- a count stays, unless a read failed
+abbrev pub CountStays : {X : Type 0} → ℕ → ℕ → Result X Stop → Type 0
+CountStays before now (Ok x) = now ≡ before
+CountStays before now (Err Memory) = now ≡ before
+CountStays before now (Err (Read at)) = Unit {0}
+
 -- A read failed and was counted: that of the finitization or that of the source.
 pub record ReadFails {F : Type 0} (faults : F → ℕ) (last : F → Option (List ℕ)) (words : List (List ℕ)) (files files' : F) (at : ℕ) : Type 0 where
   pub file : (at ≡ 1) ⊎ (at ≡ 2)

@@ -9,3 +9,4 @@ pub mod Ends
 pub mod Cells
 pub mod Found
 pub mod Listed
+pub mod Examples

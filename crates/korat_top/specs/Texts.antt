@@ -35,7 +35,7 @@ value_text problem (Reference o) = object_name problem (get_or (all_objects prob
 
 abbrev pub parameters_of : Problem → Mode → List (List ℕ)
 parameters_of problem Listing = []
-parameters_of problem (Testing m) = (method_in problem.program (domain_at problem problem.root).class m).parameters
+parameters_of problem (Testing m domains) = (method_in problem.program (domain_at problem problem.root).class m).parameters
 
 -- `x=value` of a parameter
 abbrev pub parameter_text : Problem → Value → Place → List (List ℕ)

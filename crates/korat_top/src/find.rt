@@ -1,8 +1,9 @@
 // The work for a command, before anything is written: both files are read, and then judged.
 ghost use Rattle.std.specs.Prelude.{◌≡◌, ◌<◌, IfOk, length};
 ghost use Rattle.korat_top.specs.Answer.{IsLexed};
-ghost use Rattle.korat_top.specs.Found.{HasRead, IsLater, Judges, Finds, IsLimited};
+ghost use Rattle.korat_top.specs.Found.{HasRead, IsLater, Judges, Finds, IsLimited, CountStays};
 
+use crate::MAX_FILE_BYTES;
 use crate::finitization::{Finitization, read_finitization};
 use crate::source::{Source, read_source};
 use crate::words::{FINITIZATION, SOURCE};
@@ -10,9 +11,6 @@ use kr_base::{NoMemory, Place, Words};
 use kr_io::{Files, ReadRefusal};
 use kr_lex::{LexRefusal, LexRule, lex};
 use std::alloc::Global;
-
-/// The longest file that is taken, in bytes.
-const LIMIT: usize = 1 << 20;
 
 /// Why the work stopped.
 #[derive(Clone, Copy, Debug, PartialEq, Eq)]
@@ -41,8 +39,9 @@ fn read<F: Files>(words: &Words, at: usize, files: &mut F) -> Result<Vec<u8>, St
     requires { at < length words.now }
     ensures read { HasRead F.held F.faults F.last words.now at files.old files.new result }
     ensures later { IsLater F.held F.faults files.old files.new }
+    ensures count { CountStays (F.faults files.old) (F.faults files.new) result }
 {
-    match files.read(words.get(at), LIMIT + 1) {
+    match files.read(words.get(at), MAX_FILE_BYTES + 1) {
         Ok(bytes) => Ok(bytes),
         Err(ReadRefusal::Failed) => Err(Stop::Read(at)),
         Err(ReadRefusal::NoMemory) => Err(Stop::Memory),
@@ -69,7 +68,7 @@ fn judge(alloc: Global, fin: &[u8], source: &[u8]) -> Result<Found, NoMemory>
     ensures judged { IfOk result (Judges fin.now source.now) }
     ensures limited { IfOk result IsLimited }
 {
-    if source.len() > LIMIT {
+    if source.len() > MAX_FILE_BYTES {
         return Ok(Found::TooLong);
     }
     match lex(alloc, 0, source) {
@@ -82,7 +81,8 @@ fn judge(alloc: Global, fin: &[u8], source: &[u8]) -> Result<Found, NoMemory>
 /// Reads both files, the finitization first, and judges them.
 pub(crate) fn find<F: Files>(alloc: Global, words: &Words, files: &mut F) -> Result<Found, Stop>
     requires { length words.now ≡ 3 }
-    ensures { Finds F.held F.faults F.last words.now files.old files.new result }
+    ensures found { Finds F.held F.faults F.last words.now files.old files.new result }
+    ensures count { CountStays (F.faults files.old) (F.faults files.new) result }
 {
     let fin = read(words, FINITIZATION, files)?;
     let source = read(words, SOURCE, files)?;

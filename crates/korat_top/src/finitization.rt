@@ -7,12 +7,10 @@ ghost use Rattle.korat_top.specs.Finitization as spec;
 mod document;
 mod limits;
 
+use crate::MAX_FILE_BYTES;
 use crate::source::Source;
 use kr_base::NoMemory;
 use std::alloc::Global;
-
-/// How long a finitization may be, in bytes.
-pub(crate) const MAX_FINITIZATION_BYTES: usize = 1_048_576;
 
 /// The steps that a run may take, and the first and the last value of the field.
 #[derive(Clone, Copy, Debug, PartialEq, Eq)]
@@ -41,7 +39,7 @@ pub(crate) fn read_finitization(
     ensures found { IfOk result (λ read. IfSome read (λ fin. IsFinitization bytes.now (source_of source.now) (finitization_of fin))) }
     ensures none { IfOk result (λ read. IfNone read ((fin : spec.Finitization) → IsFinitization bytes.now (source_of source.now) fin → ⊥)) }
 {
-    if bytes.len() > MAX_FINITIZATION_BYTES {
+    if bytes.len() > MAX_FILE_BYTES {
         return Ok(None);
     }
     let table = match toml::table_from_slice(alloc, bytes) {

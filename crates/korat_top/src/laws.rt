@@ -1,5 +1,6 @@
 // What holds of the answers that `run` gives.
 ghost use Rattle.korat_top.specs.Ends.{OneAnswer};
+ghost use Rattle.korat_top.specs.Examples.{WorkedLines};
 
 use kr_lex::unbroken_law;
 
@@ -9,3 +10,9 @@ pub fn one_answer()
 {
     unbroken_law();
 }
+
+/// The lines and reports of small problems, worked by hand.
+#[tactic(auto, using(crate::proofs::Examples::worked))]
+pub fn worked_lines()
+    ensures { WorkedLines }
+{}

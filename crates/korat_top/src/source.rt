@@ -1,5 +1,6 @@
 // The source form: the class of one `int` field that the bytes of a source are.
-ghost use Rattle.std.specs.Prelude.{IfOk, IfSome, IfNone};
+ghost use Rattle.std.specs.Prelude.{◌≤◌, length, IfOk, IfSome, IfNone};
+ghost use Rattle.korat_top.specs.Answer.{LIMIT};
 ghost use Rattle.korat_top.specs.Source.{IsSource, source_of};
 ghost use Rattle.korat_top.specs.Source as spec;
 
@@ -9,9 +10,6 @@ mod tokens;
 
 use kr_base::NoMemory;
 use std::alloc::Global;
-
-/// How long a source may be, in bytes.
-pub(crate) const MAX_SOURCE_BYTES: usize = 1_048_576;
 
 /// The tests of the Java Language Specification 15.20 and 15.21.
 #[derive(Clone, Copy, Debug, PartialEq, Eq)]
@@ -35,12 +33,10 @@ pub(crate) struct Source {
 
 /// The source that the bytes are, if they are one.
 pub(crate) fn read_source(alloc: Global, bytes: &[u8]) -> Result<Option<Source>, NoMemory>
+    requires { length bytes.now ≤ LIMIT }
     ensures found { IfOk result (λ read. IfSome read (λ source. IsSource bytes.now (source_of source))) }
     ensures none { IfOk result (λ read. IfNone read ((source : spec.Source) → IsSource bytes.now source → ⊥)) }
 {
-    if bytes.len() > MAX_SOURCE_BYTES {
-        return Ok(None);
-    }
     let Some(cut) = tokens::cut(alloc, bytes)? else {
         return Ok(None);
     };

@@ -1,6 +1,6 @@
 -- The order of a class of one `int` field is the object and then its field, in every candidate: the premises hold.
 use Rattle.std.proofs.Common.{◌≡◌, ℕ, ◌<◌, inl, inr, List, [], ◌∷◌, length, map, refl, sym, ap, ◌∙◌, subst, arith}
-use Rattle.kr_mean.specs.Program.{Expression, number, this, field, compare, call}
+use Rattle.kr_mean.specs.Program.{Program, Expression, number, this, field, compare, call}
 use Rattle.kr_mean.specs.Space.{space_of, IsVector, IsRenaming, IsRenamed, on_slot}
 use Rattle.kr_mean.specs.Heaps.{walk}
 use Rattle.kr_mean.specs.Runs.{end_on, order_of}
@@ -13,15 +13,15 @@ use Rattle.kr_mean.proofs.OneFieldRun.{orders_both, walks_both}
 
 -- ---- the code touches nothing
 
-touches_none : (node : Expression) → touched_by node ≡ []
-touches_none (number n) = refl
-touches_none this = refl
-touches_none (field f) = refl
-touches_none (compare c a b) = refl
-touches_none (call e m) = refl
+touches_none : (program : Program) (node : Expression) → touched_by program node ≡ []
+touches_none program (number n) = refl
+touches_none program this = refl
+touches_none program (field f) = refl
+touches_none program (compare c a b) = refl
+touches_none program (call e m) = refl
 
 pub is_pure : (form : Form) → IsPure (problem_of form)
-is_pure form node class code touched finitized = subst (λ cs. IsOneOf class cs) (touches_none node) touched
+is_pure form node class code touched finitized = subst (λ cs. IsOneOf class cs) (touches_none (problem_of form).program node) touched
 
 -- ---- the premises
 

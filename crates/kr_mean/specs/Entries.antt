@@ -7,7 +7,7 @@ use Rattle.kr_base.specs.declared.entry.Mark.TheVariants.{Valid, Invalid, Spent}
 use Rattle.kr_base.specs.declared.entry.Entry.{Entry}
 use Rattle.kr_base.specs.Cuts.{is_before}
 use Rattle.kr_base.specs.Entries.{Ascends, IsAmong}
-use Rattle.kr_mean.specs.Problem.{Problem, Value, upto}
+use Rattle.kr_mean.specs.Problem.{Problem, Mode, Listing, Testing, Value, upto}
 use Rattle.kr_mean.specs.Space.{Space, space_of, IsVector, on_slot, on_index}
 use Rattle.kr_mean.specs.Heaps.{value_at, walk}
 use Rattle.kr_mean.specs.Meaning.{TrapKind}
@@ -37,9 +37,13 @@ pub record Row : Type 0 where
 abbrev pub structure_of : Problem → List ℕ → List (ℕ × Value)
 structure_of problem vector = map (λ s. (s, value_at problem vector s)) (walk problem vector)
 
--- a listing has no verdicts
+-- a listing has no verdicts; those of a test come with the command `test`
+abbrev pub verdict_of : Mode → Option Verdict
+verdict_of Listing = None
+verdict_of (Testing m domains) = None
+
 abbrev pub row_of : Problem → List ℕ → Row
-row_of problem vector = record { key = key_of problem vector; structure = structure_of problem vector; verdict = None }
+row_of problem vector = record { key = key_of problem vector; structure = structure_of problem vector; verdict = verdict_of problem.mode }
 
 abbrev pub mark_for : End → Row → Mark Row
 mark_for runs.True row = Valid row

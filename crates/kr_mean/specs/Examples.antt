@@ -30,7 +30,7 @@ abbrev pub always : Expression
 always = compare Equal (number (pos 0)) (number (pos 0))
 
 abbrev pub rep_ok : Expression → Method
-rep_ok e = record { name = codes "repOk"; parameters = []; requires_all = []; body = gives e ∷ [] }
+rep_ok e = record { name = codes "repOk"; parameters = []; requires_all = []; ensures_all = []; gives_value = true; body = gives e ∷ [] }
 
 abbrev pub root_class : List (List ℕ) → Expression → ClassOf
 root_class fields e = record { name = codes "R"; fields = fields; methods = rep_ok e ∷ [] }
@@ -44,7 +44,6 @@ listed classes domains fuel = record {
   root = 0;
   rep_ok = 0;
   mode = Listing;
-  parameters = [];
   fuel = fuel;
   domains = domains;
 }

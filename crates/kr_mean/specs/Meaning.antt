@@ -149,10 +149,11 @@ all exec (t ∷ ts) = do
   flow ← exec t
   after flow (all exec ts)
 
--- the end of a method's body without a value traps
-abbrev pub returned : Flow → Run Value
-returned Next = stop (Trapped NoReturn)
-returned (Gave v) = give v
+-- the end of a body without a value traps where the method gives one
+abbrev pub returned : Bool → Flow → Run Value
+returned true Next = stop (Trapped NoReturn)
+returned false Next = give Null
+returned gives_value (Gave v) = give v
 
 -- runs a body with an object as `this` and other locals, and comes back; null traps
 abbrev pub enter : Value → List Value → Run (Unit {0})
@@ -161,23 +162,21 @@ enter (Int n) locals s = stop (Trapped NullPointerException) s
 enter (Truth b) locals s = stop (Trapped NullPointerException) s
 enter Null locals s = stop (Trapped NullPointerException) s
 
-abbrev pub leave : Value → List Value → Run (Unit {0})
-leave v locals s = give tt (record s { this_value = v; locals = locals })
+-- back with `this` and the locals as they were, whatever was said
+abbrev pub leave : {A : Type 0} → Value → List Value → Run A → Run A
+leave v locals m s = outcome (m s).said (record (m s).after { this_value = v; locals = locals })
 
-abbrev pub within : Value → List Value → Run Flow → Run Value
+abbrev pub within : Value → List Value → Run Value → Run Value
 within receiver arguments body = do
   before ← get_this
   locals ← get_locals
-  enter receiver arguments
-  flow ← body
-  leave before locals
-  returned flow
+  leave before locals (enter receiver arguments >> body)
 
 abbrev pub no_class : ClassOf
 no_class = record { name = []; fields = []; methods = [] }
 
 abbrev pub no_method : Method
-no_method = record { name = []; parameters = []; requires_all = []; body = [] }
+no_method = record { name = []; parameters = []; requires_all = []; ensures_all = []; gives_value = true; body = [] }
 
 abbrev pub class_in : Program → Class → ClassOf
 class_in program (Object c) = get_or program.classes c no_class
@@ -196,14 +195,19 @@ class_of_value heap Null = no_object.class
 abbrev pub class_of_this : Run Class
 class_of_this s = give (class_of_value s.heap s.this_value) s
 
--- the body of the method in the class of `this`
-abbrev pub body_of : Program → (Statement → Run Flow) → ℕ → Run Flow
+abbrev pub run_method : (Statement → Run Flow) → Method → Run Value
+run_method exec method = do
+  flow ← all exec method.body
+  returned method.gives_value flow
+
+-- what the method in the class of `this` gives
+abbrev pub body_of : Program → (Statement → Run Flow) → ℕ → Run Value
 body_of program exec m = do
   class ← class_of_this
-  all exec (method_in program class m).body
+  run_method exec (method_in program class m)
 
 -- an expression after its unit
-abbrev pub value_of : (Expression → Run Value) → (ℕ → Run Flow) → Expression → Run Value
+abbrev pub value_of : (Expression → Run Value) → (ℕ → Run Value) → Expression → Run Value
 value_of value body (number n) = give (Int n)
 value_of value body this = get_this
 value_of value body (field f) = do

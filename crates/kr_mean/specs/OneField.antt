@@ -1,5 +1,5 @@
 -- Classes of one `int` field whose `repOk` compares it with a number: their problems, and the entries of these.
-use Rattle.std.specs.Prelude.{◌≡◌, ℕ, ◌+◌, ◌<◌, ◌≤◌, ℤ, List, [], ◌∷◌, length, map, None, if◌then◌else◌, codes}
+use Rattle.std.specs.Prelude.{◌≡◌, ℕ, ◌+◌, ◌<◌, ◌≤◌, ℤ, List, [], ◌∷◌, length, map, None, if◌then◌else◌, codes, true}
 use Rattle.kr_base.specs.declared.entry.Mark.TheVariants.{Valid, Invalid}
 use Rattle.kr_base.specs.declared.entry.Entry.{Entry}
 use Rattle.kr_mean.specs.Program.{Program, Comparison, number, field, compare, gives}
@@ -15,7 +15,7 @@ one_field_program class_name field_name test n = record {
   classes = record {
     name = class_name;
     fields = field_name ∷ [];
-    methods = record { name = codes "repOk"; parameters = []; requires_all = []; body = gives (compare test (field 0) (number n)) ∷ [] } ∷ [];
+    methods = record { name = codes "repOk"; parameters = []; requires_all = []; ensures_all = []; gives_value = true; body = gives (compare test (field 0) (number n)) ∷ [] } ∷ [];
   } ∷ [];
 }
 
@@ -29,7 +29,6 @@ one_field class_name field_name test n values fuel = record {
   root = 0;
   rep_ok = 0;
   mode = Listing;
-  parameters = [];
   fuel = fuel;
   domains = record { name = class_name; class = Object 0; count = 1; spots = record { spot = Field 0; domain = int_domain values } ∷ [] } ∷ [];
 }

@@ -43,10 +43,14 @@ pub record ClassDomain : Type 0 where
   pub count : ℕ
   pub spots : List Spotted
 
--- what is asked: to list, or to test the method of that number
+-- what is asked: to list, or to test the method of that number, whose parameters have these domains
 pub data Mode : Type 0 where
   Listing : Mode
-  Testing : ℕ → Mode
+  Testing : ℕ → List Domain → Mode
+
+abbrev pub parameter_domains : Mode → List Domain
+parameter_domains Listing = []
+parameter_domains (Testing m domains) = domains
 
 pub record Problem : Type 0 where
   pub program : Program
@@ -54,8 +58,6 @@ pub record Problem : Type 0 where
   pub root : ℕ
   pub rep_ok : ℕ
   pub mode : Mode
-  -- of the method under test
-  pub parameters : List Domain
   pub fuel : ℕ
   pub domains : List ClassDomain
 
@@ -119,9 +121,9 @@ abbrev pub slots_of_object : Problem → DomainObject → List Slot
 slots_of_object problem o =
     map (λ s. record { place = At (heap_number problem o) s.spot; owner = Some o; domain = s.domain }) (domain_at problem o.domain).spots
 
--- all slots: `this`, the parameters, and what each object has
+-- all slots: `this`, the parameters of the method under test, and what each object has
 abbrev pub slots : Problem → List Slot
-slots problem = this_slot problem ∷ (parameter_slots 0 problem.parameters ++ flat_map (slots_of_object problem) (all_objects problem))
+slots problem = this_slot problem ∷ (parameter_slots 0 (parameter_domains problem.mode) ++ flat_map (slots_of_object problem) (all_objects problem))
 
 abbrev pub no_slot : Slot
 no_slot = record { place = This; owner = None; domain = [] }

@@ -1,6 +1,6 @@
 -- Programs: what a problem runs. Names stand resolved: a field by its place among its class's, a method by its number
 -- in the class table, which a method and those that override it share.
-use Rattle.std.specs.Prelude.{ℕ, ℤ, List}
+use Rattle.std.specs.Prelude.{ℕ, ℤ, Bool, List}
 
 -- the tests of the Java Language Specification 15.20 and 15.21
 pub data Comparison : Type 0 where
@@ -22,11 +22,14 @@ pub data Expression : Type 0 where
 pub data Statement : Type 0 where
   gives : Expression → Statement
 
--- a method, with the preconditions that stand before it
+-- a method: its parameters' names, the conditions of the contract that stands before it, whether it gives a value, and
+-- its statements
 pub record Method : Type 0 where
   pub name : List ℕ
   pub parameters : List (List ℕ)
   pub requires_all : List Expression
+  pub ensures_all : List Expression
+  pub gives_value : Bool
   pub body : List Statement
 
 -- a class of the table, with all of its instance fields, those of the superclass first, and all of its methods

@@ -1,8 +1,8 @@
 -- The predicate run on a vector, the order of the slots that decide it, and the key that they give.
-use Rattle.std.specs.Prelude.{ℕ, ◌==◌, Bool, true, false, ◌&&◌, ◌||◌, not, List, [], ◌∷◌, ◌++◌, length, map, flat_map, filter, Result, Ok, Err, if◌then◌else◌}
+use Rattle.std.specs.Prelude.{ℕ, ◌+◌, ◌==◌, Bool, true, false, ◌&&◌, ◌||◌, not, List, [], ◌∷◌, ◌++◌, length, map, flat_map, filter, Result, Ok, Err, if◌then◌else◌}
 use Rattle.std.proofs.Common.{get_or}
 use Rattle.kr_mean.specs.Program.{Program, Expression, this, call}
-use Rattle.kr_mean.specs.Problem.{Problem, Mode, Listing, Testing, Spot, Field, Length, Element, Place, This, Parameter, At, all_objects, slot_at, slots, domain_at, upto}
+use Rattle.kr_mean.specs.Problem.{Problem, Mode, Listing, Testing, parameter_domains, Value, Spot, Field, Length, Element, Place, This, Parameter, At, all_objects, slot_at, slots, domain_at, upto}
 use Rattle.kr_mean.specs.Heaps.{distinct, heap_of, value_at, walk}
 use Rattle.kr_mean.specs.Meaning.{TrapKind, Stop, Trapped, OutOfFuel, State, Outcome, Run, give, ◌>>=◌, is_true, method_in, value}
 
@@ -18,7 +18,7 @@ pub data End : Type 0 where
 -- the preconditions of the method under test
 abbrev pub requires_of : Problem → Mode → List Expression
 requires_of problem Listing = []
-requires_of problem (Testing m) = (method_in problem.program (domain_at problem problem.root).class m).requires_all
+requires_of problem (Testing m domains) = (method_in problem.program (domain_at problem problem.root).class m).requires_all
 
 -- what has to hold: `this.repOk()`, and then each precondition in order
 abbrev pub conditions : Problem → List Expression
@@ -29,10 +29,14 @@ abbrev pub hold_all : Program → List Expression → Run Bool
 hold_all program [] = give true
 hold_all program (e ∷ es) = value program e >>= (λ v. if is_true v then hold_all program es else give false)
 
+-- the values of the parameters of the method under test
+abbrev pub parameter_values : Problem → List ℕ → List Value
+parameter_values problem vector = map (λ i. value_at problem vector (i + 1)) (upto (length (parameter_domains problem.mode)))
+
 abbrev pub start : Problem → List ℕ → State
 start problem vector = record {
   this_value = value_at problem vector 0;
-  locals = [];
+  locals = parameter_values problem vector;
   heap = heap_of problem vector;
   candidates = length (all_objects problem);
   fuel = problem.fuel;

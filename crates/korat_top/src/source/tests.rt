@@ -1,8 +1,12 @@
 // Sources that are taken and sources that are refused, by the Java Language Specification's tokens.
 use super::{Comparison, read_source};
+use crate::MAX_FILE_BYTES;
 use std::alloc::Global;
 
 fn is_source(alloc: Global, text: &str) -> bool {
+    if text.len() > MAX_FILE_BYTES {
+        return false;
+    }
     match read_source(alloc, text.as_bytes()) {
         Ok(read) => read.is_some(),
         Err(_) => false,

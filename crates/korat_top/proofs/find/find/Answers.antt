@@ -2,8 +2,8 @@ use Rattle.korat_top.specs.Found.{word}
 use Rattle.korat_top.proofs.WholeFiles.{judges_held}
 use Rattle.korat_top.proofs.find.find.Goals as goal
 
-pub returns-in-Ok : goal.returns-in-Ok
-returns-in-Ok g c =
+pub returns-in-Ok-clause-found : goal.returns-in-Ok-clause-found
+returns-in-Ok-clause-found g c =
     let words = c.args.words.now in
     let fin = rw (← c.deref.ensures.value) at c.in_ok-fin.ensures.read in
     let constant = c.in_ok-fin.ensures.later.constant (word words 2) in

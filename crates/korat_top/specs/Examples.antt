@@ -1,0 +1,34 @@
+-- The lines and reports of small problems, worked by hand.
+use Rattle.std.specs.Prelude.{◌≡◌, ℕ, pos, List, [], ◌∷◌, map, codes}
+use Rattle.kr_base.specs.declared.span.Bound.TheVariants.{At, End}
+use Rattle.kr_base.specs.Entries.{entries_in}
+use Rattle.kr_mean.specs.Problem.{Problem}
+use Rattle.kr_mean.specs.Entries.{all_entries}
+use Rattle.kr_mean.specs.Examples.{cell, two_ints, two_nodes, two_subclasses, arrays}
+use Rattle.korat_top.specs.Texts.{row_text}
+use Rattle.korat_top.specs.Answer.{Answer, bytes_of, rows_in, listing_answer}
+
+-- the lines of all rows of a problem
+abbrev pub lines_of : Problem → List (List ℕ)
+lines_of problem = map (row_text problem) (rows_in (all_entries problem))
+
+abbrev pub told : ℕ → List ℕ → ℕ × List ℕ
+told status bytes = (status, bytes)
+
+abbrev pub told_by : Answer → ℕ × List ℕ
+told_by answer = told answer.status (bytes_of answer)
+
+-- the status and the bytes of a report of the entries above a key, with so many rows at most
+abbrev pub report_of : Problem → List ℕ → ℕ → ℕ × List ℕ
+report_of problem after limit = told_by (listing_answer problem limit (entries_in (At after) End (all_entries problem)))
+
+pub record WorkedLines : Type 0 where
+  pub two_nodes_lines : lines_of two_nodes ≡ codes "0.0 R#0{next=null}\n" ∷ codes "0.1 R#0{next=R#0}\n" ∷ codes "0.2.0 R#0{next=R#1} R#1{next=null}\n" ∷ codes "0.2.1 R#0{next=R#1} R#1{next=R#0}\n" ∷ codes "0.2.2 R#0{next=R#1} R#1{next=R#1}\n" ∷ []
+  pub two_subclasses_lines : lines_of two_subclasses ≡ codes "0.0.0 R#0{x=P#0,y=P#0} P#0{}\n" ∷ codes "0.0.1 R#0{x=P#0,y=P#1} P#0{} P#1{}\n" ∷ codes "0.0.2 R#0{x=P#0,y=Q#0} P#0{} Q#0{}\n" ∷ codes "0.2.0 R#0{x=Q#0,y=P#0} Q#0{} P#0{}\n" ∷ codes "0.2.2 R#0{x=Q#0,y=Q#0} Q#0{}\n" ∷ codes "0.2.3 R#0{x=Q#0,y=Q#1} Q#0{} Q#1{}\n" ∷ []
+  pub arrays_lines : lines_of arrays ≡ codes "0.0.0 R#0{a=int[]#0} int[]#0[]\n" ∷ codes "0.0.1.0 R#0{a=int[]#0} int[]#0[0]\n" ∷ codes "0.0.1.1 R#0{a=int[]#0} int[]#0[1]\n" ∷ codes "0.0.2.0.0 R#0{a=int[]#0} int[]#0[0,0]\n" ∷ codes "0.0.2.0.1 R#0{a=int[]#0} int[]#0[0,1]\n" ∷ codes "0.0.2.1.0 R#0{a=int[]#0} int[]#0[1,0]\n" ∷ codes "0.0.2.1.1 R#0{a=int[]#0} int[]#0[1,1]\n" ∷ []
+  pub two_ints_report : report_of two_ints [] 9 ≡ told 0 (codes "0.1.0 R#0{a=1,b=7}\n0.1.1 R#0{a=1,b=9}\nvalid 2 tried 3\n")
+  pub cell_report : report_of (cell (pos 0) 1000) [] 9 ≡ told 0 (codes "0.1 Cell#0{v=1}\n0.2 Cell#0{v=2}\nvalid 2 tried 3\n")
+  pub cell_limited : report_of (cell (pos 0) 1000) [] 1 ≡ told 0 (codes "0.1 Cell#0{v=1}\nmore 0.1\n")
+  pub cell_at_the_limit : report_of (cell (pos 0) 1000) [] 2 ≡ told 0 (codes "0.1 Cell#0{v=1}\n0.2 Cell#0{v=2}\nvalid 2 tried 3\n")
+  pub cell_resumed : report_of (cell (pos 0) 1000) (0 ∷ 1 ∷ []) 9 ≡ told 0 (codes "0.2 Cell#0{v=2}\nvalid 1 tried 1\n")
+  pub cell_without_fuel : report_of (cell (pos 0) 5) [] 9 ≡ told 5 (codes "spent 0.0\n")
