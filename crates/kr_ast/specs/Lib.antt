@@ -1,0 +1,4 @@
+pub mod Tree
+pub mod Grow
+pub mod Arena
+pub mod Forest

@@ -1,0 +1,9 @@
+//! Syntax trees: what a source's tokens stand for, kept as a list of nodes in which the parts of each node stand before
+//! it.
+#![tactic(auto)]
+
+mod node;
+mod tree;
+
+pub use node::{BinaryOperator, Entry, Name, Node, Primitive, StepOperator, UnaryOperator};
+pub use tree::Tree;

@@ -1,0 +1,61 @@
+// A whole tree, as a list of nodes in which the parts of each node stand before it.
+ghost use Rattle.std.specs.Prelude.{◌≡◌, ◌<◌, ◌≤◌, ◌^◌, length, slice_get, Some};
+ghost use Rattle.kr_ast.specs.Arena.{IsArena, name_in};
+
+use crate::{Entry, Name};
+use kr_base::Place;
+use std::marker::Model;
+
+/// A syntax tree. Contracts see the list of its nodes and the text of its names; `root` is the tree of the last node.
+#[derive(Drop)]
+pub struct Tree {
+    text: Vec<u8>,
+    entries: Vec<Entry>,
+}
+
+impl Model for Tree {
+    ghost use Rattle.std.specs.Prelude.{length, ◌<◌, ◌^◌};
+    ghost use Rattle.kr_ast.specs.Arena.{Arena, IsArena};
+
+    ghost Value = { Arena };
+
+    ghost view = { λ t. record { text = t.text.items; entries = t.entries.items } };
+
+    ghost invariant = { λ t. IsArena t.text.items t.entries.items × (length t.entries.items < 2 ^ 32) };
+}
+
+impl Tree {
+    /// The tree of these nodes. It takes no memory.
+    pub fn new(text: Vec<u8>, entries: Vec<Entry>) -> Self
+        requires arena { IsArena text.items entries.items }
+        requires room { length entries.items < 2 ^ 32 }
+        ensures { result ≡ record { text = text.items; entries = entries.items } }
+    {
+        Tree { text, entries }
+    }
+
+    /// How many nodes it has.
+    pub fn nodes(&self) -> u32
+        ensures count { result ≡ length self.now.entries }
+        ensures arena { IsArena self.now.text self.now.entries }
+    {
+        self.entries.len() as u32
+    }
+
+    /// A node, with its place and its parent.
+    pub fn entry(&self, at: u32) -> Entry
+        requires { at < length self.now.entries }
+        ensures { slice_get self.now.entries at ≡ Some result }
+    {
+        self.entries[at as usize]
+    }
+
+    /// The bytes of a name.
+    pub fn name(&self, name: Name) -> &[u8]
+        requires ordered { name.start ≤ name.end }
+        requires within { name.end ≤ length self.now.text }
+        ensures { result.now ≡ name_in self.now.text name }
+    {
+        &self.text[name.start as usize..name.end as usize]
+    }
+}

@@ -1,0 +1,197 @@
+// What the parser may be looking for, and what it puts together.
+
+use crate::terminal::Terminal;
+
+/// An identifier with a meaning of its own.
+#[derive(Clone, Copy, Debug, PartialEq, Eq)]
+pub enum Spelled {
+    Java,
+    Util,
+    Override,
+}
+
+/// What comes next. Goals whose names begin with `After`, or say where they stand, go on from the values on top.
+#[derive(Clone, Copy, Debug)]
+pub enum Goal {
+    // files and classes
+    File,
+    Dotted,
+    Imports,
+    Imported,
+    Classes,
+    ClassAhead,
+    Extended,
+    ClassTail,
+    Members,
+    Member,
+    MemberName,
+    Method,
+    FieldOrMethod,
+    Parameters,
+    Parameter,
+    MoreParameters,
+    ConstructorBody,
+    AfterSuper,
+
+    // types
+    Type,
+    TypeName,
+    TypeTail,
+    Dimensions,
+
+    // locals and statements
+    Initialiser,
+    MoreDeclarators,
+    AfterLocalName,
+    Statements,
+    BlockStatement,
+    Item,
+    ItemName,
+    ItemBracket,
+    Statement,
+    OptionalExpression,
+    ElsePart,
+    ForInitial,
+    MoreInitial,
+    ForUpdates,
+    MoreUpdates,
+    StatementExpression,
+    AfterStatementPrimary,
+
+    // primary expressions
+    Primary,
+    PrimaryName,
+    Creator,
+    CreatorName,
+    CreatorArgument,
+    ObjectCreation,
+    ArrayLength,
+    Suffixes,
+    Selected,
+    Arguments,
+    MoreArguments,
+
+    // expressions
+    Expression,
+    AfterUnary,
+    AfterOperation,
+    Conditional,
+    Unary,
+    Unsigned,
+    Postfixes,
+    /// operators that bind at least as tightly as one level, and at most as another
+    Operators { least: u8, most: u8 },
+
+    // what stands in parentheses, a cast's type or an expression
+    InParentheses,
+    PrimitiveCast,
+    EnclosedName,
+    EnclosedBracket,
+    EnclosedPrimary,
+    Closing,
+    AfterEnclosedName,
+    AfterChain,
+
+    // names with `<` between them, types or comparisons
+    ChainArgument,
+    ChainName,
+    ChainBracket,
+    ChainPrimary,
+    ChainGreater,
+    ChainClosing,
+
+    // the type behind `instanceof`
+    Tested,
+    TestedName,
+    AfterTested,
+}
+
+/// What is made of the values on top.
+#[derive(Clone, Copy, Debug)]
+pub enum Make {
+    Nil,
+    Cons,
+    /// two words into a pair
+    Pair,
+    /// the two values on top, the other way round
+    Swap,
+
+    // types
+    TypeOfMark,
+    TypeOfName,
+    Generic,
+    Diamond,
+    Array,
+
+    // expressions
+    Variable,
+    CallOfName,
+    SuperCall,
+    ObjectCreation,
+    ArrayCreation,
+    Enclosed,
+    FieldAccess,
+    MethodCall,
+    ArrayAccess,
+    StepBehind,
+    StepBefore,
+    Unary,
+    Cast,
+    Binary,
+    Less,
+    Greater,
+    /// of names with `<` between them comparisons, those below the one on top, or all
+    CompareBelow,
+    CompareAll,
+    InstanceOf,
+    Conditional,
+    Assign,
+
+    // statements
+    Declarator,
+    Local,
+    ExpressionStatement,
+    Block,
+    Empty,
+    Return,
+    Jump,
+    IfThen,
+    IfElse,
+    While,
+    Do,
+    For,
+
+    // declarations
+    MemberAhead,
+    SetStatic,
+    SetFinal,
+    SetOverrides,
+    Parameter,
+    Field,
+    Method,
+    ConstructorCall,
+    Constructor,
+    Owner,
+    NestedOwner,
+    ConsBelow,
+    EndMembers,
+    Class,
+    Nested,
+}
+
+/// A symbol on the parser's stack.
+#[derive(Clone, Copy, Debug)]
+pub enum Symbol {
+    /// a token comes next
+    Take(Terminal),
+    /// a token comes next, and is kept as a mark
+    Keep(Terminal),
+    /// an identifier comes next, and is kept as a word
+    Word,
+    /// a literal comes next, and becomes a tree
+    Literal,
+    /// an identifier of this spelling comes next
+    Spell(Spelled),
+    Want(Goal),
+    Build(Make),
+}

@@ -1,0 +1,92 @@
+// Which symbols stand for a goal.
+ghost use Rattle.kr_grammar.specs.Machine.{rule};
+ghost use Rattle.kr_grammar.specs.Rules.{IsRule, IsFixed};
+
+use crate::goal::{Goal, Symbol};
+use crate::terminal::Terminal;
+use crate::value::Tag;
+use crate::{declarations, enclosed, expressions, statements};
+
+/// What stands for a goal other than operators, by the token ahead and the values on top.
+pub fn rule(goal: Goal, next: Terminal, tag: Tag) -> Option<&'static [Symbol]>
+    requires { IsFixed goal }
+    ensures { IsRule result (rule goal next tag) }
+{
+    match goal {
+        Goal::Operators { .. } => None,
+        Goal::File => declarations::file(next),
+        Goal::Dotted => declarations::dotted(next),
+        Goal::Imports => declarations::imports(next),
+        Goal::Imported => declarations::imported(next),
+        Goal::Classes => declarations::classes(next),
+        Goal::ClassAhead => declarations::class_ahead(next),
+        Goal::Extended => declarations::extended(next),
+        Goal::ClassTail => declarations::class_tail(next),
+        Goal::Members => declarations::members(next),
+        Goal::Member => declarations::member(next, tag),
+        Goal::MemberName => declarations::member_name(next, tag),
+        Goal::Method => declarations::method(next),
+        Goal::FieldOrMethod => declarations::field_or_method(next),
+        Goal::Parameters => declarations::parameters(next),
+        Goal::Parameter => declarations::parameter(next),
+        Goal::MoreParameters => declarations::more_parameters(next),
+        Goal::ConstructorBody => declarations::constructor_body(next),
+        Goal::AfterSuper => declarations::after_super(next),
+        Goal::Type => statements::type_ahead(next),
+        Goal::TypeName => statements::type_name(next),
+        Goal::TypeTail => statements::type_tail(next),
+        Goal::Dimensions => statements::dimensions(next),
+        Goal::Initialiser => statements::initialiser(next),
+        Goal::MoreDeclarators => statements::more_declarators(next),
+        Goal::AfterLocalName => statements::after_local_name(),
+        Goal::Statements => statements::statements(next),
+        Goal::BlockStatement => statements::block_statement(next),
+        Goal::Item => statements::item(next),
+        Goal::ItemName => statements::item_name(next, tag),
+        Goal::ItemBracket => statements::item_bracket(next),
+        Goal::Statement => statements::statement(next),
+        Goal::OptionalExpression => statements::optional_expression(next),
+        Goal::ElsePart => statements::else_part(next),
+        Goal::ForInitial => statements::for_initial(next),
+        Goal::MoreInitial => statements::more_initial(next, tag),
+        Goal::ForUpdates => statements::for_updates(next),
+        Goal::MoreUpdates => statements::more_updates(next),
+        Goal::StatementExpression => statements::statement_expression(next),
+        Goal::AfterStatementPrimary => statements::after_statement_primary(next, tag),
+        Goal::Primary => expressions::primary(next),
+        Goal::PrimaryName => expressions::primary_name(next),
+        Goal::Creator => expressions::creator(next),
+        Goal::CreatorName => expressions::creator_name(next, tag),
+        Goal::CreatorArgument => expressions::creator_argument(next),
+        Goal::ObjectCreation => expressions::object_creation(),
+        Goal::ArrayLength => expressions::array_length(),
+        Goal::Suffixes => expressions::suffixes(next, tag),
+        Goal::Selected => expressions::selected(next),
+        Goal::Arguments => expressions::arguments(next),
+        Goal::MoreArguments => expressions::more_arguments(next),
+        Goal::Expression => expressions::expression(),
+        Goal::AfterUnary => expressions::after_unary(next, tag),
+        Goal::AfterOperation => expressions::after_operation(next),
+        Goal::Conditional => expressions::conditional(),
+        Goal::Unary => expressions::unary(next),
+        Goal::Unsigned => expressions::unsigned(next),
+        Goal::Postfixes => expressions::postfixes(next),
+        Goal::InParentheses => enclosed::in_parentheses(next),
+        Goal::PrimitiveCast => enclosed::primitive_cast(next),
+        Goal::EnclosedName => enclosed::enclosed_name(next, tag),
+        Goal::EnclosedBracket => enclosed::enclosed_bracket(next),
+        Goal::EnclosedPrimary => enclosed::enclosed_primary(),
+        Goal::Closing => enclosed::closing(),
+        Goal::AfterEnclosedName => enclosed::after_enclosed_name(next),
+        Goal::AfterChain => enclosed::after_chain(tag),
+        Goal::ChainArgument => enclosed::chain_argument(next),
+        Goal::ChainName => enclosed::chain_name(next, tag),
+        Goal::ChainBracket => enclosed::chain_bracket(next),
+        Goal::ChainPrimary => enclosed::chain_primary(),
+        Goal::ChainGreater => enclosed::chain_greater(next),
+        Goal::ChainClosing => enclosed::chain_closing(next, tag),
+        Goal::Tested => enclosed::tested(next),
+        Goal::TestedName => enclosed::tested_name(next, tag),
+        Goal::AfterTested => enclosed::after_tested(tag),
+    }
+}

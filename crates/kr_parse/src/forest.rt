@@ -1,0 +1,319 @@
+// Nodes while a parser puts them together: a forest of trees, of which some will be parts of others.
+ghost use Rattle.std.specs.Prelude.{◌≡◌, ◌+◌, ◌-◌, ◌<◌, ◌^◌, ◌++◌, ◌∷◌, [], List, ℕ, length, take, drop, IfOk, OnOk, OnErr};
+ghost use Rattle.kr_ast.specs.Arena.{trees, tree_at, tree_of, parts, names, name_in, AreNamesIn, root};
+ghost use Rattle.kr_ast.specs.Forest.{AreFree, AreRoots, IsOneRoot, adopted};
+
+use kr_ast::{Entry, Name, Node, Tree};
+use kr_base::{NoMemory, Place};
+use std::alloc::Global;
+use std::marker::Model;
+
+/// Nodes whose parts stand before them. A node that is no part of another is a root.
+#[derive(Drop)]
+pub struct Forest {
+    text: Vec<u8>,
+    entries: Vec<Entry>,
+}
+
+impl Model for Forest {
+    ghost use Rattle.std.specs.Prelude.{length, ◌<◌, ◌^◌};
+    ghost use Rattle.kr_ast.specs.Arena.{Arena, IsForest};
+
+    ghost Value = { Arena };
+
+    ghost view = { λ f. record { text = f.text.items; entries = f.entries.items } };
+
+    ghost invariant = { λ f. IsForest f.text.items f.entries.items × (length f.entries.items < 2 ^ 32) × (length f.text.items < 2 ^ 32) };
+}
+
+/// Gives a node its parent.
+fn adopt(entries: &mut Vec<Entry>, part: usize, parent: u32, position: u8)
+    requires { part < length entries.old.items }
+    ensures now { (d : Entry) → entries.new.items ≡ adopted d entries.old.items parent position (part ∷ []) }
+    ensures long { length entries.new.items ≡ length entries.old.items }
+{
+    let entry = entries[part];
+    entries[part] = Entry {
+        place: entry.place,
+        node: entry.node,
+        parent,
+        position,
+    };
+}
+
+/// Gives the parts of a node their parent.
+fn adopt_parts(entries: &mut Vec<Entry>, node: Node, parent: u32)
+    requires free { AreFree entries.old.items (parts node) }
+    ensures now { (d : Entry) → entries.new.items ≡ adopted d entries.old.items parent 0 (parts node) }
+    ensures long { length entries.new.items ≡ length entries.old.items }
+{
+    let parts = parts_of(node);
+    if let Some(first) = parts.first {
+        adopt(entries, first as usize, parent, 0);
+    }
+    if let Some(second) = parts.second {
+        adopt(entries, second as usize, parent, 1);
+    }
+    if let Some(third) = parts.third {
+        adopt(entries, third as usize, parent, 2);
+    }
+    if let Some(fourth) = parts.fourth {
+        adopt(entries, fourth as usize, parent, 3);
+    }
+}
+
+/// The parts of a node, in order.
+#[derive(Clone, Copy, Debug)]
+pub struct Parts {
+    pub first: Option<u32>,
+    pub second: Option<u32>,
+    pub third: Option<u32>,
+    pub fourth: Option<u32>,
+}
+
+const fn no_parts() -> Parts {
+    Parts {
+        first: None,
+        second: None,
+        third: None,
+        fourth: None,
+    }
+}
+
+const fn one_part(first: u32) -> Parts {
+    Parts {
+        first: Some(first),
+        second: None,
+        third: None,
+        fourth: None,
+    }
+}
+
+const fn two_parts(first: u32, second: u32) -> Parts {
+    Parts {
+        first: Some(first),
+        second: Some(second),
+        third: None,
+        fourth: None,
+    }
+}
+
+const fn three_parts(first: u32, second: u32, third: u32) -> Parts {
+    Parts {
+        first: Some(first),
+        second: Some(second),
+        third: Some(third),
+        fourth: None,
+    }
+}
+
+/// The parts of a node, in order.
+fn parts_of(node: Node) -> Parts {
+    match node {
+        Node::Nil
+        | Node::PrimitiveType { .. }
+        | Node::NamedType { .. }
+        | Node::QualifiedType { .. }
+        | Node::Number { .. }
+        | Node::Truth { .. }
+        | Node::Null
+        | Node::This
+        | Node::Variable { .. }
+        | Node::Result
+        | Node::Empty
+        | Node::Break
+        | Node::Continue => no_parts(),
+        Node::DiamondType { head: a }
+        | Node::ArrayType { element: a }
+        | Node::FieldAccess { object: a, .. }
+        | Node::Call { arguments: a, .. }
+        | Node::SuperCall { arguments: a, .. }
+        | Node::Unary { operand: a, .. }
+        | Node::Step { target: a, .. }
+        | Node::Old { operand: a }
+        | Node::Block { statements: a }
+        | Node::Declarator { initial: a, .. }
+        | Node::ExpressionStatement { expression: a }
+        | Node::Return { value: a }
+        | Node::ConstructorCall { arguments: a }
+        | Node::Parameter { declared: a, .. }
+        | Node::Requires { condition: a }
+        | Node::Ensures { condition: a } => one_part(a),
+        Node::Cons { first: a, rest: b }
+        | Node::GenericType {
+            head: a,
+            argument: b,
+        }
+        | Node::ArrayAccess { array: a, index: b }
+        | Node::MethodCall {
+            object: a,
+            arguments: b,
+            ..
+        }
+        | Node::ObjectCreation {
+            class: a,
+            arguments: b,
+        }
+        | Node::ArrayCreation {
+            element: a,
+            length: b,
+        }
+        | Node::Binary {
+            left: a,
+            right: b,
+            ..
+        }
+        | Node::InstanceOf {
+            operand: a,
+            tested: b,
+        }
+        | Node::Cast {
+            target: a,
+            operand: b,
+        }
+        | Node::Assignment {
+            target: a,
+            value: b,
+        }
+        | Node::CompoundAssignment {
+            target: a,
+            value: b,
+            ..
+        }
+        | Node::Local {
+            declared: a,
+            declarators: b,
+        }
+        | Node::IfThen {
+            condition: a,
+            holds: b,
+        }
+        | Node::While {
+            condition: a,
+            body: b,
+        }
+        | Node::Do {
+            body: a,
+            condition: b,
+        }
+        | Node::Class {
+            extended: a,
+            members: b,
+            ..
+        }
+        | Node::Field {
+            declared: a,
+            declarators: b,
+            ..
+        }
+        | Node::Method {
+            signature: a,
+            body: b,
+            ..
+        } => two_parts(a, b),
+        Node::Conditional {
+            condition: a,
+            holds: b,
+            fails: c,
+        }
+        | Node::IfElse {
+            condition: a,
+            holds: b,
+            fails: c,
+        }
+        | Node::Signature {
+            result: a,
+            parameters: b,
+            contracts: c,
+        }
+        | Node::Constructor {
+            parameters: a,
+            super_call: b,
+            body: c,
+        } => three_parts(a, b, c),
+        Node::For {
+            initial,
+            condition,
+            updates,
+            body,
+        } => Parts {
+            first: Some(initial),
+            second: Some(condition),
+            third: Some(updates),
+            fourth: Some(body),
+        },
+    }
+}
+
+impl Forest {
+    /// The empty forest. It takes no memory.
+    pub fn new(alloc: Global) -> Self
+        ensures text { result.text ≡ [] }
+        ensures entries { result.entries ≡ [] }
+    {
+        Forest {
+            text: Vec::new(alloc),
+            entries: Vec::new(alloc),
+        }
+    }
+
+    /// Adds a name to the text.
+    pub fn add_name(&mut self, bytes: &[u8]) -> Result<Name, NoMemory>
+        ensures shown { IfOk result (λ name. name_in self.new.text name ≡ bytes.now) }
+        ensures within { IfOk result (λ name. AreNamesIn self.new.text (name ∷ [])) }
+        ensures text { IfOk result (λ name. self.new.text ≡ self.old.text ++ bytes.now) }
+        ensures trees { trees self.new.text self.new.entries ≡ trees self.old.text self.old.entries }
+        ensures entries { self.new.entries ≡ self.old.entries }
+    {
+        let start = self.text.len();
+        if bytes.len() >= 0xffff_ffff - start {
+            return Err(NoMemory);
+        }
+        self.text.extend_from_slice(bytes)?;
+        Ok(Name {
+            start: start as u32,
+            end: self.text.len() as u32,
+        })
+    }
+
+    /// Puts a node above its parts, which are roots until then. Answers the node's index.
+    pub fn put(&mut self, place: Place, node: Node) -> Result<u32, NoMemory>
+        requires free { AreFree self.old.entries (parts node) }
+        requires named { AreNamesIn self.old.text (names node) }
+        ensures at { IfOk result (λ at. at ≡ length self.old.entries) }
+        ensures count { IfOk result (λ at. length self.new.entries ≡ length self.old.entries + 1) }
+        ensures text { self.new.text ≡ self.old.text }
+        ensures trees { IfOk result (λ at. trees self.new.text self.new.entries ≡ trees self.old.text self.old.entries ++ tree_of self.old.text (tree_at self.old.text self.old.entries) place node ∷ []) }
+        ensures roots { IfOk result (λ at. (rest : List ℕ) → AreRoots self.old.entries (parts node ++ rest) → AreRoots self.new.entries (at ∷ rest)) }
+    {
+        let at = self.entries.len();
+        if at >= 0xffff_ffff {
+            return Err(NoMemory);
+        }
+        self.entries.reserve(1)?;
+        adopt_parts(&mut self.entries, node, at as u32);
+        self.entries.push(Entry {
+            place,
+            node,
+            parent: at as u32,
+            position: 0,
+        })?;
+        Ok(at as u32)
+    }
+
+    /// The bytes of a name.
+    pub fn name(&self, name: Name) -> &[u8]
+        requires { AreNamesIn self.now.text (name ∷ []) }
+        ensures { result.now ≡ name_in self.now.text name }
+    {
+        &self.text[name.start as usize..name.end as usize]
+    }
+
+    /// The tree of the last node, where that is the only root. It takes no memory.
+    pub fn finish(self) -> Tree
+        requires { IsOneRoot self.entries }
+        ensures { result ≡ self }
+    {
+        Tree::new(self.text, self.entries)
+    }
+}
