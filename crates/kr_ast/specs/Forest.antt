@@ -1,9 +1,6 @@
 -- Nodes while they are put together.
-use Rattle.std.specs.Prelude.{ℕ, ◌+◌, ◌<◌, ◌≤◌, ◌≡◌, ◌⊎◌, List, [], ◌∷◌, ◌++◌, length, Some, slice_get, slice_set, slice_index_or}
-use Rattle.kr_base.specs.declared.place.Place.{Place}
-use Rattle.kr_ast.specs.declared.node.Node.{Node}
+use Rattle.std.specs.Prelude.{ℕ, ◌+◌, ◌<◌, ◌≡◌, ◌⊎◌, List, [], ◌∷◌, length, Some, slice_get, slice_set, slice_index_or}
 use Rattle.kr_ast.specs.declared.node.Entry.{Entry}
-use Rattle.kr_ast.specs.Arena.{Arena, parts}
 
 -- a node that is no part yet is its own parent
 abbrev pub IsFree : List Entry → ℕ → Type 0

@@ -10,7 +10,6 @@ pub data Tree : Type 0 where
   -- the end of a list, and a part that is absent
   Nil : Tree
   Cons : Tree → Tree → Tree
-
   -- types (Java Language Specification 4)
   PrimitiveType : Place → Primitive → Tree
   NamedType : Place → List ℕ → Tree
@@ -20,7 +19,6 @@ pub data Tree : Type 0 where
   GenericType : Place → Tree → Tree → Tree
   DiamondType : Place → Tree → Tree
   ArrayType : Place → Tree → Tree
-
   -- expressions (15)
   Number : Place → ℕ → Tree
   Truth : Place → Bool → Tree
@@ -52,7 +50,6 @@ pub data Tree : Type 0 where
   -- `\result` and `\old(..)` of contracts
   Result : Place → Tree
   Old : Place → Tree → Tree
-
   -- statements (14)
   Empty : Place → Tree
   Block : Place → Tree → Tree
@@ -74,7 +71,6 @@ pub data Tree : Type 0 where
   For : Place → Tree → Tree → Tree → Tree → Tree
   -- `super(..);` at the head of a constructor
   ConstructorCall : Place → Tree → Tree
-
   -- declarations (8)
   -- name, extended class, members
   Class : Place → List ℕ → Tree → Tree → Tree

@@ -2,8 +2,12 @@
 //! it.
 #![tactic(auto)]
 
+mod forest;
 mod node;
+#[cfg(test)]
+mod tests;
 mod tree;
 
+pub use forest::Forest;
 pub use node::{BinaryOperator, Entry, Name, Node, Primitive, StepOperator, UnaryOperator};
 pub use tree::Tree;

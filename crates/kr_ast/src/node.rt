@@ -64,74 +64,209 @@ pub enum BinaryOperator {
 pub enum Node {
     // lists, and what is absent
     Nil,
-    Cons { first: u32, rest: u32 },
+    Cons {
+        first: u32,
+        rest: u32,
+    },
 
     // types
-    PrimitiveType { primitive: Primitive },
-    NamedType { name: Name },
+    PrimitiveType {
+        primitive: Primitive,
+    },
+    NamedType {
+        name: Name,
+    },
     /// `Outer.Inner`
-    QualifiedType { outer: Name, name: Name },
+    QualifiedType {
+        outer: Name,
+        name: Name,
+    },
     /// `Head<Argument>`
-    GenericType { head: u32, argument: u32 },
+    GenericType {
+        head: u32,
+        argument: u32,
+    },
     /// `Head<>`, of an object creation alone
-    DiamondType { head: u32 },
-    ArrayType { element: u32 },
+    DiamondType {
+        head: u32,
+    },
+    ArrayType {
+        element: u32,
+    },
 
     // expressions
-    Number { value: u32 },
-    Truth { value: bool },
+    Number {
+        value: u32,
+    },
+    Truth {
+        value: bool,
+    },
     Null,
     This,
-    Variable { name: Name },
-    FieldAccess { object: u32, name: Name },
-    ArrayAccess { array: u32, index: u32 },
+    Variable {
+        name: Name,
+    },
+    FieldAccess {
+        object: u32,
+        name: Name,
+    },
+    ArrayAccess {
+        array: u32,
+        index: u32,
+    },
     /// `name(..)`
-    Call { name: Name, arguments: u32 },
+    Call {
+        name: Name,
+        arguments: u32,
+    },
     /// `object.name(..)`
-    MethodCall { object: u32, name: Name, arguments: u32 },
+    MethodCall {
+        object: u32,
+        name: Name,
+        arguments: u32,
+    },
     /// `super.name(..)`
-    SuperCall { name: Name, arguments: u32 },
-    ObjectCreation { class: u32, arguments: u32 },
-    ArrayCreation { element: u32, length: u32 },
-    Unary { operator: UnaryOperator, operand: u32 },
-    Step { operator: StepOperator, target: u32 },
-    Binary { operator: BinaryOperator, left: u32, right: u32 },
-    InstanceOf { operand: u32, tested: u32 },
-    Conditional { condition: u32, holds: u32, fails: u32 },
-    Cast { target: u32, operand: u32 },
-    Assignment { target: u32, value: u32 },
-    CompoundAssignment { operator: BinaryOperator, target: u32, value: u32 },
+    SuperCall {
+        name: Name,
+        arguments: u32,
+    },
+    ObjectCreation {
+        class: u32,
+        arguments: u32,
+    },
+    ArrayCreation {
+        element: u32,
+        length: u32,
+    },
+    Unary {
+        operator: UnaryOperator,
+        operand: u32,
+    },
+    Step {
+        operator: StepOperator,
+        target: u32,
+    },
+    Binary {
+        operator: BinaryOperator,
+        left: u32,
+        right: u32,
+    },
+    InstanceOf {
+        operand: u32,
+        tested: u32,
+    },
+    Conditional {
+        condition: u32,
+        holds: u32,
+        fails: u32,
+    },
+    Cast {
+        target: u32,
+        operand: u32,
+    },
+    Assignment {
+        target: u32,
+        value: u32,
+    },
+    CompoundAssignment {
+        operator: BinaryOperator,
+        target: u32,
+        value: u32,
+    },
     /// `\result`
     Result,
     /// `\old(..)`
-    Old { operand: u32 },
+    Old {
+        operand: u32,
+    },
 
     // statements
     Empty,
-    Block { statements: u32 },
-    Local { declared: u32, declarators: u32 },
-    Declarator { name: Name, initial: u32 },
-    ExpressionStatement { expression: u32 },
-    Return { value: u32 },
+    Block {
+        statements: u32,
+    },
+    Local {
+        declared: u32,
+        declarators: u32,
+    },
+    Declarator {
+        name: Name,
+        initial: u32,
+    },
+    ExpressionStatement {
+        expression: u32,
+    },
+    Return {
+        value: u32,
+    },
     Break,
     Continue,
-    IfThen { condition: u32, holds: u32 },
-    IfElse { condition: u32, holds: u32, fails: u32 },
-    While { condition: u32, body: u32 },
-    Do { body: u32, condition: u32 },
-    For { initial: u32, condition: u32, updates: u32, body: u32 },
+    IfThen {
+        condition: u32,
+        holds: u32,
+    },
+    IfElse {
+        condition: u32,
+        holds: u32,
+        fails: u32,
+    },
+    While {
+        condition: u32,
+        body: u32,
+    },
+    Do {
+        body: u32,
+        condition: u32,
+    },
+    For {
+        initial: u32,
+        condition: u32,
+        updates: u32,
+        body: u32,
+    },
     /// `super(..);` at the head of a constructor
-    ConstructorCall { arguments: u32 },
+    ConstructorCall {
+        arguments: u32,
+    },
 
     // declarations
-    Class { name: Name, extended: u32, members: u32 },
-    Field { is_static: bool, is_final: bool, declared: u32, declarators: u32 },
-    Method { is_static: bool, name: Name, signature: u32, body: u32 },
-    Signature { result: u32, parameters: u32, contracts: u32 },
-    Parameter { declared: u32, name: Name },
-    Constructor { parameters: u32, super_call: u32, body: u32 },
-    Requires { condition: u32 },
-    Ensures { condition: u32 },
+    Class {
+        name: Name,
+        extended: u32,
+        members: u32,
+    },
+    Field {
+        is_static: bool,
+        is_final: bool,
+        declared: u32,
+        declarators: u32,
+    },
+    Method {
+        is_static: bool,
+        name: Name,
+        signature: u32,
+        body: u32,
+    },
+    Signature {
+        result: u32,
+        parameters: u32,
+        contracts: u32,
+    },
+    Parameter {
+        declared: u32,
+        name: Name,
+    },
+    Constructor {
+        parameters: u32,
+        super_call: u32,
+        body: u32,
+    },
+    Requires {
+        condition: u32,
+    },
+    Ensures {
+        condition: u32,
+    },
 }
 
 /// A node, its place in the source, and which part of which node it is.

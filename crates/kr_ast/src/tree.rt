@@ -3,7 +3,6 @@ ghost use Rattle.std.specs.Prelude.{◌≡◌, ◌<◌, ◌≤◌, ◌^◌, leng
 ghost use Rattle.kr_ast.specs.Arena.{IsArena, name_in};
 
 use crate::{Entry, Name};
-use kr_base::Place;
 use std::marker::Model;
 
 /// A syntax tree. Contracts see the list of its nodes and the text of its names; `root` is the tree of the last node.

@@ -1,9 +1,9 @@
 // Nodes while a parser puts them together: a forest of trees, of which some will be parts of others.
-ghost use Rattle.std.specs.Prelude.{◌≡◌, ◌+◌, ◌-◌, ◌<◌, ◌^◌, ◌++◌, ◌∷◌, [], List, ℕ, length, take, drop, IfOk, OnOk, OnErr};
-ghost use Rattle.kr_ast.specs.Arena.{trees, tree_at, tree_of, parts, names, name_in, AreNamesIn, root};
+ghost use Rattle.std.specs.Prelude.{◌≡◌, ◌+◌, ◌<◌, ◌++◌, ◌∷◌, [], List, ℕ, length, IfOk, OnErr};
+ghost use Rattle.kr_ast.specs.Arena.{trees, tree_at, tree_of, parts, names, name_in, AreNamesIn};
 ghost use Rattle.kr_ast.specs.Forest.{AreFree, AreRoots, IsOneRoot, adopted};
 
-use kr_ast::{Entry, Name, Node, Tree};
+use crate::{Entry, Name, Node, Tree};
 use kr_base::{NoMemory, Place};
 use std::alloc::Global;
 use std::marker::Model;
@@ -41,74 +41,33 @@ fn adopt(entries: &mut Vec<Entry>, part: usize, parent: u32, position: u8)
     };
 }
 
+/// Gives two nodes their parent.
+fn adopt_two(entries: &mut Vec<Entry>, first: u32, second: u32, parent: u32)
+    requires free { AreFree entries.old.items (first ∷ second ∷ []) }
+    ensures now { (d : Entry) → entries.new.items ≡ adopted d entries.old.items parent 0 (first ∷ second ∷ []) }
+    ensures long { length entries.new.items ≡ length entries.old.items }
+{
+    adopt(entries, first as usize, parent, 0);
+    adopt(entries, second as usize, parent, 1);
+}
+
+/// Gives three nodes their parent.
+fn adopt_three(entries: &mut Vec<Entry>, first: u32, second: u32, third: u32, parent: u32)
+    requires free { AreFree entries.old.items (first ∷ second ∷ third ∷ []) }
+    ensures now { (d : Entry) → entries.new.items ≡ adopted d entries.old.items parent 0 (first ∷ second ∷ third ∷ []) }
+    ensures long { length entries.new.items ≡ length entries.old.items }
+{
+    adopt(entries, first as usize, parent, 0);
+    adopt(entries, second as usize, parent, 1);
+    adopt(entries, third as usize, parent, 2);
+}
+
 /// Gives the parts of a node their parent.
 fn adopt_parts(entries: &mut Vec<Entry>, node: Node, parent: u32)
     requires free { AreFree entries.old.items (parts node) }
     ensures now { (d : Entry) → entries.new.items ≡ adopted d entries.old.items parent 0 (parts node) }
     ensures long { length entries.new.items ≡ length entries.old.items }
 {
-    let parts = parts_of(node);
-    if let Some(first) = parts.first {
-        adopt(entries, first as usize, parent, 0);
-    }
-    if let Some(second) = parts.second {
-        adopt(entries, second as usize, parent, 1);
-    }
-    if let Some(third) = parts.third {
-        adopt(entries, third as usize, parent, 2);
-    }
-    if let Some(fourth) = parts.fourth {
-        adopt(entries, fourth as usize, parent, 3);
-    }
-}
-
-/// The parts of a node, in order.
-#[derive(Clone, Copy, Debug)]
-pub struct Parts {
-    pub first: Option<u32>,
-    pub second: Option<u32>,
-    pub third: Option<u32>,
-    pub fourth: Option<u32>,
-}
-
-const fn no_parts() -> Parts {
-    Parts {
-        first: None,
-        second: None,
-        third: None,
-        fourth: None,
-    }
-}
-
-const fn one_part(first: u32) -> Parts {
-    Parts {
-        first: Some(first),
-        second: None,
-        third: None,
-        fourth: None,
-    }
-}
-
-const fn two_parts(first: u32, second: u32) -> Parts {
-    Parts {
-        first: Some(first),
-        second: Some(second),
-        third: None,
-        fourth: None,
-    }
-}
-
-const fn three_parts(first: u32, second: u32, third: u32) -> Parts {
-    Parts {
-        first: Some(first),
-        second: Some(second),
-        third: Some(third),
-        fourth: None,
-    }
-}
-
-/// The parts of a node, in order.
-fn parts_of(node: Node) -> Parts {
     match node {
         Node::Nil
         | Node::PrimitiveType { .. }
@@ -122,7 +81,7 @@ fn parts_of(node: Node) -> Parts {
         | Node::Result
         | Node::Empty
         | Node::Break
-        | Node::Continue => no_parts(),
+        | Node::Continue => {}
         Node::DiamondType { head: a }
         | Node::ArrayType { element: a }
         | Node::FieldAccess { object: a, .. }
@@ -138,7 +97,7 @@ fn parts_of(node: Node) -> Parts {
         | Node::ConstructorCall { arguments: a }
         | Node::Parameter { declared: a, .. }
         | Node::Requires { condition: a }
-        | Node::Ensures { condition: a } => one_part(a),
+        | Node::Ensures { condition: a } => adopt(entries, a as usize, parent, 0),
         Node::Cons { first: a, rest: b }
         | Node::GenericType {
             head: a,
@@ -210,7 +169,7 @@ fn parts_of(node: Node) -> Parts {
             signature: a,
             body: b,
             ..
-        } => two_parts(a, b),
+        } => adopt_two(entries, a, b, parent),
         Node::Conditional {
             condition: a,
             holds: b,
@@ -230,18 +189,16 @@ fn parts_of(node: Node) -> Parts {
             parameters: a,
             super_call: b,
             body: c,
-        } => three_parts(a, b, c),
+        } => adopt_three(entries, a, b, c, parent),
         Node::For {
             initial,
             condition,
             updates,
             body,
-        } => Parts {
-            first: Some(initial),
-            second: Some(condition),
-            third: Some(updates),
-            fourth: Some(body),
-        },
+        } => {
+            adopt_three(entries, initial, condition, updates, parent);
+            adopt(entries, body as usize, parent, 3);
+        }
     }
 }
 
@@ -257,13 +214,14 @@ impl Forest {
         }
     }
 
-    /// Adds a name to the text.
+    /// Adds a name to the text. The error says that memory is short, or that the text would come to 4 GiB.
     pub fn add_name(&mut self, bytes: &[u8]) -> Result<Name, NoMemory>
         ensures shown { IfOk result (λ name. name_in self.new.text name ≡ bytes.now) }
         ensures within { IfOk result (λ name. AreNamesIn self.new.text (name ∷ [])) }
         ensures text { IfOk result (λ name. self.new.text ≡ self.old.text ++ bytes.now) }
         ensures trees { trees self.new.text self.new.entries ≡ trees self.old.text self.old.entries }
         ensures entries { self.new.entries ≡ self.old.entries }
+        ensures unchanged { OnErr result (self.new ≡ self.old) }
     {
         let start = self.text.len();
         if bytes.len() >= 0xffff_ffff - start {
@@ -276,7 +234,8 @@ impl Forest {
         })
     }
 
-    /// Puts a node above its parts, which are roots until then. Answers the node's index.
+    /// Puts a node above its parts, which are roots until then. Answers the node's index. The error says that memory is
+    /// short, or that there are 2^32 - 1 nodes.
     pub fn put(&mut self, place: Place, node: Node) -> Result<u32, NoMemory>
         requires free { AreFree self.old.entries (parts node) }
         requires named { AreNamesIn self.old.text (names node) }
@@ -285,19 +244,19 @@ impl Forest {
         ensures text { self.new.text ≡ self.old.text }
         ensures trees { IfOk result (λ at. trees self.new.text self.new.entries ≡ trees self.old.text self.old.entries ++ tree_of self.old.text (tree_at self.old.text self.old.entries) place node ∷ []) }
         ensures roots { IfOk result (λ at. (rest : List ℕ) → AreRoots self.old.entries (parts node ++ rest) → AreRoots self.new.entries (at ∷ rest)) }
+        ensures unchanged { OnErr result (self.new ≡ self.old) }
     {
         let at = self.entries.len();
         if at >= 0xffff_ffff {
             return Err(NoMemory);
         }
-        self.entries.reserve(1)?;
-        adopt_parts(&mut self.entries, node, at as u32);
         self.entries.push(Entry {
             place,
             node,
             parent: at as u32,
             position: 0,
         })?;
+        adopt_parts(&mut self.entries, node, at as u32);
         Ok(at as u32)
     }
 
