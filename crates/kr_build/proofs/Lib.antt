@@ -1,0 +1,10 @@
+mod Values
+mod Roots
+mod Growing
+mod Planned
+mod Moved
+mod Stays
+mod Heads
+mod Methods
+mod Tagged
+mod Chains

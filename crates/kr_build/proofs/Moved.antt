@@ -1,0 +1,85 @@
+-- What the moves put in the place of values is what is to be made of these.
+use Rattle.std.proofs.Common.{◌≡◌, ℕ, true, List, [], ◌∷◌, Option, Some, None, refl, sym, arith, subst}
+use Rattle.std.proofs.lemmas.Bool.{false≢true}
+use Rattle.kr_ast.specs.Arena.{Arena, AreNamesIn}
+use Rattle.kr_grammar.specs.declared.goal.Make.{Make}
+use Rattle.kr_grammar.specs.declared.goal.Make.TheVariants as makes
+use Rattle.kr_grammar.specs.Made.{made}
+use Rattle.kr_build.specs.declared.value.Kept.{Kept}
+use Rattle.kr_build.specs.declared.value.Kept.TheVariants.{Word, Part}
+use Rattle.kr_build.specs.declared.value.Sort.TheVariants as sort
+use Rattle.kr_build.specs.declared.moves.Move.{Move}
+use Rattle.kr_build.specs.Perm.{Perm, done, flip}
+use Rattle.kr_build.specs.Kept.{are}
+use Rattle.kr_build.specs.Plans.{sorts, move}
+use Rattle.kr_build.specs.Shown.{shown, nodes_of, names_of, IsBuilt, FitsMove, moved}
+use Rattle.kr_build.proofs.Roots.{perm_refl}
+use Rattle.kr_build.proofs.Planned.{on_mark, on_word, on_part, on_member, on_owner}
+use Rattle.kr_build.proofs.Growing.{names_append, in_join, in_front, in_back}
+
+abbrev pub MoveMakes : Make → Arena → List Kept → Option Move → Type 0
+MoveMakes m a vs None = Unit {0}
+MoveMakes m a vs (Some s) = FitsMove a.text vs s × (shown a (moved s vs) ≡ made m (shown a vs))
+
+abbrev Claim : Make → Arena → List Kept → Type 0
+Claim m a vs = AreNamesIn a.text (names_of vs) → MoveMakes m a vs (move m vs)
+
+swapped : (v w : Kept) → Perm (nodes_of (v ∷ w ∷ [])) (nodes_of (w ∷ v ∷ []))
+swapped (Part p f i) (Part q g j) = flip i j []
+swapped (Part p f i) _ = perm_refl (i ∷ [])
+swapped v (Part q g j) = perm_refl (j ∷ [])
+swapped _ _ = done
+
+swapped_names : (text : List ℕ) (v w : Kept) (us : List Kept) → AreNamesIn text (names_of (v ∷ w ∷ us)) → AreNamesIn text (names_of (w ∷ v ∷ []))
+swapped_names text v w us h =
+    let k = subst (AreNamesIn text) (names_append (v ∷ []) (w ∷ us)) h in
+    let l = subst (AreNamesIn text) (names_append (w ∷ []) us) (in_back text (names_of (v ∷ [])) (names_of (w ∷ us)) k) in
+    subst (AreNamesIn text) (sym (names_append (w ∷ []) (v ∷ []))) (in_join text (names_of (w ∷ [])) (names_of (v ∷ [])) (in_front text (names_of (w ∷ [])) (names_of us) l) (in_front text (names_of (v ∷ [])) (names_of (w ∷ us)) k))
+
+of_pair : (a : Arena) (vs : List Kept) → are (sorts makes.Pair) vs ≡ true → Claim makes.Pair a vs
+of_pair a vs e = on_word (sort.Word ∷ []) (λ (ws : List Kept). Claim makes.Pair a ws) vs e (λ p0 n0 v0 e0. on_word [] (λ (ws : List Kept). Claim makes.Pair a (Word p0 n0 ∷ ws)) v0 e0 (λ p1 n1 v1 e1. λ h. (record { within = omega arith; same = done; named = (h.2.0, h.2.1, (h.0, h.1, tt)) }, refl)))
+
+of_enclosed : (a : Arena) (vs : List Kept) → are (sorts makes.Enclosed) vs ≡ true → Claim makes.Enclosed a vs
+of_enclosed a vs e = on_part (sort.Mark ∷ []) (λ (ws : List Kept). Claim makes.Enclosed a ws) vs e (λ p0 f0 i0 v0 e0. on_mark [] (λ (ws : List Kept). Claim makes.Enclosed a (Part p0 f0 i0 ∷ ws)) v0 e0 (λ k1 p1 v1 e1. λ h. (record { within = omega arith; same = perm_refl (i0 ∷ []); named = tt }, refl)))
+
+of_member_ahead : (a : Arena) (vs : List Kept) → are (sorts makes.MemberAhead) vs ≡ true → Claim makes.MemberAhead a vs
+of_member_ahead a vs e = on_owner [] (λ (ws : List Kept). Claim makes.MemberAhead a ws) vs e (λ b0 p0 n0 v0 e0. λ h. (record { within = omega arith; same = done; named = tt }, refl))
+
+of_set_static : (a : Arena) (vs : List Kept) → are (sorts makes.SetStatic) vs ≡ true → Claim makes.SetStatic a vs
+of_set_static a vs e = on_member [] (λ (ws : List Kept). Claim makes.SetStatic a ws) vs e (λ b0 m0 v0 e0. λ h. (record { within = omega arith; same = done; named = tt }, refl))
+
+of_set_final : (a : Arena) (vs : List Kept) → are (sorts makes.SetFinal) vs ≡ true → Claim makes.SetFinal a vs
+of_set_final a vs e = on_member [] (λ (ws : List Kept). Claim makes.SetFinal a ws) vs e (λ b0 m0 v0 e0. λ h. (record { within = omega arith; same = done; named = tt }, refl))
+
+of_set_overrides : (a : Arena) (vs : List Kept) → are (sorts makes.SetOverrides) vs ≡ true → Claim makes.SetOverrides a vs
+of_set_overrides a vs e = on_member [] (λ (ws : List Kept). Claim makes.SetOverrides a ws) vs e (λ b0 m0 v0 e0. λ h. (record { within = omega arith; same = done; named = tt }, refl))
+
+of_owner : (a : Arena) (vs : List Kept) → are (sorts makes.Owner) vs ≡ true → Claim makes.Owner a vs
+of_owner a vs e = on_part (sort.Word ∷ []) (λ (ws : List Kept). Claim makes.Owner a ws) vs e (λ p0 f0 i0 v0 e0. on_word [] (λ (ws : List Kept). Claim makes.Owner a (Part p0 f0 i0 ∷ ws)) v0 e0 (λ p1 n1 v1 e1. λ h. (record { within = omega arith; same = perm_refl (i0 ∷ []); named = (h.0, h.1, tt) }, refl)))
+
+of_nested_owner : (a : Arena) (vs : List Kept) → are (sorts makes.NestedOwner) vs ≡ true → Claim makes.NestedOwner a vs
+of_nested_owner a vs e = on_part (sort.Word ∷ []) (λ (ws : List Kept). Claim makes.NestedOwner a ws) vs e (λ p0 f0 i0 v0 e0. on_word [] (λ (ws : List Kept). Claim makes.NestedOwner a (Part p0 f0 i0 ∷ ws)) v0 e0 (λ p1 n1 v1 e1. λ h. (record { within = omega arith; same = perm_refl (i0 ∷ []); named = (h.0, h.1, tt) }, refl)))
+
+of_nested : (a : Arena) (vs : List Kept) → are (sorts makes.Nested) vs ≡ true → Claim makes.Nested a vs
+of_nested a vs e = on_part (sort.Member ∷ []) (λ (ws : List Kept). Claim makes.Nested a ws) vs e (λ p0 f0 i0 v0 e0. on_member [] (λ (ws : List Kept). Claim makes.Nested a (Part p0 f0 i0 ∷ ws)) v0 e0 (λ b1 m1 v1 e1. λ h. (record { within = omega arith; same = perm_refl (i0 ∷ []); named = tt }, refl)))
+
+of_swap : (a : Arena) (vs : List Kept) → are (sorts makes.Swap) vs ≡ true → Claim makes.Swap a vs
+of_swap a (v ∷ w ∷ us) e = λ h. (record { within = omega arith; same = swapped v w; named = swapped_names a.text v w us h }, refl)
+of_swap a _ e = absurd (false≢true e)
+
+-- a move fits its values, and makes of them what it is to make
+pub move_makes : (m : Make) (a : Arena) (vs : List Kept) → are (sorts m) vs ≡ true → AreNamesIn a.text (names_of vs) → MoveMakes m a vs (move m vs)
+move_makes makes.Pair a vs e = of_pair a vs e
+move_makes makes.Enclosed a vs e = of_enclosed a vs e
+move_makes makes.MemberAhead a vs e = of_member_ahead a vs e
+move_makes makes.SetStatic a vs e = of_set_static a vs e
+move_makes makes.SetFinal a vs e = of_set_final a vs e
+move_makes makes.SetOverrides a vs e = of_set_overrides a vs e
+move_makes makes.Owner a vs e = of_owner a vs e
+move_makes makes.NestedOwner a vs e = of_nested_owner a vs e
+move_makes makes.Nested a vs e = of_nested a vs e
+move_makes makes.Swap a vs e = of_swap a vs e
+move_makes _ a vs e = λ h. tt
+
+pub one_move : (m : Make) (a : Arena) (vs : List Kept) (s : Move) → are (sorts m) vs ≡ true → IsBuilt a vs → Some s ≡ move m vs → FitsMove a.text vs s × (shown a (moved s vs) ≡ made m (shown a vs))
+one_move m a vs s e h g = subst (MoveMakes m a vs) (sym g) (move_makes m a vs e h.named)

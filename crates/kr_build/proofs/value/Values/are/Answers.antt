@@ -1,0 +1,22 @@
+use Rattle.std.proofs.Common.{sym, ◌∙◌, arith}
+use Rattle.std.proofs.lemmas.Option.{slice_get-get_or}
+use Rattle.kr_build.specs.declared.value.Sort.TheVariants.{Any}
+use Rattle.kr_build.proofs.Values.{are_short, are_wrong, are_more}
+use Rattle.kr_build.proofs.value.Values.are.Goals as goal
+
+pub returns-in-None : goal.returns-in-None
+returns-in-None c =
+    let g = slice_get-get_or c.args.sorts.now c.loop-depth.depth Any c.loop-depth-test.true in
+    sym (c.loop-depth.invariant.0 ∙ are_short c.args.sorts.now c.args.self.now c.loop-depth.depth _ g (sym c.in-None.ensures))
+
+pub returns-then-not-is_of : goal.returns-then-not-is_of
+returns-then-not-is_of c =
+    let g = slice_get-get_or c.args.sorts.now c.loop-depth.depth Any c.loop-depth-test.true in
+    sym (c.loop-depth.invariant.0 ∙ are_wrong c.args.sorts.now c.args.self.now c.loop-depth.depth _ c.in-Some.value g (sym c.in-Some.ensures) (sym c.is_of.ensures ∙ c.if-not-is_of.true))
+
+pub loop-depth-preserved : goal.loop-depth-preserved
+loop-depth-preserved c =
+    let g = slice_get-get_or c.args.sorts.now c.loop-depth.depth Any c.loop-depth-test.true in (
+      c.loop-depth.invariant.0 ∙ are_more c.args.sorts.now c.args.self.now c.loop-depth.depth _ c.in-Some.value g (sym c.in-Some.ensures) (sym c.is_of.ensures ∙ c.if-not-is_of.false),
+      omega arith,
+    )

@@ -1,0 +1,5 @@
+pub mod Kept
+pub mod Plans
+pub mod Perm
+pub mod Shown
+pub mod Chain

@@ -1,0 +1,224 @@
+// Puts trees together from what the parser keeps.
+ghost use Rattle.std.specs.Prelude.{◌≡◌, ◌++◌, ◌∷◌, [], IfOk, ℕ, true, Some, None, length};
+ghost use Rattle.kr_ast.specs.Arena.{parts, names, tree_at, tree_of};
+ghost use Rattle.kr_grammar.specs.declared.value.Form.TheVariants.{Other};
+ghost use Rattle.kr_grammar.specs.Made.{made};
+ghost use Rattle.kr_grammar.specs.Values.{mark, word, part};
+ghost use Rattle.kr_build.specs.Kept.{are};
+ghost use Rattle.kr_build.specs.Plans.{sorts, plan, head, move};
+ghost use Rattle.kr_build.specs.Shown.{values_of, IsOnePart, IsTreeOf, shown, IsBuilt, Fits, FitsMove, planned, stacked, moved};
+
+use crate::moves::{Move, move_of, sorts_of};
+use crate::plan::{Plan, head, over, plan_of, tree};
+use crate::value::{Kept, Values, nowhere};
+use kr_ast::{Forest, Node, Tree};
+use kr_base::{NoMemory, Place};
+use kr_grammar::{Form, Make};
+use kr_lex::Kind;
+use std::alloc::Global;
+
+/// The nodes so far, and the values that wait to become part of a tree.
+#[derive(Drop)]
+pub struct Builder {
+    pub(crate) forest: Forest,
+    pub(crate) values: Values,
+}
+
+impl Builder {
+    pub fn new(alloc: Global) -> Self
+        ensures built { IsBuilt result.forest result.values }
+        ensures none { values_of result ≡ [] }
+    {
+        Builder {
+            forest: Forest::new(alloc),
+            values: Values::new(alloc),
+        }
+    }
+
+    /// Keeps a token of whose spelling nothing is needed.
+    pub fn keep_mark(&mut self, kind: Kind, place: Place) -> Result<(), NoMemory>
+        requires { IsBuilt self.old.forest self.old.values }
+        ensures built { IfOk result (λ none. IsBuilt self.new.forest self.new.values) }
+        ensures shown { IfOk result (λ none. values_of self.new ≡ mark kind place ∷ values_of self.old) }
+    {
+        self.values.push(Kept::Mark { kind, place })?;
+        Ok(())
+    }
+
+    /// Keeps an identifier.
+    pub fn keep_word(&mut self, place: Place, text: &[u8]) -> Result<(), NoMemory>
+        requires { IsBuilt self.old.forest self.old.values }
+        ensures built { IfOk result (λ none. IsBuilt self.new.forest self.new.values) }
+        ensures shown { IfOk result (λ none. values_of self.new ≡ word place text.now ∷ values_of self.old) }
+    {
+        let name = self.forest.add_name(text)?;
+        self.values.push(Kept::Word { place, name })?;
+        Ok(())
+    }
+
+    /// Puts a node without parts or names, and its tree on the values.
+    pub fn put_leaf(&mut self, place: Place, node: Node) -> Result<(), NoMemory>
+        requires built { IsBuilt self.old.forest self.old.values }
+        requires alone { parts node ≡ [] }
+        requires nameless { names node ≡ [] }
+        ensures built { IfOk result (λ none. IsBuilt self.new.forest self.new.values) }
+        ensures shown { IfOk result (λ none. values_of self.new ≡ part place Other (tree_of self.old.forest.text (tree_at self.old.forest.text self.old.forest.entries) place node) ∷ values_of self.old) }
+    {
+        self.put(tree(0, place, Form::Other, node))?;
+        Ok(())
+    }
+
+    /// Puts a node above its parts, and its tree in the place of the values taken.
+    pub(crate) fn put(&mut self, plan: Plan) -> Result<(), NoMemory>
+        requires built { IsBuilt self.old.forest self.old.values }
+        requires fits { Fits self.old.forest.text self.old.values plan }
+        ensures built { IfOk result (λ none. IsBuilt self.new.forest self.new.values) }
+        ensures shown { IfOk result (λ none. values_of self.new ≡ planned self.old.forest self.old.values plan) }
+        ensures kept { IfOk result (λ none. (i : ℕ) × (self.new.values ≡ stacked plan i self.old.values)) }
+        ensures text { IfOk result (λ none. self.new.forest.text ≡ self.old.forest.text) }
+    {
+        let node = self.forest.put(plan.place, plan.node)?;
+        self.values.drop_top(plan.taken);
+        self.values.push(Kept::Part {
+            place: plan.place,
+            form: plan.form,
+            node,
+        })?;
+        match plan.above {
+            None => Ok(()),
+            Some(above) => {
+                self.values.push(above)?;
+                Ok(())
+            }
+        }
+    }
+
+    /// Puts values in the place of others.
+    pub(crate) fn put_again(&mut self, change: Move) -> Result<(), NoMemory>
+        requires built { IsBuilt self.old.forest self.old.values }
+        requires fits { FitsMove self.old.forest.text self.old.values change }
+        ensures built { IfOk result (λ none. IsBuilt self.new.forest self.new.values) }
+        ensures shown { IfOk result (λ none. values_of self.new ≡ shown self.old.forest (moved change self.old.values)) }
+    {
+        self.values.drop_top(change.taken);
+        match change.below {
+            None => {
+                self.values.push(change.top)?;
+                Ok(())
+            }
+            Some(below) => {
+                self.values.push(below)?;
+                self.values.push(change.top)?;
+                Ok(())
+            }
+        }
+    }
+
+    /// What is made of one node above that of a name.
+    fn put_both(&mut self, make: Make, lower: Plan) -> Result<(), NoMemory>
+        requires built { IsBuilt self.old.forest self.old.values }
+        requires values { are (sorts make) self.old.values ≡ true }
+        requires none { plan make self.old.values ≡ None }
+        requires head { head make self.old.values ≡ Some lower }
+        ensures built { IfOk result (λ none. IsBuilt self.new.forest self.new.values) }
+        ensures shown { IfOk result (λ none. values_of self.new ≡ made make (values_of self.old)) }
+    {
+        self.put(lower)?;
+        match over(make, &self.values) {
+            None => Ok(()),
+            Some(upper) => {
+                self.put(upper)?;
+                Ok(())
+            }
+        }
+    }
+
+    /// A method, above its signature.
+    fn method(&mut self) -> Result<(), NoMemory>
+        requires built { IsBuilt self.old.forest self.old.values }
+        requires values { are (sorts Make.Method) self.old.values ≡ true }
+        ensures built { IfOk result (λ none. IsBuilt self.new.forest self.new.values) }
+        ensures shown { IfOk result (λ none. values_of self.new ≡ made Make.Method (values_of self.old)) }
+    {
+        let place = self.values.place(2);
+        let name = self.values.name(2);
+        let is_static = self.values.modifiers(4).is_static;
+        self.put(tree(0, place, Form::Other, Node::Nil))?;
+        let signature = Node::Signature {
+            result: self.values.node(4),
+            parameters: self.values.node(2),
+            contracts: self.values.node(0),
+        };
+        let body = self.values.peek(1);
+        self.put(Plan {
+            taken: 5,
+            place,
+            form: Form::Other,
+            node: signature,
+            above: body,
+        })?;
+        let method = Node::Method {
+            is_static,
+            name,
+            signature: self.values.node(1),
+            body: self.values.node(0),
+        };
+        self.put(tree(3, place, Form::Other, method))?;
+        Ok(())
+    }
+
+    /// What neither one node nor a change of the values makes.
+    fn build_rest(&mut self, make: Make) -> Result<(), NoMemory>
+        requires built { IsBuilt self.old.forest self.old.values }
+        requires values { are (sorts make) self.old.values ≡ true }
+        requires no_plan { plan make self.old.values ≡ None }
+        requires no_head { head make self.old.values ≡ None }
+        requires no_move { move make self.old.values ≡ None }
+        ensures built { IfOk result (λ none. IsBuilt self.new.forest self.new.values) }
+        ensures shown { IfOk result (λ none. values_of self.new ≡ made make (values_of self.old)) }
+    {
+        match make {
+            Make::Method => self.method(),
+            Make::CompareBelow => {
+                self.compare_below()?;
+                Ok(())
+            }
+            _ => {
+                self.compare_all()?;
+                Ok(())
+            }
+        }
+    }
+
+    /// Makes what is to be made of the values on top.
+    pub fn build(&mut self, make: Make) -> Result<(), NoMemory>
+        requires { IsBuilt self.old.forest self.old.values }
+        ensures built { IfOk result (λ none. IsBuilt self.new.forest self.new.values) }
+        ensures shown { IfOk result (λ none. values_of self.new ≡ made make (values_of self.old)) }
+    {
+        if !self.values.are(sorts_of(make)) {
+            return Ok(());
+        }
+        if let Some(one) = plan_of(make, &self.values) {
+            self.put(one)?;
+            return Ok(());
+        }
+        if let Some(lower) = head(make, &self.values) {
+            return self.put_both(make, lower);
+        }
+        if let Some(change) = move_of(make, &self.values) {
+            self.put_again(change)?;
+            return Ok(());
+        }
+        self.build_rest(make)
+    }
+
+    /// The tree of the only value.
+    pub fn finish(self) -> Tree
+        requires built { IsBuilt self.forest self.values }
+        requires one { IsOnePart (values_of self) }
+        ensures { IsTreeOf (values_of self) result }
+    {
+        self.forest.finish()
+    }
+}

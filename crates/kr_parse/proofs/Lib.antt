@@ -1,0 +1,4 @@
+mod Ahead
+mod OneRefusal
+mod Standing
+mod States

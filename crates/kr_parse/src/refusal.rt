@@ -1,0 +1,45 @@
+// Why no tree was found.
+ghost use Rattle.std.specs.Prelude.{◌≡◌};
+ghost use Rattle.kr_parse.specs.declared.refusal.ParseRefusal.TheVariants.{NoMemory as Lacking};
+ghost use Rattle.kr_parse.specs.Rules.{rule_code};
+
+use kr_base::{NoMemory, Place};
+
+/// A rule of the grammar, by what breaks it.
+#[derive(Clone, Copy, Debug, PartialEq, Eq)]
+pub enum ParseRule {
+    /// P1: a token with which no derivable file goes on, the end of input being a last one.
+    Syntax,
+    /// P2: likewise, where it is a keyword that the language doesn't use.
+    Unsupported,
+    /// P3: an opening bracket with 64 others open.
+    TooNested,
+}
+
+impl ParseRule {
+    /// The rule's code, as `P1`.
+    pub fn code(self) -> &'static str
+        ensures { result.now ≡ rule_code self }
+    {
+        match self {
+            ParseRule::Syntax => "P1",
+            ParseRule::Unsupported => "P2",
+            ParseRule::TooNested => "P3",
+        }
+    }
+}
+
+/// The tokens were refused: they break a rule at a place, or memory was refused.
+#[derive(Clone, Copy, Debug, PartialEq, Eq)]
+pub enum ParseRefusal {
+    Broken { place: Place, rule: ParseRule },
+    NoMemory,
+}
+
+impl From<NoMemory> for ParseRefusal {
+    ghost from_gives = { λ _ refusal. refusal ≡ Lacking };
+
+    fn from(_: NoMemory) -> ParseRefusal {
+        ParseRefusal::NoMemory
+    }
+}
