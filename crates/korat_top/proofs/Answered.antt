@@ -4,17 +4,18 @@ use Rattle.std.specs.Prelude.{Option, Some, None, IfSome}
 use Rattle.kr_mean.specs.OneField.{OneFieldLaw}
 use Rattle.korat_top.specs.Source.{source_of}
 use Rattle.korat_top.specs.Finitization.{finitization_of}
-use Rattle.korat_top.specs.Answer.{Answer, ListFiles, Held, IsAnswer, too_long, no_tokens, no_source, no_finitization, listed, TellsBoth, IsTold, Reads, too_long_answer, no_tokens_answer, no_source_answer, no_finitization_answer}
+use Rattle.korat_top.specs.Answer.{Answer, ListFiles, Held, IsAnswer, too_long, no_tokens, no_tree, no_source, no_finitization, listed, TellsBoth, IsTold, Reads, too_long_answer, no_tokens_answer, no_tree_answer, no_source_answer, no_finitization_answer}
 use Rattle.korat_top.specs.Cells.{cells_answer}
 use Rattle.korat_top.specs.Found.{Judges, word}
 use Rattle.korat_top.specs.declared.find.Found.{Found}
-use Rattle.korat_top.specs.declared.find.Found.TheVariants.{TooLong, Broken, NoSource, NoFinitization, Cells}
+use Rattle.korat_top.specs.declared.find.Found.TheVariants.{TooLong, Broken, Unparsed, NoSource, NoFinitization, Cells}
 use Rattle.korat_top.proofs.Listings.{summarized}
 
 -- what was found of told files is the answer
 abbrev pub AnswerFor : Held → List ℕ → List ℕ → Found → Type 0
 AnswerFor held fin source TooLong = IsAnswer held (Some (ListFiles fin source)) (too_long_answer source)
 AnswerFor held fin source (Broken place rule) = IsAnswer held (Some (ListFiles fin source)) (no_tokens_answer source place rule)
+AnswerFor held fin source (Unparsed place rule) = IsAnswer held (Some (ListFiles fin source)) (no_tree_answer source place rule)
 AnswerFor held fin source NoSource = IsAnswer held (Some (ListFiles fin source)) (no_source_answer source)
 AnswerFor held fin source NoFinitization = IsAnswer held (Some (ListFiles fin source)) (no_finitization_answer fin)
 AnswerFor held fin source (Cells s r) = IsAnswer held (Some (ListFiles fin source)) (cells_answer (source_of s) (finitization_of r))
@@ -22,6 +23,7 @@ AnswerFor held fin source (Cells s r) = IsAnswer held (Some (ListFiles fin sourc
 for_bytes : (held : Held) (fin source f s : List ℕ) (found : Found) → OneFieldLaw → held fin ≡ Some f → held source ≡ Some s → Judges f s found → AnswerFor held fin source found
 for_bytes held fin source f s TooLong law hf hs j = too_long hf hs j
 for_bytes held fin source f s (Broken place rule) law hf hs j = no_tokens place rule hf hs j.0 j.1
+for_bytes held fin source f s (Unparsed place rule) law hf hs j = no_tree place rule hf hs j.0 j.1
 for_bytes held fin source f s NoSource law hf hs j = no_source hf hs j.0 j.1
 for_bytes held fin source f s NoFinitization law hf hs j = no_finitization j.1.0 hf hs j.0 j.1.1 j.1.2
 for_bytes held fin source f s (Cells x r) law hf hs j =

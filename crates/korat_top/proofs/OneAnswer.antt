@@ -11,13 +11,18 @@ use Rattle.kr_base.specs.declared.place.Place.{Place}
 use Rattle.kr_lex.specs.declared.refusal.LexRule.{LexRule}
 use Rattle.kr_lex.specs.declared.refusal.LexRule.TheVariants as rules
 use Rattle.kr_lex.specs.Places.{place_after}
+use Rattle.kr_lex.specs.Lexemes.{Lexeme, Lexemes}
+use Rattle.kr_lex.specs.Spells.{AreTokens, OneListLaw}
 use Rattle.kr_lex.specs.Broken.{IsFirstBroken, rank, UnbrokenLaw}
+use Rattle.kr_ast.specs.Tree.{Tree}
+use Rattle.kr_parse.specs.declared.refusal.ParseRule.{ParseRule}
+use Rattle.kr_parse.specs.Refusals.{IsParsed, IsUnparsed, OneRefusal, ParsedUnbroken}
 use Rattle.kr_mean.specs.Program.{Comparison, Less, LessOrEqual, Greater, GreaterOrEqual, Equal, NotEqual}
 use Rattle.kr_mean.specs.Entries.{all_entries}
 use Rattle.korat_top.specs.Source.{Source, IsSource, Spells, end, gap, token, tokens_of, test_text}
 use Rattle.korat_top.specs.Finitization.{Finitization, IsFinitization}
 use Rattle.korat_top.specs.Texts.{usage_text}
-use Rattle.korat_top.specs.Answer.{Answer, Command, ListFiles, Held, IsAnswer, IsLexed, usage, too_long, no_tokens, no_source, no_finitization, listed, line_answer, too_long_answer, no_tokens_answer, no_source_answer, no_finitization_answer, listing_answer, problem_of, NO_LIMIT}
+use Rattle.korat_top.specs.Answer.{Answer, Command, ListFiles, Held, IsAnswer, IsLexed, HasTree, usage, too_long, no_tokens, no_tree, no_source, no_finitization, listed, line_answer, too_long_answer, no_tokens_answer, no_tree_answer, no_source_answer, no_finitization_answer, listing_answer, problem_of, NO_LIMIT}
 use Rattle.korat_top.specs.Ends.{OneAnswer}
 use Rattle.korat_top.proofs.Spelling.{gap_on, token_on, nothing_left}
 
@@ -127,7 +132,7 @@ one_broken file bytes p q r t x y =
 
 -- ---- one answer
 
--- the answer over these bytes, of which the source is spelled by tokens
+-- the answer over these bytes, of which the source has a tree
 abbrev Formed : List ℕ → List ℕ → List ℕ → List ℕ → Answer → Type 0
 Formed fin source f s a =
     (((form : Source) → IsSource s form → ⊥) × (a ≡ no_source_answer source))
@@ -135,12 +140,18 @@ Formed fin source f s a =
     ⊎ ((form : Source) × (range : Finitization) × IsSource s form × IsFinitization f form range
     × (a ≡ listing_answer (problem_of form range) NO_LIMIT (entries_in (At []) End (all_entries (problem_of form range)))))
 
+-- the answer over these bytes, of which the source is spelled by these tokens
+abbrev Treed : List ℕ → List ℕ → List ℕ → (s : List ℕ) → IsLexed s → Answer → Type 0
+Treed fin source f s lexed a =
+    ((place : Place) × (rule : ParseRule) × IsUnparsed lexed.tokens place rule × (a ≡ no_tree_answer source place rule))
+    ⊎ ((tree : Tree) × IsParsed lexed.tokens tree × Formed fin source f s a)
+
 -- the answer over these bytes
 abbrev Judged : List ℕ → List ℕ → List ℕ → List ℕ → Answer → Type 0
 Judged fin source f s a =
     ((1048576 < length s) × (a ≡ too_long_answer source))
     ⊎ ((length s ≤ 1048576) × (place : Place) × (rule : LexRule) × IsFirstBroken 0 s place rule × (a ≡ no_tokens_answer source place rule))
-    ⊎ (IsLexed s × Formed fin source f s a)
+    ⊎ ((lexed : IsLexed s) × Treed fin source f s lexed a)
 
 abbrev Seen : Held → Option Command → Answer → Type 0
 Seen held None a = a ≡ line_answer 2 usage_text
@@ -150,9 +161,10 @@ seen : (held : Held) (asked : Option Command) (a : Answer) → IsAnswer held ask
 seen held asked a usage = refl
 seen held asked a (too_long {f = f} {s = s} hf hs long) = (f, s, hf, hs, inl (long, refl))
 seen held asked a (no_tokens {f = f} {s = s} place rule hf hs short broken) = (f, s, hf, hs, inr (inl (short, place, rule, broken, refl)))
-seen held asked a (no_source {f = f} {s = s} hf hs lexed none) = (f, s, hf, hs, inr (inr (lexed, inl (none, refl))))
-seen held asked a (no_finitization {f = f} {s = s} form hf hs lexed is none) = (f, s, hf, hs, inr (inr (lexed, inr (inl (form, is, none, refl)))))
-seen held asked a (listed {f = f} {s = s} form range hf hs lexed is ranges) = (f, s, hf, hs, inr (inr (lexed, inr (inr (form, range, is, ranges, refl)))))
+seen held asked a (no_tree {f = f} {s = s} place rule hf hs lexed refused) = (f, s, hf, hs, inr (inr (lexed, inl (place, rule, refused, refl))))
+seen held asked a (no_source {f = f} {s = s} hf hs has none) = (f, s, hf, hs, inr (inr (has.lexed, inr (has.tree, has.parsed, inl (none, refl)))))
+seen held asked a (no_finitization {f = f} {s = s} form hf hs has is none) = (f, s, hf, hs, inr (inr (has.lexed, inr (has.tree, has.parsed, inr (inl (form, is, none, refl))))))
+seen held asked a (listed {f = f} {s = s} form range hf hs has is ranges) = (f, s, hf, hs, inr (inr (has.lexed, inr (has.tree, has.parsed, inr (inr (form, range, is, ranges, refl))))))
 
 one_formed : (fin source f s : List ℕ) (a b : Answer) → Formed fin source f s a → Formed fin source f s b → a ≡ b
 one_formed fin source f s a b (inl x) (inl y) = x.1 ∙ sym y.1
@@ -170,7 +182,28 @@ one_formed fin source f s a b (inr (inr x)) (inr (inr y)) =
     ∙ (ap (λ (form : Source). listing_answer (problem_of form x.1) NO_LIMIT (entries_in (At []) End (all_entries (problem_of form x.1)))) forms
     ∙ (ap (λ (range : Finitization). listing_answer (problem_of y.0 range) NO_LIMIT (entries_in (At []) End (all_entries (problem_of y.0 range)))) ranges ∙ sym y.4))
 
-one_judged : (fin source f s : List ℕ) (a b : Answer) → UnbrokenLaw → Judged fin source f s a → Judged fin source f s b → a ≡ b
+-- what the laws of the steps say
+record Laws : Type 0 where
+  lists : OneListLaw
+  unbroken : UnbrokenLaw
+  refusals : OneRefusal
+  parsed : ParsedUnbroken
+
+one_tokens : (s : List ℕ) (a b : Lexemes) → OneListLaw → AreTokens 0 s a → AreTokens 0 s b → a ≡ b
+one_tokens s a b law x y =
+    ap (λ l. let r : Lexemes = record { list = l; end = a.end } in r) (law 0 s a.list b.list x.spelled y.spelled)
+    ∙ ap (λ e. let r : Lexemes = record { list = b.list; end = e } in r) (x.end ∙ sym y.end)
+
+one_treed : (fin source f s : List ℕ) (a b : Answer) (l m : IsLexed s) → l.tokens ≡ m.tokens → Laws → Treed fin source f s l a → Treed fin source f s m b → a ≡ b
+one_treed fin source f s a b l m e laws (inl x) (inl y) =
+    let h = subst (λ ts. IsUnparsed ts x.0 x.1) e x.2 in
+    let same = laws.refusals m.tokens x.0 y.0 x.1 y.1 h y.2 in
+    x.3 ∙ (ap (λ p. no_tree_answer source p x.1) same.0 ∙ (ap (λ r. no_tree_answer source y.0 r) same.1 ∙ sym y.3))
+one_treed fin source f s a b l m e laws (inl x) (inr y) = absurd (laws.parsed m.tokens y.0 x.0 x.1 y.1 (subst (λ ts. IsUnparsed ts x.0 x.1) e x.2))
+one_treed fin source f s a b l m e laws (inr x) (inl y) = absurd (laws.parsed m.tokens x.0 y.0 y.1 (subst (λ ts. IsParsed ts x.0) e x.1) y.2)
+one_treed fin source f s a b l m e laws (inr x) (inr y) = one_formed fin source f s a b x.2 y.2
+
+one_judged : (fin source f s : List ℕ) (a b : Answer) → Laws → Judged fin source f s a → Judged fin source f s b → a ≡ b
 one_judged fin source f s a b law (inl x) (inl y) = x.1 ∙ sym y.1
 one_judged fin source f s a b law (inl x) (inr (inl y)) = absurd (omega (arith, x.0, y.0))
 one_judged fin source f s a b law (inl x) (inr (inr y)) = absurd (omega (arith, x.0, y.0.short))
@@ -178,12 +211,13 @@ one_judged fin source f s a b law (inr (inl x)) (inl y) = absurd (omega (arith, 
 one_judged fin source f s a b law (inr (inl x)) (inr (inl y)) =
     let same = one_broken 0 s x.1 y.1 x.2 y.2 x.3 y.3 in
     x.4 ∙ (ap (λ p. no_tokens_answer source p x.2) same.0 ∙ (ap (λ r. no_tokens_answer source y.1 r) same.1 ∙ sym y.4))
-one_judged fin source f s a b law (inr (inl x)) (inr (inr y)) = absurd (law 0 s x.3.front y.0.tokens x.2 y.0.spelled x.3.breaks)
+one_judged fin source f s a b law (inr (inl x)) (inr (inr y)) = absurd (law.unbroken 0 s x.3.front y.0.tokens x.2 y.0.spelled x.3.breaks)
 one_judged fin source f s a b law (inr (inr x)) (inl y) = absurd (omega (arith, x.0.short, y.0))
-one_judged fin source f s a b law (inr (inr x)) (inr (inl y)) = absurd (law 0 s y.3.front x.0.tokens y.2 x.0.spelled y.3.breaks)
-one_judged fin source f s a b law (inr (inr x)) (inr (inr y)) = one_formed fin source f s a b x.1 y.1
+one_judged fin source f s a b law (inr (inr x)) (inr (inl y)) = absurd (law.unbroken 0 s y.3.front x.0.tokens y.2 x.0.spelled y.3.breaks)
+one_judged fin source f s a b law (inr (inr x)) (inr (inr y)) =
+    one_treed fin source f s a b x.0 y.0 (one_tokens s x.0.tokens y.0.tokens law.lists x.0.spelled y.0.spelled) law x.1 y.1
 
-one_seen : (held : Held) (asked : Option Command) (a b : Answer) → UnbrokenLaw → Seen held asked a → Seen held asked b → a ≡ b
+one_seen : (held : Held) (asked : Option Command) (a b : Answer) → Laws → Seen held asked a → Seen held asked b → a ≡ b
 one_seen held None a b law x y = x ∙ sym y
 one_seen held (Some (ListFiles fin source)) a b law x y =
     let fs : Some x.0 ≡ Some y.0 = sym x.2 ∙ y.2 in
@@ -192,5 +226,5 @@ one_seen held (Some (ListFiles fin source)) a b law x y =
     let s : x.1 ≡ y.1 = cc (ss) in
     one_judged fin source y.0 y.1 a b law (subst (λ u. Judged fin source y.0 u a) s (subst (λ u. Judged fin source u x.1 a) f x.4)) y.4
 
-pub one_answer : UnbrokenLaw → OneAnswer
-one_answer law held asked a b x y = one_seen held asked a b law (seen held asked a x) (seen held asked b y)
+pub one_answer : OneListLaw → UnbrokenLaw → OneRefusal → ParsedUnbroken → OneAnswer
+one_answer lists unbroken refusals parsed held asked a b x y = one_seen held asked a b (record { lists = lists; unbroken = unbroken; refusals = refusals; parsed = parsed }) (seen held asked a x) (seen held asked b y)

@@ -7,10 +7,12 @@ use Rattle.korat_top.specs.Finitization.{Finitization, IsFinitization, finitizat
 use Rattle.kr_base.specs.declared.place.Place.{Place}
 use Rattle.kr_lex.specs.declared.refusal.LexRule.{LexRule}
 use Rattle.kr_lex.specs.Broken.{IsFirstBroken}
-use Rattle.korat_top.specs.Answer.{IsLexed}
+use Rattle.kr_parse.specs.declared.refusal.ParseRule.{ParseRule}
+use Rattle.kr_parse.specs.Refusals.{IsUnparsed}
+use Rattle.korat_top.specs.Answer.{IsLexed, HasTree}
 use Rattle.korat_top.specs.Found.{Judges}
 use Rattle.korat_top.specs.declared.find.Found.{Found}
-use Rattle.korat_top.specs.declared.find.Found.TheVariants.{TooLong, Broken, NoSource, NoFinitization, Cells}
+use Rattle.korat_top.specs.declared.find.Found.TheVariants.{TooLong, Broken, Unparsed, NoSource, NoFinitization, Cells}
 
 short_all : (n : ℕ) (all bytes : List ℕ) → bytes ≡ take (n + 1) all → length bytes ≤ n → length all ≤ n
 short_all n all bytes e h = omega (arith, ap length e, length-take (n + 1) all)
@@ -36,8 +38,13 @@ range_up all bytes form range e h = let P : List ℕ → Type 0 = λ b. IsFiniti
 range_down : (all bytes : List ℕ) (form : Source) (range : Finitization) → bytes ≡ take 1048577 all → IsFinitization all form range → IsFinitization bytes form range
 range_down all bytes form range e h = let P : List ℕ → Type 0 = λ b. IsFinitization b form range in subst P (sym (same_whole all bytes e h.is_short)) h
 
-lexed_up : (all bytes : List ℕ) → bytes ≡ take 1048577 all → IsLexed bytes → IsLexed all
-lexed_up all bytes e h = subst IsLexed (same_short all bytes e h.short) h
+tree_up : (all bytes : List ℕ) → bytes ≡ take 1048577 all → HasTree bytes → HasTree all
+tree_up all bytes e h = subst HasTree (same_short all bytes e h.lexed.short) h
+
+unparsed_up : (all bytes : List ℕ) (place : Place) (rule : ParseRule) → bytes ≡ take 1048577 all → (lexed : IsLexed bytes) → IsUnparsed lexed.tokens place rule
+    → (whole : IsLexed all) × IsUnparsed whole.tokens place rule
+unparsed_up all bytes place rule e lexed h =
+    let P : List ℕ → Type 0 = λ t. (whole : IsLexed t) × IsUnparsed whole.tokens place rule in subst P (same_short all bytes e lexed.short) (lexed, h)
 
 long_up : (all bytes : List ℕ) → bytes ≡ take 1048577 all → 1048576 < length bytes → 1048576 < length all
 long_up all bytes e h = omega (arith, ap length e, length-take 1048577 all)
@@ -50,11 +57,12 @@ broken_up all bytes place rule e h b =
 judges_up : (f s fins sources : List ℕ) (found : Found) → f ≡ take 1048577 fins → s ≡ take 1048577 sources → Judges f s found → Judges fins sources found
 judges_up f s fins sources TooLong d e h = long_up sources s e h
 judges_up f s fins sources (Broken place rule) d e h = broken_up sources s place rule e h.0 h.1
-judges_up f s fins sources NoSource d e h = (lexed_up sources s e h.0, λ form x. h.1 form (source_down sources s form e x))
+judges_up f s fins sources (Unparsed place rule) d e h = unparsed_up sources s place rule e h.0 h.1
+judges_up f s fins sources NoSource d e h = (tree_up sources s e h.0, λ form x. h.1 form (source_down sources s form e x))
 judges_up f s fins sources NoFinitization d e h =
-    (lexed_up sources s e h.0, (h.1.0, source_up sources s h.1.0 e h.1.1, λ range x. h.1.2 range (range_down fins f h.1.0 range d x)))
+    (tree_up sources s e h.0, (h.1.0, source_up sources s h.1.0 e h.1.1, λ range x. h.1.2 range (range_down fins f h.1.0 range d x)))
 judges_up f s fins sources (Cells source range) d e h =
-    (lexed_up sources s e h.0, source_up sources s (source_of source) e h.1, range_up fins f (source_of source) (finitization_of range) d h.2)
+    (tree_up sources s e h.0, source_up sources s (source_of source) e h.1, range_up fins f (source_of source) (finitization_of range) d h.2)
 
 -- where the files' bytes are told
 pub judges_held : (fins sources : Option (List ℕ)) (f s : List ℕ) (found : Found) → IfSome fins (λ all. f ≡ take 1048577 all) → IfSome sources (λ all. s ≡ take 1048577 all)

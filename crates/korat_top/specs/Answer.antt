@@ -14,6 +14,10 @@ use Rattle.kr_lex.specs.Lexemes.{Lexemes}
 use Rattle.kr_lex.specs.Rules.{rule_code}
 use Rattle.kr_lex.specs.Spells.{AreTokens}
 use Rattle.kr_lex.specs.Broken.{IsFirstBroken}
+use Rattle.kr_ast.specs.Tree.{Tree}
+use Rattle.kr_parse.specs.declared.refusal.ParseRule.{ParseRule}
+use Rattle.kr_parse.specs.Rules.{rule_code as parse_code}
+use Rattle.kr_parse.specs.Refusals.{IsParsed, IsUnparsed}
 use Rattle.kr_mean.specs.Problem.{Problem, Mode, Listing, Testing}
 use Rattle.kr_mean.specs.Entries.{Row, Verdict, Pass, Ensures, RepOk, Trap, CheckTrap, OutOfFuel, all_entries}
 use Rattle.kr_mean.specs.OneField.{one_field}
@@ -152,6 +156,15 @@ pub record IsLexed (s : List ℕ) : Type 0 where
   pub tokens : Lexemes
   pub spelled : AreTokens 0 s tokens
 
+abbrev pub no_tree_answer : List ℕ → Place → ParseRule → Answer
+no_tree_answer name place rule = line_answer 3 (refusal_text name (Some place) (parse_code rule) [])
+
+-- a source whose tokens have a tree
+pub record HasTree (s : List ℕ) : Type 0 where
+  pub lexed : IsLexed s
+  pub tree : Tree
+  pub parsed : IsParsed lexed.tokens tree
+
 abbrev pub no_source_answer : List ℕ → Answer
 no_source_answer name = line_answer 3 (refusal_text name (Some first_place) (codes "N0") [])
 
@@ -162,19 +175,21 @@ abbrev pub Held : Type 0
 Held = List ℕ → Option (List ℕ)
 
 -- The answer to a command, or to words that give none, over what the files hold: the first step that is broken, in the
--- order of the source's length, its tokens, its form and the finitization's form; else the report.
+-- order of the source's length, its tokens, its grammar, its form and the finitization's form; else the report.
 pub data IsAnswer (held : Held) : Option Command → Answer → Type 0 where
   usage : IsAnswer held None (line_answer 2 usage_text)
   too_long : {fin source f s : List ℕ} → held fin ≡ Some f → held source ≡ Some s
       → LIMIT < length s → IsAnswer held (Some (ListFiles fin source)) (too_long_answer source)
   no_tokens : {fin source f s : List ℕ} (place : Place) (rule : LexRule) → held fin ≡ Some f → held source ≡ Some s
       → length s ≤ LIMIT → IsFirstBroken 0 s place rule → IsAnswer held (Some (ListFiles fin source)) (no_tokens_answer source place rule)
+  no_tree : {fin source f s : List ℕ} (place : Place) (rule : ParseRule) → held fin ≡ Some f → held source ≡ Some s
+      → (lexed : IsLexed s) → IsUnparsed lexed.tokens place rule → IsAnswer held (Some (ListFiles fin source)) (no_tree_answer source place rule)
   no_source : {fin source f s : List ℕ} → held fin ≡ Some f → held source ≡ Some s
-      → IsLexed s → ((form : Source) → IsSource s form → ⊥) → IsAnswer held (Some (ListFiles fin source)) (no_source_answer source)
+      → HasTree s → ((form : Source) → IsSource s form → ⊥) → IsAnswer held (Some (ListFiles fin source)) (no_source_answer source)
   no_finitization : {fin source f s : List ℕ} (form : Source) → held fin ≡ Some f → held source ≡ Some s
-      → IsLexed s → IsSource s form → ((range : Finitization) → IsFinitization f form range → ⊥) → IsAnswer held (Some (ListFiles fin source)) (no_finitization_answer fin)
+      → HasTree s → IsSource s form → ((range : Finitization) → IsFinitization f form range → ⊥) → IsAnswer held (Some (ListFiles fin source)) (no_finitization_answer fin)
   listed : {fin source f s : List ℕ} (form : Source) (range : Finitization) → held fin ≡ Some f → held source ≡ Some s
-      → IsLexed s → IsSource s form → IsFinitization f form range
+      → HasTree s → IsSource s form → IsFinitization f form range
       → IsAnswer held (Some (ListFiles fin source)) (listing_answer (problem_of form range) (limit_of (ListFiles fin source)) (entries_in (At (after_of (ListFiles fin source))) (upto_of (ListFiles fin source)) (all_entries (problem_of form range))))
 
 abbrev pub TellsBoth : Option (List ℕ) → Option (List ℕ) → Type 0

@@ -7,11 +7,12 @@ use Rattle.korat_top.specs.Finitization.{IsFinitization, IsWithinLimits, Finitiz
 use Rattle.korat_top.specs.Source.{source_of}
 use Rattle.korat_top.specs.Finitization.{finitization_of}
 use Rattle.kr_lex.specs.Broken.{IsFirstBroken}
-use Rattle.korat_top.specs.Answer.{Held, LIMIT, IsLexed}
+use Rattle.kr_parse.specs.Refusals.{IsUnparsed}
+use Rattle.korat_top.specs.Answer.{Held, LIMIT, IsLexed, HasTree}
 use Rattle.korat_top.specs.declared.find.Stop.{Stop}
 use Rattle.korat_top.specs.declared.find.Stop.TheVariants.{Read, Memory}
 use Rattle.korat_top.specs.declared.find.Found.{Found}
-use Rattle.korat_top.specs.declared.find.Found.TheVariants.{TooLong, Broken, NoSource, NoFinitization, Cells}
+use Rattle.korat_top.specs.declared.find.Found.TheVariants.{TooLong, Broken, Unparsed, NoSource, NoFinitization, Cells}
 
 abbrev pub word : List (List ℕ) → ℕ → List ℕ
 word words at = slice_index_or words at []
@@ -20,14 +21,16 @@ word words at = slice_index_or words at []
 abbrev pub Judges : List ℕ → List ℕ → Found → Type 0
 Judges f s TooLong = LIMIT < length s
 Judges f s (Broken place rule) = (length s ≤ LIMIT) × IsFirstBroken 0 s place rule
-Judges f s NoSource = IsLexed s × ((form : Source) → IsSource s form → ⊥)
-Judges f s NoFinitization = IsLexed s × ((form : Source) × IsSource s form × ((range : Finitization) → IsFinitization f form range → ⊥))
-Judges f s (Cells source range) = IsLexed s × IsSource s (source_of source) × IsFinitization f (source_of source) (finitization_of range)
+Judges f s (Unparsed place rule) = (lexed : IsLexed s) × IsUnparsed lexed.tokens place rule
+Judges f s NoSource = HasTree s × ((form : Source) → IsSource s form → ⊥)
+Judges f s NoFinitization = HasTree s × ((form : Source) × IsSource s form × ((range : Finitization) → IsFinitization f form range → ⊥))
+Judges f s (Cells source range) = HasTree s × IsSource s (source_of source) × IsFinitization f (source_of source) (finitization_of range)
 
 -- a range that was found is within the form's limits
 abbrev pub IsLimited : Found → Type 0
 IsLimited TooLong = Unit {0}
 IsLimited (Broken place rule) = Unit {0}
+IsLimited (Unparsed place rule) = Unit {0}
 IsLimited NoSource = Unit {0}
 IsLimited NoFinitization = Unit {0}
 IsLimited (Cells source range) = IsWithinLimits (finitization_of range)

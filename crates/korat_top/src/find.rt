@@ -1,6 +1,7 @@
 // The work for a command, before anything is written: both files are read, and then judged.
-ghost use Rattle.std.specs.Prelude.{◌≡◌, ◌<◌, IfOk, length};
-ghost use Rattle.korat_top.specs.Answer.{IsLexed};
+ghost use Rattle.std.specs.Prelude.{◌≡◌, ◌<◌, ◌≤◌, IfOk, length};
+ghost use Rattle.kr_lex.specs.Spells.{AreTokens};
+ghost use Rattle.korat_top.specs.Answer.{HasTree};
 ghost use Rattle.korat_top.specs.Found.{HasRead, IsLater, Judges, Finds, IsLimited, CountStays};
 
 use crate::MAX_FILE_BYTES;
@@ -9,7 +10,8 @@ use crate::source::{Source, read_source};
 use crate::words::{FINITIZATION, SOURCE};
 use kr_base::{NoMemory, Place, Words};
 use kr_io::{Files, ReadRefusal};
-use kr_lex::{LexRefusal, LexRule, lex};
+use kr_lex::{LexRefusal, LexRule, Tokens, lex};
+use kr_parse::{ParseRefusal, ParseRule, parse};
 use std::alloc::Global;
 
 /// Why the work stopped.
@@ -27,6 +29,8 @@ pub(crate) enum Found {
     TooLong,
     /// The source breaks a rule of tokens at a place.
     Broken(Place, LexRule),
+    /// The source's tokens break a rule of the grammar at a place.
+    Unparsed(Place, ParseRule),
     /// The source isn't of its form.
     NoSource,
     /// The finitization isn't of its form.
@@ -48,9 +52,9 @@ fn read<F: Files>(words: &Words, at: usize, files: &mut F) -> Result<Vec<u8>, St
     }
 }
 
-/// Judges the form of a source that tokens spell, and then that of the finitization.
+/// Judges the form of a source that has a tree, and then that of the finitization.
 fn judge_forms(alloc: Global, fin: &[u8], source: &[u8]) -> Result<Found, NoMemory>
-    requires { IsLexed source.now }
+    requires { HasTree source.now }
     ensures judged { IfOk result (Judges fin.now source.now) }
     ensures limited { IfOk result IsLimited }
 {
@@ -63,7 +67,21 @@ fn judge_forms(alloc: Global, fin: &[u8], source: &[u8]) -> Result<Found, NoMemo
     }
 }
 
-/// Judges the source's length, its tokens and then the forms.
+/// Judges whether the source's tokens have a tree, and then the forms.
+fn judge_tree(alloc: Global, fin: &[u8], source: &[u8], tokens: &Tokens) -> Result<Found, NoMemory>
+    requires short { length source.now ≤ 1048576 }
+    requires spelled { AreTokens 0 source.now tokens.now }
+    ensures judged { IfOk result (Judges fin.now source.now) }
+    ensures limited { IfOk result IsLimited }
+{
+    match parse(alloc, tokens) {
+        Ok(_) => judge_forms(alloc, fin, source),
+        Err(ParseRefusal::Broken { place, rule }) => Ok(Found::Unparsed(place, rule)),
+        Err(ParseRefusal::NoMemory) => Err(NoMemory),
+    }
+}
+
+/// Judges the source's length, its tokens, their tree and then the forms.
 fn judge(alloc: Global, fin: &[u8], source: &[u8]) -> Result<Found, NoMemory>
     ensures judged { IfOk result (Judges fin.now source.now) }
     ensures limited { IfOk result IsLimited }
@@ -72,7 +90,7 @@ fn judge(alloc: Global, fin: &[u8], source: &[u8]) -> Result<Found, NoMemory>
         return Ok(Found::TooLong);
     }
     match lex(alloc, 0, source) {
-        Ok(_) => judge_forms(alloc, fin, source),
+        Ok(tokens) => judge_tree(alloc, fin, source, &tokens),
         Err(LexRefusal::Broken { place, rule }) => Ok(Found::Broken(place, rule)),
         Err(LexRefusal::NoMemory) => Err(NoMemory),
     }

@@ -2,13 +2,16 @@
 ghost use Rattle.korat_top.specs.Ends.{OneAnswer};
 ghost use Rattle.korat_top.specs.Examples.{WorkedLines};
 
-use kr_lex::unbroken_law;
+use kr_lex::{one_list_law, unbroken_law};
+use kr_parse::one_refusal_law;
 
 /// Words and files have at most one answer.
 pub fn one_answer()
     ensures { OneAnswer }
 {
+    one_list_law();
     unbroken_law();
+    one_refusal_law();
 }
 
 /// The lines and reports of small problems, worked by hand.

@@ -2,11 +2,12 @@
 ghost use Rattle.std.specs.Prelude.{◌≡◌};
 ghost use Rattle.kr_base.specs.Told.{Writes};
 ghost use Rattle.korat_top.specs.Texts.{listed_text, read_fault_text, memory_text, usage_text};
-ghost use Rattle.korat_top.specs.Answer.{first_place as source_start, too_long_answer, no_tokens_answer, no_source_answer, no_finitization_answer, bytes_of};
+ghost use Rattle.korat_top.specs.Answer.{first_place as source_start, too_long_answer, no_tokens_answer, no_tree_answer, no_source_answer, no_finitization_answer, bytes_of};
 
 use itoa::Buffer;
 use kr_base::{Failed, Place, Sink, put_all};
 use kr_lex::LexRule;
+use kr_parse::ParseRule;
 use kr_text::{put_pieces, put_refusal};
 
 /// `valid V tried T`
@@ -46,6 +47,18 @@ pub(crate) fn put_broken<K: Sink>(
     out: &mut K,
 ) -> Result<(), Failed>
     ensures { Writes K.taken K.faults out.old out.new (bytes_of (no_tokens_answer name.now place rule)) result }
+{
+    put_refusal(out, name, Some(place), rule.code(), "")
+}
+
+/// `SOURCE:LINE:COL: RULE`
+pub(crate) fn put_unparsed<K: Sink>(
+    name: &str,
+    place: Place,
+    rule: ParseRule,
+    out: &mut K,
+) -> Result<(), Failed>
+    ensures { Writes K.taken K.faults out.old out.new (bytes_of (no_tree_answer name.now place rule)) result }
 {
     put_refusal(out, name, Some(place), rule.code(), "")
 }

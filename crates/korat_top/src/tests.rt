@@ -254,6 +254,43 @@ fn broken_tokens(rt: HostRuntime) -> Result<(), Fail> {
 }
 
 #[test]
+fn broken_trees(rt: HostRuntime) -> Result<(), Fail> {
+    let alloc = rt.alloc();
+    for (source, text) in [
+        ("class A { } }", "X.java:1:13: P1\n"),
+        ("class Cell {", "X.java:1:13: P1\n"),
+        (
+            "class A { void m() { switch (1) { } } }",
+            "X.java:1:22: P2\n",
+        ),
+        (
+            "class A { int v = ((((((((((((((((((((((((((((((((((((((((((((((((((((((((((((((((",
+            "X.java:1:82: P3\n",
+        ),
+        ("class A { int int v; }", "X.java:1:15: P1\n"),
+        ("class A { void m() { x y z; } }", "X.java:1:26: P1\n"),
+        ("class A {\r\n  int v\n", "X.java:3:1: P1\n"),
+        // A lexical rule comes before those of the grammar.
+        ("class A { } } #", "X.java:1:15: L2\n"),
+        // Trees of another form.
+        ("class A { int v; int w; }", "X.java:1:1: N0\n"),
+        (
+            "class A { boolean repOk() { return a == b; } }",
+            "X.java:1:1: N0\n",
+        ),
+    ] {
+        for fin in [FIN, FUEL_OF_FIVE] {
+            let files = files_of(alloc, &[("fin.toml", fin), ("X.java", source)], &[])?;
+            let mut out = output(alloc, 1024)?;
+            let words = ["list", "fin.toml", "X.java"];
+            assert_eq!(rt; call(alloc, &words, files, &mut out)?, 3, "{text}");
+            assert_eq!(rt; out.bytes(), text.as_bytes());
+        }
+    }
+    Ok(())
+}
+
+#[test]
 fn failing_reads(rt: HostRuntime) -> Result<(), Fail> {
     let alloc = rt.alloc();
     // Nothing is judged before both files are read.

@@ -13,7 +13,7 @@ use crate::finitization::Finitization;
 use crate::listing::{Halt, count, put_range};
 use crate::report::{
     put_broken, put_listed, put_no_finitization, put_no_source, put_out_of_memory, put_read_fault,
-    put_too_long, put_usage_fault,
+    put_too_long, put_unparsed, put_usage_fault,
 };
 use crate::source::Source;
 use crate::words::{FINITIZATION, SOURCE, is_listing};
@@ -52,6 +52,9 @@ fn serve<F: Files, K: Sink>(alloc: Global, words: &Words, files: &mut F, out: &m
         Ok(Found::TooLong) => once_written(put_too_long(words.get(SOURCE), out), 3),
         Ok(Found::Broken(place, rule)) => {
             once_written(put_broken(words.get(SOURCE), place, rule, out), 3)
+        }
+        Ok(Found::Unparsed(place, rule)) => {
+            once_written(put_unparsed(words.get(SOURCE), place, rule, out), 3)
         }
         Ok(Found::NoSource) => once_written(put_no_source(words.get(SOURCE), out), 3),
         Ok(Found::NoFinitization) => {

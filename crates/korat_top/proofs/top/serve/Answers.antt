@@ -1,10 +1,10 @@
 use Rattle.std.proofs.Common.{refl, arith}
-use Rattle.korat_top.specs.Answer.{ListFiles, too_long_answer, no_tokens_answer, no_source_answer, no_finitization_answer}
+use Rattle.korat_top.specs.Answer.{ListFiles, too_long_answer, no_tokens_answer, no_tree_answer, no_source_answer, no_finitization_answer}
 use Rattle.korat_top.specs.Cells.{cells_answer}
 use Rattle.korat_top.specs.Source.{source_of}
 use Rattle.korat_top.specs.Finitization.{finitization_of}
 use Rattle.korat_top.specs.Found.{word}
-use Rattle.korat_top.specs.declared.find.Found.TheVariants.{TooLong, Broken, NoSource, NoFinitization, Cells}
+use Rattle.korat_top.specs.declared.find.Found.TheVariants.{TooLong, Broken, Unparsed, NoSource, NoFinitization, Cells}
 use Rattle.korat_top.proofs.Answered.{answered, reads_file}
 use Rattle.korat_top.proofs.Calls.{put_answer, put_read_fault, put_memory, end_listing}
 use Rattle.korat_top.proofs.top.serve.Goals as goal
@@ -28,6 +28,16 @@ returns-in-Ok-Broken g c =
     c.args.out.now c.put_broken.new.out c.once_written-in-Ok-Broken.result (no_tokens_answer (word words 2) c.in-Ok-Broken.place c.in-Ok-Broken.rule) c.put_broken.result
     (answered (g.F.Files.held c.args.files.now) (word words 1) (word words 2) (Broken c.in-Ok-Broken.place c.in-Ok-Broken.rule) c.one_field_law.ensures found.1) (λ e. omega (arith, e)) (omega arith) c.in-Ok-Broken.ensures.count written
     c.once_written-in-Ok-Broken.ensures
+
+pub returns-in-Ok-Unparsed : goal.returns-in-Ok-Unparsed
+returns-in-Ok-Unparsed g c =
+    let words = c.args.words.now in
+    let found = rw c.in-Ok-Unparsed.field-0-is at c.in-Ok-Unparsed.ensures.found in
+    let written = rw c.get-in-Ok-Unparsed.ensures at c.put_unparsed.ensures in
+    put_answer g.F.Files.held g.F.Files.faults g.F.Files.last g.K.Sink.taken g.K.Sink.faults (ListFiles (word words 1) (word words 2)) c.args.files.now c.find.new.files
+    c.args.out.now c.put_unparsed.new.out c.once_written-in-Ok-Unparsed.result (no_tree_answer (word words 2) c.in-Ok-Unparsed.place c.in-Ok-Unparsed.rule) c.put_unparsed.result
+    (answered (g.F.Files.held c.args.files.now) (word words 1) (word words 2) (Unparsed c.in-Ok-Unparsed.place c.in-Ok-Unparsed.rule) c.one_field_law.ensures found.1) (λ e. omega (arith, e)) (omega arith) c.in-Ok-Unparsed.ensures.count written
+    c.once_written-in-Ok-Unparsed.ensures
 
 pub returns-in-Ok-NoSource : goal.returns-in-Ok-NoSource
 returns-in-Ok-NoSource g c =

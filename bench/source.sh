@@ -1,13 +1,14 @@
 #!/usr/bin/env bash
-# Times the built program on two sources of 1 MiB, the longest that it takes, which are read, cut into tokens and then
-# refused: `SOURCE:1:1: N0`, status 3. So nearly all of the time is the lexer's. The one source is many short tokens,
-# the other one comment. For each it prints the call's line and status, the best wall time of several runs, MB/s over
-# the whole call, and peak memory. It judges nothing and never fails.
+# Times the built program on sources of 1 MiB, the longest that it takes, which are read, cut into tokens, parsed and
+# then refused: `SOURCE:1:1: N0`, status 3. So nearly all of the time is the lexer's and the parser's; where the source is
+# one comment, the lexer's alone. The others are many fields, many methods with some statements each, and one expression
+# of as many nodes as there can be. For each it prints the call's line and status, the best wall time of several runs,
+# MB/s over the whole call, and peak memory. It judges nothing and never fails.
 #
 # It needs bash 5 and the program (run ./korat once). Peak memory needs GNU time as /usr/bin/time; where it isn't there,
 # the script says so in place of the figure.
 #
-#     bench/lex.sh [RUNS]      how many runs each figure is the best of, 10 where it isn't said
+#     bench/source.sh [RUNS]   how many runs each figure is the best of, 10 where it isn't said
 set -u
 top=$(cd "$(dirname "$(readlink -f "$0")")/.." && pwd)
 program="$top/crates/korat/out/korat"
@@ -24,13 +25,30 @@ trap 'rm -rf "$work"' EXIT
 cd "$work" || exit 0
 : >fin.toml
 
-# `class X { int a; int a; .. }` of that many bytes, filled up with spaces.
-short_tokens() {
-    local field=' int a;' fields
-    fields=$(((size - 11) / ${#field}))
+# `class X { int a; int a; .. }`, filled up with spaces.
+fields() {
+    local field=' int a;' count
+    count=$(((size - 11) / ${#field}))
     printf 'class X {'
-    yes "$field" | head -n "$fields" | tr -d '\n'
-    printf ' }%*s' $((size - 11 - fields * ${#field})) ''
+    yes "$field" | head -n "$count" | tr -d '\n'
+    printf ' }%*s' $((size - 11 - count * ${#field})) ''
+}
+
+# `class X { METHOD METHOD .. }`, filled up with spaces.
+methods() {
+    local method=' int sum(Node first, int limit) { int total = 0; for (Node at = first; at != null && total < limit; at = at.next) { total += at.value * 2; if (at.isLast()) return total; else total++; } return -total; }'
+    local count
+    count=$(((size - 11) / ${#method}))
+    printf 'class X {'
+    yes "$method" | head -n "$count" | tr -d '\n'
+    printf ' }%*s' $((size - 11 - count * ${#method})) ''
+}
+
+# `class X { int a = ~~ .. ~a; }`
+operators() {
+    printf 'class X { int a = '
+    head -c $((size - 22)) /dev/zero | tr '\0' '~'
+    printf 'a; }'
 }
 
 # One comment of that many bytes.
@@ -75,9 +93,13 @@ figures() {
     echo "  peak memory           $(peak_memory "$1")"
 }
 
-short_tokens >Short.java
 comment >Comment.java
-figures Short.java "many short tokens"
+fields >Fields.java
+methods >Methods.java
+operators >Operators.java
 figures Comment.java "one comment"
+figures Fields.java "many fields"
+figures Methods.java "many methods"
+figures Operators.java "one deep expression"
 echo "start-up (no words)     $(least_time) us, the best of $runs"
 exit 0
