@@ -1,6 +1,6 @@
 -- The entries of the small problems, as the checker computes them.
 use Rattle.std.proofs.Common.{◌≡◌, refl}
-use Rattle.std.specs.Prelude.{pos, [], ◌∷◌, map}
+use Rattle.std.specs.Prelude.{[], ◌∷◌, map}
 use Rattle.kr_base.specs.declared.span.Bound.TheVariants.{At, End}
 use Rattle.kr_base.specs.Bounds.{less}
 use Rattle.kr_base.specs.Entries.{entries_in}
@@ -11,23 +11,23 @@ use Rattle.kr_mean.specs.Runs.{end_on, reads_of, order_of}
 use Rattle.kr_mean.specs.Entries.{mark_of, all_of, all_entries}
 use Rattle.kr_mean.specs.Examples.{listing, cell, two_ints, two_nodes, nodes_before_null, two_subclasses, arrays, shown, valid, invalid, spent, Worked}
 
-cell_listed : listing (cell (pos 0) 1000) ≡ invalid (0 ∷ 0 ∷ []) ∷ valid (0 ∷ 1 ∷ []) ∷ valid (0 ∷ 2 ∷ []) ∷ []
+cell_listed : listing (cell 0 1000) ≡ invalid (0 ∷ 0 ∷ []) ∷ valid (0 ∷ 1 ∷ []) ∷ valid (0 ∷ 2 ∷ []) ∷ []
 unfolding less space_of heap_of walk bind eval exec value end_on reads_of order_of mark_of all_of all_entries
 cell_listed = refl
 
-cell_with_none_valid : listing (cell (pos 2) 1000) ≡ invalid (0 ∷ 0 ∷ []) ∷ invalid (0 ∷ 1 ∷ []) ∷ invalid (0 ∷ 2 ∷ []) ∷ []
+cell_with_none_valid : listing (cell 2 1000) ≡ invalid (0 ∷ 0 ∷ []) ∷ invalid (0 ∷ 1 ∷ []) ∷ invalid (0 ∷ 2 ∷ []) ∷ []
 unfolding less space_of heap_of walk bind eval exec value end_on reads_of order_of mark_of all_of all_entries
 cell_with_none_valid = refl
 
-fuel_suffices : listing (cell (pos 0) 6) ≡ invalid (0 ∷ 0 ∷ []) ∷ valid (0 ∷ 1 ∷ []) ∷ valid (0 ∷ 2 ∷ []) ∷ []
+fuel_suffices : listing (cell 0 6) ≡ invalid (0 ∷ 0 ∷ []) ∷ valid (0 ∷ 1 ∷ []) ∷ valid (0 ∷ 2 ∷ []) ∷ []
 unfolding less space_of heap_of walk bind eval exec value end_on reads_of order_of mark_of all_of all_entries
 fuel_suffices = refl
 
-number_not_entered : listing (cell (pos 0) 5) ≡ spent (0 ∷ 0 ∷ []) ∷ spent (0 ∷ 1 ∷ []) ∷ spent (0 ∷ 2 ∷ []) ∷ []
+number_not_entered : listing (cell 0 5) ≡ spent (0 ∷ 0 ∷ []) ∷ spent (0 ∷ 1 ∷ []) ∷ spent (0 ∷ 2 ∷ []) ∷ []
 unfolding less space_of heap_of walk bind eval exec value end_on reads_of order_of mark_of all_of all_entries
 number_not_entered = refl
 
-field_not_read : listing (cell (pos 0) 4) ≡ spent (0 ∷ []) ∷ []
+field_not_read : listing (cell 0 4) ≡ spent (0 ∷ []) ∷ []
 unfolding less space_of heap_of walk bind eval exec value end_on reads_of order_of mark_of all_of all_entries
 field_not_read = refl
 
@@ -51,15 +51,15 @@ arrays_listed : listing arrays ≡ valid (0 ∷ 0 ∷ 0 ∷ []) ∷ valid (0 ∷
 unfolding less space_of heap_of walk bind eval exec value end_on reads_of order_of mark_of all_of all_entries
 arrays_listed = refl
 
-spent_ends_span : map shown (entries_in (At []) End (all_entries (cell (pos 0) 5))) ≡ spent (0 ∷ 0 ∷ []) ∷ []
+spent_ends_span : map shown (entries_in (At []) End (all_entries (cell 0 5))) ≡ spent (0 ∷ 0 ∷ []) ∷ []
 unfolding less space_of heap_of walk bind eval exec value end_on reads_of order_of mark_of all_of all_entries
 spent_ends_span = refl
 
-behind_spent : map shown (entries_in (At (0 ∷ 0 ∷ [])) End (all_entries (cell (pos 0) 5))) ≡ spent (0 ∷ 1 ∷ []) ∷ []
+behind_spent : map shown (entries_in (At (0 ∷ 0 ∷ [])) End (all_entries (cell 0 5))) ≡ spent (0 ∷ 1 ∷ []) ∷ []
 unfolding less space_of heap_of walk bind eval exec value end_on reads_of order_of mark_of all_of all_entries
 behind_spent = refl
 
-above_and_not_above : map shown (entries_in (At (0 ∷ 0 ∷ [])) (At (0 ∷ 1 ∷ [])) (all_entries (cell (pos 0) 1000))) ≡ valid (0 ∷ 1 ∷ []) ∷ []
+above_and_not_above : map shown (entries_in (At (0 ∷ 0 ∷ [])) (At (0 ∷ 1 ∷ [])) (all_entries (cell 0 1000))) ≡ valid (0 ∷ 1 ∷ []) ∷ []
 unfolding less space_of heap_of walk bind eval exec value end_on reads_of order_of mark_of all_of all_entries
 above_and_not_above = refl
 

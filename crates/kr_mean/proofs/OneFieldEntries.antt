@@ -3,7 +3,7 @@ use Rattle.std.proofs.Common.{◌≡◌, ℕ, zero, suc, ◌+◌, ◌-◌, ◌<�
 use Rattle.kr_base.specs.declared.entry.Entry.{Entry}
 use Rattle.kr_base.specs.Cuts.{Before}
 use Rattle.kr_base.specs.Entries.{AllAfter, Ascends, IsAmong}
-use Rattle.kr_mean.specs.Program.{Comparison}
+use Rattle.kr_ast.specs.declared.node.BinaryOperator.{BinaryOperator}
 use Rattle.kr_mean.specs.Space.{space_of}
 use Rattle.kr_mean.specs.Runs.{order_of, key_along}
 use Rattle.kr_mean.specs.Readings.{Lacks}
@@ -17,19 +17,19 @@ use Rattle.kr_mean.proofs.OneFieldOrder.{is_pure, is_lawful}
 
 -- ---- the list
 
-after_all : (test : Comparison) (n : ℤ) (i j : ℕ) (zs : List ℤ) → i < j → AllAfter (0 ∷ i ∷ []) (one_field_entries test n j zs)
+after_all : (test : BinaryOperator) (n : ℕ) (i j : ℕ) (zs : List ℤ) → i < j → AllAfter (0 ∷ i ∷ []) (one_field_entries test n j zs)
 after_all test n i j [] h = tt
 after_all test n i j (z ∷ zs) h = (inr (refl, inl h), after_all test n i (j + 1) zs (omega (arith, h)))
 
-ascends : (test : Comparison) (n : ℤ) (i : ℕ) (zs : List ℤ) → Ascends (one_field_entries test n i zs)
+ascends : (test : BinaryOperator) (n : ℕ) (i : ℕ) (zs : List ℤ) → Ascends (one_field_entries test n i zs)
 ascends test n i [] = tt
 ascends test n i (z ∷ zs) = (after_all test n i (i + 1) zs (omega arith), ascends test n (i + 1) zs)
 
 -- the entry of the value at a place
-abbrev pub entry_for : Comparison → ℤ → ℕ → List ℤ → ℕ → Entry Row
+abbrev pub entry_for : BinaryOperator → ℕ → ℕ → List ℤ → ℕ → Entry Row
 entry_for test n i zs k = one_field_entry test n (i + k) (get_or zs k (pos 0))
 
-one_of_them : (test : Comparison) (n : ℤ) (i : ℕ) (zs : List ℤ) (e : Entry Row) → IsAmong e (one_field_entries test n i zs)
+one_of_them : (test : BinaryOperator) (n : ℕ) (i : ℕ) (zs : List ℤ) (e : Entry Row) → IsAmong e (one_field_entries test n i zs)
     → (k : ℕ) × (k < length zs) × (entry_for test n i zs k ≡ e)
 one_of_them test n i [] e m = absurd m
 one_of_them test n i (z ∷ zs) e (inl m) = (0, omega arith, ap (λ j. one_field_entry test n j z) (omega arith) ∙ m)
@@ -37,7 +37,7 @@ one_of_them test n i (z ∷ zs) e (inr m) =
     let r = one_of_them test n (i + 1) zs e m in
     (suc r.0, omega (arith, r.1), ap (λ j. one_field_entry test n j (get_or zs r.0 (pos 0))) (omega arith) ∙ r.2)
 
-among_them : (test : Comparison) (n : ℤ) (i : ℕ) (zs : List ℤ) (k : ℕ) → k < length zs → IsAmong (entry_for test n i zs k) (one_field_entries test n i zs)
+among_them : (test : BinaryOperator) (n : ℕ) (i : ℕ) (zs : List ℤ) (k : ℕ) → k < length zs → IsAmong (entry_for test n i zs k) (one_field_entries test n i zs)
 among_them test n i [] k h = absurd (omega (arith, h))
 among_them test n i (z ∷ zs) zero h = inl (ap (λ j. one_field_entry test n j z) (omega arith))
 among_them test n i (z ∷ zs) (suc k) h =
@@ -115,8 +115,8 @@ law_for plain form h =
     }
 
 pub one_field_law_from : PlainLaw → OneFieldLaw
-one_field_law_from plain class_name field_name test n values fuel enough some =
+one_field_law_from plain at class_name field_name test n values fuel compares enough some =
     let spare = fuel - 6 in
     let six : suc (suc (suc (suc (suc (suc spare))))) ≡ fuel = omega arith in
-    let form : Form = record { class_name = class_name; field_name = field_name; test = test; number = n; values = values; spare = spare } in
-    subst (λ f. IsOneField (one_field class_name field_name test n values f) (one_field_entries test n 0 values)) six (law_for plain form some)
+    let form : Form = record { at = at; class_name = class_name; field_name = field_name; test = test; compares = compares; number = n; values = values; spare = spare } in
+    subst (λ f. IsOneField (one_field at class_name field_name test n values f) (one_field_entries test n 0 values)) six (law_for plain form some)

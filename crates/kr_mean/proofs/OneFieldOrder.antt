@@ -1,27 +1,52 @@
 -- The order of a class of one `int` field is the object and then its field, in every candidate: the premises hold.
 use Rattle.std.proofs.Common.{◌≡◌, ℕ, ◌<◌, inl, inr, List, [], ◌∷◌, length, map, refl, sym, ap, ◌∙◌, subst, arith}
-use Rattle.kr_mean.specs.Program.{Program, Expression, number, this, field, compare, call}
+use Rattle.kr_base.specs.declared.place.Place.{Place}
+use Rattle.kr_ast.specs.Tree as trees
+use Rattle.kr_ast.specs.Tree.{Tree}
+use Rattle.kr_mean.specs.Problem.{Class}
 use Rattle.kr_mean.specs.Space.{space_of, IsVector, IsRenaming, IsRenamed, on_slot}
 use Rattle.kr_mean.specs.Heaps.{walk}
 use Rattle.kr_mean.specs.Runs.{end_on, order_of}
 use Rattle.kr_mean.specs.Readings.{Forks, AllBelow, Differ, AreIn, IsReading}
 use Rattle.kr_mean.specs.Entries.{mark_of}
-use Rattle.kr_mean.specs.Purity.{IsOneOf, IsPure, touched_by}
+use Rattle.kr_mean.specs.Purity.{IsOneOf, IsPure, MayTouch, IsPredicateCode, predicate, precondition, postcondition, called}
 use Rattle.kr_mean.specs.Laws.{IsLawful}
 use Rattle.kr_mean.proofs.OneFieldSpace.{Form, problem_of, space_for, spelled, is_space, slots_stay, vectors_stay}
 use Rattle.kr_mean.proofs.OneFieldRun.{orders_both, walks_both}
 
 -- ---- the code touches nothing
 
-touches_none : (program : Program) (node : Expression) → touched_by program node ≡ []
-touches_none program (number n) = refl
-touches_none program this = refl
-touches_none program (field f) = refl
-touches_none program (compare c a b) = refl
-touches_none program (call e m) = refl
+-- the nodes of the predicate
+abbrev code_of : Form → List Tree
+code_of form =
+    let variable = trees.Variable form.at.variable form.field_name in
+    let number = trees.Number form.at.number form.number in
+    let comparison = trees.Binary form.at.comparison form.test variable number in
+    trees.Return form.at.return comparison ∷ comparison ∷ variable ∷ number ∷ []
+
+-- no call is among them
+no_call : (form : Form) (p : Place) (e : Tree) (n : List ℕ) (es : Tree) → IsOneOf (trees.MethodCall p e n es) (code_of form) → ⊥
+no_call form p e n es (inl h) = cc (h)
+no_call form p e n es (inr (inl h)) = cc (h)
+no_call form p e n es (inr (inr (inl h))) = cc (h)
+no_call form p e n es (inr (inr (inr (inl h)))) = cc (h)
+no_call form p e n es (inr (inr (inr (inr h)))) = h
+
+is_code : (form : Form) (node : Tree) → IsPredicateCode (problem_of form) node → IsOneOf node (code_of form)
+is_code form node (predicate h) = h
+is_code form node (precondition e h k) = absurd h
+is_code form node (postcondition e h k) = absurd h
+is_code form node (called p e n es c h b k) = absurd (no_call form p e n es (is_code form (trees.MethodCall p e n es) h))
+
+touches_none : (form : Form) (node : Tree) (class : Class) → IsOneOf node (code_of form) → MayTouch node class → ⊥
+touches_none form node class (inl h) t = subst (λ n. MayTouch n class) (sym h) t
+touches_none form node class (inr (inl h)) t = subst (λ n. MayTouch n class) (sym h) t
+touches_none form node class (inr (inr (inl h))) t = subst (λ n. MayTouch n class) (sym h) t
+touches_none form node class (inr (inr (inr (inl h)))) t = subst (λ n. MayTouch n class) (sym h) t
+touches_none form node class (inr (inr (inr (inr h)))) t = h
 
 pub is_pure : (form : Form) → IsPure (problem_of form)
-is_pure form node class code touched finitized = subst (λ cs. IsOneOf class cs) (touches_none (problem_of form).program node) touched
+is_pure form node class code touched finitized = touches_none form node class (is_code form node code) touched
 
 -- ---- the premises
 

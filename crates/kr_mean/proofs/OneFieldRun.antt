@@ -1,6 +1,8 @@
 -- The run on a class of one `int` field: it reads the object and then its field, and says what the comparison says.
 use Rattle.std.proofs.Common.{◌≡◌, ℕ, ◌<◌, Bool, true, false, ℤ, pos, [], ◌∷◌, length, get_or, None, refl, ap}
-use Rattle.std.specs.Prelude.{if◌then◌else◌}
+use Rattle.std.specs.Prelude.{List, if◌then◌else◌}
+use Rattle.std.specs.Str.{bytes_eq}
+use Rattle.std.proofs.lemmas.Slice.Eq.{bytes_eq-Decides}
 use Rattle.kr_base.specs.declared.entry.Mark.TheVariants.{Valid, Invalid}
 use Rattle.kr_mean.specs.Problem.{Value, Int, Reference}
 use Rattle.kr_mean.specs.Heaps.{value_at, heap_of, walk}
@@ -12,21 +14,25 @@ use Rattle.kr_mean.proofs.OneFieldSpace.{Form, problem_of, choice_of}
 
 -- what the comparison says of a value
 abbrev pub says : Form → Value → Bool
-says form v = holds_of form.test v (Int form.number)
+says form v = holds_of form.test v (Int (pos form.number))
 
 abbrev pub end_for : Bool → End
 end_for b = if b then True else False
 
+-- the field is found by its name
+found : (name : List ℕ) → bytes_eq name name ≡ true
+found name = (bytes_eq-Decides name name).1 refl
+
 -- whatever the comparison says, the same places are read
 reads_by : (form : Form) (i : ℕ) (b : Bool) → says form (value_at (problem_of form) (0 ∷ i ∷ []) 1) ≡ b → reads_of (problem_of form) (0 ∷ i ∷ []) ≡ 0 ∷ 1 ∷ []
 unfolding heap_of bind eval exec value reads_of
-reads_by form i true e = rw e refl
-reads_by form i false e = rw e refl
+reads_by form i true e = rw (found form.field_name, form.compares, e) refl
+reads_by form i false e = rw (found form.field_name, form.compares, e) refl
 
 ends_by : (form : Form) (i : ℕ) (b : Bool) → says form (value_at (problem_of form) (0 ∷ i ∷ []) 1) ≡ b → end_on (problem_of form) (0 ∷ i ∷ []) ≡ end_for b
 unfolding heap_of bind eval exec value end_on
-ends_by form i true e = rw e refl
-ends_by form i false e = rw e refl
+ends_by form i true e = rw (found form.field_name, form.compares, e) refl
+ends_by form i false e = rw (found form.field_name, form.compares, e) refl
 
 pub reads_both : (form : Form) (i : ℕ) → reads_of (problem_of form) (0 ∷ i ∷ []) ≡ 0 ∷ 1 ∷ []
 reads_both form i = reads_by form i (says form (value_at (problem_of form) (0 ∷ i ∷ []) 1)) refl

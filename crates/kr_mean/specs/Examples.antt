@@ -1,12 +1,17 @@
 -- Small problems, and the entries that the definitions give them, worked by hand.
-use Rattle.std.specs.Prelude.{◌≡◌, ℕ, ℤ, pos, List, [], ◌∷◌, map, Bool, true, false, codes}
+use Rattle.std.specs.Prelude.{◌≡◌, ℕ, pos, List, [], ◌∷◌, ◌++◌, map, Bool, true, false, codes}
 use Rattle.kr_base.specs.declared.entry.Entry.{Entry}
 use Rattle.kr_base.specs.declared.span.Bound.TheVariants.{At, End}
 use Rattle.kr_base.specs.Entries.{is_valid, is_spent, entries_in}
-use Rattle.kr_mean.specs.Program.{ClassOf, Method, Equal, Greater, Expression, number, field, compare, gives}
+use Rattle.kr_ast.specs.declared.node.Primitive.TheVariants.{Int as IntType, Boolean}
+use Rattle.kr_ast.specs.declared.node.BinaryOperator.TheVariants.{Equal, Greater}
+use Rattle.kr_ast.specs.Tree as trees
+use Rattle.kr_ast.specs.Tree.{Tree, Nil, Cons}
+use Rattle.kr_mean.specs.Program.{program_of}
 use Rattle.kr_mean.specs.Problem.{Problem, ClassDomain, Domain, Spotted, Object, Array, Field, Length, Element, Listing, Int, Null, Plain, Objects}
+use Rattle.kr_mean.specs.Runs.{nowhere}
 use Rattle.kr_mean.specs.Entries.{Row, all_entries}
-use Rattle.kr_mean.specs.OneField.{one_field}
+use Rattle.kr_mean.specs.OneField.{Places, one, one_field}
 
 -- an entry without its row: its key, whether it is valid, and whether it is spent
 abbrev pub shown : Entry Row → List ℕ × Bool × Bool
@@ -26,23 +31,42 @@ spent key = (key, false, true)
 
 -- ---- problems with a predicate that looks at nothing
 
-abbrev pub always : Expression
-always = compare Equal (number (pos 0)) (number (pos 0))
+abbrev pub literal : ℕ → Tree
+literal n = trees.Number nowhere n
 
-abbrev pub rep_ok : Expression → Method
-rep_ok e = record { name = codes "repOk"; parameters = []; requires_all = []; ensures_all = []; gives_value = true; body = gives e ∷ [] }
+abbrev pub compare : Tree → Tree → Tree
+compare a b = trees.Binary nowhere Equal a b
 
-abbrev pub root_class : List (List ℕ) → Expression → ClassOf
-root_class fields e = record { name = codes "R"; fields = fields; methods = rep_ok e ∷ [] }
+abbrev pub always : Tree
+always = compare (literal 0) (literal 0)
 
-abbrev pub plain_class : List (List ℕ) → ClassOf
-plain_class fields = record { name = codes "P"; fields = fields; methods = [] }
+abbrev pub rep_ok_of : Tree → Tree
+rep_ok_of e = trees.Method nowhere false (codes "repOk") (trees.Signature nowhere (trees.PrimitiveType nowhere Boolean) Nil Nil) (one (trees.Return nowhere e))
 
-abbrev pub listed : List ClassOf → List ClassDomain → ℕ → Problem
+abbrev pub field_of : Tree → List ℕ → Tree
+field_of type name = trees.Field nowhere false false type (one (trees.Declarator nowhere name Nil))
+
+abbrev pub int_field : List ℕ → Tree
+int_field name = field_of (trees.PrimitiveType nowhere IntType) name
+
+abbrev pub class_field : List ℕ → List ℕ → Tree
+class_field class name = field_of (trees.NamedType nowhere class) name
+
+abbrev pub list_of : List Tree → Tree
+list_of [] = Nil
+list_of (t ∷ ts) = Cons t (list_of ts)
+
+abbrev pub class_named : List ℕ → List Tree → Tree
+class_named name members = trees.Class nowhere name Nil (list_of members)
+
+-- the root class, with a predicate
+abbrev pub root_class : List Tree → Tree → Tree
+root_class fields e = class_named (codes "R") (fields ++ rep_ok_of e ∷ [])
+
+abbrev pub listed : List Tree → List ClassDomain → ℕ → Problem
 listed classes domains fuel = record {
-  program = record { classes = classes };
+  program = program_of (list_of classes);
   root = 0;
-  rep_ok = 0;
   mode = Listing;
   fuel = fuel;
   domains = domains;
@@ -53,7 +77,7 @@ at_field f domain = record { spot = Field f; domain = domain }
 
 abbrev pub nodes_with : Domain → Problem
 nodes_with domain =
-    listed (root_class (codes "next" ∷ []) always ∷ []) (record { name = codes "R"; class = Object 0; count = 2; spots = at_field 0 domain ∷ [] } ∷ []) 1000
+    listed (root_class (class_field (codes "R") (codes "next") ∷ []) always ∷ []) (record { name = codes "R"; class = Object 0; count = 2; spots = at_field 0 domain ∷ [] } ∷ []) 1000
 
 -- two nodes, `next` in null and N
 abbrev pub two_nodes : Problem
@@ -65,7 +89,7 @@ nodes_before_null = nodes_with (Objects 0 ∷ Plain Null ∷ [])
 
 -- fields x and y in P and Q, two objects of each
 abbrev pub two_subclasses : Problem
-two_subclasses = listed (root_class (codes "x" ∷ codes "y" ∷ []) always ∷ plain_class [] ∷ plain_class [] ∷ [])
+two_subclasses = listed (root_class (class_field (codes "Base") (codes "x") ∷ class_field (codes "Base") (codes "y") ∷ []) always ∷ class_named (codes "P") [] ∷ class_named (codes "Q") [] ∷ [])
     (record { name = codes "R"; class = Object 0; count = 1; spots = at_field 0 (Objects 1 ∷ Objects 2 ∷ []) ∷ at_field 1 (Objects 1 ∷ Objects 2 ∷ []) ∷ [] }
     ∷ record { name = codes "P"; class = Object 1; count = 2; spots = [] } ∷ record { name = codes "Q"; class = Object 2; count = 2; spots = [] } ∷ []) 1000
 
@@ -74,7 +98,7 @@ int_items numbers = map (λ n. Plain (Int (pos n))) numbers
 
 -- an array of length at most two over 0 and 1
 abbrev pub arrays : Problem
-arrays = listed (root_class (codes "a" ∷ []) always ∷ [])
+arrays = listed (root_class (field_of (trees.ArrayType nowhere (trees.PrimitiveType nowhere IntType)) (codes "a") ∷ []) always ∷ [])
     (record { name = codes "R"; class = Object 0; count = 1; spots = at_field 0 (Objects 1 ∷ []) ∷ [] }
     ∷ record {
       name = codes "int[]";
@@ -86,27 +110,42 @@ arrays = listed (root_class (codes "a" ∷ []) always ∷ [])
 
 -- fields a and b, of which the predicate looks at a alone
 abbrev pub two_ints : Problem
-two_ints = listed (root_class (codes "a" ∷ codes "b" ∷ []) (compare Equal (field 0) (number (pos 1))) ∷ [])
+two_ints = listed (root_class (int_field (codes "a") ∷ int_field (codes "b") ∷ []) (compare (trees.Variable nowhere (codes "a")) (literal 1)) ∷ [])
     (record { name = codes "R"; class = Object 0; count = 1; spots = at_field 0 (int_items (0 ∷ 1 ∷ [])) ∷ at_field 1 (int_items (7 ∷ 9 ∷ [])) ∷ [] } ∷ []) 1000
 
-abbrev pub cell : ℤ → ℕ → Problem
-cell n fuel = one_field (codes "Cell") (codes "v") Greater n (pos 0 ∷ pos 1 ∷ pos 2 ∷ []) fuel
+abbrev pub anywhere : Places
+anywhere = record {
+  class = nowhere;
+  field = nowhere;
+  type = nowhere;
+  declarator = nowhere;
+  method = nowhere;
+  signature = nowhere;
+  result = nowhere;
+  return = nowhere;
+  comparison = nowhere;
+  variable = nowhere;
+  number = nowhere;
+}
+
+abbrev pub cell : ℕ → ℕ → Problem
+cell n fuel = one_field anywhere (codes "Cell") (codes "v") Greater n (pos 0 ∷ pos 1 ∷ pos 2 ∷ []) fuel
 
 -- ---- what the definitions give them
 
 pub record Worked : Type 0 where
-  pub cell_listed : listing (cell (pos 0) 1000) ≡ invalid (0 ∷ 0 ∷ []) ∷ valid (0 ∷ 1 ∷ []) ∷ valid (0 ∷ 2 ∷ []) ∷ []
-  pub cell_with_none_valid : listing (cell (pos 2) 1000) ≡ invalid (0 ∷ 0 ∷ []) ∷ invalid (0 ∷ 1 ∷ []) ∷ invalid (0 ∷ 2 ∷ []) ∷ []
+  pub cell_listed : listing (cell 0 1000) ≡ invalid (0 ∷ 0 ∷ []) ∷ valid (0 ∷ 1 ∷ []) ∷ valid (0 ∷ 2 ∷ []) ∷ []
+  pub cell_with_none_valid : listing (cell 2 1000) ≡ invalid (0 ∷ 0 ∷ []) ∷ invalid (0 ∷ 1 ∷ []) ∷ invalid (0 ∷ 2 ∷ []) ∷ []
   -- six units suffice; with five the number is not entered, and with four the field is not read
-  pub fuel_suffices : listing (cell (pos 0) 6) ≡ invalid (0 ∷ 0 ∷ []) ∷ valid (0 ∷ 1 ∷ []) ∷ valid (0 ∷ 2 ∷ []) ∷ []
-  pub number_not_entered : listing (cell (pos 0) 5) ≡ spent (0 ∷ 0 ∷ []) ∷ spent (0 ∷ 1 ∷ []) ∷ spent (0 ∷ 2 ∷ []) ∷ []
-  pub field_not_read : listing (cell (pos 0) 4) ≡ spent (0 ∷ []) ∷ []
+  pub fuel_suffices : listing (cell 0 6) ≡ invalid (0 ∷ 0 ∷ []) ∷ valid (0 ∷ 1 ∷ []) ∷ valid (0 ∷ 2 ∷ []) ∷ []
+  pub number_not_entered : listing (cell 0 5) ≡ spent (0 ∷ 0 ∷ []) ∷ spent (0 ∷ 1 ∷ []) ∷ spent (0 ∷ 2 ∷ []) ∷ []
+  pub field_not_read : listing (cell 0 4) ≡ spent (0 ∷ []) ∷ []
   pub two_ints_listed : listing two_ints ≡ invalid (0 ∷ 0 ∷ []) ∷ valid (0 ∷ 1 ∷ 0 ∷ []) ∷ valid (0 ∷ 1 ∷ 1 ∷ []) ∷ []
   pub two_nodes_listed : listing two_nodes ≡ valid (0 ∷ 0 ∷ []) ∷ valid (0 ∷ 1 ∷ []) ∷ valid (0 ∷ 2 ∷ 0 ∷ []) ∷ valid (0 ∷ 2 ∷ 1 ∷ []) ∷ valid (0 ∷ 2 ∷ 2 ∷ []) ∷ []
   pub nodes_before_null_listed : listing nodes_before_null ≡ valid (0 ∷ 0 ∷ []) ∷ valid (0 ∷ 1 ∷ 0 ∷ []) ∷ valid (0 ∷ 1 ∷ 1 ∷ []) ∷ valid (0 ∷ 1 ∷ 2 ∷ []) ∷ valid (0 ∷ 2 ∷ []) ∷ []
   pub two_subclasses_listed : listing two_subclasses ≡ valid (0 ∷ 0 ∷ 0 ∷ []) ∷ valid (0 ∷ 0 ∷ 1 ∷ []) ∷ valid (0 ∷ 0 ∷ 2 ∷ []) ∷ valid (0 ∷ 2 ∷ 0 ∷ []) ∷ valid (0 ∷ 2 ∷ 2 ∷ []) ∷ valid (0 ∷ 2 ∷ 3 ∷ []) ∷ []
   pub arrays_listed : listing arrays ≡ valid (0 ∷ 0 ∷ 0 ∷ []) ∷ valid (0 ∷ 0 ∷ 1 ∷ 0 ∷ []) ∷ valid (0 ∷ 0 ∷ 1 ∷ 1 ∷ []) ∷ valid (0 ∷ 0 ∷ 2 ∷ 0 ∷ 0 ∷ []) ∷ valid (0 ∷ 0 ∷ 2 ∷ 0 ∷ 1 ∷ []) ∷ valid (0 ∷ 0 ∷ 2 ∷ 1 ∷ 0 ∷ []) ∷ valid (0 ∷ 0 ∷ 2 ∷ 1 ∷ 1 ∷ []) ∷ []
   -- a spent entry ends a span, and the entries behind it are those of a span that begins there
-  pub spent_ends_span : map shown (entries_in (At []) End (all_entries (cell (pos 0) 5))) ≡ spent (0 ∷ 0 ∷ []) ∷ []
-  pub behind_spent : map shown (entries_in (At (0 ∷ 0 ∷ [])) End (all_entries (cell (pos 0) 5))) ≡ spent (0 ∷ 1 ∷ []) ∷ []
-  pub above_and_not_above : map shown (entries_in (At (0 ∷ 0 ∷ [])) (At (0 ∷ 1 ∷ [])) (all_entries (cell (pos 0) 1000))) ≡ valid (0 ∷ 1 ∷ []) ∷ []
+  pub spent_ends_span : map shown (entries_in (At []) End (all_entries (cell 0 5))) ≡ spent (0 ∷ 0 ∷ []) ∷ []
+  pub behind_spent : map shown (entries_in (At (0 ∷ 0 ∷ [])) End (all_entries (cell 0 5))) ≡ spent (0 ∷ 1 ∷ []) ∷ []
+  pub above_and_not_above : map shown (entries_in (At (0 ∷ 0 ∷ [])) (At (0 ∷ 1 ∷ [])) (all_entries (cell 0 1000))) ≡ valid (0 ∷ 1 ∷ []) ∷ []

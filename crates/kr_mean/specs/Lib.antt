@@ -7,6 +7,7 @@ pub mod Runs
 pub mod Readings
 pub mod Classes
 pub mod Entries
+pub mod Nodes
 pub mod Purity
 pub mod Laws
 pub mod OneField

@@ -1,9 +1,14 @@
 -- What expressions and statements do (the Java Language Specification, 15 and 14): a value or an end, the heap, the
 -- fuel that is left, and the places of candidates that were read, in order. Each node takes one unit of fuel on entry.
-use Rattle.std.specs.Prelude.{ℕ, zero, suc, Bool, true, false, not, List, [], ◌∷◌, ◌++◌, length, Result, Ok, Err, ℤ, pos, nat_eq, nat_lt, int_lt}
+use Rattle.std.specs.Prelude.{ℕ, zero, suc, ◌+◌, Bool, true, false, not, List, [], ◌∷◌, ◌++◌, length, Option, Some, None, Result, Ok, Err, ℤ, pos, nat_eq, nat_lt, int_lt, if◌then◌else◌}
 use Rattle.std.specs.Ordering.{int_eq}
+use Rattle.std.specs.Str.{bytes_eq}
 use Rattle.std.proofs.Common.{get_or}
-use Rattle.kr_mean.specs.Program.{Program, ClassOf, Method, Comparison, Less, LessOrEqual, Greater, GreaterOrEqual, Equal, NotEqual, Expression, number, this, field, compare, call, Statement, gives}
+use Rattle.kr_ast.specs.declared.node.BinaryOperator.{BinaryOperator}
+use Rattle.kr_ast.specs.declared.node.BinaryOperator.TheVariants.{Less, LessOrEqual, Greater, GreaterOrEqual, Equal, NotEqual}
+use Rattle.kr_ast.specs.Tree as trees
+use Rattle.kr_ast.specs.Tree.{Tree}
+use Rattle.kr_mean.specs.Program.{Program, ClassOf, Method, items}
 use Rattle.kr_mean.specs.Problem.{Class, Object, Array, Value, Int, Truth, Null, Reference, Spot, Field, Length, Element, Place, At}
 use Rattle.kr_mean.specs.Heaps.{HeapObject}
 
@@ -18,15 +23,21 @@ pub data TrapKind : Type 0 where
   NoReturn : TrapKind
   ArrayTooLong : TrapKind
 
--- how a run ends early
+-- How a run ends early. It is stuck where a node has no meaning, as one that breaks a typing rule.
 pub data Stop : Type 0 where
   Trapped : TrapKind → Stop
   OutOfFuel : Stop
+  Stuck : Stop
+
+-- a parameter, with its value
+pub record Local : Type 0 where
+  pub name : List ℕ
+  pub value : Value
 
 -- what a run changes; the first objects of the heap are the candidates
 pub record State : Type 0 where
   pub this_value : Value
-  pub locals : List Value
+  pub locals : List Local
   pub heap : List HeapObject
   pub candidates : ℕ
   pub fuel : ℕ
@@ -77,7 +88,7 @@ tick s = tick_at s.fuel s
 abbrev pub get_this : Run Value
 get_this s = give s.this_value s
 
-abbrev pub get_locals : Run (List Value)
+abbrev pub get_locals : Run (List Local)
 get_locals s = give s.locals s
 
 abbrev pub no_object : HeapObject
@@ -100,9 +111,61 @@ noted false p reads = reads
 -- reads a spot of an object; null traps
 abbrev pub load : Value → Spot → Run Value
 load (Reference o) spot s = give (value_of_spot (object_in s.heap o) spot) (record s { reads = noted (nat_lt o s.candidates) (At o spot) s.reads })
-load (Int n) spot s = stop (Trapped NullPointerException) s
-load (Truth b) spot s = stop (Trapped NullPointerException) s
 load Null spot s = stop (Trapped NullPointerException) s
+load (Int n) spot s = stop Stuck s
+load (Truth b) spot s = stop Stuck s
+
+-- what an object is of, while the program runs; null traps
+abbrev pub class_of : Value → Run Class
+class_of (Reference o) s = give (object_in s.heap o).class s
+class_of Null s = stop (Trapped NullPointerException) s
+class_of (Int n) s = stop Stuck s
+class_of (Truth b) s = stop Stuck s
+
+-- ---- names
+
+-- where a name stands among others
+abbrev pub index_of : ℕ → List (List ℕ) → List ℕ → Option ℕ
+index_of i [] n = None
+index_of i (m ∷ ms) n = if bytes_eq m n then Some i else index_of (i + 1) ms n
+
+abbrev pub local_of : List Local → List ℕ → Option Value
+local_of [] n = None
+local_of (l ∷ ls) n = if bytes_eq l.name n then Some l.value else local_of ls n
+
+abbrev pub method_of : List Method → List ℕ → Option Method
+method_of [] n = None
+method_of (m ∷ ms) n = if bytes_eq m.name n then Some m else method_of ms n
+
+abbrev pub no_class : ClassOf
+no_class = record { name = []; fields = []; methods = [] }
+
+abbrev pub class_in : Program → Class → ClassOf
+class_in program (Object c) = get_or program.classes c no_class
+class_in program (Array t) = no_class
+
+-- the method of a name in a class
+abbrev pub method_in : Program → Class → List ℕ → Option Method
+method_in program class n = method_of (class_in program class).methods n
+
+abbrev pub load_at : Value → Option ℕ → Run Value
+load_at v None = stop Stuck
+load_at v (Some f) = load v (Field f)
+
+-- reads the field of a name
+abbrev pub load_field : Program → Value → List ℕ → Run Value
+load_field program v n = do
+  class ← class_of v
+  load_at v (index_of 0 (class_in program class).fields n)
+
+-- a local's value, or where there is none of the name that of the field of `this` (6.5.6.1)
+abbrev pub named : Program → List ℕ → Option Value → Run Value
+named program n (Some v) = give v
+named program n None = do
+  o ← get_this
+  load_field program o n
+
+-- ---- operators
 
 abbrev pub int_in : Value → ℤ
 int_in (Int n) = n
@@ -125,13 +188,29 @@ is_same (Truth false) (Truth b) = not b
 is_same Null Null = true
 is_same _ _ = false
 
-abbrev pub holds_of : Comparison → Value → Value → Bool
+abbrev pub is_comparison : BinaryOperator → Bool
+is_comparison Less = true
+is_comparison LessOrEqual = true
+is_comparison Greater = true
+is_comparison GreaterOrEqual = true
+is_comparison Equal = true
+is_comparison NotEqual = true
+is_comparison _ = false
+
+-- what a comparison says
+abbrev pub holds_of : BinaryOperator → Value → Value → Bool
 holds_of Less v w = int_lt (int_in v) (int_in w)
 holds_of LessOrEqual v w = not (int_lt (int_in w) (int_in v))
 holds_of Greater v w = int_lt (int_in w) (int_in v)
 holds_of GreaterOrEqual v w = not (int_lt (int_in v) (int_in w))
 holds_of Equal v w = is_same v w
 holds_of NotEqual v w = not (is_same v w)
+holds_of _ v w = false
+
+abbrev pub operated : BinaryOperator → Value → Value → Run Value
+operated o v w = if is_comparison o then give (Truth (holds_of o v w)) else stop Stuck
+
+-- ---- statements and calls
 
 -- what a statement leads to
 pub data Flow : Type 0 where
@@ -143,7 +222,7 @@ abbrev pub after : Flow → Run Flow → Run Flow
 after Next m = m
 after (Gave v) m = give (Gave v)
 
-abbrev pub all : (Statement → Run Flow) → List Statement → Run Flow
+abbrev pub all : (Tree → Run Flow) → List Tree → Run Flow
 all exec [] = give Next
 all exec (t ∷ ts) = do
   flow ← exec t
@@ -155,88 +234,84 @@ returned true Next = stop (Trapped NoReturn)
 returned false Next = give Null
 returned gives_value (Gave v) = give v
 
--- runs a body with an object as `this` and other locals, and comes back; null traps
-abbrev pub enter : Value → List Value → Run (Unit {0})
-enter (Reference o) locals s = give tt (record s { this_value = Reference o; locals = locals })
-enter (Int n) locals s = stop (Trapped NullPointerException) s
-enter (Truth b) locals s = stop (Trapped NullPointerException) s
-enter Null locals s = stop (Trapped NullPointerException) s
+-- an object as `this`, and other locals
+abbrev pub enter : Value → List Local → Run (Unit {0})
+enter v locals s = give tt (record s { this_value = v; locals = locals })
 
 -- back with `this` and the locals as they were, whatever was said
-abbrev pub leave : {A : Type 0} → Value → List Value → Run A → Run A
+abbrev pub leave : {A : Type 0} → Value → List Local → Run A → Run A
 leave v locals m s = outcome (m s).said (record (m s).after { this_value = v; locals = locals })
 
-abbrev pub within : Value → List Value → Run Value → Run Value
+abbrev pub within : Value → List Local → Run Value → Run Value
 within receiver arguments body = do
   before ← get_this
   locals ← get_locals
   leave before locals (enter receiver arguments >> body)
 
-abbrev pub no_class : ClassOf
-no_class = record { name = []; fields = []; methods = [] }
+-- the parameters with the arguments as their values
+abbrev pub bound : List (List ℕ) → List Value → List Local
+bound (n ∷ ns) (v ∷ vs) = record { name = n; value = v } ∷ bound ns vs
+bound _ _ = []
 
-abbrev pub no_method : Method
-no_method = record { name = []; parameters = []; requires_all = []; ensures_all = []; gives_value = true; body = [] }
-
-abbrev pub class_in : Program → Class → ClassOf
-class_in program (Object c) = get_or program.classes c no_class
-class_in program (Array t) = no_class
-
-abbrev pub method_in : Program → Class → ℕ → Method
-method_in program class m = get_or (class_in program class).methods m no_method
-
-abbrev pub class_of_value : List HeapObject → Value → Class
-class_of_value heap (Reference o) = (object_in heap o).class
-class_of_value heap (Int n) = no_object.class
-class_of_value heap (Truth b) = no_object.class
-class_of_value heap Null = no_object.class
-
--- what `this` is of, while the program runs
-abbrev pub class_of_this : Run Class
-class_of_this s = give (class_of_value s.heap s.this_value) s
-
-abbrev pub run_method : (Statement → Run Flow) → Method → Run Value
-run_method exec method = do
+abbrev pub run_body : (Tree → Run Flow) → Method → Run Value
+run_body exec method = do
   flow ← all exec method.body
   returned method.gives_value flow
 
--- what the method in the class of `this` gives
-abbrev pub body_of : Program → (Statement → Run Flow) → ℕ → Run Value
-body_of program exec m = do
-  class ← class_of_this
-  run_method exec (method_in program class m)
+abbrev pub run_method : (Tree → Run Flow) → Value → List Value → Option Method → Run Value
+run_method exec receiver arguments None = stop Stuck
+run_method exec receiver arguments (Some method) = within receiver (bound method.parameters arguments) (run_body exec method)
+
+-- the method of a name that the receiver's class has; null traps (15.12.4)
+abbrev pub called : Program → (Tree → Run Flow) → List ℕ → Value → List Value → Run Value
+called program exec n receiver arguments = do
+  class ← class_of receiver
+  run_method exec receiver arguments (method_in program class n)
+
+-- the values of arguments, left to right
+abbrev pub values_of : (Tree → Run Value) → List Tree → Run (List Value)
+values_of value [] = give []
+values_of value (e ∷ es) = do
+  v ← value e
+  vs ← values_of value es
+  give (v ∷ vs)
+
+-- ---- nodes
 
 -- an expression after its unit
-abbrev pub value_of : (Expression → Run Value) → (ℕ → Run Value) → Expression → Run Value
-value_of value body (number n) = give (Int n)
-value_of value body this = get_this
-value_of value body (field f) = do
-  o ← get_this
-  load o (Field f)
-value_of value body (compare c a b) = do
+abbrev pub value_of : Program → (Tree → Run Value) → (List ℕ → Value → List Value → Run Value) → Tree → Run Value
+value_of program value call (trees.Number p n) = give (Int (pos n))
+value_of program value call (trees.This p) = get_this
+value_of program value call (trees.Variable p n) = do
+  locals ← get_locals
+  named program n (local_of locals n)
+value_of program value call (trees.Binary p o a b) = do
   v ← value a
   w ← value b
-  give (Truth (holds_of c v w))
-value_of value body (call e m) = do
+  operated o v w
+value_of program value call (trees.MethodCall p e n es) = do
   o ← value e
-  within o [] (body m)
+  vs ← values_of value (items es)
+  call n o vs
+value_of program value call _ = stop Stuck
 
 -- a statement after its unit
-abbrev pub flow_of : (Expression → Run Value) → Statement → Run Flow
-flow_of value (gives e) = do
+abbrev pub flow_of : (Tree → Run Value) → Tree → Run Flow
+flow_of value (trees.Return p e) = do
   v ← value e
   give (Gave v)
+flow_of value _ = stop Stuck
 
 -- expressions and statements, nested at most n deep: each level takes a unit, so a bound of the fuel cuts nothing off
 unfoldable mutual
-  pub eval : Program → ℕ → Expression → Run Value
+  pub eval : Program → ℕ → Tree → Run Value
   eval program zero e = stop OutOfFuel
-  eval program (suc n) e = tick >> value_of (eval program n) (λ m. body_of program (exec program n) m) e
+  eval program (suc n) e = tick >> value_of program (eval program n) (λ m o vs. called program (exec program n) m o vs) e
 
-  pub exec : Program → ℕ → Statement → Run Flow
+  pub exec : Program → ℕ → Tree → Run Flow
   exec program zero t = stop OutOfFuel
   exec program (suc n) t = tick >> flow_of (eval program n) t
 
 -- the meaning of an expression
-unfoldable pub value : Program → Expression → Run Value
+unfoldable pub value : Program → Tree → Run Value
 value program e s = eval program s.fuel e s

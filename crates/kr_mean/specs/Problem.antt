@@ -43,20 +43,19 @@ pub record ClassDomain : Type 0 where
   pub count : ℕ
   pub spots : List Spotted
 
--- what is asked: to list, or to test the method of that number, whose parameters have these domains
+-- what is asked: to list, or to test the method of that name, whose parameters have these domains
 pub data Mode : Type 0 where
   Listing : Mode
-  Testing : ℕ → List Domain → Mode
+  Testing : List ℕ → List Domain → Mode
 
 abbrev pub parameter_domains : Mode → List Domain
 parameter_domains Listing = []
-parameter_domains (Testing m domains) = domains
+parameter_domains (Testing n domains) = domains
 
 pub record Problem : Type 0 where
   pub program : Program
-  -- the class domain of the root's objects, and the number of the method `repOk`
+  -- the class domain of the root's objects
   pub root : ℕ
-  pub rep_ok : ℕ
   pub mode : Mode
   pub fuel : ℕ
   pub domains : List ClassDomain

@@ -1,31 +1,50 @@
 -- The predicate run on a vector, the order of the slots that decide it, and the key that they give.
-use Rattle.std.specs.Prelude.{ℕ, ◌+◌, ◌==◌, Bool, true, false, ◌&&◌, ◌||◌, not, List, [], ◌∷◌, ◌++◌, length, map, flat_map, filter, Result, Ok, Err, if◌then◌else◌}
+use Rattle.std.specs.Prelude.{ℕ, ◌+◌, ◌==◌, Bool, true, false, ◌&&◌, ◌||◌, not, List, [], ◌∷◌, ◌++◌, length, map, flat_map, filter, Option, Some, None, Result, Ok, Err, codes, if◌then◌else◌}
 use Rattle.std.proofs.Common.{get_or}
-use Rattle.kr_mean.specs.Program.{Program, Expression, this, call}
+use Rattle.kr_base.specs.declared.place.Place.{Place as SourcePlace}
+use Rattle.kr_ast.specs.Tree as trees
+use Rattle.kr_ast.specs.Tree.{Tree, MethodCall}
+use Rattle.kr_mean.specs.Program.{Program, Method}
 use Rattle.kr_mean.specs.Problem.{Problem, Mode, Listing, Testing, parameter_domains, Value, Spot, Field, Length, Element, Place, This, Parameter, At, all_objects, slot_at, slots, domain_at, upto}
 use Rattle.kr_mean.specs.Heaps.{distinct, heap_of, value_at, walk}
-use Rattle.kr_mean.specs.Meaning.{TrapKind, Stop, Trapped, OutOfFuel, State, Outcome, Run, give, ◌>>=◌, is_true, method_in, value}
+use Rattle.kr_mean.specs.Meaning.{TrapKind, Stop, Trapped, OutOfFuel, Stuck, State, Outcome, Run, give, ◌>>=◌, is_true, method_in, bound, value}
 
 -- ---- the run
 
--- how the predicate run ends
+-- how the predicate run ends; one that is stuck doesn't accept
 pub data End : Type 0 where
   True : End
   False : End
   Trap : TrapKind → End
   Spent : End
 
+abbrev pub required_by : Option Method → List Tree
+required_by None = []
+required_by (Some method) = method.requires_all
+
+-- the method of a name in the root's class
+abbrev pub root_method : Problem → List ℕ → Option Method
+root_method problem n = method_in problem.program (domain_at problem problem.root).class n
+
 -- the preconditions of the method under test
-abbrev pub requires_of : Problem → Mode → List Expression
+abbrev pub requires_of : Problem → Mode → List Tree
 requires_of problem Listing = []
-requires_of problem (Testing m domains) = (method_in problem.program (domain_at problem problem.root).class m).requires_all
+requires_of problem (Testing n domains) = required_by (root_method problem n)
+
+-- the place of what stands in no source
+abbrev pub nowhere : SourcePlace
+nowhere = record { file = 0; line = 0; col = 0 }
+
+-- `this.repOk()`
+abbrev pub rep_ok : Tree
+rep_ok = MethodCall nowhere (trees.This nowhere) (codes "repOk") trees.Nil
 
 -- what has to hold: `this.repOk()`, and then each precondition in order
-abbrev pub conditions : Problem → List Expression
-conditions problem = call this problem.rep_ok ∷ requires_of problem problem.mode
+abbrev pub conditions : Problem → List Tree
+conditions problem = rep_ok ∷ requires_of problem problem.mode
 
 -- whether all hold, each looked at only where those before it do
-abbrev pub hold_all : Program → List Expression → Run Bool
+abbrev pub hold_all : Program → List Tree → Run Bool
 hold_all program [] = give true
 hold_all program (e ∷ es) = value program e >>= (λ v. if is_true v then hold_all program es else give false)
 
@@ -33,10 +52,18 @@ hold_all program (e ∷ es) = value program e >>= (λ v. if is_true v then hold_
 abbrev pub parameter_values : Problem → List ℕ → List Value
 parameter_values problem vector = map (λ i. value_at problem vector (i + 1)) (upto (length (parameter_domains problem.mode)))
 
+abbrev pub parameters_of : Option Method → List (List ℕ)
+parameters_of None = []
+parameters_of (Some method) = method.parameters
+
+abbrev pub tested_parameters : Problem → Mode → List (List ℕ)
+tested_parameters problem Listing = []
+tested_parameters problem (Testing n domains) = parameters_of (root_method problem n)
+
 abbrev pub start : Problem → List ℕ → State
 start problem vector = record {
   this_value = value_at problem vector 0;
-  locals = parameter_values problem vector;
+  locals = bound (tested_parameters problem problem.mode) (parameter_values problem vector);
   heap = heap_of problem vector;
   candidates = length (all_objects problem);
   fuel = problem.fuel;
@@ -48,6 +75,7 @@ end_of (Ok true) = True
 end_of (Ok false) = False
 end_of (Err (Trapped kind)) = Trap kind
 end_of (Err OutOfFuel) = Spent
+end_of (Err Stuck) = False
 
 abbrev pub outcome_of : Problem → List ℕ → Outcome Bool
 outcome_of problem vector = hold_all problem.program (conditions problem) (start problem vector)
