@@ -1,6 +1,6 @@
 // A whole tree, as a list of nodes in which the parts of each node stand before it.
-ghost use Rattle.std.specs.Prelude.{◌≡◌, ◌<◌, ◌≤◌, ◌^◌, length, slice_get, Some};
-ghost use Rattle.kr_ast.specs.Arena.{IsArena, name_in};
+ghost use Rattle.std.specs.Prelude.{◌≡◌, ◌<◌, ◌^◌, ◌∷◌, [], length, slice_get, Some};
+ghost use Rattle.kr_ast.specs.Arena.{IsArena, AreNamesIn, ArePartsFrom, name_in, names, parts, tree_at, tree_of};
 
 use crate::{Entry, Name};
 use std::marker::Model;
@@ -44,15 +44,17 @@ impl Tree {
     /// A node, with its place and its parent.
     pub fn entry(&self, at: u32) -> Entry
         requires { at < length self.now.entries }
-        ensures { slice_get self.now.entries at ≡ Some result }
+        ensures here { slice_get self.now.entries at ≡ Some result }
+        ensures tree { tree_at self.now.text self.now.entries at ≡ tree_of self.now.text (tree_at self.now.text self.now.entries) result.place result.node }
+        ensures parts { ArePartsFrom self.now.entries at 0 (parts result.node) }
+        ensures names { AreNamesIn self.now.text (names result.node) }
     {
         self.entries[at as usize]
     }
 
     /// The bytes of a name.
     pub fn name(&self, name: Name) -> &[u8]
-        requires ordered { name.start ≤ name.end }
-        requires within { name.end ≤ length self.now.text }
+        requires { AreNamesIn self.now.text (name ∷ []) }
         ensures { result.now ≡ name_in self.now.text name }
     {
         &self.text[name.start as usize..name.end as usize]
