@@ -25,9 +25,9 @@ for_bytes held fin source f s TooLong law hf hs j = too_long hf hs j
 for_bytes held fin source f s (Broken place rule) law hf hs j = no_tokens place rule hf hs j.0 j.1
 for_bytes held fin source f s (Unparsed place rule) law hf hs j = no_tree place rule hf hs j.0 j.1
 for_bytes held fin source f s NoSource law hf hs j = no_source hf hs j.0 j.1
-for_bytes held fin source f s NoFinitization law hf hs j = no_finitization j.1.0 hf hs j.0 j.1.1 j.1.2
+for_bytes held fin source f s NoFinitization law hf hs j = no_finitization j.1 hf hs j.0 j.2 j.3
 for_bytes held fin source f s (Cells x r) law hf hs j =
-    subst (λ (a : Answer). IsAnswer held (Some (ListFiles fin source)) a) (summarized (source_of x) (finitization_of r) law j.2.is_within)
+    subst (λ (a : Answer). IsAnswer held (Some (ListFiles fin source)) a) (summarized j.0.tree j.1.is_shaped.0 (source_of x) (finitization_of r) law j.1.is_shaped.1 j.1.compares j.2.is_within)
     (listed (source_of x) (finitization_of r) hf hs j.0 j.1 j.2)
 
 for_told : (held : Held) (fin source : List ℕ) (found : Found) (fins sources : Option (List ℕ)) → OneFieldLaw → held fin ≡ fins → held source ≡ sources

@@ -1,6 +1,6 @@
 -- The lines of the small problems, as the checker computes them.
 use Rattle.std.proofs.Common.{◌≡◌, refl}
-use Rattle.std.specs.Prelude.{pos, [], ◌∷◌, codes}
+use Rattle.std.specs.Prelude.{[], ◌∷◌, codes}
 use Rattle.std.specs.Fmt.{digits}
 use Rattle.kr_base.specs.Bounds.{less}
 use Rattle.kr_mean.specs.Space.{space_of}
@@ -29,23 +29,23 @@ two_ints_report : report_of two_ints [] 9 ≡ told 0 (codes "0.1.0 R#0{a=1,b=7}\
 unfolding digits less space_of heap_of walk bind eval exec value end_on reads_of order_of mark_of all_of all_entries structure_text listing_answer
 two_ints_report = refl
 
-cell_report : report_of (cell (pos 0) 1000) [] 9 ≡ told 0 (codes "0.1 Cell#0{v=1}\n0.2 Cell#0{v=2}\nvalid 2 tried 3\n")
+cell_report : report_of (cell 0 1000) [] 9 ≡ told 0 (codes "0.1 Cell#0{v=1}\n0.2 Cell#0{v=2}\nvalid 2 tried 3\n")
 unfolding digits less space_of heap_of walk bind eval exec value end_on reads_of order_of mark_of all_of all_entries structure_text listing_answer
 cell_report = refl
 
-cell_limited : report_of (cell (pos 0) 1000) [] 1 ≡ told 0 (codes "0.1 Cell#0{v=1}\nmore 0.1\n")
+cell_limited : report_of (cell 0 1000) [] 1 ≡ told 0 (codes "0.1 Cell#0{v=1}\nmore 0.1\n")
 unfolding digits less space_of heap_of walk bind eval exec value end_on reads_of order_of mark_of all_of all_entries structure_text listing_answer
 cell_limited = refl
 
-cell_at_the_limit : report_of (cell (pos 0) 1000) [] 2 ≡ told 0 (codes "0.1 Cell#0{v=1}\n0.2 Cell#0{v=2}\nvalid 2 tried 3\n")
+cell_at_the_limit : report_of (cell 0 1000) [] 2 ≡ told 0 (codes "0.1 Cell#0{v=1}\n0.2 Cell#0{v=2}\nvalid 2 tried 3\n")
 unfolding digits less space_of heap_of walk bind eval exec value end_on reads_of order_of mark_of all_of all_entries structure_text listing_answer
 cell_at_the_limit = refl
 
-cell_resumed : report_of (cell (pos 0) 1000) (0 ∷ 1 ∷ []) 9 ≡ told 0 (codes "0.2 Cell#0{v=2}\nvalid 1 tried 1\n")
+cell_resumed : report_of (cell 0 1000) (0 ∷ 1 ∷ []) 9 ≡ told 0 (codes "0.2 Cell#0{v=2}\nvalid 1 tried 1\n")
 unfolding digits less space_of heap_of walk bind eval exec value end_on reads_of order_of mark_of all_of all_entries structure_text listing_answer
 cell_resumed = refl
 
-cell_without_fuel : report_of (cell (pos 0) 5) [] 9 ≡ told 5 (codes "spent 0.0\n")
+cell_without_fuel : report_of (cell 0 5) [] 9 ≡ told 5 (codes "spent 0.0\n")
 unfolding digits less space_of heap_of walk bind eval exec value end_on reads_of order_of mark_of all_of all_entries structure_text listing_answer
 cell_without_fuel = refl
 

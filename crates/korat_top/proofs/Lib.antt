@@ -1,5 +1,4 @@
-pub mod Spelling
-pub mod Fronts
+pub mod Shapes
 pub mod Texts
 pub mod WholeFiles
 pub mod Rows

@@ -10,26 +10,31 @@ use Rattle.kr_base.specs.declared.entry.Mark.TheVariants.{Valid, Invalid}
 use Rattle.kr_base.specs.declared.entry.Entry.{Entry}
 use Rattle.kr_base.specs.Bounds.{less}
 use Rattle.kr_base.specs.Entries.{entries_in, within, through_spent, is_spent}
-use Rattle.kr_mean.specs.Program.{Comparison}
+use Rattle.kr_ast.specs.declared.node.BinaryOperator.{BinaryOperator}
+use Rattle.kr_ast.specs.Tree.{Tree}
 use Rattle.kr_mean.specs.Problem.{Problem, Int, Listing}
-use Rattle.kr_mean.specs.Meaning.{holds_of}
+use Rattle.kr_mean.specs.Meaning.{is_comparison, holds_of}
 use Rattle.kr_mean.specs.Entries.{Row, all_entries}
-use Rattle.kr_mean.specs.OneField.{OneFieldLaw, one_field, one_field_row, one_field_entry, one_field_entries}
+use Rattle.kr_mean.specs.OneField.{OneFieldLaw, Places, one_field, one_field_tree, one_field_row, one_field_entry, one_field_entries}
 use Rattle.korat_top.specs.Source.{Source}
 use Rattle.korat_top.specs.Finitization.{Finitization, IsWithinLimits, values_between, values_of, count_of}
 use Rattle.korat_top.specs.Texts.{row_text, structure_text, listed_text}
 use Rattle.korat_top.specs.Answer.{Answer, rows_in, rows_of_mark, spent_key, spent_key_of, failing_in, status_of, summary_text, cut_report, whole_report, listing_answer, problem_of, NO_LIMIT}
 use Rattle.korat_top.specs.Cells.{cell_text, cell_lines, range_lines, range_count, cells_answer}
 
+-- the tree of a source
+abbrev tree_at : Places → Source → Tree
+tree_at at source = one_field_tree at source.class_name source.field_name source.test source.number
+
 -- the line of a row
 zero_text : decimal 0 ≡ codes "0"
 zero_text = decimal_digit 0 (omega arith)
 
-structure_is : (source : Source) (values : List ℤ) (fuel i : ℕ) (z : ℤ)
-    → structure_text (one_field source.class_name source.field_name source.test (pos source.number) values fuel) (one_field_row i z).structure
+structure_is : (at : Places) (source : Source) (values : List ℤ) (fuel i : ℕ) (z : ℤ)
+    → structure_text (one_field at source.class_name source.field_name source.test source.number values fuel) (one_field_row i z).structure
     ≡ ((source.class_name ++ codes "#" ++ decimal 0) ++ (codes "{" ++ ((source.field_name ++ codes "=" ++ signed_decimal z) ++ []) ++ codes "}")) ++ []
 unfolding structure_text
-structure_is source values fuel i z = refl
+structure_is at source values fuel i z = refl
 
 regrouped : (o d i sp c h b f e z cb nl : List ℕ)
     → ((((o ++ ((d ++ i) ++ [])) ++ sp) ++ []) ++ (((c ++ h ++ o) ++ (b ++ ((f ++ e ++ z) ++ []) ++ cb)) ++ [])) ++ nl
@@ -39,36 +44,36 @@ regrouped o d i sp c h b f e z cb nl = simp (append_assoc, append-nil)
 grouped : (a i sp c h f e z cb : List ℕ) → a ++ i ++ sp ++ c ++ h ++ f ++ e ++ z ++ cb ≡ a ++ (i ++ (sp ++ (c ++ (h ++ (f ++ (e ++ (z ++ cb)))))))
 grouped a i sp c h f e z cb = simp append_assoc
 
-line_of_row : (source : Source) (values : List ℤ) (fuel i : ℕ) (z : ℤ)
-    → row_text (one_field source.class_name source.field_name source.test (pos source.number) values fuel) (one_field_row i z) ≡ cell_text source i z
-line_of_row source values fuel i z =
-    ap (λ t. ((((decimal 0 ++ ((codes "." ++ decimal i) ++ [])) ++ codes " ") ++ []) ++ t) ++ codes "\n") (structure_is source values fuel i z)
+line_of_row : (at : Places) (source : Source) (values : List ℤ) (fuel i : ℕ) (z : ℤ)
+    → row_text (one_field at source.class_name source.field_name source.test source.number values fuel) (one_field_row i z) ≡ cell_text source i z
+line_of_row at source values fuel i z =
+    ap (λ t. ((((decimal 0 ++ ((codes "." ++ decimal i) ++ [])) ++ codes " ") ++ []) ++ t) ++ codes "\n") (structure_is at source values fuel i z)
     ∙ (ap (λ o. ((((o ++ ((codes "." ++ decimal i) ++ [])) ++ codes " ") ++ []) ++ (((source.class_name ++ codes "#" ++ o) ++ (codes "{" ++ ((source.field_name ++ codes "=" ++ signed_decimal z) ++ []) ++ codes "}")) ++ [])) ++ codes "\n") zero_text
     ∙ (regrouped (codes "0") (codes ".") (decimal i) (codes " ") source.class_name (codes "#") (codes "{") source.field_name (codes "=") (signed_decimal z) (codes "}") (codes "\n")
     ∙ sym (grouped (codes "0.") (decimal i) (codes " ") source.class_name (codes "#0{") source.field_name (codes "=") (signed_decimal z) (codes "}\n"))))
 
 -- the lines of the rows
-value_rows : (source : Source) (values : List ℤ) (fuel i : ℕ) (z : ℤ) (holds : Bool) (rest : List Row) (others : List (List ℕ))
-    → map (row_text (one_field source.class_name source.field_name source.test (pos source.number) values fuel)) rest ≡ others
-    → map (row_text (one_field source.class_name source.field_name source.test (pos source.number) values fuel)) (rows_of_mark (if holds then Valid (one_field_row i z) else Invalid) ++ rest)
+value_rows : (at : Places) (source : Source) (values : List ℤ) (fuel i : ℕ) (z : ℤ) (holds : Bool) (rest : List Row) (others : List (List ℕ))
+    → map (row_text (one_field at source.class_name source.field_name source.test source.number values fuel)) rest ≡ others
+    → map (row_text (one_field at source.class_name source.field_name source.test source.number values fuel)) (rows_of_mark (if holds then Valid (one_field_row i z) else Invalid) ++ rest)
     ≡ (if holds then cell_text source i z ∷ [] else []) ++ others
-value_rows source values fuel i z true rest others e =
-    ap (λ line. line ∷ map (row_text (one_field source.class_name source.field_name source.test (pos source.number) values fuel)) rest) (line_of_row source values fuel i z)
+value_rows at source values fuel i z true rest others e =
+    ap (λ line. line ∷ map (row_text (one_field at source.class_name source.field_name source.test source.number values fuel)) rest) (line_of_row at source values fuel i z)
     ∙ ap (λ (l : List (List ℕ)). cell_text source i z ∷ l) e
-value_rows source values fuel i z false rest others e = e
+value_rows at source values fuel i z false rest others e = e
 
-lines_of_rows : (source : Source) (values : List ℤ) (fuel i : ℕ) (z : ℤ) (m : ℕ)
-    → map (row_text (one_field source.class_name source.field_name source.test (pos source.number) values fuel)) (rows_in (one_field_entries source.test (pos source.number) i (values_between z m)))
+lines_of_rows : (at : Places) (source : Source) (values : List ℤ) (fuel i : ℕ) (z : ℤ) (m : ℕ)
+    → map (row_text (one_field at source.class_name source.field_name source.test source.number values fuel)) (rows_in (one_field_entries source.test source.number i (values_between z m)))
     ≡ cell_lines source i z m
-lines_of_rows source values fuel i z zero = refl
-lines_of_rows source values fuel i z (suc m) =
-    value_rows source values fuel i z (holds_of source.test (Int z) (Int (pos source.number)))
-    (rows_in (one_field_entries source.test (pos source.number) (i + 1) (values_between (z +ℤ pos 1) m))) (cell_lines source (i + 1) (z +ℤ pos 1) m)
-    (lines_of_rows source values fuel (i + 1) (z +ℤ pos 1) m)
+lines_of_rows at source values fuel i z zero = refl
+lines_of_rows at source values fuel i z (suc m) =
+    value_rows at source values fuel i z (holds_of source.test (Int z) (Int (pos source.number)))
+    (rows_in (one_field_entries source.test source.number (i + 1) (values_between (z +ℤ pos 1) m))) (cell_lines source (i + 1) (z +ℤ pos 1) m)
+    (lines_of_rows at source values fuel (i + 1) (z +ℤ pos 1) m)
 
 -- ---- the span of all
 
-within_all : (test : Comparison) (n : ℤ) (i : ℕ) (zs : List ℤ) → within (At []) End (one_field_entries test n i zs) ≡ one_field_entries test n i zs
+within_all : (test : BinaryOperator) (n : ℕ) (i : ℕ) (zs : List ℤ) → within (At []) End (one_field_entries test n i zs) ≡ one_field_entries test n i zs
 unfolding less
 within_all test n i [] = refl
 within_all test n i (z ∷ zs) = ap (λ (es : List (Entry Row)). one_field_entry test n i z ∷ es) (within_all test n (i + 1) zs)
@@ -77,32 +82,32 @@ not_spent : (holds : Bool) (row : Row) → is_spent (if holds then Valid row els
 not_spent true row = refl
 not_spent false row = refl
 
-through_all : (test : Comparison) (n : ℤ) (i : ℕ) (zs : List ℤ) → through_spent (one_field_entries test n i zs) ≡ one_field_entries test n i zs
+through_all : (test : BinaryOperator) (n : ℕ) (i : ℕ) (zs : List ℤ) → through_spent (one_field_entries test n i zs) ≡ one_field_entries test n i zs
 through_all test n i [] = refl
 through_all test n i (z ∷ zs) =
-    ap (λ (b : Bool). one_field_entry test n i z ∷ (if b then [] else through_spent (one_field_entries test n (i + 1) zs))) (not_spent (holds_of test (Int z) (Int n)) (one_field_row i z))
+    ap (λ (b : Bool). one_field_entry test n i z ∷ (if b then [] else through_spent (one_field_entries test n (i + 1) zs))) (not_spent (holds_of test (Int z) (Int (pos n))) (one_field_row i z))
     ∙ ap (λ (es : List (Entry Row)). one_field_entry test n i z ∷ es) (through_all test n (i + 1) zs)
 
-all_in_span : (test : Comparison) (n : ℤ) (zs : List ℤ) → entries_in (At []) End (one_field_entries test n 0 zs) ≡ one_field_entries test n 0 zs
+all_in_span : (test : BinaryOperator) (n : ℕ) (zs : List ℤ) → entries_in (At []) End (one_field_entries test n 0 zs) ≡ one_field_entries test n 0 zs
 all_in_span test n zs = ap through_spent (within_all test n 0 zs) ∙ through_all test n 0 zs
 
 none_spent : (holds : Bool) (key : List ℕ) (row : Row) (rest : Option (List ℕ)) → spent_key_of key (if holds then Valid row else Invalid) rest ≡ rest
 none_spent true key row rest = refl
 none_spent false key row rest = refl
 
-no_spent_key : (test : Comparison) (n : ℤ) (i : ℕ) (zs : List ℤ) → spent_key (one_field_entries test n i zs) ≡ None
+no_spent_key : (test : BinaryOperator) (n : ℕ) (i : ℕ) (zs : List ℤ) → spent_key (one_field_entries test n i zs) ≡ None
 no_spent_key test n i [] = refl
 no_spent_key test n i (z ∷ zs) =
-    none_spent (holds_of test (Int z) (Int n)) (0 ∷ i ∷ []) (one_field_row i z) (spent_key (one_field_entries test n (i + 1) zs)) ∙ no_spent_key test n (i + 1) zs
+    none_spent (holds_of test (Int z) (Int (pos n))) (0 ∷ i ∷ []) (one_field_row i z) (spent_key (one_field_entries test n (i + 1) zs)) ∙ no_spent_key test n (i + 1) zs
 
 none_fails : (holds : Bool) (i : ℕ) (z : ℤ) (rest : List Row) → failing_in (rows_of_mark (if holds then Valid (one_field_row i z) else Invalid) ++ rest) ≡ failing_in rest
 none_fails true i z rest = refl
 none_fails false i z rest = refl
 
-no_failing : (test : Comparison) (n : ℤ) (i : ℕ) (zs : List ℤ) → failing_in (rows_in (one_field_entries test n i zs)) ≡ []
+no_failing : (test : BinaryOperator) (n : ℕ) (i : ℕ) (zs : List ℤ) → failing_in (rows_in (one_field_entries test n i zs)) ≡ []
 no_failing test n i [] = refl
 no_failing test n i (z ∷ zs) =
-    none_fails (holds_of test (Int z) (Int n)) i z (rows_in (one_field_entries test n (i + 1) zs)) ∙ no_failing test n (i + 1) zs
+    none_fails (holds_of test (Int z) (Int (pos n))) i z (rows_in (one_field_entries test n (i + 1) zs)) ∙ no_failing test n (i + 1) zs
 
 -- ---- counts
 
@@ -110,12 +115,12 @@ one_more : (holds : Bool) (row : Row) (rest : List Row) → length (rows_of_mark
 one_more true row rest = omega arith
 one_more false row rest = omega arith
 
-few_rows : (test : Comparison) (n : ℤ) (i : ℕ) (zs : List ℤ) → length (rows_in (one_field_entries test n i zs)) ≤ length zs
+few_rows : (test : BinaryOperator) (n : ℕ) (i : ℕ) (zs : List ℤ) → length (rows_in (one_field_entries test n i zs)) ≤ length zs
 few_rows test n i [] = omega arith
 few_rows test n i (z ∷ zs) =
-    omega (arith, one_more (holds_of test (Int z) (Int n)) (one_field_row i z) (rows_in (one_field_entries test n (i + 1) zs)), few_rows test n (i + 1) zs)
+    omega (arith, one_more (holds_of test (Int z) (Int (pos n))) (one_field_row i z) (rows_in (one_field_entries test n (i + 1) zs)), few_rows test n (i + 1) zs)
 
-length_entries : (test : Comparison) (n : ℤ) (i : ℕ) (zs : List ℤ) → length (one_field_entries test n i zs) ≡ length zs
+length_entries : (test : BinaryOperator) (n : ℕ) (i : ℕ) (zs : List ℤ) → length (one_field_entries test n i zs) ≡ length zs
 length_entries test n i [] = refl
 length_entries test n i (z ∷ zs) = ap suc (length_entries test n (i + 1) zs)
 
@@ -156,16 +161,23 @@ counted (negsuc n) a b = absurd (omega (arith, ints))
 few_values : (range : Finitization) → IsWithinLimits range → (1 ≤ range_count range) × (range_count range ≤ 65536)
 few_values range h = counted ((range.to -ℤ range.from) +ℤ pos 1) (omega (arith, ints, h.in_order)) (omega (arith, ints, h.few))
 
-pub summarized : (source : Source) (range : Finitization) → OneFieldLaw → IsWithinLimits range
-    → listing_answer (problem_of source range) NO_LIMIT (entries_in (At []) End (all_entries (problem_of source range))) ≡ cells_answer source range
-summarized source range law h =
+-- the report of a class of one field
+summary_for : (at : Places) (source : Source) (range : Finitization) → OneFieldLaw → is_comparison source.test ≡ true → IsWithinLimits range
+    → listing_answer (problem_of (tree_at at source) source range) NO_LIMIT (entries_in (At []) End (all_entries (problem_of (tree_at at source) source range))) ≡ cells_answer source range
+summary_for at source range law compares h =
     let values = values_of range in
-    let n = pos source.number in
+    let n = source.number in
+    let problem = problem_of (tree_at at source) source range in
     let few = few_values range h in
     let long : length values ≡ range_count range = length_values range.from (range_count range) in
-    let form = law source.class_name source.field_name source.test n values range.fuel h.enough (omega (arith, long, few.0)) in
-    ap (λ (es : List (Entry Row)). listing_answer (problem_of source range) NO_LIMIT (entries_in (At []) End es)) form.listed
-    ∙ (ap (λ (es : List (Entry Row)). listing_answer (problem_of source range) NO_LIMIT es) (all_in_span source.test n values)
-    ∙ reported (problem_of source range) (one_field_entries source.test n 0 values) (range_lines source range) (range_count range) refl
+    let form = law at source.class_name source.field_name source.test n values range.fuel compares h.enough (omega (arith, long, few.0)) in
+    ap (λ (es : List (Entry Row)). listing_answer problem NO_LIMIT (entries_in (At []) End es)) form.listed
+    ∙ (ap (λ (es : List (Entry Row)). listing_answer problem NO_LIMIT es) (all_in_span source.test n values)
+    ∙ reported problem (one_field_entries source.test n 0 values) (range_lines source range) (range_count range) refl
     (omega (arith, few_rows source.test n 0 values, long, few.1)) (no_spent_key source.test n 0 values) (no_failing source.test n 0 values)
-    (lines_of_rows source values range.fuel 0 range.from (range_count range)) (length_entries source.test n 0 values ∙ long))
+    (lines_of_rows at source values range.fuel 0 range.from (range_count range)) (length_entries source.test n 0 values ∙ long))
+
+pub summarized : (tree : Tree) (at : Places) (source : Source) (range : Finitization) → OneFieldLaw → tree ≡ tree_at at source → is_comparison source.test ≡ true → IsWithinLimits range
+    → listing_answer (problem_of tree source range) NO_LIMIT (entries_in (At []) End (all_entries (problem_of tree source range))) ≡ cells_answer source range
+summarized tree at source range law e compares h =
+    ap (λ (t : Tree). listing_answer (problem_of t source range) NO_LIMIT (entries_in (At []) End (all_entries (problem_of t source range)))) e ∙ summary_for at source range law compares h

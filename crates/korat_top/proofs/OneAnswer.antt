@@ -1,97 +1,40 @@
 -- Words and files have at most one answer.
-use Rattle.std.proofs.Common.{◌≡◌, ℕ, ◌<◌, ◌≤◌, ◌⊎◌, List, [], ◌∷◌, length, refl, sym, ap, ◌∙◌, subst, inl, inr, arith}
-use Rattle.std.specs.Prelude.{Option, Some, None, codes, decimal, true, false, ◌==◌, if◌then◌else◌}
-use Rattle.std.specs.Str.{bytes_eq}
-use Rattle.std.proofs.lemmas.Fmt.{decimal_is_IsNumeral}
-use Rattle.std.proofs.lemmas.Bool.{false≢true}
-use Rattle.std.specs.Str.Parse.{digits_value}
+use Rattle.std.proofs.Common.{◌≡◌, ℕ, ◌<◌, ◌≤◌, ◌⊎◌, List, [], length, refl, sym, ap, ◌∙◌, subst, inl, inr, arith}
+use Rattle.std.specs.Prelude.{Option, Some, None, ◌==◌, if◌then◌else◌}
 use Rattle.kr_base.specs.declared.span.Bound.TheVariants.{At, End}
 use Rattle.kr_base.specs.Entries.{entries_in}
 use Rattle.kr_base.specs.declared.place.Place.{Place}
 use Rattle.kr_lex.specs.declared.refusal.LexRule.{LexRule}
 use Rattle.kr_lex.specs.declared.refusal.LexRule.TheVariants as rules
 use Rattle.kr_lex.specs.Places.{place_after}
-use Rattle.kr_lex.specs.Lexemes.{Lexeme, Lexemes}
+use Rattle.kr_lex.specs.Lexemes.{Lexemes}
 use Rattle.kr_lex.specs.Spells.{AreTokens, OneListLaw}
 use Rattle.kr_lex.specs.Broken.{IsFirstBroken, rank, UnbrokenLaw}
 use Rattle.kr_ast.specs.Tree.{Tree}
 use Rattle.kr_parse.specs.declared.refusal.ParseRule.{ParseRule}
 use Rattle.kr_parse.specs.Refusals.{IsParsed, IsUnparsed, OneRefusal, ParsedUnbroken}
-use Rattle.kr_mean.specs.Program.{Comparison, Less, LessOrEqual, Greater, GreaterOrEqual, Equal, NotEqual}
+use Rattle.kr_laws.specs.Laws.{OneTree}
+use Rattle.kr_mean.specs.OneField.{one_field_tree}
 use Rattle.kr_mean.specs.Entries.{all_entries}
-use Rattle.korat_top.specs.Source.{Source, IsSource, Spells, end, gap, token, tokens_of, test_text}
+use Rattle.korat_top.specs.Source.{Source, IsSource}
 use Rattle.korat_top.specs.Finitization.{Finitization, IsFinitization}
 use Rattle.korat_top.specs.Texts.{usage_text}
-use Rattle.korat_top.specs.Answer.{Answer, Command, ListFiles, Held, IsAnswer, IsLexed, HasTree, usage, too_long, no_tokens, no_tree, no_source, no_finitization, listed, line_answer, too_long_answer, no_tokens_answer, no_tree_answer, no_source_answer, no_finitization_answer, listing_answer, problem_of, NO_LIMIT}
+use Rattle.korat_top.specs.Answer.{Answer, Command, ListFiles, Held, IsAnswer, IsLexed, usage, too_long, no_tokens, no_tree, no_source, no_finitization, listed, line_answer, too_long_answer, no_tokens_answer, no_tree_answer, no_source_answer, no_finitization_answer, listing_answer, problem_of, NO_LIMIT}
 use Rattle.korat_top.specs.Ends.{OneAnswer}
-use Rattle.korat_top.proofs.Spelling.{gap_on, token_on, nothing_left}
 
 -- ---- one source
 
-one_spelling : (bytes : List ℕ) (a b : List (List ℕ)) → Spells a bytes → Spells b bytes → b ≡ a
-one_spelling bytes a b end s = nothing_left bytes b refl s
-one_spelling bytes a b (gap {byte = byte} {tokens = tokens} {rest = rest} g x) s = one_spelling rest tokens b x (gap_on bytes byte rest b refl g s)
-one_spelling bytes a b (token {text = text} {tokens = tokens} {rest = rest} d x) s =
-    let o = token_on bytes text rest b d s in
-    o.is ∙ ap (λ ts. text ∷ ts) (one_spelling rest tokens o.others x o.spelled)
-
-differ : (a b : List ℕ) → bytes_eq a b ≡ false → bytes_eq b b ≡ true → a ≡ b → ⊥
-differ a b no_same same e = false≢true (sym no_same ∙ (ap (λ t. bytes_eq t b) e ∙ same))
-
-same_test : (a b : Comparison) → test_text a ≡ test_text b → a ≡ b
-same_test Less Less e = refl
-same_test Less LessOrEqual e = absurd (differ _ _ refl refl e)
-same_test Less Greater e = absurd (differ _ _ refl refl e)
-same_test Less GreaterOrEqual e = absurd (differ _ _ refl refl e)
-same_test Less Equal e = absurd (differ _ _ refl refl e)
-same_test Less NotEqual e = absurd (differ _ _ refl refl e)
-same_test LessOrEqual Less e = absurd (differ _ _ refl refl e)
-same_test LessOrEqual LessOrEqual e = refl
-same_test LessOrEqual Greater e = absurd (differ _ _ refl refl e)
-same_test LessOrEqual GreaterOrEqual e = absurd (differ _ _ refl refl e)
-same_test LessOrEqual Equal e = absurd (differ _ _ refl refl e)
-same_test LessOrEqual NotEqual e = absurd (differ _ _ refl refl e)
-same_test Greater Less e = absurd (differ _ _ refl refl e)
-same_test Greater LessOrEqual e = absurd (differ _ _ refl refl e)
-same_test Greater Greater e = refl
-same_test Greater GreaterOrEqual e = absurd (differ _ _ refl refl e)
-same_test Greater Equal e = absurd (differ _ _ refl refl e)
-same_test Greater NotEqual e = absurd (differ _ _ refl refl e)
-same_test GreaterOrEqual Less e = absurd (differ _ _ refl refl e)
-same_test GreaterOrEqual LessOrEqual e = absurd (differ _ _ refl refl e)
-same_test GreaterOrEqual Greater e = absurd (differ _ _ refl refl e)
-same_test GreaterOrEqual GreaterOrEqual e = refl
-same_test GreaterOrEqual Equal e = absurd (differ _ _ refl refl e)
-same_test GreaterOrEqual NotEqual e = absurd (differ _ _ refl refl e)
-same_test Equal Less e = absurd (differ _ _ refl refl e)
-same_test Equal LessOrEqual e = absurd (differ _ _ refl refl e)
-same_test Equal Greater e = absurd (differ _ _ refl refl e)
-same_test Equal GreaterOrEqual e = absurd (differ _ _ refl refl e)
-same_test Equal Equal e = refl
-same_test Equal NotEqual e = absurd (differ _ _ refl refl e)
-same_test NotEqual Less e = absurd (differ _ _ refl refl e)
-same_test NotEqual LessOrEqual e = absurd (differ _ _ refl refl e)
-same_test NotEqual Greater e = absurd (differ _ _ refl refl e)
-same_test NotEqual GreaterOrEqual e = absurd (differ _ _ refl refl e)
-same_test NotEqual Equal e = absurd (differ _ _ refl refl e)
-same_test NotEqual NotEqual e = refl
-
-same_number : (m n : ℕ) → m ≤ 2147483647 → n ≤ 2147483647 → decimal m ≡ decimal n → m ≡ n
-same_number m n a b e = sym (decimal_is_IsNumeral m (omega arith)).1 ∙ (ap (digits_value 10) e ∙ (decimal_is_IsNumeral n (omega arith)).1)
-
-one_source : (bytes : List ℕ) (s t : Source) → IsSource bytes s → IsSource bytes t → s ≡ t
-one_source bytes s t x y =
-    let tokens : tokens_of s ≡ tokens_of t = one_spelling bytes (tokens_of t) (tokens_of s) y.is_spelled x.is_spelled in
-    let class_names : s.class_name ≡ t.class_name = cc (tokens) in
-    let field_names : s.field_name ≡ t.field_name = cc (tokens) in
-    let texts : test_text s.test ≡ test_text t.test = cc (tokens) in
-    let numbers : decimal s.number ≡ decimal t.number = cc (tokens) in
-    let test : s.test ≡ t.test = same_test s.test t.test texts in
-    let number : s.number ≡ t.number = same_number s.number t.number x.is_well_named.in_range y.is_well_named.in_range numbers in
+one_source : (bytes : List ℕ) (tokens : Lexemes) (tree : Tree) (s t : Source) → IsSource bytes tokens tree s → IsSource bytes tokens tree t → s ≡ t
+one_source bytes tokens tree s t x y =
+    let same : one_field_tree x.is_shaped.0 s.class_name s.field_name s.test s.number ≡ one_field_tree y.is_shaped.0 t.class_name t.field_name t.test t.number = sym x.is_shaped.1 ∙ y.is_shaped.1 in
+    let class_names : s.class_name ≡ t.class_name = cc (same) in
+    let field_names : s.field_name ≡ t.field_name = cc (same) in
+    let tests : s.test ≡ t.test = cc (same) in
+    let numbers : s.number ≡ t.number = cc (same) in
     ap (λ n. let r : Source = record { class_name = n; field_name = s.field_name; test = s.test; number = s.number } in r) class_names
     ∙ (ap (λ n. let r : Source = record { class_name = t.class_name; field_name = n; test = s.test; number = s.number } in r) field_names
-    ∙ (ap (λ c. let r : Source = record { class_name = t.class_name; field_name = t.field_name; test = c; number = s.number } in r) test
-    ∙ ap (λ n. let r : Source = record { class_name = t.class_name; field_name = t.field_name; test = t.test; number = n } in r) number))
+    ∙ (ap (λ o. let r : Source = record { class_name = t.class_name; field_name = t.field_name; test = o; number = s.number } in r) tests
+    ∙ ap (λ n. let r : Source = record { class_name = t.class_name; field_name = t.field_name; test = t.test; number = n } in r) numbers))
 
 one_range : (bytes : List ℕ) (form : Source) (f g : Finitization) → IsFinitization bytes form f → IsFinitization bytes form g → f ≡ g
 one_range bytes form f g x y =
@@ -132,19 +75,19 @@ one_broken file bytes p q r t x y =
 
 -- ---- one answer
 
--- the answer over these bytes, of which the source has a tree
-abbrev Formed : List ℕ → List ℕ → List ℕ → List ℕ → Answer → Type 0
-Formed fin source f s a =
-    (((form : Source) → IsSource s form → ⊥) × (a ≡ no_source_answer source))
-    ⊎ ((form : Source) × IsSource s form × ((range : Finitization) → IsFinitization f form range → ⊥) × (a ≡ no_finitization_answer fin))
-    ⊎ ((form : Source) × (range : Finitization) × IsSource s form × IsFinitization f form range
-    × (a ≡ listing_answer (problem_of form range) NO_LIMIT (entries_in (At []) End (all_entries (problem_of form range)))))
+-- the answer over these bytes, of which the source has these tokens and this tree
+abbrev Formed : List ℕ → List ℕ → List ℕ → List ℕ → Lexemes → Tree → Answer → Type 0
+Formed fin source f s tokens tree a =
+    (((form : Source) → IsSource s tokens tree form → ⊥) × (a ≡ no_source_answer source))
+    ⊎ ((form : Source) × IsSource s tokens tree form × ((range : Finitization) → IsFinitization f form range → ⊥) × (a ≡ no_finitization_answer fin))
+    ⊎ ((form : Source) × (range : Finitization) × IsSource s tokens tree form × IsFinitization f form range
+    × (a ≡ listing_answer (problem_of tree form range) NO_LIMIT (entries_in (At []) End (all_entries (problem_of tree form range)))))
 
 -- the answer over these bytes, of which the source is spelled by these tokens
 abbrev Treed : List ℕ → List ℕ → List ℕ → (s : List ℕ) → IsLexed s → Answer → Type 0
 Treed fin source f s lexed a =
     ((place : Place) × (rule : ParseRule) × IsUnparsed lexed.tokens place rule × (a ≡ no_tree_answer source place rule))
-    ⊎ ((tree : Tree) × IsParsed lexed.tokens tree × Formed fin source f s a)
+    ⊎ ((tree : Tree) × IsParsed lexed.tokens tree × Formed fin source f s lexed.tokens tree a)
 
 -- the answer over these bytes
 abbrev Judged : List ℕ → List ℕ → List ℕ → List ℕ → Answer → Type 0
@@ -166,21 +109,21 @@ seen held asked a (no_source {f = f} {s = s} hf hs has none) = (f, s, hf, hs, in
 seen held asked a (no_finitization {f = f} {s = s} form hf hs has is none) = (f, s, hf, hs, inr (inr (has.lexed, inr (has.tree, has.parsed, inr (inl (form, is, none, refl))))))
 seen held asked a (listed {f = f} {s = s} form range hf hs has is ranges) = (f, s, hf, hs, inr (inr (has.lexed, inr (has.tree, has.parsed, inr (inr (form, range, is, ranges, refl))))))
 
-one_formed : (fin source f s : List ℕ) (a b : Answer) → Formed fin source f s a → Formed fin source f s b → a ≡ b
-one_formed fin source f s a b (inl x) (inl y) = x.1 ∙ sym y.1
-one_formed fin source f s a b (inl x) (inr (inl y)) = absurd (x.0 y.0 y.1)
-one_formed fin source f s a b (inl x) (inr (inr y)) = absurd (x.0 y.0 y.2)
-one_formed fin source f s a b (inr (inl x)) (inl y) = absurd (y.0 x.0 x.1)
-one_formed fin source f s a b (inr (inl x)) (inr (inl y)) = x.3 ∙ sym y.3
-one_formed fin source f s a b (inr (inl x)) (inr (inr y)) = absurd (x.2 y.1 (subst (λ (form : Source). IsFinitization f form y.1) (one_source s y.0 x.0 y.2 x.1) y.3))
-one_formed fin source f s a b (inr (inr x)) (inl y) = absurd (y.0 x.0 x.2)
-one_formed fin source f s a b (inr (inr x)) (inr (inl y)) = absurd (y.2 x.1 (subst (λ (form : Source). IsFinitization f form x.1) (one_source s x.0 y.0 x.2 y.1) x.3))
-one_formed fin source f s a b (inr (inr x)) (inr (inr y)) =
-    let forms : x.0 ≡ y.0 = one_source s x.0 y.0 x.2 y.2 in
+one_formed : (fin source f s : List ℕ) (tokens : Lexemes) (tree : Tree) (a b : Answer) → Formed fin source f s tokens tree a → Formed fin source f s tokens tree b → a ≡ b
+one_formed fin source f s tokens tree a b (inl x) (inl y) = x.1 ∙ sym y.1
+one_formed fin source f s tokens tree a b (inl x) (inr (inl y)) = absurd (x.0 y.0 y.1)
+one_formed fin source f s tokens tree a b (inl x) (inr (inr y)) = absurd (x.0 y.0 y.2)
+one_formed fin source f s tokens tree a b (inr (inl x)) (inl y) = absurd (y.0 x.0 x.1)
+one_formed fin source f s tokens tree a b (inr (inl x)) (inr (inl y)) = x.3 ∙ sym y.3
+one_formed fin source f s tokens tree a b (inr (inl x)) (inr (inr y)) = absurd (x.2 y.1 (subst (λ (form : Source). IsFinitization f form y.1) (one_source s tokens tree y.0 x.0 y.2 x.1) y.3))
+one_formed fin source f s tokens tree a b (inr (inr x)) (inl y) = absurd (y.0 x.0 x.2)
+one_formed fin source f s tokens tree a b (inr (inr x)) (inr (inl y)) = absurd (y.2 x.1 (subst (λ (form : Source). IsFinitization f form x.1) (one_source s tokens tree x.0 y.0 x.2 y.1) x.3))
+one_formed fin source f s tokens tree a b (inr (inr x)) (inr (inr y)) =
+    let forms : x.0 ≡ y.0 = one_source s tokens tree x.0 y.0 x.2 y.2 in
     let ranges : x.1 ≡ y.1 = one_range f y.0 x.1 y.1 (subst (λ (form : Source). IsFinitization f form x.1) forms x.3) y.3 in
     x.4
-    ∙ (ap (λ (form : Source). listing_answer (problem_of form x.1) NO_LIMIT (entries_in (At []) End (all_entries (problem_of form x.1)))) forms
-    ∙ (ap (λ (range : Finitization). listing_answer (problem_of y.0 range) NO_LIMIT (entries_in (At []) End (all_entries (problem_of y.0 range)))) ranges ∙ sym y.4))
+    ∙ (ap (λ (form : Source). listing_answer (problem_of tree form x.1) NO_LIMIT (entries_in (At []) End (all_entries (problem_of tree form x.1)))) forms
+    ∙ (ap (λ (range : Finitization). listing_answer (problem_of tree y.0 range) NO_LIMIT (entries_in (At []) End (all_entries (problem_of tree y.0 range)))) ranges ∙ sym y.4))
 
 -- what the laws of the steps say
 record Laws : Type 0 where
@@ -188,6 +131,7 @@ record Laws : Type 0 where
   unbroken : UnbrokenLaw
   refusals : OneRefusal
   parsed : ParsedUnbroken
+  trees : OneTree
 
 one_tokens : (s : List ℕ) (a b : Lexemes) → OneListLaw → AreTokens 0 s a → AreTokens 0 s b → a ≡ b
 one_tokens s a b law x y =
@@ -201,7 +145,11 @@ one_treed fin source f s a b l m e laws (inl x) (inl y) =
     x.3 ∙ (ap (λ p. no_tree_answer source p x.1) same.0 ∙ (ap (λ r. no_tree_answer source y.0 r) same.1 ∙ sym y.3))
 one_treed fin source f s a b l m e laws (inl x) (inr y) = absurd (laws.parsed m.tokens y.0 x.0 x.1 y.1 (subst (λ ts. IsUnparsed ts x.0 x.1) e x.2))
 one_treed fin source f s a b l m e laws (inr x) (inl y) = absurd (laws.parsed m.tokens x.0 y.0 y.1 (subst (λ ts. IsParsed ts x.0) e x.1) y.2)
-one_treed fin source f s a b l m e laws (inr x) (inr y) = one_formed fin source f s a b x.2 y.2
+one_treed fin source f s a b l m e laws (inr x) (inr y) =
+    let h = subst (λ ts. IsParsed ts x.0) e x.1 in
+    let same : x.0 ≡ y.0 = laws.trees m.tokens.list x.0 y.0 h.derived y.1.derived in
+    let formed = subst (λ t. Formed fin source f s m.tokens t a) same (subst (λ ts. Formed fin source f s ts x.0 a) e x.2) in
+    one_formed fin source f s m.tokens y.0 a b formed y.2
 
 one_judged : (fin source f s : List ℕ) (a b : Answer) → Laws → Judged fin source f s a → Judged fin source f s b → a ≡ b
 one_judged fin source f s a b law (inl x) (inl y) = x.1 ∙ sym y.1
@@ -226,5 +174,6 @@ one_seen held (Some (ListFiles fin source)) a b law x y =
     let s : x.1 ≡ y.1 = cc (ss) in
     one_judged fin source y.0 y.1 a b law (subst (λ u. Judged fin source y.0 u a) s (subst (λ u. Judged fin source u x.1 a) f x.4)) y.4
 
-pub one_answer : OneListLaw → UnbrokenLaw → OneRefusal → ParsedUnbroken → OneAnswer
-one_answer lists unbroken refusals parsed held asked a b x y = one_seen held asked a b (record { lists = lists; unbroken = unbroken; refusals = refusals; parsed = parsed }) (seen held asked a x) (seen held asked b y)
+pub one_answer : OneListLaw → UnbrokenLaw → OneRefusal → ParsedUnbroken → OneTree → OneAnswer
+one_answer lists unbroken refusals parsed trees held asked a b x y =
+    one_seen held asked a b (record { lists = lists; unbroken = unbroken; refusals = refusals; parsed = parsed; trees = trees }) (seen held asked a x) (seen held asked b y)

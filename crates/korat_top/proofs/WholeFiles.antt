@@ -26,20 +26,11 @@ same_short all bytes e h = same_all 1048576 all bytes e (short_all 1048576 all b
 same_whole : (all bytes : List ℕ) → bytes ≡ take 1048577 all → length all ≤ 1048576 → bytes ≡ all
 same_whole all bytes e h = same_all 1048576 all bytes e h
 
-source_up : (all bytes : List ℕ) (form : Source) → bytes ≡ take 1048577 all → IsSource bytes form → IsSource all form
-source_up all bytes form e h = let P : List ℕ → Type 0 = λ b. IsSource b form in subst P (same_short all bytes e h.is_short) h
-
-source_down : (all bytes : List ℕ) (form : Source) → bytes ≡ take 1048577 all → IsSource all form → IsSource bytes form
-source_down all bytes form e h = let P : List ℕ → Type 0 = λ b. IsSource b form in subst P (sym (same_whole all bytes e h.is_short)) h
-
 range_up : (all bytes : List ℕ) (form : Source) (range : Finitization) → bytes ≡ take 1048577 all → IsFinitization bytes form range → IsFinitization all form range
 range_up all bytes form range e h = let P : List ℕ → Type 0 = λ b. IsFinitization b form range in subst P (same_short all bytes e h.is_short) h
 
 range_down : (all bytes : List ℕ) (form : Source) (range : Finitization) → bytes ≡ take 1048577 all → IsFinitization all form range → IsFinitization bytes form range
 range_down all bytes form range e h = let P : List ℕ → Type 0 = λ b. IsFinitization b form range in subst P (sym (same_whole all bytes e h.is_short)) h
-
-tree_up : (all bytes : List ℕ) → bytes ≡ take 1048577 all → HasTree bytes → HasTree all
-tree_up all bytes e h = subst HasTree (same_short all bytes e h.lexed.short) h
 
 unparsed_up : (all bytes : List ℕ) (place : Place) (rule : ParseRule) → bytes ≡ take 1048577 all → (lexed : IsLexed bytes) → IsUnparsed lexed.tokens place rule
     → (whole : IsLexed all) × IsUnparsed whole.tokens place rule
@@ -58,11 +49,15 @@ judges_up : (f s fins sources : List ℕ) (found : Found) → f ≡ take 1048577
 judges_up f s fins sources TooLong d e h = long_up sources s e h
 judges_up f s fins sources (Broken place rule) d e h = broken_up sources s place rule e h.0 h.1
 judges_up f s fins sources (Unparsed place rule) d e h = unparsed_up sources s place rule e h.0 h.1
-judges_up f s fins sources NoSource d e h = (tree_up sources s e h.0, λ form x. h.1 form (source_down sources s form e x))
+judges_up f s fins sources NoSource d e h =
+    let P : List ℕ → Type 0 = λ t. (read : HasTree t) × ((form : Source) → IsSource t read.lexed.tokens read.tree form → ⊥) in
+    subst P (same_short sources s e h.0.lexed.short) h
 judges_up f s fins sources NoFinitization d e h =
-    (tree_up sources s e h.0, (h.1.0, source_up sources s h.1.0 e h.1.1, λ range x. h.1.2 range (range_down fins f h.1.0 range d x)))
+    let P : List ℕ → Type 0 = λ t. (read : HasTree t) × (form : Source) × IsSource t read.lexed.tokens read.tree form × ((range : Finitization) → IsFinitization fins form range → ⊥) in
+    subst P (same_short sources s e h.0.lexed.short) (h.0, h.1, h.2, λ range x. h.3 range (range_down fins f h.1 range d x))
 judges_up f s fins sources (Cells source range) d e h =
-    (tree_up sources s e h.0, source_up sources s (source_of source) e h.1, range_up fins f (source_of source) (finitization_of range) d h.2)
+    let P : List ℕ → Type 0 = λ t. (read : HasTree t) × IsSource t read.lexed.tokens read.tree (source_of source) × IsFinitization fins (source_of source) (finitization_of range) in
+    subst P (same_short sources s e h.0.lexed.short) (h.0, h.1, range_up fins f (source_of source) (finitization_of range) d h.2)
 
 -- where the files' bytes are told
 pub judges_held : (fins sources : Option (List ℕ)) (f s : List ℕ) (found : Found) → IfSome fins (λ all. f ≡ take 1048577 all) → IfSome sources (λ all. s ≡ take 1048577 all)

@@ -1,5 +1,5 @@
 -- What a call answers over what its files hold: a status, the lines of rows, and the last line.
-use Rattle.std.specs.Prelude.{◌≡◌, ℕ, ◌<◌, ◌≤◌, Bool, true, false, ◌&&◌, not, ◌⊎◌, List, [], ◌∷◌, ◌++◌, length, take, map, filter, flat_map, Option, Some, None, codes, nat_lt, pos, if◌then◌else◌}
+use Rattle.std.specs.Prelude.{◌≡◌, ℕ, ◌<◌, ◌≤◌, Bool, true, false, ◌&&◌, not, ◌⊎◌, List, [], ◌∷◌, ◌++◌, length, take, map, filter, flat_map, Option, Some, None, codes, nat_lt, if◌then◌else◌}
 use Rattle.std.specs.Str.{bytes_eq}
 use Rattle.kr_base.specs.declared.place.Place.{Place}
 use Rattle.kr_base.specs.declared.span.Bound.{Bound}
@@ -20,7 +20,7 @@ use Rattle.kr_parse.specs.Rules.{rule_code as parse_code}
 use Rattle.kr_parse.specs.Refusals.{IsParsed, IsUnparsed}
 use Rattle.kr_mean.specs.Problem.{Problem, Mode, Listing, Testing}
 use Rattle.kr_mean.specs.Entries.{Row, Verdict, Pass, Ensures, RepOk, Trap, CheckTrap, OutOfFuel, all_entries}
-use Rattle.kr_mean.specs.OneField.{one_field}
+use Rattle.kr_mean.specs.OneField.{one_object}
 use Rattle.korat_top.specs.Source.{Source, IsSource}
 use Rattle.korat_top.specs.Finitization.{Finitization, IsFinitization, values_of}
 use Rattle.korat_top.specs.Texts.{row_text, listed_text, tested_text, more_text, spent_text, usage_text}
@@ -120,8 +120,9 @@ abbrev pub command_of : List (List ℕ) → Option Command
 command_of (word ∷ fin ∷ source ∷ []) = if bytes_eq word (codes "list") && (not (is_option fin) && not (is_option source)) then Some (ListFiles fin source) else None
 command_of words = None
 
-abbrev pub problem_of : Source → Finitization → Problem
-problem_of source range = one_field source.class_name source.field_name source.test (pos source.number) (values_of range) range.fuel
+-- the program that the source's tree is, with the finitization's values
+abbrev pub problem_of : Tree → Source → Finitization → Problem
+problem_of tree form range = one_object tree form.class_name (values_of range) range.fuel
 
 -- the limit on rows where none is asked for
 abbrev pub NO_LIMIT : ℕ
@@ -185,12 +186,12 @@ pub data IsAnswer (held : Held) : Option Command → Answer → Type 0 where
   no_tree : {fin source f s : List ℕ} (place : Place) (rule : ParseRule) → held fin ≡ Some f → held source ≡ Some s
       → (lexed : IsLexed s) → IsUnparsed lexed.tokens place rule → IsAnswer held (Some (ListFiles fin source)) (no_tree_answer source place rule)
   no_source : {fin source f s : List ℕ} → held fin ≡ Some f → held source ≡ Some s
-      → HasTree s → ((form : Source) → IsSource s form → ⊥) → IsAnswer held (Some (ListFiles fin source)) (no_source_answer source)
+      → (read : HasTree s) → ((form : Source) → IsSource s read.lexed.tokens read.tree form → ⊥) → IsAnswer held (Some (ListFiles fin source)) (no_source_answer source)
   no_finitization : {fin source f s : List ℕ} (form : Source) → held fin ≡ Some f → held source ≡ Some s
-      → HasTree s → IsSource s form → ((range : Finitization) → IsFinitization f form range → ⊥) → IsAnswer held (Some (ListFiles fin source)) (no_finitization_answer fin)
+      → (read : HasTree s) → IsSource s read.lexed.tokens read.tree form → ((range : Finitization) → IsFinitization f form range → ⊥) → IsAnswer held (Some (ListFiles fin source)) (no_finitization_answer fin)
   listed : {fin source f s : List ℕ} (form : Source) (range : Finitization) → held fin ≡ Some f → held source ≡ Some s
-      → HasTree s → IsSource s form → IsFinitization f form range
-      → IsAnswer held (Some (ListFiles fin source)) (listing_answer (problem_of form range) (limit_of (ListFiles fin source)) (entries_in (At (after_of (ListFiles fin source))) (upto_of (ListFiles fin source)) (all_entries (problem_of form range))))
+      → (read : HasTree s) → IsSource s read.lexed.tokens read.tree form → IsFinitization f form range
+      → IsAnswer held (Some (ListFiles fin source)) (listing_answer (problem_of read.tree form range) (limit_of (ListFiles fin source)) (entries_in (At (after_of (ListFiles fin source))) (upto_of (ListFiles fin source)) (all_entries (problem_of read.tree form range))))
 
 abbrev pub TellsBoth : Option (List ℕ) → Option (List ℕ) → Type 0
 TellsBoth (Some f) (Some s) = Unit {0}

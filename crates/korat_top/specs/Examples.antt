@@ -1,5 +1,5 @@
 -- The lines and reports of small problems, worked by hand.
-use Rattle.std.specs.Prelude.{◌≡◌, ℕ, pos, List, [], ◌∷◌, map, codes}
+use Rattle.std.specs.Prelude.{◌≡◌, ℕ, List, [], ◌∷◌, map, codes}
 use Rattle.kr_base.specs.declared.span.Bound.TheVariants.{At, End}
 use Rattle.kr_base.specs.Entries.{entries_in}
 use Rattle.kr_mean.specs.Problem.{Problem}
@@ -27,8 +27,8 @@ pub record WorkedLines : Type 0 where
   pub two_subclasses_lines : lines_of two_subclasses ≡ codes "0.0.0 R#0{x=P#0,y=P#0} P#0{}\n" ∷ codes "0.0.1 R#0{x=P#0,y=P#1} P#0{} P#1{}\n" ∷ codes "0.0.2 R#0{x=P#0,y=Q#0} P#0{} Q#0{}\n" ∷ codes "0.2.0 R#0{x=Q#0,y=P#0} Q#0{} P#0{}\n" ∷ codes "0.2.2 R#0{x=Q#0,y=Q#0} Q#0{}\n" ∷ codes "0.2.3 R#0{x=Q#0,y=Q#1} Q#0{} Q#1{}\n" ∷ []
   pub arrays_lines : lines_of arrays ≡ codes "0.0.0 R#0{a=int[]#0} int[]#0[]\n" ∷ codes "0.0.1.0 R#0{a=int[]#0} int[]#0[0]\n" ∷ codes "0.0.1.1 R#0{a=int[]#0} int[]#0[1]\n" ∷ codes "0.0.2.0.0 R#0{a=int[]#0} int[]#0[0,0]\n" ∷ codes "0.0.2.0.1 R#0{a=int[]#0} int[]#0[0,1]\n" ∷ codes "0.0.2.1.0 R#0{a=int[]#0} int[]#0[1,0]\n" ∷ codes "0.0.2.1.1 R#0{a=int[]#0} int[]#0[1,1]\n" ∷ []
   pub two_ints_report : report_of two_ints [] 9 ≡ told 0 (codes "0.1.0 R#0{a=1,b=7}\n0.1.1 R#0{a=1,b=9}\nvalid 2 tried 3\n")
-  pub cell_report : report_of (cell (pos 0) 1000) [] 9 ≡ told 0 (codes "0.1 Cell#0{v=1}\n0.2 Cell#0{v=2}\nvalid 2 tried 3\n")
-  pub cell_limited : report_of (cell (pos 0) 1000) [] 1 ≡ told 0 (codes "0.1 Cell#0{v=1}\nmore 0.1\n")
-  pub cell_at_the_limit : report_of (cell (pos 0) 1000) [] 2 ≡ told 0 (codes "0.1 Cell#0{v=1}\n0.2 Cell#0{v=2}\nvalid 2 tried 3\n")
-  pub cell_resumed : report_of (cell (pos 0) 1000) (0 ∷ 1 ∷ []) 9 ≡ told 0 (codes "0.2 Cell#0{v=2}\nvalid 1 tried 1\n")
-  pub cell_without_fuel : report_of (cell (pos 0) 5) [] 9 ≡ told 5 (codes "spent 0.0\n")
+  pub cell_report : report_of (cell 0 1000) [] 9 ≡ told 0 (codes "0.1 Cell#0{v=1}\n0.2 Cell#0{v=2}\nvalid 2 tried 3\n")
+  pub cell_limited : report_of (cell 0 1000) [] 1 ≡ told 0 (codes "0.1 Cell#0{v=1}\nmore 0.1\n")
+  pub cell_at_the_limit : report_of (cell 0 1000) [] 2 ≡ told 0 (codes "0.1 Cell#0{v=1}\n0.2 Cell#0{v=2}\nvalid 2 tried 3\n")
+  pub cell_resumed : report_of (cell 0 1000) (0 ∷ 1 ∷ []) 9 ≡ told 0 (codes "0.2 Cell#0{v=2}\nvalid 1 tried 1\n")
+  pub cell_without_fuel : report_of (cell 0 5) [] 9 ≡ told 5 (codes "spent 0.0\n")

@@ -22,9 +22,9 @@ abbrev pub Judges : List ℕ → List ℕ → Found → Type 0
 Judges f s TooLong = LIMIT < length s
 Judges f s (Broken place rule) = (length s ≤ LIMIT) × IsFirstBroken 0 s place rule
 Judges f s (Unparsed place rule) = (lexed : IsLexed s) × IsUnparsed lexed.tokens place rule
-Judges f s NoSource = HasTree s × ((form : Source) → IsSource s form → ⊥)
-Judges f s NoFinitization = HasTree s × ((form : Source) × IsSource s form × ((range : Finitization) → IsFinitization f form range → ⊥))
-Judges f s (Cells source range) = HasTree s × IsSource s (source_of source) × IsFinitization f (source_of source) (finitization_of range)
+Judges f s NoSource = (read : HasTree s) × ((form : Source) → IsSource s read.lexed.tokens read.tree form → ⊥)
+Judges f s NoFinitization = (read : HasTree s) × (form : Source) × IsSource s read.lexed.tokens read.tree form × ((range : Finitization) → IsFinitization f form range → ⊥)
+Judges f s (Cells source range) = (read : HasTree s) × IsSource s read.lexed.tokens read.tree (source_of source) × IsFinitization f (source_of source) (finitization_of range)
 
 -- a range that was found is within the form's limits
 abbrev pub IsLimited : Found → Type 0

@@ -3,9 +3,10 @@ use Rattle.std.specs.Prelude.{ℕ, ◌-◌, ◌^◌, true, false, List, [], ◌�
 use Rattle.std.specs.Fmt.{signed_decimal}
 use Rattle.std.proofs.Common.{get_or}
 use Rattle.kr_base.specs.Cuts.{cut_text}
-use Rattle.kr_mean.specs.Problem.{Problem, DomainObject, Class, Object, Array, Spot, Field, Length, Element, Place, This, Parameter, At, Value, Int, Truth, Null, Reference, all_objects, domain_at, slot_at, Mode, Listing, Testing}
+use Rattle.kr_mean.specs.Problem.{Problem, DomainObject, Class, Object, Array, Spot, Field, Length, Element, Place, This, Parameter, At, Value, Int, Truth, Null, Reference, all_objects, domain_at, slot_at}
 use Rattle.kr_mean.specs.Heaps.{distinct, is_same_object, is_owner}
-use Rattle.kr_mean.specs.Meaning.{TrapKind, NullPointerException, ArithmeticException, ArrayIndexOutOfBoundsException, NegativeArraySizeException, ClassCastException, NoSuchElementException, NoReturn, ArrayTooLong, class_in, method_in}
+use Rattle.kr_mean.specs.Meaning.{TrapKind, NullPointerException, ArithmeticException, ArrayIndexOutOfBoundsException, NegativeArraySizeException, ClassCastException, NoSuchElementException, NoReturn, ArrayTooLong, class_in}
+use Rattle.kr_mean.specs.Runs.{tested_parameters}
 use Rattle.kr_mean.specs.Entries.{Row, Verdict, Pass, Ensures, RepOk, Trap, CheckTrap, OutOfFuel}
 
 -- texts with another between each two
@@ -33,13 +34,9 @@ value_text problem (Truth false) = codes "false"
 value_text problem Null = codes "null"
 value_text problem (Reference o) = object_name problem (get_or (all_objects problem) o no_domain_object)
 
-abbrev pub parameters_of : Problem → Mode → List (List ℕ)
-parameters_of problem Listing = []
-parameters_of problem (Testing m domains) = (method_in problem.program (domain_at problem problem.root).class m).parameters
-
 -- `x=value` of a parameter
 abbrev pub parameter_text : Problem → Value → Place → List (List ℕ)
-parameter_text problem v (Parameter i) = (get_or (parameters_of problem problem.mode) i [] ++ codes "=" ++ value_text problem v) ∷ []
+parameter_text problem v (Parameter i) = (get_or (tested_parameters problem problem.mode) i [] ++ codes "=" ++ value_text problem v) ∷ []
 parameter_text problem v This = []
 parameter_text problem v (At o spot) = []
 

@@ -1,13 +1,15 @@
 // The work for a command, before anything is written: both files are read, and then judged.
 ghost use Rattle.std.specs.Prelude.{◌≡◌, ◌<◌, ◌≤◌, IfOk, length};
 ghost use Rattle.kr_lex.specs.Spells.{AreTokens};
-ghost use Rattle.korat_top.specs.Answer.{HasTree};
+ghost use Rattle.kr_ast.specs.Arena.{root};
+ghost use Rattle.kr_parse.specs.Refusals.{IsParsed};
 ghost use Rattle.korat_top.specs.Found.{HasRead, IsLater, Judges, Finds, IsLimited, CountStays};
 
 use crate::MAX_FILE_BYTES;
 use crate::finitization::{Finitization, read_finitization};
 use crate::source::{Source, read_source};
 use crate::words::{FINITIZATION, SOURCE};
+use kr_ast::Tree;
 use kr_base::{NoMemory, Place, Words};
 use kr_io::{Files, ReadRefusal};
 use kr_lex::{LexRefusal, LexRule, Tokens, lex};
@@ -52,13 +54,21 @@ fn read<F: Files>(words: &Words, at: usize, files: &mut F) -> Result<Vec<u8>, St
     }
 }
 
-/// Judges the form of a source that has a tree, and then that of the finitization.
-fn judge_forms(alloc: Global, fin: &[u8], source: &[u8]) -> Result<Found, NoMemory>
-    requires { HasTree source.now }
+/// Judges the form of a source that has these tokens and this tree, and then that of the finitization.
+fn judge_forms(
+    alloc: Global,
+    fin: &[u8],
+    source: &[u8],
+    tokens: &Tokens,
+    tree: &Tree,
+) -> Result<Found, NoMemory>
+    requires short { length source.now ≤ 1048576 }
+    requires spelled { AreTokens 0 source.now tokens.now }
+    requires parsed { IsParsed tokens.now (root tree.now) }
     ensures judged { IfOk result (Judges fin.now source.now) }
     ensures limited { IfOk result IsLimited }
 {
-    let Some(source) = read_source(alloc, source)? else {
+    let Some(source) = read_source(alloc, source, tokens, tree)? else {
         return Ok(Found::NoSource);
     };
     match read_finitization(alloc, fin, &source)? {
@@ -75,7 +85,7 @@ fn judge_tree(alloc: Global, fin: &[u8], source: &[u8], tokens: &Tokens) -> Resu
     ensures limited { IfOk result IsLimited }
 {
     match parse(alloc, tokens) {
-        Ok(_) => judge_forms(alloc, fin, source),
+        Ok(tree) => judge_forms(alloc, fin, source, tokens, &tree),
         Err(ParseRefusal::Broken { place, rule }) => Ok(Found::Unparsed(place, rule)),
         Err(ParseRefusal::NoMemory) => Err(NoMemory),
     }

@@ -2,6 +2,7 @@
 ghost use Rattle.korat_top.specs.Ends.{OneAnswer};
 ghost use Rattle.korat_top.specs.Examples.{WorkedLines};
 
+use kr_laws::one_tree;
 use kr_lex::{one_list_law, unbroken_law};
 use kr_parse::one_refusal_law;
 
@@ -12,6 +13,7 @@ pub fn one_answer()
     one_list_law();
     unbroken_law();
     one_refusal_law();
+    one_tree();
 }
 
 /// The lines and reports of small problems, worked by hand.

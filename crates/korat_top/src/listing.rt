@@ -4,12 +4,13 @@ ghost use Rattle.kr_base.specs.Told.{Writes};
 ghost use Rattle.kr_mean.specs.Meaning.{holds_of};
 ghost use Rattle.kr_mean.specs.Problem.{Int};
 ghost use Rattle.korat_top.specs.Cells.{PutsRows, cell_text, value_lines, range_count, range_lines};
-ghost use Rattle.korat_top.specs.Source.{comparison_of, source_of};
+ghost use Rattle.korat_top.specs.Source.{source_of};
 ghost use Rattle.korat_top.specs.Finitization.{finitization_of};
 
 use crate::finitization::Finitization;
-use crate::source::{Comparison, Source};
+use crate::source::Source;
 use itoa::Buffer;
+use kr_ast::BinaryOperator;
 use kr_base::{Failed, Sink, put_all};
 use kr_text::{Line, put_pieces};
 use std::alloc::Global;
@@ -32,19 +33,20 @@ impl From<Failed> for Halt {
     }
 }
 
-/// Whether a comparison holds.
-fn holds(comparison: Comparison, value: i32, number: u32) -> bool
-    ensures { result ≡ holds_of (comparison_of comparison) (Int value) (Int (pos number)) }
+/// Whether a comparison holds. No other operator does.
+fn holds(test: BinaryOperator, value: i32, number: u32) -> bool
+    ensures { result ≡ holds_of test (Int value) (Int (pos number)) }
 {
     let value = value as i64;
     let number = number as i64;
-    match comparison {
-        Comparison::Less => value < number,
-        Comparison::LessOrEqual => value <= number,
-        Comparison::Greater => value > number,
-        Comparison::GreaterOrEqual => value >= number,
-        Comparison::Equal => value == number,
-        Comparison::NotEqual => value != number,
+    match test {
+        BinaryOperator::Less => value < number,
+        BinaryOperator::LessOrEqual => value <= number,
+        BinaryOperator::Greater => value > number,
+        BinaryOperator::GreaterOrEqual => value >= number,
+        BinaryOperator::Equal => value == number,
+        BinaryOperator::NotEqual => value != number,
+        _ => false,
     }
 }
 

@@ -169,6 +169,10 @@ pub record Arena : Type 0 where
   pub text : List ℕ
   pub entries : List Entry
 
+-- the tree of a node
+abbrev pub tree_in : Arena → ℕ → Tree
+tree_in a i = tree_at a.text a.entries i
+
 -- the tree of the last node
 abbrev pub root : Arena → Tree
-root a = tree_at a.text a.entries (length a.entries - 1)
+root a = tree_in a (length a.entries - 1)

@@ -1,6 +1,6 @@
 // A whole tree, as a list of nodes in which the parts of each node stand before it.
 ghost use Rattle.std.specs.Prelude.{◌≡◌, ◌<◌, ◌^◌, ◌∷◌, [], length, slice_get, Some};
-ghost use Rattle.kr_ast.specs.Arena.{IsArena, AreNamesIn, ArePartsFrom, name_in, names, parts, tree_at, tree_of};
+ghost use Rattle.kr_ast.specs.Arena.{IsArena, AreNamesIn, ArePartsFrom, name_in, names, parts, tree_in, tree_of};
 
 use crate::{Entry, Name};
 use std::marker::Model;
@@ -45,7 +45,7 @@ impl Tree {
     pub fn entry(&self, at: u32) -> Entry
         requires { at < length self.now.entries }
         ensures here { slice_get self.now.entries at ≡ Some result }
-        ensures tree { tree_at self.now.text self.now.entries at ≡ tree_of self.now.text (tree_at self.now.text self.now.entries) result.place result.node }
+        ensures tree { tree_in self.now at ≡ tree_of self.now.text (tree_in self.now) result.place result.node }
         ensures parts { ArePartsFrom self.now.entries at 0 (parts result.node) }
         ensures names { AreNamesIn self.now.text (names result.node) }
     {

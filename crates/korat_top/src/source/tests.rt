@@ -1,16 +1,26 @@
 // Sources that are taken and sources that are refused, by the Java Language Specification's tokens.
-use super::{Comparison, read_source};
-use crate::MAX_FILE_BYTES;
+use super::{Source, read_source};
+use kr_ast::BinaryOperator;
+use kr_lex::lex;
+use kr_parse::parse;
 use std::alloc::Global;
 
+/// The source that a text is. None where it has no tokens or no tree, too.
+fn source_of(alloc: Global, text: &str) -> Option<Source> {
+    let Ok(tokens) = lex(alloc, 0, text.as_bytes()) else {
+        return None;
+    };
+    let Ok(tree) = parse(alloc, &tokens) else {
+        return None;
+    };
+    match read_source(alloc, text.as_bytes(), &tokens, &tree) {
+        Ok(read) => read,
+        Err(_) => None,
+    }
+}
+
 fn is_source(alloc: Global, text: &str) -> bool {
-    if text.len() > MAX_FILE_BYTES {
-        return false;
-    }
-    match read_source(alloc, text.as_bytes()) {
-        Ok(read) => read.is_some(),
-        Err(_) => false,
-    }
+    source_of(alloc, text).is_some()
 }
 
 #[test]
@@ -64,14 +74,58 @@ fn refuses_others(rt: HostRuntime) {
 }
 
 #[test]
+fn refuses_what_has_such_a_tree(rt: HostRuntime) {
+    for text in [
+        "public class Cell { int v; boolean repOk() { return v > 0; } }",
+        "class Cell { private int v; boolean repOk() { return v > 0; } }",
+        "class Cell { int v; public boolean repOk() { return v > 0; } }",
+        "class Cell { int v; @Override boolean repOk() { return v > 0; } }",
+        "class Cell { int v; boolean repOk() { return (v > 0); } }",
+        "class Cell { int v; boolean repOk() { return (v) > 0; } }",
+        "class Cell { int v;; boolean repOk() { return v > 0; } }",
+        "class Cell { int v; boolean repOk() { return v > 0; } };",
+        "package p; class Cell { int v; boolean repOk() { return v > 0; } }",
+        "import java.util.*; class Cell { int v; boolean repOk() { return v > 0; } }",
+        "class Cell {\u{c} int v; boolean repOk() { return v > 0; } }",
+    ] {
+        assert!(rt; !is_source(rt.alloc(), text), "{text}");
+    }
+}
+
+#[test]
+fn refuses_other_trees(rt: HostRuntime) {
+    for text in [
+        "class Cell { boolean v; boolean repOk() { return v > 0; } }",
+        "class Cell { int v; int repOk() { return v > 0; } }",
+        "class Cell { final int v; boolean repOk() { return v > 0; } }",
+        "class Cell { static int v; boolean repOk() { return v > 0; } }",
+        "class Cell { int v; static boolean repOk() { return v > 0; } }",
+        "class Cell { int v = 1; boolean repOk() { return v > 0; } }",
+        "class Cell { int v; boolean repOk(int w) { return v > 0; } }",
+        "class Cell { int v; boolean repOk() { return v + 0; } }",
+        "class Cell { int v; boolean repOk() { return 0 < v; } }",
+        "class Cell { int v; boolean repOk() { return v > v; } }",
+        "class Cell { int v; boolean repOk() { return v; } }",
+        "class Cell { int v; boolean repOk() { ; return v > 0; } }",
+        "class Cell { int v; boolean repOk() { if (v > 0) ; } }",
+        "class Cell extends Base { int v; boolean repOk() { return v > 0; } }",
+        "class Cell { boolean repOk() { return v > 0; } int v; }",
+        "class Cell { int v; boolean repOk() { return v > 0; } } class P { }",
+        "class P { } class Cell { int v; boolean repOk() { return v > 0; } }",
+    ] {
+        assert!(rt; !is_source(rt.alloc(), text), "{text}");
+    }
+}
+
+#[test]
 fn reads_the_parts(rt: HostRuntime) {
     let text = "class Cell { int v; boolean repOk() { return v >= 17; } }";
-    let read = read_source(rt.alloc(), text.as_bytes());
-    assert!(rt; read.is_ok());
-    if let Ok(Some(source)) = read {
+    let read = source_of(rt.alloc(), text);
+    assert!(rt; read.is_some());
+    if let Some(source) = read {
         assert_eq!(rt; source.class_name.as_str(), "Cell");
         assert_eq!(rt; source.field_name.as_str(), "v");
-        assert_eq!(rt; source.test, Comparison::GreaterOrEqual);
+        assert_eq!(rt; source.test, BinaryOperator::GreaterOrEqual);
         assert_eq!(rt; source.number, 17);
     }
 }
