@@ -9,19 +9,8 @@
 # the script says so in place of the figure.
 #
 #     bench/source.sh [RUNS]   how many runs each figure is the best of, 10 where it isn't said
-set -u
-top=$(cd "$(dirname "$(readlink -f "$0")")/.." && pwd)
-program="$top/crates/korat/out/korat"
-runs=${1:-10}
+source "$(dirname "$(readlink -f "$0")")/common.sh"
 size=1048576
-
-if [ ! -x "$program" ]; then
-    echo "no program at $program: run ./korat once, which builds it"
-    exit 0
-fi
-
-work=$(mktemp -d)
-trap 'rm -rf "$work"' EXIT
 cd "$work" || exit 0
 : >fin.toml
 
@@ -58,39 +47,16 @@ comment() {
     printf '*/'
 }
 
-# The least wall time of some runs of the program with these words, in microseconds.
-least_time() {
-    local best=0 before after run
-    for ((run = 0; run < runs; run++)); do
-        before=${EPOCHREALTIME/[.,]/}
-        "$program" "$@" >/dev/null 2>&1
-        after=${EPOCHREALTIME/[.,]/}
-        if ((run == 0 || after - before < best)); then
-            best=$((after - before))
-        fi
-    done
-    echo "$best"
-}
-
-peak_memory() {
-    if [ -x /usr/bin/time ]; then
-        /usr/bin/time -q -f '%M' -o peak "$program" list fin.toml "$1" >/dev/null
-        echo "$(tail -n 1 peak) KB"
-    else
-        echo "not measured: no /usr/bin/time"
-    fi
-}
-
 figures() {
     local line status time
     line=$("$program" list fin.toml "$1")
     status=$?
-    time=$(least_time list fin.toml "$1")
+    time=$(least_time /dev/null list fin.toml "$1")
     echo "$2, $(wc -c <"$1") bytes"
     echo "  line, status          $line, $status"
     echo "  time                  $time us, the best of $runs"
     echo "  MB/s                  $((size / (time > 0 ? time : 1)))"
-    echo "  peak memory           $(peak_memory "$1")"
+    echo "  peak memory           $(peak_memory list fin.toml "$1")"
 }
 
 comment >Comment.java
@@ -101,5 +67,5 @@ figures Comment.java "one comment"
 figures Fields.java "many fields"
 figures Methods.java "many methods"
 figures Operators.java "one deep expression"
-echo "start-up (no words)     $(least_time) us, the best of $runs"
+echo "start-up (no words)     $(least_time /dev/null) us, the best of $runs"
 exit 0

@@ -1,7 +1,7 @@
 -- Programs: the class table that a run goes by, made of the trees of classes (Java Language Specification 8).
 use Rattle.std.specs.Prelude.{ℕ, Bool, true, false, List, [], ◌∷◌, flat_map}
 use Rattle.kr_ast.specs.declared.node.Primitive.TheVariants.{Void}
-use Rattle.kr_ast.specs.Tree.{Tree, Cons, PrimitiveType, Declarator, Class, Field, Method as MethodTree, Signature, Parameter, Requires, Ensures}
+use Rattle.kr_ast.specs.Tree.{Tree, Nil, Cons, PrimitiveType, Declarator, Class, Field, Method as MethodTree, Signature, Parameter, Requires, Ensures}
 
 -- a method: its parameters' names, the conditions of the contract that stands before it, whether it gives a value, and
 -- its statements
@@ -54,9 +54,9 @@ abbrev pub is_value : Tree → Bool
 is_value (PrimitiveType p Void) = false
 is_value _ = true
 
--- the method that a member declares
+-- the instance method that a member declares
 abbrev pub methods_in : Tree → List Method
-methods_in (MethodTree p s n (Signature q r ps cs) b) = record {
+methods_in (MethodTree p false n (Signature q r ps cs) b) = record {
   name = n;
   parameters = flat_map parameter_in (items ps);
   requires_all = flat_map required_in (items cs);
@@ -66,8 +66,9 @@ methods_in (MethodTree p s n (Signature q r ps cs) b) = record {
 } ∷ []
 methods_in _ = []
 
+-- the class that a tree declares, if it extends none
 abbrev pub class_in_tree : Tree → List ClassOf
-class_in_tree (Class p n e ms) = record { name = n; fields = flat_map fields_in (items ms); methods = flat_map methods_in (items ms) } ∷ []
+class_in_tree (Class p n Nil ms) = record { name = n; fields = flat_map fields_in (items ms); methods = flat_map methods_in (items ms) } ∷ []
 class_in_tree _ = []
 
 -- the table of a file's classes
