@@ -7,7 +7,6 @@ use Rattle.kr_ast.specs.Tree.{Tree}
 use Rattle.kr_mean.specs.Meaning.{is_comparison}
 use Rattle.kr_mean.specs.OneField.{Places, one_field_tree}
 use Rattle.korat_top.specs.declared.source.Source.{Source as OwnedSource}
-use Rattle.korat_top.specs.declared.source.shape.Parts.{Parts}
 
 -- a class `class_name` with the field `field_name`, valid where the field's value meets the test against the number
 pub record Source : Type 0 where
@@ -49,12 +48,4 @@ source_of s = record {
   field_name = string_bytes s.field_name;
   test = s.test;
   number = s.number;
-}
-
-abbrev pub source_of_parts : Parts → Source
-source_of_parts p = record {
-  class_name = p.class_name.now;
-  field_name = p.field_name.now;
-  test = p.test;
-  number = p.number;
 }
