@@ -163,11 +163,11 @@ few_values range h = counted ((range.to -ℤ range.from) +ℤ pos 1) (omega (ari
 
 -- the report of a class of one field
 summary_for : (at : Places) (source : Source) (range : Finitization) → OneFieldLaw → is_comparison source.test ≡ true → IsWithinLimits range
-    → listing_answer (problem_of (tree_at at source) source range) NO_LIMIT (entries_in (At []) End (all_entries (problem_of (tree_at at source) source range))) ≡ cells_answer source range
+    → listing_answer (problem_of (tree_at at source) range) NO_LIMIT (entries_in (At []) End (all_entries (problem_of (tree_at at source) range))) ≡ cells_answer source range
 summary_for at source range law compares h =
     let values = values_of range in
     let n = source.number in
-    let problem = problem_of (tree_at at source) source range in
+    let problem = problem_of (tree_at at source) range in
     let few = few_values range h in
     let long : length values ≡ range_count range = length_values range.from (range_count range) in
     let form = law at source.class_name source.field_name source.test n values range.fuel compares h.enough (omega (arith, long, few.0)) in
@@ -178,6 +178,6 @@ summary_for at source range law compares h =
     (lines_of_rows at source values range.fuel 0 range.from (range_count range)) (length_entries source.test n 0 values ∙ long))
 
 pub summarized : (tree : Tree) (at : Places) (source : Source) (range : Finitization) → OneFieldLaw → tree ≡ tree_at at source → is_comparison source.test ≡ true → IsWithinLimits range
-    → listing_answer (problem_of tree source range) NO_LIMIT (entries_in (At []) End (all_entries (problem_of tree source range))) ≡ cells_answer source range
+    → listing_answer (problem_of tree range) NO_LIMIT (entries_in (At []) End (all_entries (problem_of tree range))) ≡ cells_answer source range
 summarized tree at source range law e compares h =
-    ap (λ (t : Tree). listing_answer (problem_of t source range) NO_LIMIT (entries_in (At []) End (all_entries (problem_of t source range)))) e ∙ summary_for at source range law compares h
+    ap (λ (t : Tree). listing_answer (problem_of t range) NO_LIMIT (entries_in (At []) End (all_entries (problem_of t range)))) e ∙ summary_for at source range law compares h

@@ -81,7 +81,7 @@ Formed fin source f s tokens tree a =
     (((form : Source) → IsSource s tokens tree form → ⊥) × (a ≡ no_source_answer source))
     ⊎ ((form : Source) × IsSource s tokens tree form × ((range : Finitization) → IsFinitization f form range → ⊥) × (a ≡ no_finitization_answer fin))
     ⊎ ((form : Source) × (range : Finitization) × IsSource s tokens tree form × IsFinitization f form range
-    × (a ≡ listing_answer (problem_of tree form range) NO_LIMIT (entries_in (At []) End (all_entries (problem_of tree form range)))))
+    × (a ≡ listing_answer (problem_of tree range) NO_LIMIT (entries_in (At []) End (all_entries (problem_of tree range)))))
 
 -- the answer over these bytes, of which the source is spelled by these tokens
 abbrev Treed : List ℕ → List ℕ → List ℕ → (s : List ℕ) → IsLexed s → Answer → Type 0
@@ -121,9 +121,7 @@ one_formed fin source f s tokens tree a b (inr (inr x)) (inr (inl y)) = absurd (
 one_formed fin source f s tokens tree a b (inr (inr x)) (inr (inr y)) =
     let forms : x.0 ≡ y.0 = one_source s tokens tree x.0 y.0 x.2 y.2 in
     let ranges : x.1 ≡ y.1 = one_range f y.0 x.1 y.1 (subst (λ (form : Source). IsFinitization f form x.1) forms x.3) y.3 in
-    x.4
-    ∙ (ap (λ (form : Source). listing_answer (problem_of tree form x.1) NO_LIMIT (entries_in (At []) End (all_entries (problem_of tree form x.1)))) forms
-    ∙ (ap (λ (range : Finitization). listing_answer (problem_of tree y.0 range) NO_LIMIT (entries_in (At []) End (all_entries (problem_of tree y.0 range)))) ranges ∙ sym y.4))
+    x.4 ∙ (ap (λ (range : Finitization). listing_answer (problem_of tree range) NO_LIMIT (entries_in (At []) End (all_entries (problem_of tree range)))) ranges ∙ sym y.4)
 
 -- what the laws of the steps say
 record Laws : Type 0 where

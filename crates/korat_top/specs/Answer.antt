@@ -79,7 +79,7 @@ status_of rows = if nat_lt 0 (length (failing_in rows)) then 1 else 0
 
 abbrev pub summary_text : Mode → List Row → ℕ → List ℕ
 summary_text Listing rows tried = listed_text (length rows) tried
-summary_text (Testing m domains) rows tried = tested_text (length rows) (length (failing_in rows)) tried
+summary_text (Testing n domains) rows tried = tested_text (length rows) (length (failing_in rows)) tried
 
 abbrev pub last_key : List Row → List ℕ
 last_key [] = []
@@ -121,8 +121,8 @@ command_of (word ∷ fin ∷ source ∷ []) = if bytes_eq word (codes "list") &&
 command_of words = None
 
 -- the program that the source's tree is, with the finitization's values
-abbrev pub problem_of : Tree → Source → Finitization → Problem
-problem_of tree form range = one_object tree form.class_name (values_of range) range.fuel
+abbrev pub problem_of : Tree → Finitization → Problem
+problem_of tree range = one_object tree (values_of range) range.fuel
 
 -- the limit on rows where none is asked for
 abbrev pub NO_LIMIT : ℕ
@@ -191,7 +191,7 @@ pub data IsAnswer (held : Held) : Option Command → Answer → Type 0 where
       → (read : HasTree s) → IsSource s read.lexed.tokens read.tree form → ((range : Finitization) → IsFinitization f form range → ⊥) → IsAnswer held (Some (ListFiles fin source)) (no_finitization_answer fin)
   listed : {fin source f s : List ℕ} (form : Source) (range : Finitization) → held fin ≡ Some f → held source ≡ Some s
       → (read : HasTree s) → IsSource s read.lexed.tokens read.tree form → IsFinitization f form range
-      → IsAnswer held (Some (ListFiles fin source)) (listing_answer (problem_of read.tree form range) (limit_of (ListFiles fin source)) (entries_in (At (after_of (ListFiles fin source))) (upto_of (ListFiles fin source)) (all_entries (problem_of read.tree form range))))
+      → IsAnswer held (Some (ListFiles fin source)) (listing_answer (problem_of read.tree range) (limit_of (ListFiles fin source)) (entries_in (At (after_of (ListFiles fin source))) (upto_of (ListFiles fin source)) (all_entries (problem_of read.tree range))))
 
 abbrev pub TellsBoth : Option (List ℕ) → Option (List ℕ) → Type 0
 TellsBoth (Some f) (Some s) = Unit {0}

@@ -27,8 +27,8 @@ IsName text = All (λ byte. IsTrue (is_ascii_alphanumeric byte)) text
 abbrev pub TOKENS : ℕ
 TOKENS = 18
 
--- The tree is that of the form, its names and its number are as plain as the form asks for, and beside its tokens there
--- are spaces and line feeds alone.
+-- The tree is that of the form, its names are plain and its number is an `int`, and beside its tokens there are spaces and
+-- line feeds alone.
 pub record IsSource (bytes : List ℕ) (tokens : Lexemes) (tree : Tree) (s : Source) : Type 0 where
   pub is_plain : All IsPlain bytes
   pub is_tight : length tokens.list ≡ TOKENS

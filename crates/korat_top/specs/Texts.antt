@@ -3,10 +3,12 @@ use Rattle.std.specs.Prelude.{ℕ, ◌-◌, ◌^◌, true, false, List, [], ◌�
 use Rattle.std.specs.Fmt.{signed_decimal}
 use Rattle.std.proofs.Common.{get_or}
 use Rattle.kr_base.specs.Cuts.{cut_text}
-use Rattle.kr_mean.specs.Problem.{Problem, DomainObject, Class, Object, Array, Spot, Field, Length, Element, Place, This, Parameter, At, Value, Int, Truth, Null, Reference, all_objects, domain_at, slot_at}
+use Rattle.kr_mean.specs.Problem.{Problem, DomainObject, Class, Object, Array, Spot, Field, Length, Element, SlotPlace, This, Parameter, At, Value, Int, Truth, Null, Reference, all_objects, domain_at, slot_at}
 use Rattle.kr_mean.specs.Heaps.{distinct, is_same_object, is_owner}
 use Rattle.kr_mean.specs.Meaning.{TrapKind, NullPointerException, ArithmeticException, ArrayIndexOutOfBoundsException, NegativeArraySizeException, ClassCastException, NoSuchElementException, NoReturn, ArrayTooLong, class_in}
 use Rattle.kr_mean.specs.Runs.{tested_parameters}
+use Rattle.kr_ast.specs.Tree.{Nil}
+use Rattle.kr_mean.specs.Program.{Field as FieldOf}
 use Rattle.kr_mean.specs.Entries.{Row, Verdict, Pass, Ensures, RepOk, Trap, CheckTrap, OutOfFuel}
 
 -- texts with another between each two
@@ -35,18 +37,21 @@ value_text problem Null = codes "null"
 value_text problem (Reference o) = object_name problem (get_or (all_objects problem) o no_domain_object)
 
 -- `x=value` of a parameter
-abbrev pub parameter_text : Problem → Value → Place → List (List ℕ)
-parameter_text problem v (Parameter i) = (get_or (tested_parameters problem problem.mode) i [] ++ codes "=" ++ value_text problem v) ∷ []
+abbrev pub parameter_text : Problem → Value → SlotPlace → List (List ℕ)
+parameter_text problem v (Parameter i) = (get_or (tested_parameters problem) i [] ++ codes "=" ++ value_text problem v) ∷ []
 parameter_text problem v This = []
 parameter_text problem v (At o spot) = []
 
+abbrev pub no_field : FieldOf
+no_field = record { name = []; type = Nil; initial = Nil }
+
 -- of a field `f=value`, of an element the value
 abbrev pub spot_text : Problem → Class → Value → Spot → List (List ℕ)
-spot_text problem class v (Field f) = (get_or (class_in problem.program class).fields f [] ++ codes "=" ++ value_text problem v) ∷ []
+spot_text problem class v (Field f) = ((get_or (class_in problem.program class).fields f no_field).name ++ codes "=" ++ value_text problem v) ∷ []
 spot_text problem class v Length = []
 spot_text problem class v (Element i) = value_text problem v ∷ []
 
-abbrev pub part_text : Problem → Class → Value → Place → List (List ℕ)
+abbrev pub part_text : Problem → Class → Value → SlotPlace → List (List ℕ)
 part_text problem class v This = []
 part_text problem class v (Parameter i) = []
 part_text problem class v (At o spot) = spot_text problem class v spot

@@ -2,6 +2,7 @@
 ghost use Rattle.std.specs.Prelude.{◌≡◌, ◌<◌, ◌≤◌, IfOk, length};
 ghost use Rattle.kr_lex.specs.Spells.{AreTokens};
 ghost use Rattle.kr_ast.specs.Arena.{root};
+ghost use Rattle.korat_top.specs.Answer.{LIMIT};
 ghost use Rattle.kr_parse.specs.Refusals.{IsParsed};
 ghost use Rattle.korat_top.specs.Found.{HasRead, IsLater, Judges, Finds, IsLimited, CountStays};
 
@@ -62,7 +63,7 @@ fn judge_forms(
     tokens: &Tokens,
     tree: &Tree,
 ) -> Result<Found, NoMemory>
-    requires short { length source.now ≤ 1048576 }
+    requires short { length source.now ≤ LIMIT }
     requires spelled { AreTokens 0 source.now tokens.now }
     requires parsed { IsParsed tokens.now (root tree.now) }
     ensures judged { IfOk result (Judges fin.now source.now) }
@@ -79,7 +80,7 @@ fn judge_forms(
 
 /// Judges whether the source's tokens have a tree, and then the forms.
 fn judge_tree(alloc: Global, fin: &[u8], source: &[u8], tokens: &Tokens) -> Result<Found, NoMemory>
-    requires short { length source.now ≤ 1048576 }
+    requires short { length source.now ≤ LIMIT }
     requires spelled { AreTokens 0 source.now tokens.now }
     ensures judged { IfOk result (Judges fin.now source.now) }
     ensures limited { IfOk result IsLimited }

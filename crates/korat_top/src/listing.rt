@@ -33,7 +33,7 @@ impl From<Failed> for Halt {
     }
 }
 
-/// Whether a comparison holds. No other operator does.
+/// Whether a comparison holds. Other operators compare nothing.
 fn holds(test: BinaryOperator, value: i32, number: u32) -> bool
     ensures { result ≡ holds_of test (Int value) (Int (pos number)) }
 {

@@ -65,7 +65,7 @@ root_class fields e = class_named (codes "R") (fields ++ rep_ok_of e ∷ [])
 
 abbrev pub listed : List Tree → List ClassDomain → ℕ → Problem
 listed classes domains fuel = record {
-  program = program_of (list_of classes);
+  program = program_of (list_of classes ∷ []);
   root = 0;
   mode = Listing;
   fuel = fuel;
@@ -89,7 +89,7 @@ nodes_before_null = nodes_with (Objects 0 ∷ Plain Null ∷ [])
 
 -- fields x and y in P and Q, two objects of each
 abbrev pub two_subclasses : Problem
-two_subclasses = listed (root_class (class_field (codes "Base") (codes "x") ∷ class_field (codes "Base") (codes "y") ∷ []) always ∷ class_named (codes "P") [] ∷ class_named (codes "Q") [] ∷ [])
+two_subclasses = listed (root_class (class_field (codes "Base") (codes "x") ∷ class_field (codes "Base") (codes "y") ∷ []) always ∷ class_named (codes "P") [] ∷ class_named (codes "Q") [] ∷ class_named (codes "Base") [] ∷ [])
     (record { name = codes "R"; class = Object 0; count = 1; spots = at_field 0 (Objects 1 ∷ Objects 2 ∷ []) ∷ at_field 1 (Objects 1 ∷ Objects 2 ∷ []) ∷ [] }
     ∷ record { name = codes "P"; class = Object 1; count = 2; spots = [] } ∷ record { name = codes "Q"; class = Object 2; count = 2; spots = [] } ∷ []) 1000
 

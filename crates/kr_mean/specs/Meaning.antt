@@ -1,6 +1,6 @@
 -- What expressions and statements do (the Java Language Specification, 15 and 14): a value or an end, the heap, the
 -- fuel that is left, and the places of candidates that were read, in order. Each node takes one unit of fuel on entry.
-use Rattle.std.specs.Prelude.{ℕ, zero, suc, ◌+◌, Bool, true, false, not, List, [], ◌∷◌, ◌++◌, length, Option, Some, None, Result, Ok, Err, ℤ, pos, nat_eq, nat_lt, int_lt, if◌then◌else◌}
+use Rattle.std.specs.Prelude.{ℕ, zero, suc, ◌+◌, Bool, true, false, ◌&&◌, not, List, [], ◌∷◌, ◌++◌, length, Option, Some, None, Result, Ok, Err, ℤ, pos, nat_eq, nat_lt, int_lt, if◌then◌else◌}
 use Rattle.std.specs.Ordering.{int_eq}
 use Rattle.std.specs.Str.{bytes_eq}
 use Rattle.std.proofs.Common.{get_or}
@@ -8,8 +8,8 @@ use Rattle.kr_ast.specs.declared.node.BinaryOperator.{BinaryOperator}
 use Rattle.kr_ast.specs.declared.node.BinaryOperator.TheVariants.{Less, LessOrEqual, Greater, GreaterOrEqual, Equal, NotEqual}
 use Rattle.kr_ast.specs.Tree as trees
 use Rattle.kr_ast.specs.Tree.{Tree}
-use Rattle.kr_mean.specs.Program.{Program, ClassOf, Method, items}
-use Rattle.kr_mean.specs.Problem.{Class, Object, Array, Value, Int, Truth, Null, Reference, Spot, Field, Length, Element, Place, At}
+use Rattle.kr_mean.specs.Program.{Program, ClassOf, Field as FieldOf, Method, items}
+use Rattle.kr_mean.specs.Problem.{Class, Object, Array, Value, Int, Truth, Null, Reference, Spot, Field, Length, Element, SlotPlace, At}
 use Rattle.kr_mean.specs.Heaps.{HeapObject}
 
 -- why a run traps; the last two are this tool's own
@@ -23,25 +23,28 @@ pub data TrapKind : Type 0 where
   NoReturn : TrapKind
   ArrayTooLong : TrapKind
 
--- How a run ends early. It is stuck where a node has no meaning, as one that breaks a typing rule.
+-- How a run ends early. It is stuck where a node has no meaning: one that breaks a typing rule, or a kind without a row.
 pub data Stop : Type 0 where
   Trapped : TrapKind → Stop
   OutOfFuel : Stop
   Stuck : Stop
 
--- a parameter, with its value
+-- a parameter with its value, and with the place that is read with it where a candidate gives it
 pub record Local : Type 0 where
   pub name : List ℕ
   pub value : Value
+  pub slot : Option SlotPlace
 
--- what a run changes; the first objects of the heap are the candidates
+-- What a run changes; the first objects of the heap are the candidates. The code that runs is that of a class, which
+-- `this` is of, or below it.
 pub record State : Type 0 where
   pub this_value : Value
+  pub code_class : ℕ
   pub locals : List Local
   pub heap : List HeapObject
   pub candidates : ℕ
   pub fuel : ℕ
-  pub reads : List Place
+  pub reads : List SlotPlace
 
 -- what a run says, and the state after it
 pub record Outcome (A : Type 0) : Type 0 where
@@ -88,6 +91,9 @@ tick s = tick_at s.fuel s
 abbrev pub get_this : Run Value
 get_this s = give s.this_value s
 
+abbrev pub get_code_class : Run ℕ
+get_code_class s = give s.code_class s
+
 abbrev pub get_locals : Run (List Local)
 get_locals s = give s.locals s
 
@@ -104,7 +110,7 @@ value_of_spot object Length = Int (pos (length object.values))
 value_of_spot object (Element k) = get_or object.values k Null
 
 -- a place that was read, if it is a candidate's
-abbrev pub noted : Bool → Place → List Place → List Place
+abbrev pub noted : Bool → SlotPlace → List SlotPlace → List SlotPlace
 noted true p reads = reads ++ p ∷ []
 noted false p reads = reads
 
@@ -124,14 +130,13 @@ class_of (Truth b) s = stop Stuck s
 
 -- ---- names
 
--- where a name stands among others
-abbrev pub index_of : ℕ → List (List ℕ) → List ℕ → Option ℕ
-index_of i [] n = None
-index_of i (m ∷ ms) n = if bytes_eq m n then Some i else index_of (i + 1) ms n
+abbrev pub field_of : ℕ → List FieldOf → List ℕ → Option ℕ
+field_of i [] n = None
+field_of i (f ∷ fs) n = if bytes_eq f.name n then Some i else field_of (i + 1) fs n
 
-abbrev pub local_of : List Local → List ℕ → Option Value
+abbrev pub local_of : List Local → List ℕ → Option Local
 local_of [] n = None
-local_of (l ∷ ls) n = if bytes_eq l.name n then Some l.value else local_of ls n
+local_of (l ∷ ls) n = if bytes_eq l.name n then Some l else local_of ls n
 
 abbrev pub method_of : List Method → List ℕ → Option Method
 method_of [] n = None
@@ -152,18 +157,21 @@ abbrev pub load_at : Value → Option ℕ → Run Value
 load_at v None = stop Stuck
 load_at v (Some f) = load v (Field f)
 
--- reads the field of a name
-abbrev pub load_field : Program → Value → List ℕ → Run Value
-load_field program v n = do
-  class ← class_of v
-  load_at v (index_of 0 (class_in program class).fields n)
+abbrev pub with_slot : Option SlotPlace → List SlotPlace → List SlotPlace
+with_slot None reads = reads
+with_slot (Some p) reads = reads ++ p ∷ []
 
--- a local's value, or where there is none of the name that of the field of `this` (6.5.6.1)
-abbrev pub named : Program → List ℕ → Option Value → Run Value
-named program n (Some v) = give v
+-- reads a local
+abbrev pub load_local : Local → Run Value
+load_local l s = give l.value (record s { reads = with_slot l.slot s.reads })
+
+-- a local's value, or where there is none of the name that of the field of `this` which the running code's class has (6.5.6.1)
+abbrev pub named : Program → List ℕ → Option Local → Run Value
+named program n (Some l) = load_local l
 named program n None = do
   o ← get_this
-  load_field program o n
+  class ← get_code_class
+  load_at o (field_of 0 (class_in program (Object class)).fields n)
 
 -- ---- operators
 
@@ -172,12 +180,6 @@ int_in (Int n) = n
 int_in (Truth b) = pos 0
 int_in Null = pos 0
 int_in (Reference o) = pos 0
-
-abbrev pub is_true : Value → Bool
-is_true (Truth b) = b
-is_true (Int n) = false
-is_true Null = false
-is_true (Reference o) = false
 
 -- numbers and booleans compare by value, references by identity
 abbrev pub is_same : Value → Value → Bool
@@ -207,8 +209,28 @@ holds_of Equal v w = is_same v w
 holds_of NotEqual v w = not (is_same v w)
 holds_of _ v w = false
 
+abbrev pub are_numbers : Value → Value → Bool
+are_numbers (Int m) (Int n) = true
+are_numbers _ _ = false
+
+-- two numbers, two booleans, or two references, of which null is one
+abbrev pub are_alike : Value → Value → Bool
+are_alike (Int m) (Int n) = true
+are_alike (Truth a) (Truth b) = true
+are_alike Null Null = true
+are_alike Null (Reference p) = true
+are_alike (Reference o) Null = true
+are_alike (Reference o) (Reference p) = true
+are_alike _ _ = false
+
+-- whether the operator has a meaning on these
+abbrev pub takes : BinaryOperator → Value → Value → Bool
+takes Equal v w = are_alike v w
+takes NotEqual v w = are_alike v w
+takes o v w = is_comparison o && are_numbers v w
+
 abbrev pub operated : BinaryOperator → Value → Value → Run Value
-operated o v w = if is_comparison o then give (Truth (holds_of o v w)) else stop Stuck
+operated o v w = if takes o v w then give (Truth (holds_of o v w)) else stop Stuck
 
 -- ---- statements and calls
 
@@ -234,33 +256,43 @@ returned true Next = stop (Trapped NoReturn)
 returned false Next = give Null
 returned gives_value (Gave v) = give v
 
--- an object as `this`, and other locals
-abbrev pub enter : Value → List Local → Run (Unit {0})
-enter v locals s = give tt (record s { this_value = v; locals = locals })
+-- an object as `this`, the code of a class, and other locals
+abbrev pub enter : Value → ℕ → List Local → Run (Unit {0})
+enter v class locals s = give tt (record s { this_value = v; code_class = class; locals = locals })
 
--- back with `this` and the locals as they were, whatever was said
-abbrev pub leave : {A : Type 0} → Value → List Local → Run A → Run A
-leave v locals m s = outcome (m s).said (record (m s).after { this_value = v; locals = locals })
+-- back with these as they were, whatever was said
+abbrev pub leave : {A : Type 0} → Value → ℕ → List Local → Run A → Run A
+leave v class locals m s = outcome (m s).said (record (m s).after { this_value = v; code_class = class; locals = locals })
 
-abbrev pub within : Value → List Local → Run Value → Run Value
-within receiver arguments body = do
+abbrev pub within : Value → ℕ → List Local → Run Value → Run Value
+within receiver class arguments body = do
   before ← get_this
+  class_before ← get_code_class
   locals ← get_locals
-  leave before locals (enter receiver arguments >> body)
+  leave before class_before locals (enter receiver class arguments >> body)
 
--- the parameters with the arguments as their values
-abbrev pub bound : List (List ℕ) → List Value → List Local
-bound (n ∷ ns) (v ∷ vs) = record { name = n; value = v } ∷ bound ns vs
-bound _ _ = []
+abbrev pub with_local : List ℕ → Value → Option (List Local) → Option (List Local)
+with_local n v None = None
+with_local n v (Some ls) = Some (record { name = n; value = v; slot = None } ∷ ls)
+
+-- the parameters with the arguments as their values, as many of one as of the other
+abbrev pub bound : List (List ℕ) → List Value → Option (List Local)
+bound [] [] = Some []
+bound (n ∷ ns) (v ∷ vs) = with_local n v (bound ns vs)
+bound _ _ = None
 
 abbrev pub run_body : (Tree → Run Flow) → Method → Run Value
 run_body exec method = do
   flow ← all exec method.body
   returned method.gives_value flow
 
+abbrev pub run_bound : (Tree → Run Flow) → Value → Method → Option (List Local) → Run Value
+run_bound exec receiver method None = stop Stuck
+run_bound exec receiver method (Some locals) = within receiver method.class locals (run_body exec method)
+
 abbrev pub run_method : (Tree → Run Flow) → Value → List Value → Option Method → Run Value
 run_method exec receiver arguments None = stop Stuck
-run_method exec receiver arguments (Some method) = within receiver (bound method.parameters arguments) (run_body exec method)
+run_method exec receiver arguments (Some method) = run_bound exec receiver method (bound method.parameters arguments)
 
 -- the method of a name that the receiver's class has; null traps (15.12.4)
 abbrev pub called : Program → (Tree → Run Flow) → List ℕ → Value → List Value → Run Value
@@ -296,11 +328,11 @@ value_of program value call (trees.MethodCall p e n es) = do
 value_of program value call _ = stop Stuck
 
 -- a statement after its unit
-abbrev pub flow_of : (Tree → Run Value) → Tree → Run Flow
-flow_of value (trees.Return p e) = do
+abbrev pub flow_of : Program → (Tree → Run Value) → (Tree → Run Flow) → Tree → Run Flow
+flow_of program value exec (trees.Return p e) = do
   v ← value e
   give (Gave v)
-flow_of value _ = stop Stuck
+flow_of program value exec _ = stop Stuck
 
 -- expressions and statements, nested at most n deep: each level takes a unit, so a bound of the fuel cuts nothing off
 unfoldable mutual
@@ -310,7 +342,7 @@ unfoldable mutual
 
   pub exec : Program → ℕ → Tree → Run Flow
   exec program zero t = stop OutOfFuel
-  exec program (suc n) t = tick >> flow_of (eval program n) t
+  exec program (suc n) t = tick >> flow_of program (eval program n) (exec program n) t
 
 -- the meaning of an expression
 unfoldable pub value : Program → Tree → Run Value

@@ -99,13 +99,13 @@ heap_number problem o = objects_before o.domain problem.domains + o.number
 -- ---- slots and their domains
 
 -- Where a candidate has a value: what `this` is, a parameter, or a spot of an object.
-pub data Place : Type 0 where
-  This : Place
-  Parameter : ℕ → Place
-  At : ℕ → Spot → Place
+pub data SlotPlace : Type 0 where
+  This : SlotPlace
+  Parameter : ℕ → SlotPlace
+  At : ℕ → Spot → SlotPlace
 
 pub record Slot : Type 0 where
-  pub place : Place
+  pub place : SlotPlace
   pub owner : Option DomainObject
   pub domain : Domain
 

@@ -4,26 +4,26 @@ use Rattle.std.specs.Prelude.{◌≡◌, ℕ, ◌<◌, ◌⊎◌, List, [], ◌�
 use Rattle.kr_base.specs.declared.place.Place.{Place}
 use Rattle.kr_ast.specs.Tree as trees
 use Rattle.kr_ast.specs.Tree.{Tree}
-use Rattle.kr_mean.specs.Program.{Method}
-use Rattle.kr_mean.specs.Problem.{Problem, Class, Object, Array, ClassDomain, Mode, Listing, Testing}
+use Rattle.kr_mean.specs.Program.{Program, Method}
+use Rattle.kr_mean.specs.Problem.{Problem, Class, Object, Array, ClassDomain, Mode, Listing, Testing, domain_at}
 use Rattle.kr_mean.specs.Meaning.{method_in}
-use Rattle.kr_mean.specs.Runs.{requires_of, root_method}
+use Rattle.kr_mean.specs.Runs.{requires_of, root_method, tested_method}
 use Rattle.kr_mean.specs.Nodes.{nodes}
 
 abbrev pub IsOneOf : {A : Type 0} → A → List A → Type 0
 IsOneOf x [] = ⊥
 IsOneOf x (y ∷ ys) = (y ≡ x) ⊎ IsOneOf x ys
 
--- The node may create an object of the class or array type, or write a field or an element of one. Of a node that has no
--- meaning nothing is known.
-abbrev pub MayTouch : Tree → Class → Type 0
-MayTouch (trees.Number p n) class = ⊥
-MayTouch (trees.This p) class = ⊥
-MayTouch (trees.Variable p n) class = ⊥
-MayTouch (trees.Binary p o a b) class = ⊥
-MayTouch (trees.MethodCall p e n es) class = ⊥
-MayTouch (trees.Return p e) class = ⊥
-MayTouch _ class = Unit {0}
+-- A node in the code of a class's method may create an object of the class or array type, or write a field or an element
+-- of one. Of kinds without a row nothing is known.
+abbrev pub MayTouch : Program → Class → List ℕ → Tree → Class → Type 0
+MayTouch program code method (trees.Number p n) class = ⊥
+MayTouch program code method (trees.This p) class = ⊥
+MayTouch program code method (trees.Variable p n) class = ⊥
+MayTouch program code method (trees.Binary p o a b) class = ⊥
+MayTouch program code method (trees.MethodCall p e n es) class = ⊥
+MayTouch program code method (trees.Return p e) class = ⊥
+MayTouch program code method _ class = Unit {0}
 
 -- the nodes of a method's statements
 abbrev pub nodes_of_body : Option Method → List Tree
@@ -34,18 +34,25 @@ abbrev pub ensured_by : Option Method → List Tree
 ensured_by None = []
 ensured_by (Some method) = method.ensures_all
 
-abbrev pub ensures_of : Problem → Mode → List Tree
-ensures_of problem Listing = []
-ensures_of problem (Testing n domains) = ensured_by (root_method problem n)
+-- the postconditions of the method under test
+abbrev pub ensures_of : Problem → List Tree
+ensures_of problem = ensured_by (tested_method problem problem.mode)
 
--- A node of the predicate's code: of the root's `repOk`, of a condition of the method under test, or of a method that
--- such a node may call, in whatever class.
-pub data IsPredicateCode (problem : Problem) : Tree → Type 0 where
-  predicate : {node : Tree} → IsOneOf node (nodes_of_body (root_method problem (codes "repOk"))) → IsPredicateCode problem node
-  precondition : {node : Tree} (e : Tree) → IsOneOf e (requires_of problem problem.mode) → IsOneOf node (nodes e) → IsPredicateCode problem node
-  postcondition : {node : Tree} (e : Tree) → IsOneOf e (ensures_of problem problem.mode) → IsOneOf node (nodes e) → IsPredicateCode problem node
-  called : {node : Tree} (p : Place) (e : Tree) (n : List ℕ) (es : Tree) (c : ℕ) → IsPredicateCode problem (trees.MethodCall p e n es) → c < length problem.program.classes
-      → IsOneOf node (nodes_of_body (method_in problem.program (Object c) n)) → IsPredicateCode problem node
+abbrev pub root_class : Problem → Class
+root_class problem = (domain_at problem problem.root).class
+
+abbrev pub tested : Mode → List ℕ
+tested Listing = []
+tested (Testing n domains) = n
+
+-- A node of the predicate's code, in the code of a class's method: of the root's `repOk`, of a condition of the method
+-- under test, or of a method that such a node may call, in whatever class.
+pub data IsPredicateCode (problem : Problem) : Class → List ℕ → Tree → Type 0 where
+  predicate : {node : Tree} → IsOneOf node (nodes_of_body (root_method problem (codes "repOk"))) → IsPredicateCode problem (root_class problem) (codes "repOk") node
+  precondition : {node : Tree} (e : Tree) → IsOneOf e (requires_of problem) → IsOneOf node (nodes e) → IsPredicateCode problem (root_class problem) (tested problem.mode) node
+  postcondition : {node : Tree} (e : Tree) → IsOneOf e (ensures_of problem) → IsOneOf node (nodes e) → IsPredicateCode problem (root_class problem) (tested problem.mode) node
+  called : {node : Tree} (code : Class) (method : List ℕ) (p : Place) (e : Tree) (n : List ℕ) (es : Tree) (c : ℕ) → IsPredicateCode problem code method (trees.MethodCall p e n es) → c < length problem.program.classes
+      → IsOneOf node (nodes_of_body (method_in problem.program (Object c) n)) → IsPredicateCode problem (Object c) n node
 
 -- the finitization counts objects of the class, or names the array type
 abbrev pub IsCounted : Class → ℕ → Type 0
@@ -56,4 +63,4 @@ abbrev pub IsFinitized : Problem → Class → Type 0
 IsFinitized problem class = (d : ClassDomain) × IsOneOf d problem.domains × (d.class ≡ class) × IsCounted class d.count
 
 abbrev pub IsPure : Problem → Type 0
-IsPure problem = (node : Tree) (class : Class) → IsPredicateCode problem node → MayTouch node class → IsFinitized problem class → ⊥
+IsPure problem = (code : Class) (method : List ℕ) (node : Tree) (class : Class) → IsPredicateCode problem code method node → MayTouch problem.program code method node class → IsFinitized problem class → ⊥

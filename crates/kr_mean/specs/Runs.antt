@@ -1,13 +1,13 @@
 -- The predicate run on a vector, the order of the slots that decide it, and the key that they give.
-use Rattle.std.specs.Prelude.{ℕ, ◌+◌, ◌==◌, Bool, true, false, ◌&&◌, ◌||◌, not, List, [], ◌∷◌, ◌++◌, length, map, flat_map, filter, Option, Some, None, Result, Ok, Err, codes, if◌then◌else◌}
+use Rattle.std.specs.Prelude.{◌≡◌, ℕ, ◌+◌, ◌==◌, Bool, true, false, ◌&&◌, ◌||◌, not, List, [], ◌∷◌, ◌++◌, length, map, flat_map, filter, Option, Some, None, Result, Ok, Err, codes, if◌then◌else◌}
 use Rattle.std.proofs.Common.{get_or}
-use Rattle.kr_base.specs.declared.place.Place.{Place as SourcePlace}
+use Rattle.kr_base.specs.declared.place.Place.{Place}
 use Rattle.kr_ast.specs.Tree as trees
 use Rattle.kr_ast.specs.Tree.{Tree, MethodCall}
 use Rattle.kr_mean.specs.Program.{Program, Method}
-use Rattle.kr_mean.specs.Problem.{Problem, Mode, Listing, Testing, parameter_domains, Value, Spot, Field, Length, Element, Place, This, Parameter, At, all_objects, slot_at, slots, domain_at, upto}
+use Rattle.kr_mean.specs.Problem.{Problem, Mode, Listing, Testing, parameter_domains, Class, Object, Array, Value, Truth, Spot, Field, Length, Element, SlotPlace, This, Parameter, At, all_objects, slot_at, slots, domain_at, upto}
 use Rattle.kr_mean.specs.Heaps.{distinct, heap_of, value_at, walk}
-use Rattle.kr_mean.specs.Meaning.{TrapKind, Stop, Trapped, OutOfFuel, Stuck, State, Outcome, Run, give, ◌>>=◌, is_true, method_in, bound, value}
+use Rattle.kr_mean.specs.Meaning.{TrapKind, Stop, Trapped, OutOfFuel, Stuck, Local, State, Outcome, Run, give, stop, ◌>>=◌, method_in, value}
 
 -- ---- the run
 
@@ -18,21 +18,25 @@ pub data End : Type 0 where
   Trap : TrapKind → End
   Spent : End
 
-abbrev pub required_by : Option Method → List Tree
-required_by None = []
-required_by (Some method) = method.requires_all
-
 -- the method of a name in the root's class
 abbrev pub root_method : Problem → List ℕ → Option Method
 root_method problem n = method_in problem.program (domain_at problem problem.root).class n
 
--- the preconditions of the method under test
-abbrev pub requires_of : Problem → Mode → List Tree
-requires_of problem Listing = []
-requires_of problem (Testing n domains) = required_by (root_method problem n)
+-- the method under test, where one is tested
+abbrev pub tested_method : Problem → Mode → Option Method
+tested_method problem Listing = None
+tested_method problem (Testing n domains) = root_method problem n
+
+abbrev pub required_by : Option Method → List Tree
+required_by None = []
+required_by (Some method) = method.requires_all
+
+-- its preconditions
+abbrev pub requires_of : Problem → List Tree
+requires_of problem = required_by (tested_method problem problem.mode)
 
 -- the place of what stands in no source
-abbrev pub nowhere : SourcePlace
+abbrev pub nowhere : Place
 nowhere = record { file = 0; line = 0; col = 0 }
 
 -- `this.repOk()`
@@ -41,12 +45,18 @@ rep_ok = MethodCall nowhere (trees.This nowhere) (codes "repOk") trees.Nil
 
 -- what has to hold: `this.repOk()`, and then each precondition in order
 abbrev pub conditions : Problem → List Tree
-conditions problem = rep_ok ∷ requires_of problem problem.mode
+conditions problem = rep_ok ∷ requires_of problem
+
+-- goes on where a condition holds
+abbrev pub where_true : Value → Run Bool → Run Bool
+where_true (Truth true) m = m
+where_true (Truth false) m = give false
+where_true _ m = stop Stuck
 
 -- whether all hold, each looked at only where those before it do
 abbrev pub hold_all : Program → List Tree → Run Bool
 hold_all program [] = give true
-hold_all program (e ∷ es) = value program e >>= (λ v. if is_true v then hold_all program es else give false)
+hold_all program (e ∷ es) = value program e >>= (λ v. where_true v (hold_all program es))
 
 -- the values of the parameters of the method under test
 abbrev pub parameter_values : Problem → List ℕ → List Value
@@ -56,14 +66,28 @@ abbrev pub parameters_of : Option Method → List (List ℕ)
 parameters_of None = []
 parameters_of (Some method) = method.parameters
 
-abbrev pub tested_parameters : Problem → Mode → List (List ℕ)
-tested_parameters problem Listing = []
-tested_parameters problem (Testing n domains) = parameters_of (root_method problem n)
+abbrev pub tested_parameters : Problem → List (List ℕ)
+tested_parameters problem = parameters_of (tested_method problem problem.mode)
+
+-- the parameters with their values, which are read where they are named
+abbrev pub parameters_from : ℕ → List (List ℕ) → List Value → List Local
+parameters_from i (n ∷ ns) (v ∷ vs) = record { name = n; value = v; slot = Some (Parameter i) } ∷ parameters_from (i + 1) ns vs
+parameters_from i _ _ = []
+
+abbrev pub class_number : Class → ℕ
+class_number (Object c) = c
+class_number (Array t) = 0
+
+-- the class whose code the conditions are: that of the method under test, else the root's
+abbrev pub conditions_class : Problem → Option Method → ℕ
+conditions_class problem None = class_number (domain_at problem problem.root).class
+conditions_class problem (Some method) = method.class
 
 abbrev pub start : Problem → List ℕ → State
 start problem vector = record {
   this_value = value_at problem vector 0;
-  locals = bound (tested_parameters problem problem.mode) (parameter_values problem vector);
+  code_class = conditions_class problem (tested_method problem problem.mode);
+  locals = parameters_from 0 (tested_parameters problem) (parameter_values problem vector);
   heap = heap_of problem vector;
   candidates = length (all_objects problem);
   fuel = problem.fuel;
@@ -80,6 +104,10 @@ end_of (Err Stuck) = False
 abbrev pub outcome_of : Problem → List ℕ → Outcome Bool
 outcome_of problem vector = hold_all problem.program (conditions problem) (start problem vector)
 
+-- the run ends at a node without a meaning
+abbrev pub IsStuck : Problem → List ℕ → Type 0
+IsStuck problem vector = (outcome_of problem vector).said ≡ Err Stuck
+
 unfoldable pub end_on : Problem → List ℕ → End
 end_on problem vector = end_of (outcome_of problem vector).said
 
@@ -91,14 +119,14 @@ is_same_spot Length Length = true
 is_same_spot (Element i) (Element j) = i == j
 is_same_spot _ _ = false
 
-abbrev pub is_same_place : Place → Place → Bool
+abbrev pub is_same_place : SlotPlace → SlotPlace → Bool
 is_same_place This This = true
 is_same_place (Parameter i) (Parameter j) = i == j
 is_same_place (At o s) (At p t) = (o == p) && is_same_spot s t
 is_same_place _ _ = false
 
 -- the slot of a place
-abbrev pub slots_for : Problem → Place → List ℕ
+abbrev pub slots_for : Problem → SlotPlace → List ℕ
 slots_for problem place = filter (λ s. is_same_place (slot_at problem s).place place) (upto (length (slots problem)))
 
 abbrev pub is_same_number : ℕ → ℕ → Bool
