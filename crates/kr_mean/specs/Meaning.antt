@@ -130,10 +130,12 @@ class_of (Truth b) s = stop Stuck s
 
 -- ---- names
 
+-- where the field of a name stands, the first one standing at a number
 abbrev pub field_of : ℕ → List FieldOf → List ℕ → Option ℕ
 field_of i [] n = None
 field_of i (f ∷ fs) n = if bytes_eq f.name n then Some i else field_of (i + 1) fs n
 
+-- the newest local of a name
 abbrev pub local_of : List Local → List ℕ → Option Local
 local_of [] n = None
 local_of (l ∷ ls) n = if bytes_eq l.name n then Some l else local_of ls n
@@ -165,7 +167,8 @@ with_slot (Some p) reads = reads ++ p ∷ []
 abbrev pub load_local : Local → Run Value
 load_local l s = give l.value (record s { reads = with_slot l.slot s.reads })
 
--- a local's value, or where there is none of the name that of the field of `this` which the running code's class has (6.5.6.1)
+-- A local's value; or, where there is none of the name, that of the field of `this` which the running code's class has
+-- (6.5.6.1).
 abbrev pub named : Program → List ℕ → Option Local → Run Value
 named program n (Some l) = load_local l
 named program n None = do
