@@ -9,7 +9,7 @@ use Rattle.kr_mean.specs.Heaps.{heap_of, walk}
 use Rattle.kr_mean.specs.Meaning.{bind, eval, exec, value}
 use Rattle.kr_mean.specs.Runs.{end_on, reads_of, order_of}
 use Rattle.kr_mean.specs.Entries.{mark_of, all_of, all_entries}
-use Rattle.kr_mean.specs.Examples.{listing, cell, two_ints, two_nodes, nodes_before_null, two_subclasses, arrays, shown, valid, invalid, spent, Worked}
+use Rattle.kr_mean.specs.Examples.{listing, cell, two_ints, two_nodes, nodes_before_null, two_subclasses, arrays, tested_put, unknown_name, shown, valid, invalid, spent, Worked}
 
 cell_listed : listing (cell 0 1000) ≡ invalid (0 ∷ 0 ∷ []) ∷ valid (0 ∷ 1 ∷ []) ∷ valid (0 ∷ 2 ∷ []) ∷ []
 unfolding less space_of heap_of walk bind eval exec value end_on reads_of order_of mark_of all_of all_entries
@@ -51,6 +51,14 @@ arrays_listed : listing arrays ≡ valid (0 ∷ 0 ∷ 0 ∷ []) ∷ valid (0 ∷
 unfolding less space_of heap_of walk bind eval exec value end_on reads_of order_of mark_of all_of all_entries
 arrays_listed = refl
 
+tested_put_listed : listing tested_put ≡ invalid (0 ∷ 0 ∷ []) ∷ valid (0 ∷ 1 ∷ 0 ∷ []) ∷ valid (0 ∷ 1 ∷ 1 ∷ []) ∷ []
+unfolding less space_of heap_of walk bind eval exec value end_on reads_of order_of mark_of all_of all_entries
+tested_put_listed = refl
+
+unknown_name_listed : listing unknown_name ≡ invalid (0 ∷ []) ∷ []
+unfolding less space_of heap_of walk bind eval exec value end_on reads_of order_of mark_of all_of all_entries
+unknown_name_listed = refl
+
 spent_ends_span : map shown (entries_in (At []) End (all_entries (cell 0 5))) ≡ spent (0 ∷ 0 ∷ []) ∷ []
 unfolding less space_of heap_of walk bind eval exec value end_on reads_of order_of mark_of all_of all_entries
 spent_ends_span = refl
@@ -75,6 +83,8 @@ worked = record {
   nodes_before_null_listed = nodes_before_null_listed;
   two_subclasses_listed = two_subclasses_listed;
   arrays_listed = arrays_listed;
+  tested_put_listed = tested_put_listed;
+  unknown_name_listed = unknown_name_listed;
   spent_ends_span = spent_ends_span;
   behind_spent = behind_spent;
   above_and_not_above = above_and_not_above;

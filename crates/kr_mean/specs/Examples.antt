@@ -3,12 +3,12 @@ use Rattle.std.specs.Prelude.{◌≡◌, ℕ, pos, List, [], ◌∷◌, ◌++◌
 use Rattle.kr_base.specs.declared.entry.Entry.{Entry}
 use Rattle.kr_base.specs.declared.span.Bound.TheVariants.{At, End}
 use Rattle.kr_base.specs.Entries.{is_valid, is_spent, entries_in}
-use Rattle.kr_ast.specs.declared.node.Primitive.TheVariants.{Int as IntType, Boolean}
+use Rattle.kr_ast.specs.declared.node.Primitive.TheVariants.{Int as IntType, Boolean, Void}
 use Rattle.kr_ast.specs.declared.node.BinaryOperator.TheVariants.{Equal, Greater}
 use Rattle.kr_ast.specs.Tree as trees
 use Rattle.kr_ast.specs.Tree.{Tree, Nil, Cons}
 use Rattle.kr_mean.specs.Program.{program_of}
-use Rattle.kr_mean.specs.Problem.{Problem, ClassDomain, Domain, Spotted, Object, Array, Field, Length, Element, Listing, Int, Null, Plain, Objects}
+use Rattle.kr_mean.specs.Problem.{Problem, ClassDomain, Domain, Spotted, Object, Array, Field, Length, Element, Listing, Testing, Int, Null, Plain, Objects}
 use Rattle.kr_mean.specs.Runs.{nowhere}
 use Rattle.kr_mean.specs.Entries.{Row, all_entries}
 use Rattle.kr_mean.specs.OneField.{Places, one, one_field}
@@ -113,6 +113,28 @@ abbrev pub two_ints : Problem
 two_ints = listed (root_class (int_field (codes "a") ∷ int_field (codes "b") ∷ []) (compare (trees.Variable nowhere (codes "a")) (literal 1)) ∷ [])
     (record { name = codes "R"; class = Object 0; count = 1; spots = at_field 0 (int_items (0 ∷ 1 ∷ [])) ∷ at_field 1 (int_items (7 ∷ 9 ∷ [])) ∷ [] } ∷ []) 1000
 
+-- `//@ requires x > 0; void put(int x) { }`
+abbrev pub put : Tree
+put =
+    let parameter = trees.Parameter nowhere (trees.PrimitiveType nowhere IntType) (codes "x") in
+    let condition = trees.Binary nowhere Greater (trees.Variable nowhere (codes "x")) (literal 0) in
+    trees.Method nowhere false (codes "put") (trees.Signature nowhere (trees.PrimitiveType nowhere Void) (one parameter) (one (trees.Requires nowhere condition))) Nil
+
+-- a method under test, whose parameter hides the field of its name
+abbrev pub tested_put : Problem
+tested_put = record {
+  program = program_of (one (class_named (codes "R") (int_field (codes "x") ∷ rep_ok_of always ∷ put ∷ [])) ∷ []);
+  root = 0;
+  mode = Testing (codes "put") (int_items (0 ∷ 1 ∷ []) ∷ []);
+  fuel = 1000;
+  domains = record { name = codes "R"; class = Object 0; count = 1; spots = at_field 0 (int_items (7 ∷ 9 ∷ [])) ∷ [] } ∷ [];
+}
+
+-- a predicate with a name that nothing has
+abbrev pub unknown_name : Problem
+unknown_name = listed (root_class (int_field (codes "a") ∷ []) (compare (trees.Variable nowhere (codes "b")) (literal 0)) ∷ [])
+    (record { name = codes "R"; class = Object 0; count = 1; spots = at_field 0 (int_items (0 ∷ 1 ∷ [])) ∷ [] } ∷ []) 1000
+
 abbrev pub anywhere : Places
 anywhere = record {
   class = nowhere;
@@ -145,6 +167,10 @@ pub record Worked : Type 0 where
   pub nodes_before_null_listed : listing nodes_before_null ≡ valid (0 ∷ 0 ∷ []) ∷ valid (0 ∷ 1 ∷ 0 ∷ []) ∷ valid (0 ∷ 1 ∷ 1 ∷ []) ∷ valid (0 ∷ 1 ∷ 2 ∷ []) ∷ valid (0 ∷ 2 ∷ []) ∷ []
   pub two_subclasses_listed : listing two_subclasses ≡ valid (0 ∷ 0 ∷ 0 ∷ []) ∷ valid (0 ∷ 0 ∷ 1 ∷ []) ∷ valid (0 ∷ 0 ∷ 2 ∷ []) ∷ valid (0 ∷ 2 ∷ 0 ∷ []) ∷ valid (0 ∷ 2 ∷ 2 ∷ []) ∷ valid (0 ∷ 2 ∷ 3 ∷ []) ∷ []
   pub arrays_listed : listing arrays ≡ valid (0 ∷ 0 ∷ 0 ∷ []) ∷ valid (0 ∷ 0 ∷ 1 ∷ 0 ∷ []) ∷ valid (0 ∷ 0 ∷ 1 ∷ 1 ∷ []) ∷ valid (0 ∷ 0 ∷ 2 ∷ 0 ∷ 0 ∷ []) ∷ valid (0 ∷ 0 ∷ 2 ∷ 0 ∷ 1 ∷ []) ∷ valid (0 ∷ 0 ∷ 2 ∷ 1 ∷ 0 ∷ []) ∷ valid (0 ∷ 0 ∷ 2 ∷ 1 ∷ 1 ∷ []) ∷ []
+  -- the condition reads the parameter, and the field is reached after it
+  pub tested_put_listed : listing tested_put ≡ invalid (0 ∷ 0 ∷ []) ∷ valid (0 ∷ 1 ∷ 0 ∷ []) ∷ valid (0 ∷ 1 ∷ 1 ∷ []) ∷ []
+  -- a run that is stuck doesn't accept
+  pub unknown_name_listed : listing unknown_name ≡ invalid (0 ∷ []) ∷ []
   -- a spent entry ends a span, and the entries behind it are those of a span that begins there
   pub spent_ends_span : map shown (entries_in (At []) End (all_entries (cell 0 5))) ≡ spent (0 ∷ 0 ∷ []) ∷ []
   pub behind_spent : map shown (entries_in (At (0 ∷ 0 ∷ [])) End (all_entries (cell 0 5))) ≡ spent (0 ∷ 1 ∷ []) ∷ []
