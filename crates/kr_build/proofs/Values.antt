@@ -64,3 +64,8 @@ are_all [] vs k h = rw (drop_none k) refl
     drop_none (suc k) = refl
 are_all (x ∷ ss) vs zero h = absurd (omega arith)
 are_all (x ∷ ss) vs (suc k) h = are_all ss vs k (omega arith)
+
+pub none_behind : (vs : List Kept) (k : ℕ) → length vs ≤ k → slice_get vs k ≡ None
+none_behind [] k h = refl
+none_behind (v ∷ vs) zero h = absurd (omega arith)
+none_behind (v ∷ vs) (suc k) h = none_behind vs k (omega arith)

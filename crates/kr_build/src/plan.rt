@@ -1,7 +1,6 @@
 // The node that is put above some values.
 ghost use Rattle.std.specs.Prelude.{◌≡◌, Some, None};
-ghost use Rattle.kr_grammar.specs.Made.{the_primitive, the_unary, the_step_before, the_step_behind, the_binary, the_compound};
-ghost use Rattle.kr_build.specs.Plans.{tree, plain, formed, under, type_node, jump_node, assignment, variable, call, types, primaries, operations, statements, branches, declarations, names_and_lists, plan, head, over};
+ghost use Rattle.kr_build.specs.Plans.{tree, plain, type_node, jump_node, assignment, lists, declarations, loops, branches, statements, locals, comparisons, infixes, prefixes, creations, selections, plan, variable, call, single, lower, upper, below, staying};
 
 use crate::operators::{
     binary_of, compound_of, primitive_of, step_before_of, step_behind_of, unary_of,
@@ -12,15 +11,13 @@ use kr_base::Place;
 use kr_grammar::{Form, Make};
 use kr_lex::Kind;
 
-/// A node that takes the place of so many values, with its place and the form that its tree has. One value may stay
-/// above it.
+/// A node that takes the place of so many values, with its place and the form that its tree has.
 #[derive(Clone, Copy, Debug)]
 pub struct Plan {
     pub taken: usize,
     pub place: Place,
     pub form: Form,
     pub node: Node,
-    pub above: Option<Kept>,
 }
 
 pub const fn tree(taken: usize, place: Place, form: Form, node: Node) -> Plan
@@ -31,32 +28,13 @@ pub const fn tree(taken: usize, place: Place, form: Form, node: Node) -> Plan
         place,
         form,
         node,
-        above: None,
     }
 }
 
-const fn formed(taken: usize, place: Place, form: Form, node: Node) -> Option<Plan>
-    ensures { result ≡ formed taken place form node }
-{
-    Some(tree(taken, place, form, node))
-}
-
-const fn plain(taken: usize, place: Place, node: Node) -> Option<Plan>
+const fn plain(taken: usize, place: Place, node: Node) -> Plan
     ensures { result ≡ plain taken place node }
 {
-    Some(tree(taken, place, Form::Other, node))
-}
-
-const fn under(taken: usize, place: Place, node: Node, above: Option<Kept>) -> Option<Plan>
-    ensures { result ≡ under taken place node above }
-{
-    Some(Plan {
-        taken,
-        place,
-        form: Form::Other,
-        node,
-        above,
-    })
+    tree(taken, place, Form::Other, node)
 }
 
 /// A name as a type.
@@ -93,300 +71,11 @@ fn assignment(kind: Kind, target: u32, value: u32) -> Node
     }
 }
 
-/// Types.
-fn types(make: Make, values: &Values) -> Option<Plan>
-    ensures { result ≡ types make values.now }
+/// Lists, and what is absent.
+fn lists(make: Make, values: &Values) -> Plan
+    ensures { result ≡ lists make values.now }
 {
     match make {
-        Make::TypeOfMark => formed(
-            1,
-            values.place(0),
-            Form::Type,
-            Node::PrimitiveType {
-                primitive: primitive_of(values.kind(0)),
-            },
-        ),
-        Make::TypeOfName => formed(1, values.place(0), Form::Type, type_node(values.peek(0))),
-        Make::Array => formed(
-            1,
-            values.place(0),
-            Form::Type,
-            Node::ArrayType {
-                element: values.node(0),
-            },
-        ),
-        _ => None,
-    }
-}
-
-/// Primary expressions.
-fn primaries(make: Make, values: &Values) -> Option<Plan>
-    ensures { result ≡ primaries make values.now }
-{
-    match make {
-        Make::SuperCall => formed(
-            3,
-            values.place(2),
-            Form::Invocation,
-            Node::SuperCall {
-                name: values.name(1),
-                arguments: values.node(0),
-            },
-        ),
-        Make::ObjectCreation => formed(
-            3,
-            values.place(2),
-            Form::Invocation,
-            Node::ObjectCreation {
-                class: values.node(1),
-                arguments: values.node(0),
-            },
-        ),
-        Make::ArrayCreation => formed(
-            3,
-            values.place(2),
-            Form::ArrayCreation,
-            Node::ArrayCreation {
-                element: values.node(1),
-                length: values.node(0),
-            },
-        ),
-        Make::FieldAccess => formed(
-            2,
-            values.place(1),
-            Form::Target,
-            Node::FieldAccess {
-                object: values.node(1),
-                name: values.name(0),
-            },
-        ),
-        Make::MethodCall => formed(
-            3,
-            values.place(2),
-            Form::Invocation,
-            Node::MethodCall {
-                object: values.node(2),
-                name: values.name(1),
-                arguments: values.node(0),
-            },
-        ),
-        Make::ArrayAccess => formed(
-            2,
-            values.place(1),
-            Form::Target,
-            Node::ArrayAccess {
-                array: values.node(1),
-                index: values.node(0),
-            },
-        ),
-        _ => None,
-    }
-}
-
-/// Operations.
-fn operations(make: Make, values: &Values) -> Option<Plan>
-    ensures { result ≡ operations make values.now }
-{
-    match make {
-        Make::StepBehind => plain(
-            2,
-            values.place(1),
-            Node::Step {
-                operator: step_behind_of(values.kind(0)),
-                target: values.node(1),
-            },
-        ),
-        Make::StepBefore => plain(
-            2,
-            values.place(1),
-            Node::Step {
-                operator: step_before_of(values.kind(1)),
-                target: values.node(0),
-            },
-        ),
-        Make::Unary => plain(
-            2,
-            values.place(1),
-            Node::Unary {
-                operator: unary_of(values.kind(1)),
-                operand: values.node(0),
-            },
-        ),
-        Make::Cast => plain(
-            3,
-            values.place(2),
-            Node::Cast {
-                target: values.node(1),
-                operand: values.node(0),
-            },
-        ),
-        Make::Binary => plain(
-            3,
-            values.place(2),
-            Node::Binary {
-                operator: binary_of(values.kind(1)),
-                left: values.node(2),
-                right: values.node(0),
-            },
-        ),
-        Make::Less => plain(
-            2,
-            values.place(1),
-            Node::Binary {
-                operator: BinaryOperator::Less,
-                left: values.node(1),
-                right: values.node(0),
-            },
-        ),
-        Make::Greater => plain(
-            2,
-            values.place(1),
-            Node::Binary {
-                operator: BinaryOperator::Greater,
-                left: values.node(1),
-                right: values.node(0),
-            },
-        ),
-        Make::InstanceOf => plain(
-            2,
-            values.place(1),
-            Node::InstanceOf {
-                operand: values.node(1),
-                tested: values.node(0),
-            },
-        ),
-        Make::Conditional => plain(
-            3,
-            values.place(2),
-            Node::Conditional {
-                condition: values.node(2),
-                holds: values.node(1),
-                fails: values.node(0),
-            },
-        ),
-        Make::Assign => plain(
-            3,
-            values.place(2),
-            assignment(values.kind(1), values.node(2), values.node(0)),
-        ),
-        _ => None,
-    }
-}
-
-/// Statements without parts that are statements, and locals.
-fn statements(make: Make, values: &Values) -> Option<Plan>
-    ensures { result ≡ statements make values.now }
-{
-    match make {
-        Make::Declarator => plain(
-            2,
-            values.place(1),
-            Node::Declarator {
-                name: values.name(1),
-                initial: values.node(0),
-            },
-        ),
-        Make::Local => formed(
-            2,
-            values.place(1),
-            Form::Local,
-            Node::Local {
-                declared: values.node(1),
-                declarators: values.node(0),
-            },
-        ),
-        Make::ExpressionStatement => plain(
-            1,
-            values.place(0),
-            Node::ExpressionStatement {
-                expression: values.node(0),
-            },
-        ),
-        Make::Block => plain(
-            2,
-            values.place(1),
-            Node::Block {
-                statements: values.node(0),
-            },
-        ),
-        Make::Return => plain(
-            2,
-            values.place(1),
-            Node::Return {
-                value: values.node(0),
-            },
-        ),
-        Make::ConstructorCall => plain(
-            2,
-            values.place(1),
-            Node::ConstructorCall {
-                arguments: values.node(0),
-            },
-        ),
-        Make::Empty => plain(1, values.place(0), Node::Empty),
-        Make::Jump => plain(1, values.place(0), jump_node(values.kind(0))),
-        _ => None,
-    }
-}
-
-/// Statements that branch or loop.
-fn branches(make: Make, values: &Values) -> Option<Plan>
-    ensures { result ≡ branches make values.now }
-{
-    match make {
-        Make::IfThen => plain(
-            3,
-            values.place(2),
-            Node::IfThen {
-                condition: values.node(1),
-                holds: values.node(0),
-            },
-        ),
-        Make::While => plain(
-            3,
-            values.place(2),
-            Node::While {
-                condition: values.node(1),
-                body: values.node(0),
-            },
-        ),
-        Make::Do => plain(
-            3,
-            values.place(2),
-            Node::Do {
-                body: values.node(1),
-                condition: values.node(0),
-            },
-        ),
-        Make::IfElse => plain(
-            4,
-            values.place(3),
-            Node::IfElse {
-                condition: values.node(2),
-                holds: values.node(1),
-                fails: values.node(0),
-            },
-        ),
-        Make::For => plain(
-            5,
-            values.place(4),
-            Node::For {
-                initial: values.node(3),
-                condition: values.node(2),
-                updates: values.node(1),
-                body: values.node(0),
-            },
-        ),
-        _ => None,
-    }
-}
-
-/// Lists and declarations.
-fn declarations(make: Make, values: &Values) -> Option<Plan>
-    ensures { result ≡ declarations make values.now }
-{
-    match make {
-        Make::Nil => plain(0, nowhere(), Node::Nil),
         Make::Cons => plain(
             2,
             values.place(1),
@@ -395,6 +84,15 @@ fn declarations(make: Make, values: &Values) -> Option<Plan>
                 rest: values.node(0),
             },
         ),
+        _ => plain(0, nowhere(), Node::Nil),
+    }
+}
+
+/// Declarations, or else lists.
+fn declarations(make: Make, values: &Values) -> Plan
+    ensures { result ≡ declarations make values.now }
+{
+    match make {
         Make::Parameter => plain(
             2,
             values.place(0),
@@ -431,7 +129,340 @@ fn declarations(make: Make, values: &Values) -> Option<Plan>
                 members: values.node(1),
             },
         ),
-        _ => None,
+        _ => lists(make, values),
+    }
+}
+
+/// Loops, or else declarations.
+fn loops(make: Make, values: &Values) -> Plan
+    ensures { result ≡ loops make values.now }
+{
+    match make {
+        Make::While => plain(
+            3,
+            values.place(2),
+            Node::While {
+                condition: values.node(1),
+                body: values.node(0),
+            },
+        ),
+        Make::Do => plain(
+            3,
+            values.place(2),
+            Node::Do {
+                body: values.node(1),
+                condition: values.node(0),
+            },
+        ),
+        Make::For => plain(
+            5,
+            values.place(4),
+            Node::For {
+                initial: values.node(3),
+                condition: values.node(2),
+                updates: values.node(1),
+                body: values.node(0),
+            },
+        ),
+        _ => declarations(make, values),
+    }
+}
+
+/// Statements of one part, or else others.
+fn statements(make: Make, values: &Values) -> Plan
+    ensures { result ≡ statements make values.now }
+{
+    match make {
+        Make::Block => plain(
+            2,
+            values.place(1),
+            Node::Block {
+                statements: values.node(0),
+            },
+        ),
+        Make::Return => plain(
+            2,
+            values.place(1),
+            Node::Return {
+                value: values.node(0),
+            },
+        ),
+        Make::ConstructorCall => plain(
+            2,
+            values.place(1),
+            Node::ConstructorCall {
+                arguments: values.node(0),
+            },
+        ),
+        Make::Empty => plain(1, values.place(0), Node::Empty),
+        Make::Jump => plain(1, values.place(0), jump_node(values.kind(0))),
+        _ => branches(make, values),
+    }
+}
+
+/// Statements that branch, or else loops.
+fn branches(make: Make, values: &Values) -> Plan
+    ensures { result ≡ branches make values.now }
+{
+    match make {
+        Make::IfThen => plain(
+            3,
+            values.place(2),
+            Node::IfThen {
+                condition: values.node(1),
+                holds: values.node(0),
+            },
+        ),
+        Make::IfElse => plain(
+            4,
+            values.place(3),
+            Node::IfElse {
+                condition: values.node(2),
+                holds: values.node(1),
+                fails: values.node(0),
+            },
+        ),
+        _ => loops(make, values),
+    }
+}
+
+/// Locals and expressions as statements, or else other statements.
+fn locals(make: Make, values: &Values) -> Plan
+    ensures { result ≡ locals make values.now }
+{
+    match make {
+        Make::Declarator => plain(
+            2,
+            values.place(1),
+            Node::Declarator {
+                name: values.name(1),
+                initial: values.node(0),
+            },
+        ),
+        Make::Local => tree(
+            2,
+            values.place(1),
+            Form::Local,
+            Node::Local {
+                declared: values.node(1),
+                declarators: values.node(0),
+            },
+        ),
+        Make::ExpressionStatement => plain(
+            1,
+            values.place(0),
+            Node::ExpressionStatement {
+                expression: values.node(0),
+            },
+        ),
+        _ => statements(make, values),
+    }
+}
+
+/// Comparisons of two values, or else locals.
+fn comparisons(make: Make, values: &Values) -> Plan
+    ensures { result ≡ comparisons make values.now }
+{
+    match make {
+        Make::Less => plain(
+            2,
+            values.place(1),
+            Node::Binary {
+                operator: BinaryOperator::Less,
+                left: values.node(1),
+                right: values.node(0),
+            },
+        ),
+        Make::Greater => plain(
+            2,
+            values.place(1),
+            Node::Binary {
+                operator: BinaryOperator::Greater,
+                left: values.node(1),
+                right: values.node(0),
+            },
+        ),
+        Make::InstanceOf => plain(
+            2,
+            values.place(1),
+            Node::InstanceOf {
+                operand: values.node(1),
+                tested: values.node(0),
+            },
+        ),
+        _ => locals(make, values),
+    }
+}
+
+/// Operations with their operator between operands, or else comparisons.
+fn infixes(make: Make, values: &Values) -> Plan
+    ensures { result ≡ infixes make values.now }
+{
+    match make {
+        Make::Binary => plain(
+            3,
+            values.place(2),
+            Node::Binary {
+                operator: binary_of(values.kind(1)),
+                left: values.node(2),
+                right: values.node(0),
+            },
+        ),
+        Make::Conditional => plain(
+            3,
+            values.place(2),
+            Node::Conditional {
+                condition: values.node(2),
+                holds: values.node(1),
+                fails: values.node(0),
+            },
+        ),
+        Make::Assign => plain(
+            3,
+            values.place(2),
+            assignment(values.kind(1), values.node(2), values.node(0)),
+        ),
+        _ => comparisons(make, values),
+    }
+}
+
+/// Operations on one operand, or else on more.
+fn prefixes(make: Make, values: &Values) -> Plan
+    ensures { result ≡ prefixes make values.now }
+{
+    match make {
+        Make::StepBehind => plain(
+            2,
+            values.place(1),
+            Node::Step {
+                operator: step_behind_of(values.kind(0)),
+                target: values.node(1),
+            },
+        ),
+        Make::StepBefore => plain(
+            2,
+            values.place(1),
+            Node::Step {
+                operator: step_before_of(values.kind(1)),
+                target: values.node(0),
+            },
+        ),
+        Make::Unary => plain(
+            2,
+            values.place(1),
+            Node::Unary {
+                operator: unary_of(values.kind(1)),
+                operand: values.node(0),
+            },
+        ),
+        Make::Cast => plain(
+            3,
+            values.place(2),
+            Node::Cast {
+                target: values.node(1),
+                operand: values.node(0),
+            },
+        ),
+        _ => infixes(make, values),
+    }
+}
+
+/// Creations and calls that begin with a keyword, or else operations.
+fn creations(make: Make, values: &Values) -> Plan
+    ensures { result ≡ creations make values.now }
+{
+    match make {
+        Make::ObjectCreation => tree(
+            3,
+            values.place(2),
+            Form::Invocation,
+            Node::ObjectCreation {
+                class: values.node(1),
+                arguments: values.node(0),
+            },
+        ),
+        Make::ArrayCreation => tree(
+            3,
+            values.place(2),
+            Form::ArrayCreation,
+            Node::ArrayCreation {
+                element: values.node(1),
+                length: values.node(0),
+            },
+        ),
+        Make::SuperCall => tree(
+            3,
+            values.place(2),
+            Form::Invocation,
+            Node::SuperCall {
+                name: values.name(1),
+                arguments: values.node(0),
+            },
+        ),
+        _ => prefixes(make, values),
+    }
+}
+
+/// What is selected of an expression, or else other expressions.
+fn selections(make: Make, values: &Values) -> Plan
+    ensures { result ≡ selections make values.now }
+{
+    match make {
+        Make::FieldAccess => tree(
+            2,
+            values.place(1),
+            Form::Target,
+            Node::FieldAccess {
+                object: values.node(1),
+                name: values.name(0),
+            },
+        ),
+        Make::MethodCall => tree(
+            3,
+            values.place(2),
+            Form::Invocation,
+            Node::MethodCall {
+                object: values.node(2),
+                name: values.name(1),
+                arguments: values.node(0),
+            },
+        ),
+        Make::ArrayAccess => tree(
+            2,
+            values.place(1),
+            Form::Target,
+            Node::ArrayAccess {
+                array: values.node(1),
+                index: values.node(0),
+            },
+        ),
+        _ => creations(make, values),
+    }
+}
+
+/// One node above the values: a type, or else an expression, a statement, a declaration or a list.
+pub fn plan_of(make: Make, values: &Values) -> Plan
+    ensures { result ≡ plan make values.now }
+{
+    match make {
+        Make::TypeOfMark => tree(
+            1,
+            values.place(0),
+            Form::Type,
+            Node::PrimitiveType {
+                primitive: primitive_of(values.kind(0)),
+            },
+        ),
+        Make::TypeOfName => tree(1, values.place(0), Form::Type, type_node(values.peek(0))),
+        Make::Array => tree(
+            1,
+            values.place(0),
+            Form::Type,
+            Node::ArrayType {
+                element: values.node(0),
+            },
+        ),
+        _ => selections(make, values),
     }
 }
 
@@ -440,7 +471,9 @@ fn variable(value: Option<Kept>) -> Option<Plan>
     ensures { result ≡ variable value }
 {
     match value {
-        Some(Kept::Word { place, name }) => formed(1, place, Form::Target, Node::Variable { name }),
+        Some(Kept::Word { place, name }) => {
+            Some(tree(1, place, Form::Target, Node::Variable { name }))
+        }
         _ => None,
     }
 }
@@ -449,64 +482,31 @@ fn call(value: Option<Kept>, arguments: u32) -> Option<Plan>
     ensures { result ≡ call value arguments }
 {
     match value {
-        Some(Kept::Word { place, name }) => formed(
-            2,
-            place,
-            Form::Invocation,
-            Node::Call { name, arguments },
-        ),
+        Some(Kept::Word { place, name }) => {
+            Some(tree(2, place, Form::Invocation, Node::Call { name, arguments }))
+        }
         _ => None,
     }
 }
 
-/// Names that are one node, and lists under the owner of their members.
-fn names_and_lists(make: Make, values: &Values) -> Option<Plan>
-    ensures { result ≡ names_and_lists make values.now }
+/// The only node of a name, where it is one word.
+pub fn single(make: Make, values: &Values) -> Option<Plan>
+    ensures { result ≡ single make values.now }
 {
     match make {
         Make::Variable => variable(values.peek(0)),
         Make::CallOfName => call(values.peek(1), values.node(0)),
-        Make::ConsBelow => under(
-            3,
-            values.place(2),
-            Node::Cons {
-                first: values.node(2),
-                rest: values.node(1),
-            },
-            values.peek(0),
-        ),
-        Make::EndMembers => under(2, nowhere(), Node::Nil, values.peek(1)),
         _ => None,
     }
 }
 
-/// One node above the values, where that is all.
-pub fn plan_of(make: Make, values: &Values) -> Option<Plan>
-    ensures { result ≡ plan make values.now }
-{
-    types(make, values)
-        .or(primaries(make, values))
-        .or(operations(make, values))
-        .or(statements(make, values))
-        .or(branches(make, values))
-        .or(declarations(make, values))
-        .or(names_and_lists(make, values))
-}
-
 /// Of two nodes the lower one, of a name.
-pub fn head(make: Make, values: &Values) -> Option<Plan>
-    ensures { result ≡ head make values.now }
+pub fn lower(make: Make, values: &Values) -> Plan
+    ensures { result ≡ lower make values.now }
 {
     match make {
-        Make::Generic => formed(0, values.place(1), Form::Type, type_node(values.peek(1))),
-        Make::Diamond => formed(0, values.place(0), Form::Type, type_node(values.peek(0))),
-        Make::Variable => plain(
-            0,
-            values.place(0),
-            Node::Variable {
-                name: values.outer(0),
-            },
-        ),
+        Make::Generic => tree(0, values.place(1), Form::Type, type_node(values.peek(1))),
+        Make::Diamond => tree(0, values.place(0), Form::Type, type_node(values.peek(0))),
         Make::CallOfName => plain(
             0,
             values.place(1),
@@ -514,16 +514,22 @@ pub fn head(make: Make, values: &Values) -> Option<Plan>
                 name: values.outer(1),
             },
         ),
-        _ => None,
+        _ => plain(
+            0,
+            values.place(0),
+            Node::Variable {
+                name: values.outer(0),
+            },
+        ),
     }
 }
 
 /// And the upper one.
-pub fn over(make: Make, values: &Values) -> Option<Plan>
-    ensures { result ≡ over make values.now }
+pub fn upper(make: Make, values: &Values) -> Plan
+    ensures { result ≡ upper make values.now }
 {
     match make {
-        Make::Generic => formed(
+        Make::Generic => tree(
             3,
             values.place(2),
             Form::Type,
@@ -532,7 +538,7 @@ pub fn over(make: Make, values: &Values) -> Option<Plan>
                 argument: values.node(1),
             },
         ),
-        Make::Diamond => formed(
+        Make::Diamond => tree(
             2,
             values.place(1),
             Form::Type,
@@ -540,16 +546,7 @@ pub fn over(make: Make, values: &Values) -> Option<Plan>
                 head: values.node(0),
             },
         ),
-        Make::Variable => formed(
-            2,
-            values.place(1),
-            Form::Target,
-            Node::FieldAccess {
-                object: values.node(0),
-                name: values.name(1),
-            },
-        ),
-        Make::CallOfName => formed(
+        Make::CallOfName => tree(
             3,
             values.place(2),
             Form::Invocation,
@@ -559,6 +556,41 @@ pub fn over(make: Make, values: &Values) -> Option<Plan>
                 arguments: values.node(1),
             },
         ),
-        _ => None,
+        _ => tree(
+            2,
+            values.place(1),
+            Form::Target,
+            Node::FieldAccess {
+                object: values.node(0),
+                name: values.name(1),
+            },
+        ),
+    }
+}
+
+/// The list below a value that stays on top.
+pub fn below(make: Make, values: &Values) -> Plan
+    ensures { result ≡ below make values.now }
+{
+    match make {
+        Make::ConsBelow => plain(
+            3,
+            values.place(2),
+            Node::Cons {
+                first: values.node(2),
+                rest: values.node(1),
+            },
+        ),
+        _ => plain(2, nowhere(), Node::Nil),
+    }
+}
+
+/// And that value.
+pub fn staying(make: Make, values: &Values) -> Kept
+    ensures { result ≡ staying make values.now }
+{
+    match make {
+        Make::ConsBelow => values.value(0),
+        _ => values.value(1),
     }
 }

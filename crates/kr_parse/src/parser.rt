@@ -39,7 +39,7 @@ fn expand(
     builder: &Builder,
 ) -> Result<(), ParseRefusal>
     requires standing { IsStanding tokens.now cursor }
-    requires built { IsBuilt builder.now.forest builder.now.values }
+    requires built { IsBuilt builder.now }
     requires state { State tokens.now.list cursor.at (Symbol.Want goal ∷ stack.old) (values_of builder.now) }
     ensures state { IfOk result (λ none. State tokens.now.list cursor.at stack.new (values_of builder.now)) }
     ensures falls { IfOk result (λ none. load stack.new < load (Symbol.Want goal ∷ stack.old)) }
@@ -91,8 +91,8 @@ fn literal(tokens: &Tokens, at: usize) -> Node
 /// Keeps the token ahead as the value that the symbol asks for.
 fn keep(tokens: &Tokens, at: usize, symbol: Symbol, builder: &mut Builder) -> Result<(), NoMemory>
     requires within { at < length tokens.now.list }
-    requires built { IsBuilt builder.old.forest builder.old.values }
-    ensures built { IfOk result (λ none. IsBuilt builder.new.forest builder.new.values) }
+    requires built { IsBuilt builder.old }
+    ensures built { IfOk result (λ none. IsBuilt builder.new) }
     ensures shown { IfOk result (λ none. values_of builder.new ≡ kept_of symbol (token_at tokens.now at) (values_of builder.old)) }
 {
     let place = tokens.place(at);
@@ -113,10 +113,10 @@ fn advance(
     builder: &mut Builder,
 ) -> Result<Cursor, ParseRefusal>
     requires standing { IsStanding tokens.now cursor }
-    requires built { IsBuilt builder.old.forest builder.old.values }
+    requires built { IsBuilt builder.old }
     requires state { State tokens.now.list cursor.at (symbol ∷ stack.old) (values_of builder.old) }
     ensures standing { IfOk result (λ then. IsStanding tokens.now then) }
-    ensures built { IfOk result (λ then. IsBuilt builder.new.forest builder.new.values) }
+    ensures built { IfOk result (λ then. IsBuilt builder.new) }
     ensures state { IfOk result (λ then. State tokens.now.list then.at stack.new (values_of builder.new)) }
     ensures falls { IfOk result (λ then. load stack.new + 100 * (length tokens.now.list - then.at) < load (symbol ∷ stack.old) + 100 * (length tokens.now.list - cursor.at)) }
     ensures refused { IfErr result (λ refusal. IsRefusal tokens.now refusal) }
