@@ -125,80 +125,107 @@ abbrev pub assignment : Kind → ℕ → ℕ → Node
 assignment kinds.Equal t u = nodes.Assignment t u
 assignment k t u = nodes.CompoundAssignment (the_compound k) t u
 
--- The node above the values, and what it takes. Each of these groups goes on with the next one, and the last one ends
--- with the empty list.
-abbrev pub lists : Make → List Kept → Plan
-lists makes.Cons vs = plain 2 (place_at vs 1) (nodes.Cons (node_at vs 1) (node_at vs 0))
-lists _ vs = plain 0 nowhere nodes.Nil
+-- The node above the values, and what it takes, in groups. Of what is in no group, the empty list is made.
+abbrev pub types : Make → List Kept → Plan
+types makes.TypeOfMark vs = tree 1 (place_at vs 0) forms.Type (nodes.PrimitiveType (the_primitive (kind_at vs 0)))
+types makes.TypeOfName vs = tree 1 (place_at vs 0) forms.Type (type_node (slice_get vs 0))
+types _ vs = tree 1 (place_at vs 0) forms.Type (nodes.ArrayType (node_at vs 0))
 
-abbrev pub declarations : Make → List Kept → Plan
-declarations makes.Parameter vs = plain 2 (place_at vs 0) (nodes.Parameter (node_at vs 1) (name_at vs 0))
-declarations makes.Field vs = plain 3 (place_at vs 1) (nodes.Field (modifiers_at vs 2).is_static (modifiers_at vs 2).is_final (node_at vs 1) (node_at vs 0))
-declarations makes.Constructor vs = plain 5 (place_at vs 3) (nodes.Constructor (node_at vs 2) (node_at vs 1) (node_at vs 0))
-declarations makes.Class vs = plain 3 (place_at vs 0) (nodes.Class (name_at vs 0) (node_at vs 2) (node_at vs 1))
-declarations m vs = lists m vs
+abbrev pub selections : Make → List Kept → Plan
+selections makes.FieldAccess vs = tree 2 (place_at vs 1) forms.Target (nodes.FieldAccess (node_at vs 1) (name_at vs 0))
+selections makes.MethodCall vs = tree 3 (place_at vs 2) forms.Invocation (nodes.MethodCall (node_at vs 2) (name_at vs 1) (node_at vs 0))
+selections _ vs = tree 2 (place_at vs 1) forms.Target (nodes.ArrayAccess (node_at vs 1) (node_at vs 0))
 
-abbrev pub loops : Make → List Kept → Plan
-loops makes.While vs = plain 3 (place_at vs 2) (nodes.While (node_at vs 1) (node_at vs 0))
-loops makes.Do vs = plain 3 (place_at vs 2) (nodes.Do (node_at vs 1) (node_at vs 0))
-loops makes.For vs = plain 5 (place_at vs 4) (nodes.For (node_at vs 3) (node_at vs 2) (node_at vs 1) (node_at vs 0))
-loops m vs = declarations m vs
+abbrev pub creations : Make → List Kept → Plan
+creations makes.ObjectCreation vs = tree 3 (place_at vs 2) forms.Invocation (nodes.ObjectCreation (node_at vs 1) (node_at vs 0))
+creations makes.ArrayCreation vs = tree 3 (place_at vs 2) forms.ArrayCreation (nodes.ArrayCreation (node_at vs 1) (node_at vs 0))
+creations _ vs = tree 3 (place_at vs 2) forms.Invocation (nodes.SuperCall (name_at vs 1) (node_at vs 0))
 
-abbrev pub branches : Make → List Kept → Plan
-branches makes.IfThen vs = plain 3 (place_at vs 2) (nodes.IfThen (node_at vs 1) (node_at vs 0))
-branches makes.IfElse vs = plain 4 (place_at vs 3) (nodes.IfElse (node_at vs 2) (node_at vs 1) (node_at vs 0))
-branches m vs = loops m vs
+abbrev pub prefixes : Make → List Kept → Plan
+prefixes makes.StepBehind vs = plain 2 (place_at vs 1) (nodes.Step (the_step_behind (kind_at vs 0)) (node_at vs 1))
+prefixes makes.StepBefore vs = plain 2 (place_at vs 1) (nodes.Step (the_step_before (kind_at vs 1)) (node_at vs 0))
+prefixes makes.Unary vs = plain 2 (place_at vs 1) (nodes.Unary (the_unary (kind_at vs 1)) (node_at vs 0))
+prefixes _ vs = plain 3 (place_at vs 2) (nodes.Cast (node_at vs 1) (node_at vs 0))
+
+abbrev pub infixes : Make → List Kept → Plan
+infixes makes.Binary vs = plain 3 (place_at vs 2) (nodes.Binary (the_binary (kind_at vs 1)) (node_at vs 2) (node_at vs 0))
+infixes makes.Conditional vs = plain 3 (place_at vs 2) (nodes.Conditional (node_at vs 2) (node_at vs 1) (node_at vs 0))
+infixes _ vs = plain 3 (place_at vs 2) (assignment (kind_at vs 1) (node_at vs 2) (node_at vs 0))
+
+abbrev pub comparisons : Make → List Kept → Plan
+comparisons makes.Less vs = plain 2 (place_at vs 1) (nodes.Binary binaries.Less (node_at vs 1) (node_at vs 0))
+comparisons makes.Greater vs = plain 2 (place_at vs 1) (nodes.Binary binaries.Greater (node_at vs 1) (node_at vs 0))
+comparisons _ vs = plain 2 (place_at vs 1) (nodes.InstanceOf (node_at vs 1) (node_at vs 0))
+
+abbrev pub locals : Make → List Kept → Plan
+locals makes.Declarator vs = plain 2 (place_at vs 1) (nodes.Declarator (name_at vs 1) (node_at vs 0))
+locals makes.Local vs = tree 2 (place_at vs 1) forms.Local (nodes.Local (node_at vs 1) (node_at vs 0))
+locals _ vs = plain 1 (place_at vs 0) (nodes.ExpressionStatement (node_at vs 0))
 
 abbrev pub statements : Make → List Kept → Plan
 statements makes.Block vs = plain 2 (place_at vs 1) (nodes.Block (node_at vs 0))
 statements makes.Return vs = plain 2 (place_at vs 1) (nodes.Return (node_at vs 0))
 statements makes.ConstructorCall vs = plain 2 (place_at vs 1) (nodes.ConstructorCall (node_at vs 0))
 statements makes.Empty vs = plain 1 (place_at vs 0) nodes.Empty
-statements makes.Jump vs = plain 1 (place_at vs 0) (jump_node (kind_at vs 0))
-statements m vs = branches m vs
+statements _ vs = plain 1 (place_at vs 0) (jump_node (kind_at vs 0))
 
-abbrev pub locals : Make → List Kept → Plan
-locals makes.Declarator vs = plain 2 (place_at vs 1) (nodes.Declarator (name_at vs 1) (node_at vs 0))
-locals makes.Local vs = tree 2 (place_at vs 1) forms.Local (nodes.Local (node_at vs 1) (node_at vs 0))
-locals makes.ExpressionStatement vs = plain 1 (place_at vs 0) (nodes.ExpressionStatement (node_at vs 0))
-locals m vs = statements m vs
+abbrev pub branches : Make → List Kept → Plan
+branches makes.IfThen vs = plain 3 (place_at vs 2) (nodes.IfThen (node_at vs 1) (node_at vs 0))
+branches _ vs = plain 4 (place_at vs 3) (nodes.IfElse (node_at vs 2) (node_at vs 1) (node_at vs 0))
 
-abbrev pub comparisons : Make → List Kept → Plan
-comparisons makes.Less vs = plain 2 (place_at vs 1) (nodes.Binary binaries.Less (node_at vs 1) (node_at vs 0))
-comparisons makes.Greater vs = plain 2 (place_at vs 1) (nodes.Binary binaries.Greater (node_at vs 1) (node_at vs 0))
-comparisons makes.InstanceOf vs = plain 2 (place_at vs 1) (nodes.InstanceOf (node_at vs 1) (node_at vs 0))
-comparisons m vs = locals m vs
+abbrev pub loops : Make → List Kept → Plan
+loops makes.While vs = plain 3 (place_at vs 2) (nodes.While (node_at vs 1) (node_at vs 0))
+loops makes.Do vs = plain 3 (place_at vs 2) (nodes.Do (node_at vs 1) (node_at vs 0))
+loops _ vs = plain 5 (place_at vs 4) (nodes.For (node_at vs 3) (node_at vs 2) (node_at vs 1) (node_at vs 0))
 
-abbrev pub infixes : Make → List Kept → Plan
-infixes makes.Binary vs = plain 3 (place_at vs 2) (nodes.Binary (the_binary (kind_at vs 1)) (node_at vs 2) (node_at vs 0))
-infixes makes.Conditional vs = plain 3 (place_at vs 2) (nodes.Conditional (node_at vs 2) (node_at vs 1) (node_at vs 0))
-infixes makes.Assign vs = plain 3 (place_at vs 2) (assignment (kind_at vs 1) (node_at vs 2) (node_at vs 0))
-infixes m vs = comparisons m vs
+abbrev pub declarations : Make → List Kept → Plan
+declarations makes.Parameter vs = plain 2 (place_at vs 0) (nodes.Parameter (node_at vs 1) (name_at vs 0))
+declarations makes.Field vs = plain 3 (place_at vs 1) (nodes.Field (modifiers_at vs 2).is_static (modifiers_at vs 2).is_final (node_at vs 1) (node_at vs 0))
+declarations makes.Constructor vs = plain 5 (place_at vs 3) (nodes.Constructor (node_at vs 2) (node_at vs 1) (node_at vs 0))
+declarations _ vs = plain 3 (place_at vs 0) (nodes.Class (name_at vs 0) (node_at vs 2) (node_at vs 1))
 
-abbrev pub prefixes : Make → List Kept → Plan
-prefixes makes.StepBehind vs = plain 2 (place_at vs 1) (nodes.Step (the_step_behind (kind_at vs 0)) (node_at vs 1))
-prefixes makes.StepBefore vs = plain 2 (place_at vs 1) (nodes.Step (the_step_before (kind_at vs 1)) (node_at vs 0))
-prefixes makes.Unary vs = plain 2 (place_at vs 1) (nodes.Unary (the_unary (kind_at vs 1)) (node_at vs 0))
-prefixes makes.Cast vs = plain 3 (place_at vs 2) (nodes.Cast (node_at vs 1) (node_at vs 0))
-prefixes m vs = infixes m vs
-
-abbrev pub creations : Make → List Kept → Plan
-creations makes.ObjectCreation vs = tree 3 (place_at vs 2) forms.Invocation (nodes.ObjectCreation (node_at vs 1) (node_at vs 0))
-creations makes.ArrayCreation vs = tree 3 (place_at vs 2) forms.ArrayCreation (nodes.ArrayCreation (node_at vs 1) (node_at vs 0))
-creations makes.SuperCall vs = tree 3 (place_at vs 2) forms.Invocation (nodes.SuperCall (name_at vs 1) (node_at vs 0))
-creations m vs = prefixes m vs
-
-abbrev pub selections : Make → List Kept → Plan
-selections makes.FieldAccess vs = tree 2 (place_at vs 1) forms.Target (nodes.FieldAccess (node_at vs 1) (name_at vs 0))
-selections makes.MethodCall vs = tree 3 (place_at vs 2) forms.Invocation (nodes.MethodCall (node_at vs 2) (name_at vs 1) (node_at vs 0))
-selections makes.ArrayAccess vs = tree 2 (place_at vs 1) forms.Target (nodes.ArrayAccess (node_at vs 1) (node_at vs 0))
-selections m vs = creations m vs
+abbrev pub lists : Make → List Kept → Plan
+lists makes.Cons vs = plain 2 (place_at vs 1) (nodes.Cons (node_at vs 1) (node_at vs 0))
+lists _ vs = plain 0 nowhere nodes.Nil
 
 abbrev pub plan : Make → List Kept → Plan
-plan makes.TypeOfMark vs = tree 1 (place_at vs 0) forms.Type (nodes.PrimitiveType (the_primitive (kind_at vs 0)))
-plan makes.TypeOfName vs = tree 1 (place_at vs 0) forms.Type (type_node (slice_get vs 0))
-plan makes.Array vs = tree 1 (place_at vs 0) forms.Type (nodes.ArrayType (node_at vs 0))
-plan m vs = selections m vs
+plan makes.TypeOfMark vs = types makes.TypeOfMark vs
+plan makes.TypeOfName vs = types makes.TypeOfName vs
+plan makes.Array vs = types makes.Array vs
+plan makes.FieldAccess vs = selections makes.FieldAccess vs
+plan makes.MethodCall vs = selections makes.MethodCall vs
+plan makes.ArrayAccess vs = selections makes.ArrayAccess vs
+plan makes.ObjectCreation vs = creations makes.ObjectCreation vs
+plan makes.ArrayCreation vs = creations makes.ArrayCreation vs
+plan makes.SuperCall vs = creations makes.SuperCall vs
+plan makes.StepBehind vs = prefixes makes.StepBehind vs
+plan makes.StepBefore vs = prefixes makes.StepBefore vs
+plan makes.Unary vs = prefixes makes.Unary vs
+plan makes.Cast vs = prefixes makes.Cast vs
+plan makes.Binary vs = infixes makes.Binary vs
+plan makes.Conditional vs = infixes makes.Conditional vs
+plan makes.Assign vs = infixes makes.Assign vs
+plan makes.Less vs = comparisons makes.Less vs
+plan makes.Greater vs = comparisons makes.Greater vs
+plan makes.InstanceOf vs = comparisons makes.InstanceOf vs
+plan makes.Declarator vs = locals makes.Declarator vs
+plan makes.Local vs = locals makes.Local vs
+plan makes.ExpressionStatement vs = locals makes.ExpressionStatement vs
+plan makes.Block vs = statements makes.Block vs
+plan makes.Return vs = statements makes.Return vs
+plan makes.ConstructorCall vs = statements makes.ConstructorCall vs
+plan makes.Empty vs = statements makes.Empty vs
+plan makes.Jump vs = statements makes.Jump vs
+plan makes.IfThen vs = branches makes.IfThen vs
+plan makes.IfElse vs = branches makes.IfElse vs
+plan makes.While vs = loops makes.While vs
+plan makes.Do vs = loops makes.Do vs
+plan makes.For vs = loops makes.For vs
+plan makes.Parameter vs = declarations makes.Parameter vs
+plan makes.Field vs = declarations makes.Field vs
+plan makes.Constructor vs = declarations makes.Constructor vs
+plan makes.Class vs = declarations makes.Class vs
+plan m vs = lists m vs
 
 -- the node of a name that is a word
 abbrev pub variable : Option Kept → Option Plan

@@ -1,6 +1,6 @@
 // The node that is put above some values.
 ghost use Rattle.std.specs.Prelude.{◌≡◌, Some, None};
-ghost use Rattle.kr_build.specs.Plans.{tree, plain, type_node, jump_node, assignment, lists, declarations, loops, branches, statements, locals, comparisons, infixes, prefixes, creations, selections, plan, variable, call, single, lower, upper, below, staying};
+ghost use Rattle.kr_build.specs.Plans.{tree, plain, type_node, jump_node, assignment, types, lists, declarations, loops, branches, statements, locals, comparisons, infixes, prefixes, creations, selections, plan, variable, call, single, lower, upper, below, staying};
 
 use crate::operators::{
     binary_of, compound_of, primitive_of, step_before_of, step_behind_of, unary_of,
@@ -71,24 +71,330 @@ fn assignment(kind: Kind, target: u32, value: u32) -> Node
     }
 }
 
-/// Lists, and what is absent.
-fn lists(make: Make, values: &Values) -> Plan
-    ensures { result ≡ lists make values.now }
+/// Types.
+fn types(make: Make, values: &Values) -> Plan
+    ensures { result ≡ types make values.now }
 {
     match make {
-        Make::Cons => plain(
-            2,
-            values.place(1),
-            Node::Cons {
-                first: values.node(1),
-                rest: values.node(0),
+        Make::TypeOfMark => tree(
+            1,
+            values.place(0),
+            Form::Type,
+            Node::PrimitiveType {
+                primitive: primitive_of(values.kind(0)),
             },
         ),
-        _ => plain(0, nowhere(), Node::Nil),
+        Make::TypeOfName => tree(1, values.place(0), Form::Type, type_node(values.peek(0))),
+        _ => tree(
+            1,
+            values.place(0),
+            Form::Type,
+            Node::ArrayType {
+                element: values.node(0),
+            },
+        ),
     }
 }
 
-/// Declarations, or else lists.
+/// What is selected of an expression.
+fn selections(make: Make, values: &Values) -> Plan
+    ensures { result ≡ selections make values.now }
+{
+    match make {
+        Make::FieldAccess => tree(
+            2,
+            values.place(1),
+            Form::Target,
+            Node::FieldAccess {
+                object: values.node(1),
+                name: values.name(0),
+            },
+        ),
+        Make::MethodCall => tree(
+            3,
+            values.place(2),
+            Form::Invocation,
+            Node::MethodCall {
+                object: values.node(2),
+                name: values.name(1),
+                arguments: values.node(0),
+            },
+        ),
+        _ => tree(
+            2,
+            values.place(1),
+            Form::Target,
+            Node::ArrayAccess {
+                array: values.node(1),
+                index: values.node(0),
+            },
+        ),
+    }
+}
+
+/// Creations, and calls of the superclass.
+fn creations(make: Make, values: &Values) -> Plan
+    ensures { result ≡ creations make values.now }
+{
+    match make {
+        Make::ObjectCreation => tree(
+            3,
+            values.place(2),
+            Form::Invocation,
+            Node::ObjectCreation {
+                class: values.node(1),
+                arguments: values.node(0),
+            },
+        ),
+        Make::ArrayCreation => tree(
+            3,
+            values.place(2),
+            Form::ArrayCreation,
+            Node::ArrayCreation {
+                element: values.node(1),
+                length: values.node(0),
+            },
+        ),
+        _ => tree(
+            3,
+            values.place(2),
+            Form::Invocation,
+            Node::SuperCall {
+                name: values.name(1),
+                arguments: values.node(0),
+            },
+        ),
+    }
+}
+
+/// Operations on one operand.
+fn prefixes(make: Make, values: &Values) -> Plan
+    ensures { result ≡ prefixes make values.now }
+{
+    match make {
+        Make::StepBehind => plain(
+            2,
+            values.place(1),
+            Node::Step {
+                operator: step_behind_of(values.kind(0)),
+                target: values.node(1),
+            },
+        ),
+        Make::StepBefore => plain(
+            2,
+            values.place(1),
+            Node::Step {
+                operator: step_before_of(values.kind(1)),
+                target: values.node(0),
+            },
+        ),
+        Make::Unary => plain(
+            2,
+            values.place(1),
+            Node::Unary {
+                operator: unary_of(values.kind(1)),
+                operand: values.node(0),
+            },
+        ),
+        _ => plain(
+            3,
+            values.place(2),
+            Node::Cast {
+                target: values.node(1),
+                operand: values.node(0),
+            },
+        ),
+    }
+}
+
+/// Operations with an operator between operands.
+fn infixes(make: Make, values: &Values) -> Plan
+    ensures { result ≡ infixes make values.now }
+{
+    match make {
+        Make::Binary => plain(
+            3,
+            values.place(2),
+            Node::Binary {
+                operator: binary_of(values.kind(1)),
+                left: values.node(2),
+                right: values.node(0),
+            },
+        ),
+        Make::Conditional => plain(
+            3,
+            values.place(2),
+            Node::Conditional {
+                condition: values.node(2),
+                holds: values.node(1),
+                fails: values.node(0),
+            },
+        ),
+        _ => plain(
+            3,
+            values.place(2),
+            assignment(values.kind(1), values.node(2), values.node(0)),
+        ),
+    }
+}
+
+/// Comparisons of two values.
+fn comparisons(make: Make, values: &Values) -> Plan
+    ensures { result ≡ comparisons make values.now }
+{
+    match make {
+        Make::Less => plain(
+            2,
+            values.place(1),
+            Node::Binary {
+                operator: BinaryOperator::Less,
+                left: values.node(1),
+                right: values.node(0),
+            },
+        ),
+        Make::Greater => plain(
+            2,
+            values.place(1),
+            Node::Binary {
+                operator: BinaryOperator::Greater,
+                left: values.node(1),
+                right: values.node(0),
+            },
+        ),
+        _ => plain(
+            2,
+            values.place(1),
+            Node::InstanceOf {
+                operand: values.node(1),
+                tested: values.node(0),
+            },
+        ),
+    }
+}
+
+/// Locals, and expressions as statements.
+fn locals(make: Make, values: &Values) -> Plan
+    ensures { result ≡ locals make values.now }
+{
+    match make {
+        Make::Declarator => plain(
+            2,
+            values.place(1),
+            Node::Declarator {
+                name: values.name(1),
+                initial: values.node(0),
+            },
+        ),
+        Make::Local => tree(
+            2,
+            values.place(1),
+            Form::Local,
+            Node::Local {
+                declared: values.node(1),
+                declarators: values.node(0),
+            },
+        ),
+        _ => plain(
+            1,
+            values.place(0),
+            Node::ExpressionStatement {
+                expression: values.node(0),
+            },
+        ),
+    }
+}
+
+/// Statements with no statement in them but in blocks.
+fn statements(make: Make, values: &Values) -> Plan
+    ensures { result ≡ statements make values.now }
+{
+    match make {
+        Make::Block => plain(
+            2,
+            values.place(1),
+            Node::Block {
+                statements: values.node(0),
+            },
+        ),
+        Make::Return => plain(
+            2,
+            values.place(1),
+            Node::Return {
+                value: values.node(0),
+            },
+        ),
+        Make::ConstructorCall => plain(
+            2,
+            values.place(1),
+            Node::ConstructorCall {
+                arguments: values.node(0),
+            },
+        ),
+        Make::Empty => plain(1, values.place(0), Node::Empty),
+        _ => plain(1, values.place(0), jump_node(values.kind(0))),
+    }
+}
+
+/// Statements that branch.
+fn branches(make: Make, values: &Values) -> Plan
+    ensures { result ≡ branches make values.now }
+{
+    match make {
+        Make::IfThen => plain(
+            3,
+            values.place(2),
+            Node::IfThen {
+                condition: values.node(1),
+                holds: values.node(0),
+            },
+        ),
+        _ => plain(
+            4,
+            values.place(3),
+            Node::IfElse {
+                condition: values.node(2),
+                holds: values.node(1),
+                fails: values.node(0),
+            },
+        ),
+    }
+}
+
+/// Loops.
+fn loops(make: Make, values: &Values) -> Plan
+    ensures { result ≡ loops make values.now }
+{
+    match make {
+        Make::While => plain(
+            3,
+            values.place(2),
+            Node::While {
+                condition: values.node(1),
+                body: values.node(0),
+            },
+        ),
+        Make::Do => plain(
+            3,
+            values.place(2),
+            Node::Do {
+                body: values.node(1),
+                condition: values.node(0),
+            },
+        ),
+        _ => plain(
+            5,
+            values.place(4),
+            Node::For {
+                initial: values.node(3),
+                condition: values.node(2),
+                updates: values.node(1),
+                body: values.node(0),
+            },
+        ),
+    }
+}
+
+/// Declarations.
 fn declarations(make: Make, values: &Values) -> Plan
     ensures { result ≡ declarations make values.now }
 {
@@ -120,7 +426,7 @@ fn declarations(make: Make, values: &Values) -> Plan
                 body: values.node(0),
             },
         ),
-        Make::Class => plain(
+        _ => plain(
             3,
             values.place(0),
             Node::Class {
@@ -129,340 +435,47 @@ fn declarations(make: Make, values: &Values) -> Plan
                 members: values.node(1),
             },
         ),
-        _ => lists(make, values),
     }
 }
 
-/// Loops, or else declarations.
-fn loops(make: Make, values: &Values) -> Plan
-    ensures { result ≡ loops make values.now }
+/// Lists, and what is absent.
+fn lists(make: Make, values: &Values) -> Plan
+    ensures { result ≡ lists make values.now }
 {
     match make {
-        Make::While => plain(
-            3,
-            values.place(2),
-            Node::While {
-                condition: values.node(1),
-                body: values.node(0),
+        Make::Cons => plain(
+            2,
+            values.place(1),
+            Node::Cons {
+                first: values.node(1),
+                rest: values.node(0),
             },
         ),
-        Make::Do => plain(
-            3,
-            values.place(2),
-            Node::Do {
-                body: values.node(1),
-                condition: values.node(0),
-            },
-        ),
-        Make::For => plain(
-            5,
-            values.place(4),
-            Node::For {
-                initial: values.node(3),
-                condition: values.node(2),
-                updates: values.node(1),
-                body: values.node(0),
-            },
-        ),
-        _ => declarations(make, values),
+        _ => plain(0, nowhere(), Node::Nil),
     }
 }
 
-/// Statements of one part, or else others.
-fn statements(make: Make, values: &Values) -> Plan
-    ensures { result ≡ statements make values.now }
-{
-    match make {
-        Make::Block => plain(
-            2,
-            values.place(1),
-            Node::Block {
-                statements: values.node(0),
-            },
-        ),
-        Make::Return => plain(
-            2,
-            values.place(1),
-            Node::Return {
-                value: values.node(0),
-            },
-        ),
-        Make::ConstructorCall => plain(
-            2,
-            values.place(1),
-            Node::ConstructorCall {
-                arguments: values.node(0),
-            },
-        ),
-        Make::Empty => plain(1, values.place(0), Node::Empty),
-        Make::Jump => plain(1, values.place(0), jump_node(values.kind(0))),
-        _ => branches(make, values),
-    }
-}
-
-/// Statements that branch, or else loops.
-fn branches(make: Make, values: &Values) -> Plan
-    ensures { result ≡ branches make values.now }
-{
-    match make {
-        Make::IfThen => plain(
-            3,
-            values.place(2),
-            Node::IfThen {
-                condition: values.node(1),
-                holds: values.node(0),
-            },
-        ),
-        Make::IfElse => plain(
-            4,
-            values.place(3),
-            Node::IfElse {
-                condition: values.node(2),
-                holds: values.node(1),
-                fails: values.node(0),
-            },
-        ),
-        _ => loops(make, values),
-    }
-}
-
-/// Locals and expressions as statements, or else other statements.
-fn locals(make: Make, values: &Values) -> Plan
-    ensures { result ≡ locals make values.now }
-{
-    match make {
-        Make::Declarator => plain(
-            2,
-            values.place(1),
-            Node::Declarator {
-                name: values.name(1),
-                initial: values.node(0),
-            },
-        ),
-        Make::Local => tree(
-            2,
-            values.place(1),
-            Form::Local,
-            Node::Local {
-                declared: values.node(1),
-                declarators: values.node(0),
-            },
-        ),
-        Make::ExpressionStatement => plain(
-            1,
-            values.place(0),
-            Node::ExpressionStatement {
-                expression: values.node(0),
-            },
-        ),
-        _ => statements(make, values),
-    }
-}
-
-/// Comparisons of two values, or else locals.
-fn comparisons(make: Make, values: &Values) -> Plan
-    ensures { result ≡ comparisons make values.now }
-{
-    match make {
-        Make::Less => plain(
-            2,
-            values.place(1),
-            Node::Binary {
-                operator: BinaryOperator::Less,
-                left: values.node(1),
-                right: values.node(0),
-            },
-        ),
-        Make::Greater => plain(
-            2,
-            values.place(1),
-            Node::Binary {
-                operator: BinaryOperator::Greater,
-                left: values.node(1),
-                right: values.node(0),
-            },
-        ),
-        Make::InstanceOf => plain(
-            2,
-            values.place(1),
-            Node::InstanceOf {
-                operand: values.node(1),
-                tested: values.node(0),
-            },
-        ),
-        _ => locals(make, values),
-    }
-}
-
-/// Operations with their operator between operands, or else comparisons.
-fn infixes(make: Make, values: &Values) -> Plan
-    ensures { result ≡ infixes make values.now }
-{
-    match make {
-        Make::Binary => plain(
-            3,
-            values.place(2),
-            Node::Binary {
-                operator: binary_of(values.kind(1)),
-                left: values.node(2),
-                right: values.node(0),
-            },
-        ),
-        Make::Conditional => plain(
-            3,
-            values.place(2),
-            Node::Conditional {
-                condition: values.node(2),
-                holds: values.node(1),
-                fails: values.node(0),
-            },
-        ),
-        Make::Assign => plain(
-            3,
-            values.place(2),
-            assignment(values.kind(1), values.node(2), values.node(0)),
-        ),
-        _ => comparisons(make, values),
-    }
-}
-
-/// Operations on one operand, or else on more.
-fn prefixes(make: Make, values: &Values) -> Plan
-    ensures { result ≡ prefixes make values.now }
-{
-    match make {
-        Make::StepBehind => plain(
-            2,
-            values.place(1),
-            Node::Step {
-                operator: step_behind_of(values.kind(0)),
-                target: values.node(1),
-            },
-        ),
-        Make::StepBefore => plain(
-            2,
-            values.place(1),
-            Node::Step {
-                operator: step_before_of(values.kind(1)),
-                target: values.node(0),
-            },
-        ),
-        Make::Unary => plain(
-            2,
-            values.place(1),
-            Node::Unary {
-                operator: unary_of(values.kind(1)),
-                operand: values.node(0),
-            },
-        ),
-        Make::Cast => plain(
-            3,
-            values.place(2),
-            Node::Cast {
-                target: values.node(1),
-                operand: values.node(0),
-            },
-        ),
-        _ => infixes(make, values),
-    }
-}
-
-/// Creations and calls that begin with a keyword, or else operations.
-fn creations(make: Make, values: &Values) -> Plan
-    ensures { result ≡ creations make values.now }
-{
-    match make {
-        Make::ObjectCreation => tree(
-            3,
-            values.place(2),
-            Form::Invocation,
-            Node::ObjectCreation {
-                class: values.node(1),
-                arguments: values.node(0),
-            },
-        ),
-        Make::ArrayCreation => tree(
-            3,
-            values.place(2),
-            Form::ArrayCreation,
-            Node::ArrayCreation {
-                element: values.node(1),
-                length: values.node(0),
-            },
-        ),
-        Make::SuperCall => tree(
-            3,
-            values.place(2),
-            Form::Invocation,
-            Node::SuperCall {
-                name: values.name(1),
-                arguments: values.node(0),
-            },
-        ),
-        _ => prefixes(make, values),
-    }
-}
-
-/// What is selected of an expression, or else other expressions.
-fn selections(make: Make, values: &Values) -> Plan
-    ensures { result ≡ selections make values.now }
-{
-    match make {
-        Make::FieldAccess => tree(
-            2,
-            values.place(1),
-            Form::Target,
-            Node::FieldAccess {
-                object: values.node(1),
-                name: values.name(0),
-            },
-        ),
-        Make::MethodCall => tree(
-            3,
-            values.place(2),
-            Form::Invocation,
-            Node::MethodCall {
-                object: values.node(2),
-                name: values.name(1),
-                arguments: values.node(0),
-            },
-        ),
-        Make::ArrayAccess => tree(
-            2,
-            values.place(1),
-            Form::Target,
-            Node::ArrayAccess {
-                array: values.node(1),
-                index: values.node(0),
-            },
-        ),
-        _ => creations(make, values),
-    }
-}
-
-/// One node above the values: a type, or else an expression, a statement, a declaration or a list.
+/// One node above the values.
 pub fn plan_of(make: Make, values: &Values) -> Plan
     ensures { result ≡ plan make values.now }
 {
     match make {
-        Make::TypeOfMark => tree(
-            1,
-            values.place(0),
-            Form::Type,
-            Node::PrimitiveType {
-                primitive: primitive_of(values.kind(0)),
-            },
+        Make::TypeOfMark | Make::TypeOfName | Make::Array => types(make, values),
+        Make::FieldAccess | Make::MethodCall | Make::ArrayAccess => selections(make, values),
+        Make::ObjectCreation | Make::ArrayCreation | Make::SuperCall => creations(make, values),
+        Make::StepBehind | Make::StepBefore | Make::Unary | Make::Cast => prefixes(make, values),
+        Make::Binary | Make::Conditional | Make::Assign => infixes(make, values),
+        Make::Less | Make::Greater | Make::InstanceOf => comparisons(make, values),
+        Make::Declarator | Make::Local | Make::ExpressionStatement => locals(make, values),
+        Make::Block | Make::Return | Make::ConstructorCall | Make::Empty | Make::Jump => statements(
+            make, values,
         ),
-        Make::TypeOfName => tree(1, values.place(0), Form::Type, type_node(values.peek(0))),
-        Make::Array => tree(
-            1,
-            values.place(0),
-            Form::Type,
-            Node::ArrayType {
-                element: values.node(0),
-            },
+        Make::IfThen | Make::IfElse => branches(make, values),
+        Make::While | Make::Do | Make::For => loops(make, values),
+        Make::Parameter | Make::Field | Make::Constructor | Make::Class => declarations(
+            make, values,
         ),
-        _ => selections(make, values),
+        _ => lists(make, values),
     }
 }
 
