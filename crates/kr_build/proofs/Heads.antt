@@ -94,10 +94,10 @@ of_cons_below a vs e = on_owner (sort.Part ∷ sort.Part ∷ []) (λ (ws : List 
 of_end_members : (a : Arena) (vs : List Kept) → are (sorts makes.EndMembers) vs ≡ true → BelowClaim makes.EndMembers a vs
 of_end_members a vs e = on_member (sort.Owner ∷ []) (λ (ws : List Kept). BelowClaim makes.EndMembers a ws) vs e (λ b0 m0 v0 e0. on_owner [] (λ (ws : List Kept). BelowClaim makes.EndMembers a (Member b0 m0 ∷ ws)) v0 e0 (λ b1 p1 n1 v1 e1. λ h. (record { within = omega arith; same = done; named = (h.0, h.1, tt) }, refl)))
 
-below_makes : (m : Make) (a : Arena) (vs : List Kept) → way m ≡ ways.Below → are (sorts m) vs ≡ true → AreNamesIn a.text (names_of vs) → BelowMakes m a vs (below m vs) (staying m vs)
+below_makes : (m : Make) (a : Arena) (vs : List Kept) → way m ≡ ways.Under → are (sorts m) vs ≡ true → AreNamesIn a.text (names_of vs) → BelowMakes m a vs (below m vs) (staying m vs)
 below_makes makes.ConsBelow a vs w e = of_cons_below a vs e
 below_makes makes.EndMembers a vs w e = of_end_members a vs e
 below_makes _ a vs w e = cc
 
-pub one_below : (m : Make) (a : Arena) (vs : List Kept) (s : Plan) (v : Kept) → way m ≡ ways.Below → are (sorts m) vs ≡ true → AreBuilt a vs → s ≡ below m vs → v ≡ staying m vs → BelowMakes m a vs s v
+pub one_below : (m : Make) (a : Arena) (vs : List Kept) (s : Plan) (v : Kept) → way m ≡ ways.Under → are (sorts m) vs ≡ true → AreBuilt a vs → s ≡ below m vs → v ≡ staying m vs → BelowMakes m a vs s v
 one_below m a vs s v w e h g k = subst (λ (t : Plan). BelowMakes m a vs t v) (sym g) (subst (BelowMakes m a vs (below m vs)) (sym k) (below_makes m a vs w e h.named))

@@ -58,6 +58,7 @@ impl Builder {
     }
 
     /// Puts a node without parts or names, and its tree on the values.
+    #[inline(never)]
     pub fn put_leaf(&mut self, place: Place, node: Node) -> Result<(), NoMemory>
         requires built { IsBuilt self.old }
         requires alone { parts node ≡ [] }
@@ -70,6 +71,7 @@ impl Builder {
     }
 
     /// Puts a node above its parts, and its tree in the place of the values taken.
+    #[inline(always)]
     pub(crate) fn put(&mut self, plan: Plan) -> Result<(), NoMemory>
         requires built { IsBuilt self.old }
         requires fits { Fits self.old.forest.text self.old.values plan None }
@@ -89,6 +91,7 @@ impl Builder {
     }
 
     /// Puts a node above its parts, and its tree in the place of the values taken, below one of these.
+    #[inline(never)]
     fn put_below(&mut self, under: Plan, above: Kept) -> Result<(), NoMemory>
         requires built { IsBuilt self.old }
         requires fits { Fits self.old.forest.text self.old.values under (Some above) }
@@ -109,6 +112,7 @@ impl Builder {
     }
 
     /// Puts values in the place of others.
+    #[inline(never)]
     pub(crate) fn put_again(&mut self, change: Move) -> Result<(), NoMemory>
         requires built { IsBuilt self.old }
         requires fits { FitsMove self.old.forest.text self.old.values change }
@@ -146,6 +150,7 @@ impl Builder {
     }
 
     /// The node of a word, or two nodes.
+    #[inline(never)]
     fn build_name(&mut self, make: Make) -> Result<(), NoMemory>
         requires built { IsBuilt self.old }
         requires name { way make ≡ Way.Name }
@@ -163,6 +168,7 @@ impl Builder {
     }
 
     /// A method, above its signature.
+    #[inline(never)]
     fn method(&mut self) -> Result<(), NoMemory>
         requires built { IsBuilt self.old }
         requires values { are (sorts Make.Method) self.old.values ≡ true }
@@ -190,7 +196,37 @@ impl Builder {
         Ok(())
     }
 
+    /// A list below a value that stays on top.
+    #[inline(never)]
+    fn build_list(&mut self, make: Make) -> Result<(), NoMemory>
+        requires built { IsBuilt self.old }
+        requires list { way make ≡ Way.Under }
+        requires values { are (sorts make) self.old.values ≡ true }
+        ensures built { IfOk result (λ none. IsBuilt self.new) }
+        ensures shown { IfOk result (λ none. values_of self.new ≡ made make (values_of self.old)) }
+    {
+        let list = below(make, &self.values);
+        let above = staying(make, &self.values);
+        self.put_below(list, above)?;
+        Ok(())
+    }
+
+    /// Values in the place of others.
+    #[inline(never)]
+    fn build_values(&mut self, make: Make) -> Result<(), NoMemory>
+        requires built { IsBuilt self.old }
+        requires again { way make ≡ Way.Values }
+        requires values { are (sorts make) self.old.values ≡ true }
+        ensures built { IfOk result (λ none. IsBuilt self.new) }
+        ensures shown { IfOk result (λ none. values_of self.new ≡ made make (values_of self.old)) }
+    {
+        let change = move_of(make, &self.values);
+        self.put_again(change)?;
+        Ok(())
+    }
+
     /// Comparisons of names.
+    #[inline(never)]
     fn build_comparisons(&mut self, make: Make) -> Result<(), NoMemory>
         requires built { IsBuilt self.old }
         requires names { way make ≡ Way.Compare }
@@ -211,6 +247,7 @@ impl Builder {
     }
 
     /// Makes what is to be made of the values on top.
+    #[inline(never)]
     pub fn build(&mut self, make: Make) -> Result<(), NoMemory>
         requires { IsBuilt self.old }
         ensures built { IfOk result (λ none. IsBuilt self.new) }
@@ -226,17 +263,8 @@ impl Builder {
                 Ok(())
             }
             Way::Name => self.build_name(make),
-            Way::Below => {
-                let list = below(make, &self.values);
-                let above = staying(make, &self.values);
-                self.put_below(list, above)?;
-                Ok(())
-            }
-            Way::Values => {
-                let change = move_of(make, &self.values);
-                self.put_again(change)?;
-                Ok(())
-            }
+            Way::Under => self.build_list(make),
+            Way::Values => self.build_values(make),
             Way::Method => self.method(),
             Way::Compare => self.build_comparisons(make),
         }

@@ -115,6 +115,7 @@ fn value_in(value: Option<Kept>) -> Kept
 
 impl Kept {
     /// The place of a value that has one.
+    #[inline(always)]
     fn place(&self) -> Place
         ensures { result ≡ place_in (Some self.now) }
     {
@@ -319,6 +320,7 @@ impl Values {
     }
 
     /// The place of the value under so many others.
+    #[inline(always)]
     pub fn place(&self, depth: usize) -> Place
         ensures { result ≡ place_at self.now depth }
     {

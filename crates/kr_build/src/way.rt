@@ -13,7 +13,7 @@ pub enum Way {
     /// the node of a word, or two nodes of a pair or a type
     Name,
     /// a node below a value that stays on top
-    Below,
+    Under,
     /// values again
     Values,
     Method,
@@ -26,7 +26,7 @@ pub fn way_of(make: Make) -> Way
 {
     match make {
         Make::Variable | Make::CallOfName | Make::Generic | Make::Diamond => Way::Name,
-        Make::ConsBelow | Make::EndMembers => Way::Below,
+        Make::ConsBelow | Make::EndMembers => Way::Under,
         Make::Pair
         | Make::Swap
         | Make::Enclosed

@@ -9,7 +9,7 @@ ghost use Rattle.kr_parse.specs.Refusals.{IsRefusal, IsShallow, token_at};
 ghost use Rattle.kr_build.specs.Shown.{values_of, IsBuilt};
 ghost use Rattle.kr_parse.specs.Steps.{AreLaws, kept_of, IsStanding};
 
-use crate::cursor::{Cursor, ahead, dead, is_expected};
+use crate::cursor::{Cursor, dead};
 use crate::refusal::ParseRefusal;
 use crate::stack::Stack;
 use kr_ast::{Node, Tree};
@@ -46,7 +46,7 @@ fn expand(
     ensures refused { IfErr result (λ refusal. IsRefusal tokens.now refusal) }
 {
     laws();
-    let next = ahead(tokens, cursor.at);
+    let next = cursor.next;
     match goal {
         Goal::Operators { least, most } => match after_operand(least, most, next) {
             Infix::Dead => Err(dead(tokens, cursor.at)),
@@ -105,39 +105,41 @@ fn keep(tokens: &Tokens, at: usize, symbol: Symbol, builder: &mut Builder) -> Re
 }
 
 /// Goes on by one symbol, which was taken off the stack.
+#[inline(always)]
 fn advance(
     tokens: &Tokens,
-    cursor: Cursor,
+    cursor: &mut Cursor,
     symbol: Symbol,
     stack: &mut Stack,
     builder: &mut Builder,
-) -> Result<Cursor, ParseRefusal>
-    requires standing { IsStanding tokens.now cursor }
+) -> Result<(), ParseRefusal>
+    requires standing { IsStanding tokens.now cursor.old }
     requires built { IsBuilt builder.old }
-    requires state { State tokens.now.list cursor.at (symbol ∷ stack.old) (values_of builder.old) }
-    ensures standing { IfOk result (λ then. IsStanding tokens.now then) }
-    ensures built { IfOk result (λ then. IsBuilt builder.new) }
-    ensures state { IfOk result (λ then. State tokens.now.list then.at stack.new (values_of builder.new)) }
-    ensures falls { IfOk result (λ then. load stack.new + 100 * (length tokens.now.list - then.at) < load (symbol ∷ stack.old) + 100 * (length tokens.now.list - cursor.at)) }
+    requires state { State tokens.now.list cursor.old.at (symbol ∷ stack.old) (values_of builder.old) }
+    ensures standing { IfOk result (λ none. IsStanding tokens.now cursor.new) }
+    ensures built { IfOk result (λ none. IsBuilt builder.new) }
+    ensures state { IfOk result (λ none. State tokens.now.list cursor.new.at stack.new (values_of builder.new)) }
+    ensures falls { IfOk result (λ none. load stack.new + 100 * (length tokens.now.list - cursor.new.at) < load (symbol ∷ stack.old) + 100 * (length tokens.now.list - cursor.old.at)) }
     ensures refused { IfErr result (λ refusal. IsRefusal tokens.now refusal) }
 {
     laws();
     match symbol {
         Symbol::Want(goal) => {
-            expand(tokens, cursor, goal, stack, builder)?;
-            Ok(cursor)
+            expand(tokens, *cursor, goal, stack, builder)?;
+            Ok(())
         }
         Symbol::Build(make) => {
             builder.build(make)?;
-            Ok(cursor)
+            Ok(())
         }
         Symbol::Take(_) | Symbol::Keep(_) | Symbol::Word | Symbol::Literal | Symbol::Spell(_) => {
-            if !is_expected(tokens, cursor.at, symbol) {
-                return Err(dead(tokens, cursor.at));
+            let at = cursor.at;
+            if !cursor.is_expected(tokens, symbol) {
+                return Err(dead(tokens, at));
             }
-            let onward = cursor.step(tokens)?;
-            keep(tokens, cursor.at, symbol, builder)?;
-            Ok(onward)
+            cursor.step(tokens)?;
+            keep(tokens, at, symbol, builder)?;
+            Ok(())
         }
     }
 }
@@ -153,10 +155,10 @@ pub fn parse(alloc: Global, tokens: &Tokens) -> Result<Tree, ParseRefusal>
     laws();
     let mut stack = Stack::new(alloc);
     let mut builder = Builder::new(alloc);
-    let mut cursor = Cursor { at: 0, depth: 0 };
+    let mut cursor = Cursor::start(tokens);
     stack.push(Symbol::Want(Goal::File))?;
     while let Some(symbol) = stack.pop() {
-        cursor = advance(tokens, cursor, symbol, &mut stack, &mut builder)?;
+        advance(tokens, &mut cursor, symbol, &mut stack, &mut builder)?;
     }
     if cursor.at < tokens.len() {
         return Err(dead(tokens, cursor.at));
