@@ -1,5 +1,5 @@
 -- The nodes of names, and lists below a value that stays on top.
-use Rattle.std.proofs.Common.{◌≡◌, ℕ, true, List, [], ◌∷◌, Option, Some, None, refl, sym, ap, ◌∙◌, arith, subst}
+use Rattle.std.proofs.Common.{◌≡◌, ℕ, ◌<◌, ◌≤◌, true, List, [], ◌∷◌, Option, Some, None, refl, sym, ap, ◌∙◌, arith, subst}
 use Rattle.kr_ast.specs.Arena.{Arena, AreNamesIn}
 use Rattle.kr_grammar.specs.declared.goal.Make.{Make}
 use Rattle.kr_grammar.specs.declared.goal.Make.TheVariants as makes
@@ -9,7 +9,7 @@ use Rattle.kr_build.specs.declared.value.Kept.TheVariants.{Part, Member, Owner}
 use Rattle.kr_build.specs.declared.value.Sort.TheVariants as sort
 use Rattle.kr_build.specs.declared.plan.Plan.{Plan}
 use Rattle.kr_build.specs.Perm.{done}
-use Rattle.kr_build.specs.Kept.{are}
+use Rattle.kr_build.specs.Kept.{are, value_at}
 use Rattle.kr_build.specs.declared.way.Way.TheVariants as ways
 use Rattle.kr_build.specs.Plans.{sorts, way, single, lower, upper, below, staying}
 use Rattle.kr_build.specs.Shown.{shown, names_of, AreBuilt, Fits, stacked, planned}
@@ -82,22 +82,22 @@ both m a b vs ws s u i w e z h g k q t x =
     (y.1 b i (subst (λ (us : List Kept). AreNamesIn b.text (names_of us)) q k.named) (ap (shown b) (sym q) ∙ t)))
 
 -- lists below a value that stays on top
-abbrev pub BelowMakes : Make → Arena → List Kept → Plan → Kept → Type 0
-BelowMakes m a vs s v = Fits a.text vs s (Some v) × (planned a vs s (Some v) ≡ made m (shown a vs))
+abbrev pub BelowMakes : Make → Arena → List Kept → Plan → ℕ → Type 0
+BelowMakes m a vs s d = (2 ≤ s.taken) × (d < s.taken) × Fits a.text vs s (Some (value_at vs d)) × (planned a vs s (Some (value_at vs d)) ≡ made m (shown a vs))
 
 abbrev BelowClaim : Make → Arena → List Kept → Type 0
-BelowClaim m a vs = AreNamesIn a.text (names_of vs) → BelowMakes m a vs (below m vs) (staying m vs)
+BelowClaim m a vs = AreNamesIn a.text (names_of vs) → BelowMakes m a vs (below m vs) (staying m)
 
 of_cons_below : (a : Arena) (vs : List Kept) → are (sorts makes.ConsBelow) vs ≡ true → BelowClaim makes.ConsBelow a vs
-of_cons_below a vs e = on_owner (sort.Part ∷ sort.Part ∷ []) (λ (ws : List Kept). BelowClaim makes.ConsBelow a ws) vs e (λ b0 p0 n0 v0 e0. on_part (sort.Part ∷ []) (λ (ws : List Kept). BelowClaim makes.ConsBelow a (Owner b0 p0 n0 ∷ ws)) v0 e0 (λ p1 f1 i1 v1 e1. on_part [] (λ (ws : List Kept). BelowClaim makes.ConsBelow a (Owner b0 p0 n0 ∷ Part p1 f1 i1 ∷ ws)) v1 e1 (λ p2 f2 i2 v2 e2. λ h. (record { within = omega arith; same = reverse_two i2 i1; named = (h.0, h.1, tt) }, refl))))
+of_cons_below a vs e = on_owner (sort.Part ∷ sort.Part ∷ []) (λ (ws : List Kept). BelowClaim makes.ConsBelow a ws) vs e (λ b0 p0 n0 v0 e0. on_part (sort.Part ∷ []) (λ (ws : List Kept). BelowClaim makes.ConsBelow a (Owner b0 p0 n0 ∷ ws)) v0 e0 (λ p1 f1 i1 v1 e1. on_part [] (λ (ws : List Kept). BelowClaim makes.ConsBelow a (Owner b0 p0 n0 ∷ Part p1 f1 i1 ∷ ws)) v1 e1 (λ p2 f2 i2 v2 e2. λ h. (omega arith, omega arith, record { within = omega arith; same = reverse_two i2 i1; named = (h.0, h.1, tt) }, refl))))
 
 of_end_members : (a : Arena) (vs : List Kept) → are (sorts makes.EndMembers) vs ≡ true → BelowClaim makes.EndMembers a vs
-of_end_members a vs e = on_member (sort.Owner ∷ []) (λ (ws : List Kept). BelowClaim makes.EndMembers a ws) vs e (λ b0 m0 v0 e0. on_owner [] (λ (ws : List Kept). BelowClaim makes.EndMembers a (Member b0 m0 ∷ ws)) v0 e0 (λ b1 p1 n1 v1 e1. λ h. (record { within = omega arith; same = done; named = (h.0, h.1, tt) }, refl)))
+of_end_members a vs e = on_member (sort.Owner ∷ []) (λ (ws : List Kept). BelowClaim makes.EndMembers a ws) vs e (λ b0 m0 v0 e0. on_owner [] (λ (ws : List Kept). BelowClaim makes.EndMembers a (Member b0 m0 ∷ ws)) v0 e0 (λ b1 p1 n1 v1 e1. λ h. (omega arith, omega arith, record { within = omega arith; same = done; named = (h.0, h.1, tt) }, refl)))
 
-below_makes : (m : Make) (a : Arena) (vs : List Kept) → way m ≡ ways.Under → are (sorts m) vs ≡ true → AreNamesIn a.text (names_of vs) → BelowMakes m a vs (below m vs) (staying m vs)
+below_makes : (m : Make) (a : Arena) (vs : List Kept) → way m ≡ ways.Under → are (sorts m) vs ≡ true → AreNamesIn a.text (names_of vs) → BelowMakes m a vs (below m vs) (staying m)
 below_makes makes.ConsBelow a vs w e = of_cons_below a vs e
 below_makes makes.EndMembers a vs w e = of_end_members a vs e
 below_makes _ a vs w e = cc
 
-pub one_below : (m : Make) (a : Arena) (vs : List Kept) (s : Plan) (v : Kept) → way m ≡ ways.Under → are (sorts m) vs ≡ true → AreBuilt a vs → s ≡ below m vs → v ≡ staying m vs → BelowMakes m a vs s v
-one_below m a vs s v w e h g k = subst (λ (t : Plan). BelowMakes m a vs t v) (sym g) (subst (BelowMakes m a vs (below m vs)) (sym k) (below_makes m a vs w e h.named))
+pub one_below : (m : Make) (a : Arena) (vs : List Kept) (s : Plan) (d : ℕ) → way m ≡ ways.Under → are (sorts m) vs ≡ true → AreBuilt a vs → s ≡ below m vs → d ≡ staying m → BelowMakes m a vs s d
+one_below m a vs s d w e h g k = subst (λ (t : Plan). BelowMakes m a vs t d) (sym g) (subst (BelowMakes m a vs (below m vs)) (sym k) (below_makes m a vs w e h.named))

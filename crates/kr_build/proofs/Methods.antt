@@ -89,3 +89,7 @@ below_some (v ∷ us) e = omega arith
 pub is_method : (m : Make) → way m ≡ ways.Method → m ≡ makes.Method
 is_method makes.Method e = refl
 is_method _ e = cc
+
+pub is_swap : (m : Make) → way m ≡ ways.Swap → m ≡ makes.Swap
+is_swap makes.Swap e = refl
+is_swap _ e = cc

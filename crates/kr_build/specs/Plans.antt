@@ -92,7 +92,7 @@ way makes.Diamond = ways.Name
 way makes.ConsBelow = ways.Under
 way makes.EndMembers = ways.Under
 way makes.Pair = ways.Values
-way makes.Swap = ways.Values
+way makes.Swap = ways.Swap
 way makes.Enclosed = ways.Values
 way makes.MemberAhead = ways.Values
 way makes.SetStatic = ways.Values
@@ -260,10 +260,10 @@ abbrev pub below : Make → List Kept → Plan
 below makes.ConsBelow vs = plain 3 (place_at vs 2) (nodes.Cons (node_at vs 2) (node_at vs 1))
 below _ vs = plain 2 nowhere nodes.Nil
 
--- and that value
-abbrev pub staying : Make → List Kept → Kept
-staying makes.ConsBelow vs = value_at vs 0
-staying _ vs = value_at vs 1
+-- and under how many others that value stood
+abbrev pub staying : Make → ℕ
+staying makes.ConsBelow = 0
+staying _ = 1
 
 abbrev pub one : ℕ → Kept → Move
 one n v = record { taken = n; top = v; below = None }
@@ -286,7 +286,6 @@ owner b vs = over (Owner b (place_at vs 1) (name_at vs 1)) vs
 -- values again
 abbrev pub move : Make → List Kept → Move
 move makes.Pair vs = one 2 (Pair (place_at vs 1) (name_at vs 1) (name_at vs 0))
-move makes.Swap vs = over (value_at vs 1) vs
 move makes.Enclosed vs = one 2 (Part (place_at vs 1) forms.Other (node_at vs 0))
 move makes.Owner vs = owner false vs
 move makes.NestedOwner vs = owner true vs

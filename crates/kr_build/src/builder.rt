@@ -1,10 +1,10 @@
 // Puts trees together from what the parser keeps.
-ghost use Rattle.std.specs.Prelude.{◌≡◌, ◌++◌, ◌∷◌, [], IfOk, ℕ, true, Some, None, length};
+ghost use Rattle.std.specs.Prelude.{◌≡◌, ◌<◌, ◌≤◌, ◌++◌, ◌∷◌, [], IfOk, ℕ, true, Some, None, length};
 ghost use Rattle.kr_ast.specs.Arena.{parts, names, tree_at, tree_of};
 ghost use Rattle.kr_grammar.specs.declared.value.Form.TheVariants.{Other};
 ghost use Rattle.kr_grammar.specs.Made.{made};
 ghost use Rattle.kr_grammar.specs.Values.{mark, word, part};
-ghost use Rattle.kr_build.specs.Kept.{are};
+ghost use Rattle.kr_build.specs.Kept.{are, value_at};
 ghost use Rattle.kr_build.specs.Plans.{sorts, way, single};
 ghost use Rattle.kr_build.specs.Shown.{values_of, IsOnePart, IsTreeOf, shown, IsBuilt, Fits, FitsMove, planned, stacked, moved};
 
@@ -92,27 +92,28 @@ impl Builder {
 
     /// Puts a node above its parts, and its tree in the place of the values taken, below one of these.
     #[inline(never)]
-    fn put_below(&mut self, under: Plan, above: Kept) -> Result<(), NoMemory>
+    fn put_below(&mut self, under: Plan, depth: usize) -> Result<(), NoMemory>
         requires built { IsBuilt self.old }
-        requires fits { Fits self.old.forest.text self.old.values under (Some above) }
+        requires room { 2 ≤ under.taken }
+        requires above { depth < under.taken }
+        requires fits { Fits self.old.forest.text self.old.values under (Some (value_at self.old.values depth)) }
         ensures built { IfOk result (λ none. IsBuilt self.new) }
-        ensures shown { IfOk result (λ none. values_of self.new ≡ planned self.old.forest self.old.values under (Some above)) }
-        ensures kept { IfOk result (λ none. (i : ℕ) × (self.new.values ≡ stacked under (Some above) i self.old.values)) }
+        ensures shown { IfOk result (λ none. values_of self.new ≡ planned self.old.forest self.old.values under (Some (value_at self.old.values depth))) }
+        ensures kept { IfOk result (λ none. (i : ℕ) × (self.new.values ≡ stacked under (Some (value_at self.old.values depth)) i self.old.values)) }
         ensures text { IfOk result (λ none. self.new.forest.text ≡ self.old.forest.text) }
     {
         let node = self.forest.put(under.place, under.node)?;
-        self.values.drop_top(under.taken);
-        self.values.push(Kept::Part {
+        let part = Kept::Part {
             place: under.place,
             form: under.form,
             node,
-        })?;
-        self.values.push(above)?;
+        };
+        self.values.tuck(under.taken, depth, part);
         Ok(())
     }
 
     /// Puts values in the place of others.
-    #[inline(never)]
+    #[inline(always)]
     pub(crate) fn put_again(&mut self, change: Move) -> Result<(), NoMemory>
         requires built { IsBuilt self.old }
         requires fits { FitsMove self.old.forest.text self.old.values change }
@@ -184,8 +185,7 @@ impl Builder {
             parameters: self.values.node(2),
             contracts: self.values.node(0),
         };
-        let body = self.values.value(1);
-        self.put_below(tree(5, place, Form::Other, signature), body)?;
+        self.put_below(tree(5, place, Form::Other, signature), 1)?;
         let method = Node::Method {
             is_static,
             name,
@@ -206,8 +206,8 @@ impl Builder {
         ensures shown { IfOk result (λ none. values_of self.new ≡ made make (values_of self.old)) }
     {
         let list = below(make, &self.values);
-        let above = staying(make, &self.values);
-        self.put_below(list, above)?;
+        let depth = staying(make);
+        self.put_below(list, depth)?;
         Ok(())
     }
 
@@ -223,6 +223,17 @@ impl Builder {
         let change = move_of(make, &self.values);
         self.put_again(change)?;
         Ok(())
+    }
+
+    /// The two values on top, the other way round.
+    fn swap(&mut self)
+        requires built { IsBuilt self.old }
+        requires values { are (sorts Make.Swap) self.old.values ≡ true }
+        ensures built { IsBuilt self.new }
+        ensures shown { values_of self.new ≡ made Make.Swap (values_of self.old) }
+    {
+        let top = self.values.value(0);
+        self.values.tuck(2, 1, top);
     }
 
     /// Comparisons of names.
@@ -264,6 +275,10 @@ impl Builder {
             }
             Way::Name => self.build_name(make),
             Way::Under => self.build_list(make),
+            Way::Swap => {
+                self.swap();
+                Ok(())
+            }
             Way::Values => self.build_values(make),
             Way::Method => self.method(),
             Way::Compare => self.build_comparisons(make),

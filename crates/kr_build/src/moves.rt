@@ -48,6 +48,7 @@ fn member(taken: usize, values: &Values, modifiers: Modifiers) -> Move
 }
 
 /// The member ahead with one modifier more, or with none.
+#[inline(always)]
 fn modified(make: Make, values: &Values) -> Move
     ensures { result ≡ modified make values.now }
 {
@@ -96,6 +97,7 @@ fn owner(is_nested: bool, values: &Values) -> Move
 }
 
 /// Values again.
+#[inline(always)]
 pub fn move_of(make: Make, values: &Values) -> Move
     ensures { result ≡ move make values.now }
 {
@@ -108,7 +110,6 @@ pub fn move_of(make: Make, values: &Values) -> Move
                 name: values.name(0),
             },
         ),
-        Make::Swap => over(values.value(1), values),
         Make::Enclosed => one(
             2,
             Kept::Part {

@@ -598,12 +598,12 @@ pub fn below(make: Make, values: &Values) -> Plan
     }
 }
 
-/// And that value.
-pub fn staying(make: Make, values: &Values) -> Kept
-    ensures { result ≡ staying make values.now }
+/// Under how many others that value stood.
+pub fn staying(make: Make) -> usize
+    ensures { result ≡ staying make }
 {
     match make {
-        Make::ConsBelow => values.value(0),
-        _ => values.value(1),
+        Make::ConsBelow => 0,
+        _ => 1,
     }
 }

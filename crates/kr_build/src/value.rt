@@ -284,6 +284,21 @@ impl Values {
         self.items.truncate(left);
     }
 
+    /// Puts a value in the place of so many on top, below one of these.
+    #[inline(always)]
+    pub fn tuck(&mut self, count: usize, depth: usize, value: Kept)
+        requires within { count ≤ length self.old }
+        requires room { 2 ≤ count }
+        requires above { depth < count }
+        ensures { self.new ≡ value_at self.old depth ∷ value ∷ drop count self.old }
+    {
+        let bottom = self.items.len() - count;
+        let above = *self.top(depth);
+        self.items[bottom + 1] = above;
+        self.items[bottom] = value;
+        self.items.truncate(bottom + 2);
+    }
+
     /// Leaves a mark in the place of a value.
     pub fn mark(&mut self, depth: usize)
         requires { depth < length self.old }

@@ -14,6 +14,8 @@ pub enum Way {
     Name,
     /// a node below a value that stays on top
     Under,
+    /// the two values on top, the other way round
+    Swap,
     /// values again
     Values,
     Method,
@@ -27,8 +29,8 @@ pub fn way_of(make: Make) -> Way
     match make {
         Make::Variable | Make::CallOfName | Make::Generic | Make::Diamond => Way::Name,
         Make::ConsBelow | Make::EndMembers => Way::Under,
+        Make::Swap => Way::Swap,
         Make::Pair
-        | Make::Swap
         | Make::Enclosed
         | Make::MemberAhead
         | Make::SetStatic

@@ -5,7 +5,7 @@ use Rattle.kr_build.specs.Kept.{are}
 use Rattle.kr_build.specs.Plans.{sorts}
 use Rattle.kr_build.specs.Shown.{values_of}
 use Rattle.kr_build.proofs.Planned.{one_node}
-use Rattle.kr_build.proofs.Methods.{is_method}
+use Rattle.kr_build.proofs.Methods.{is_method, is_swap}
 use Rattle.kr_build.proofs.Stays.{stays}
 use Rattle.kr_build.proofs.builder.Builder.build.Goals as goal
 
@@ -29,3 +29,12 @@ pub returns-then-not-are-clause-shown : goal.returns-then-not-are-clause-shown
 returns-then-not-are-clause-shown c =
     let e : are (sorts c.args.make) c.args.self.now.values ≡ false = ap (λ ss. are ss c.args.self.now.values) (sym c.sorts_of.ensures) ∙ sym c.are.ensures ∙ c.if-not-are.true in
     sym (stays c.args.make c.args.self.now.forest c.args.self.now.values e)
+
+pub swap-requires-clause-values : goal.swap-requires-clause-values
+swap-requires-clause-values c =
+    let e : are (sorts c.args.make) c.args.self.now.values ≡ true = ap (λ ss. are ss c.args.self.now.values) (sym c.sorts_of.ensures) ∙ sym c.are.ensures ∙ c.if-not-are.false in
+    subst (λ (m : Make). are (sorts m) c.args.self.now.values ≡ true) (is_swap c.args.make (sym c.way_of.ensures ∙ c.in-Swap.is)) e
+
+pub returns-in-Swap-clause-shown : goal.returns-in-Swap-clause-shown
+returns-in-Swap-clause-shown c =
+    c.swap.ensures.shown ∙ ap (λ (m : Make). made m (values_of c.args.self.now)) (sym (is_swap c.args.make (sym c.way_of.ensures ∙ c.in-Swap.is)))
