@@ -63,6 +63,7 @@ fn adopt_three(entries: &mut Vec<Entry>, first: u32, second: u32, third: u32, pa
 }
 
 /// Gives the parts of a node their parent.
+#[inline(always)]
 fn adopt_parts(entries: &mut Vec<Entry>, node: Node, parent: u32)
     requires free { AreFree entries.old.items (parts node) }
     ensures now { (d : Entry) → entries.new.items ≡ adopted d entries.old.items parent 0 (parts node) }
@@ -236,6 +237,7 @@ impl Forest {
 
     /// Puts a node above its parts, which are roots until then. Answers the node's index. The error says that memory is
     /// short, or that there are 2^32 - 1 nodes.
+    #[inline(always)]
     pub fn put(&mut self, place: Place, node: Node) -> Result<u32, NoMemory>
         requires free { AreFree self.old.entries (parts node) }
         requires named { AreNamesIn self.old.text (names node) }

@@ -23,30 +23,30 @@ use Rattle.kr_build.specs.declared.moves.Move.{Move}
 use Rattle.kr_build.specs.Perm.{Perm, done, keep, flip, onward}
 use Rattle.kr_build.specs.Kept.{are, place_in, place_at, node_at, form_at, value_at, value_in}
 use Rattle.kr_build.specs.Plans.{tree, type_node}
-use Rattle.kr_build.specs.Shown.{item, shown, nodes_of, names_of, IsBuilt, Fits, stacked, planned, FitsMove, moved}
+use Rattle.kr_build.specs.Shown.{item, shown, nodes_of, names_of, AreBuilt, Fits, stacked, planned, FitsMove, moved}
 use Rattle.kr_build.specs.Chain.{is_name_in, is_named, AreNamed, operand, less_of, is_tree_at, without, test_of, Folding}
 use Rattle.kr_build.proofs.Roots.{perm_refl, perm_into, reverse_two}
 use Rattle.kr_build.specs.declared.plan.Plan.{Plan}
 use Rattle.kr_build.proofs.Planned.{on_part}
 use Rattle.kr_build.proofs.Growing.{built_perm, shown_drop, nodes_append, names_append, in_join, in_front}
 
-pub name_fits : (text : List ℕ) (vs : List Kept) (p : Place) (f : Form) (n : Name) → n.start ≤ n.end → n.end ≤ length text → Fits text vs (tree 0 p f (nodes.Variable n))
+pub name_fits : (text : List ℕ) (vs : List Kept) (p : Place) (f : Form) (n : Name) → n.start ≤ n.end → n.end ≤ length text → Fits text vs (tree 0 p f (nodes.Variable n)) None
 name_fits text vs p f n h k = record { within = omega arith; same = done; named = (h, k, tt) }
 
-pub field_fits : (text : List ℕ) (vs ws : List Kept) (p : Place) (o n : Name) (i : ℕ) → n.start ≤ n.end → n.end ≤ length text → ws ≡ stacked (tree 0 p forms.Other (nodes.Variable o)) i vs
-    → Fits text ws (tree 1 p forms.Target (nodes.FieldAccess (node_at ws 0) n))
+pub field_fits : (text : List ℕ) (vs ws : List Kept) (p : Place) (o n : Name) (i : ℕ) → n.start ≤ n.end → n.end ≤ length text → ws ≡ stacked (tree 0 p forms.Other (nodes.Variable o)) None i vs
+    → Fits text ws (tree 1 p forms.Target (nodes.FieldAccess (node_at ws 0) n)) None
 field_fits text vs ws p o n i h k e =
-    subst (λ (zs : List Kept). Fits text zs (tree 1 p forms.Target (nodes.FieldAccess (node_at zs 0) n))) (sym e)
+    subst (λ (zs : List Kept). Fits text zs (tree 1 p forms.Target (nodes.FieldAccess (node_at zs 0) n)) None) (sym e)
     (record { within = omega arith; same = perm_refl (i ∷ []); named = (h, k, tt) })
 
-pub field_kept : (vs ws xs : List Kept) (p : Place) (o n : Name) (i j : ℕ) → ws ≡ stacked (tree 0 p forms.Other (nodes.Variable o)) i vs
-    → xs ≡ stacked (tree 1 p forms.Target (nodes.FieldAccess (node_at ws 0) n)) j ws → xs ≡ Part p forms.Target j ∷ vs
+pub field_kept : (vs ws xs : List Kept) (p : Place) (o n : Name) (i j : ℕ) → ws ≡ stacked (tree 0 p forms.Other (nodes.Variable o)) None i vs
+    → xs ≡ stacked (tree 1 p forms.Target (nodes.FieldAccess (node_at ws 0) n)) None j ws → xs ≡ Part p forms.Target j ∷ vs
 field_kept vs ws xs p o n i j e g = g ∙ ap (λ (zs : List Kept). Part p forms.Target j ∷ drop 1 zs) e
 
 abbrev Shows : Arena → Arena → List Kept → List Kept → Place → Name → Name → Type 0
-Shows a b vs ws p o n = shown b ws ≡ planned a vs (tree 0 p forms.Other (nodes.Variable o)) → planned b ws (tree 1 p forms.Target (nodes.FieldAccess (node_at ws 0) n)) ≡ part p forms.Target (operand a.text (Pair p o n)) ∷ shown a vs
+Shows a b vs ws p o n = shown b ws ≡ planned a vs (tree 0 p forms.Other (nodes.Variable o)) None → planned b ws (tree 1 p forms.Target (nodes.FieldAccess (node_at ws 0) n)) None ≡ part p forms.Target (operand a.text (Pair p o n)) ∷ shown a vs
 
-pub field_made : (a b : Arena) (vs ws : List Kept) (p : Place) (o n : Name) (i : ℕ) → ws ≡ stacked (tree 0 p forms.Other (nodes.Variable o)) i vs → b.text ≡ a.text → Shows a b vs ws p o n
+pub field_made : (a b : Arena) (vs ws : List Kept) (p : Place) (o n : Name) (i : ℕ) → ws ≡ stacked (tree 0 p forms.Other (nodes.Variable o)) None i vs → b.text ≡ a.text → Shows a b vs ws p o n
 field_made a b vs ws p o n i e t = subst (λ (zs : List Kept). Shows a b vs zs p o n) (sym e) (λ h. cc)
 
 -- the names of one value
@@ -72,20 +72,20 @@ is_name_at (v ∷ vs) (suc i) e = is_name_at vs i e
 
 -- an operand above a tree
 pub less_fits : (text : List ℕ) (vs ws : List Kept) (p : Place) (i : ℕ) → are (sort.Part ∷ []) vs ≡ true → ws ≡ Part p forms.Target i ∷ vs
-    → Fits text ws (tree 2 (place_at ws 1) forms.Other (nodes.Binary binaries.Less (node_at ws 1) (node_at ws 0)))
+    → Fits text ws (tree 2 (place_at ws 1) forms.Other (nodes.Binary binaries.Less (node_at ws 1) (node_at ws 0))) None
 less_fits text vs ws p i e =
-    on_part [] (λ (us : List Kept). ws ≡ Part p forms.Target i ∷ us → Fits text ws (tree 2 (place_at ws 1) forms.Other (nodes.Binary binaries.Less (node_at ws 1) (node_at ws 0)))) vs e
+    on_part [] (λ (us : List Kept). ws ≡ Part p forms.Target i ∷ us → Fits text ws (tree 2 (place_at ws 1) forms.Other (nodes.Binary binaries.Less (node_at ws 1) (node_at ws 0))) None) vs e
     (λ q f j us d g.
-    subst (λ (zs : List Kept). Fits text zs (tree 2 (place_at zs 1) forms.Other (nodes.Binary binaries.Less (node_at zs 1) (node_at zs 0)))) (sym g)
+    subst (λ (zs : List Kept). Fits text zs (tree 2 (place_at zs 1) forms.Other (nodes.Binary binaries.Less (node_at zs 1) (node_at zs 0))) None) (sym g)
     (record { within = omega arith; same = reverse_two j i; named = tt }))
 
 pub less_kept : (vs ws xs : List Kept) (p : Place) (i j : ℕ) → are (sort.Part ∷ []) vs ≡ true → ws ≡ Part p forms.Target i ∷ vs
-    → xs ≡ stacked (tree 2 (place_at ws 1) forms.Other (nodes.Binary binaries.Less (node_at ws 1) (node_at ws 0))) j ws → xs ≡ Part (place_at vs 0) forms.Other j ∷ drop 1 vs
+    → xs ≡ stacked (tree 2 (place_at ws 1) forms.Other (nodes.Binary binaries.Less (node_at ws 1) (node_at ws 0))) None j ws → xs ≡ Part (place_at vs 0) forms.Other j ∷ drop 1 vs
 less_kept vs ws xs p i j e q g = g ∙ ap (λ (zs : List Kept). Part (place_at zs 1) forms.Other j ∷ drop 2 zs) q
 
 abbrev Lesses : Arena → Arena → List Kept → List Kept → Place → Kept → Type 0
 Lesses a b vs ws p v = shown b ws ≡ part p forms.Target (operand a.text v) ∷ shown a vs
-    → planned b ws (tree 2 (place_at ws 1) forms.Other (nodes.Binary binaries.Less (node_at ws 1) (node_at ws 0)))
+    → planned b ws (tree 2 (place_at ws 1) forms.Other (nodes.Binary binaries.Less (node_at ws 1) (node_at ws 0))) None
     ≡ part (place_at vs 0) forms.Other (trees.Binary (place_at vs 0) binaries.Less (tree_at a.text a.entries (node_at vs 0)) (operand a.text v)) ∷ shown a (drop 1 vs)
 
 pub less_made : (a b : Arena) (vs ws : List Kept) (p : Place) (v : Kept) (i : ℕ) → are (sort.Part ∷ []) vs ≡ true → ws ≡ Part p forms.Target i ∷ vs → Lesses a b vs ws p v
@@ -128,13 +128,13 @@ pulled vs d = Part (place_at vs 0) (form_at vs 0) (node_at vs 0) ∷ Part (place
 abbrev pub test : List Kept → ℕ → Plan
 test vs d = tree 2 (place_at vs d) forms.Other (nodes.InstanceOf (node_at vs d) (node_at vs 0))
 
-pub pulled_built : (a : Arena) (vs : List Kept) (d : ℕ) → IsBuilt a vs → are (sort.Part ∷ []) vs ≡ true → is_tree_at vs d ≡ true → 0 < d → IsBuilt a (pulled vs d)
+pub pulled_built : (a : Arena) (vs : List Kept) (d : ℕ) → AreBuilt a vs → are (sort.Part ∷ []) vs ≡ true → is_tree_at vs d ≡ true → 0 < d → AreBuilt a (pulled vs d)
 pulled_built a vs zero h e g l = absurd (omega arith)
 pulled_built a (Part p f t ∷ vs) (suc k) h e g l =
     built_perm a (Part p f t ∷ vs) (pulled (Part p f t ∷ vs) (suc k)) h (keep t (pulled_nodes vs k g)) (subst (AreNamesIn a.text) (sym (pulled_names vs k g)) h.named)
 pulled_built a _ (suc k) h e g l = absurd (false≢true e)
 
-pub pulled_fits : (text : List ℕ) (vs : List Kept) (d : ℕ) → Fits text (pulled vs d) (test vs d)
+pub pulled_fits : (text : List ℕ) (vs : List Kept) (d : ℕ) → Fits text (pulled vs d) (test vs d) None
 pulled_fits text vs d = record { within = omega arith; same = reverse_two (node_at vs d) (node_at vs 0); named = tt }
 
 pub tree_within : (vs : List Kept) (d : ℕ) → is_tree_at vs d ≡ true → d < length vs
@@ -153,14 +153,14 @@ got [] d e = absurd (false≢true e)
 got (v ∷ vs) zero e = refl
 got (v ∷ vs) (suc d) e = got vs d e
 
-type_fits_of : (text : List ℕ) (ws : List Kept) (p : Place) (v : Kept) → is_name_in (Some v) ≡ true → AreNamesIn text (names_of (v ∷ [])) → Fits text ws (tree 0 p forms.Type (type_node (Some v)))
+type_fits_of : (text : List ℕ) (ws : List Kept) (p : Place) (v : Kept) → is_name_in (Some v) ≡ true → AreNamesIn text (names_of (v ∷ [])) → Fits text ws (tree 0 p forms.Type (type_node (Some v))) None
 type_fits_of text ws p (Word q n) e h = record { within = omega arith; same = done; named = (h.0, h.1, tt) }
 type_fits_of text ws p (Pair q o n) e h = record { within = omega arith; same = done; named = (h.0, h.1, (h.2.0, h.2.1, tt)) }
 type_fits_of text ws p _ e h = absurd (false≢true e)
 
-pub type_fits : (text : List ℕ) (vs ws : List Kept) (p : Place) (d : ℕ) → is_named vs d ≡ true → AreNamesIn text (names_of vs) → Fits text ws (tree 0 p forms.Type (type_node (slice_get vs d)))
+pub type_fits : (text : List ℕ) (vs ws : List Kept) (p : Place) (d : ℕ) → is_named vs d ≡ true → AreNamesIn text (names_of vs) → Fits text ws (tree 0 p forms.Type (type_node (slice_get vs d))) None
 type_fits text vs ws p d e h =
-    subst (λ (o : Option Kept). Fits text ws (tree 0 p forms.Type (type_node o))) (sym (got vs d e))
+    subst (λ (o : Option Kept). Fits text ws (tree 0 p forms.Type (type_node o)) None) (sym (got vs d e))
     (type_fits_of text ws p (value_at vs d) (is_name_at vs d e) (named_at text vs d h))
 
 folded_test : (a : Arena) (vs : List Kept) (d : ℕ) → is_named vs d ≡ true → is_tree_at vs (suc d) ≡ true
@@ -212,7 +212,7 @@ abbrev pub TestFolds : Arena → Arena → Arena → List Kept → List Kept →
 TestFolds a b1 b vs ws1 ws d i1 i n m =
     is_named vs d ≡ true → is_tree_at vs n ≡ true → ws1 ≡ Part (place_at vs d) forms.Type i1 ∷ vs
     → shown b1 ws1 ≡ part (place_at vs d) forms.Type (tree_of a.text (tree_at a.text a.entries) (place_at vs d) (type_node (slice_get vs d))) ∷ shown a vs → b1.text ≡ a.text
-    → ws ≡ Part (place_at ws1 m) forms.Other i ∷ without ws1 m → shown b ws ≡ test_of b1 ws1 m ∷ shown b1 (without ws1 m) → b.text ≡ b1.text → IsBuilt b ws → Folding a vs b ws d n m
+    → ws ≡ Part (place_at ws1 m) forms.Other i ∷ without ws1 m → shown b ws ≡ test_of b1 ws1 m ∷ shown b1 (without ws1 m) → b.text ≡ b1.text → AreBuilt b ws → Folding a vs b ws d n m
 
 lowest_test_at : (a b1 b : Arena) (vs ws1 ws : List Kept) (d i1 i : ℕ) → TestFolds a b1 b vs ws1 ws d i1 i (suc d) (suc (suc d))
 lowest_test_at a b1 b vs ws1 ws d i1 i e g e1 h1 t1 e2 h2 t2 built =
@@ -255,7 +255,7 @@ lowest_test a b1 b vs ws1 ws d i1 i n m p q =
 abbrev pub PlainFolds : Arena → Arena → List Kept → List Kept → ℕ → ℕ → ℕ → Type 0
 PlainFolds a b vs ws d i n =
     is_named vs d ≡ true → is_named vs n ≡ false → is_tree_at vs n ≡ false → ws ≡ Part (place_in (Some (value_at vs d))) forms.Target i ∷ vs
-    → shown b ws ≡ part (place_in (Some (value_at vs d))) forms.Target (operand a.text (value_at vs d)) ∷ shown a vs → b.text ≡ a.text → IsBuilt b ws → Folding a vs b ws d n n
+    → shown b ws ≡ part (place_in (Some (value_at vs d))) forms.Target (operand a.text (value_at vs d)) ∷ shown a vs → b.text ≡ a.text → AreBuilt b ws → Folding a vs b ws d n n
 
 lowest_plain_at : (a b : Arena) (vs ws : List Kept) (d i : ℕ) → PlainFolds a b vs ws d i (suc d)
 lowest_plain_at a b vs ws d i e n g e1 h1 t built =
@@ -304,7 +304,7 @@ value_same (suc n) zero (u ∷ us) (v ∷ vs) e l = cc
 value_same (suc n) (suc j) (u ∷ us) (v ∷ vs) e l = let t : take n us ≡ take n vs = cc in value_same n j us vs t (omega arith)
 
 pub fold_step : (a b c : Arena) (vs ws xs : List Kept) (d j bottom past i : ℕ) → d ≡ suc j → Folding a vs b ws d bottom past → AreNamed vs j bottom → d < bottom
-    → IsBuilt c xs → c.text ≡ b.text → xs ≡ Part (place_at ws 0) forms.Other i ∷ drop 1 ws → shown c xs ≡ less_of b ws d ∷ shown b (drop 1 ws) → Folding a vs c xs j bottom past
+    → AreBuilt c xs → c.text ≡ b.text → xs ≡ Part (place_at ws 0) forms.Other i ∷ drop 1 ws → shown c xs ≡ less_of b ws d ∷ shown b (drop 1 ws) → Folding a vs c xs j bottom past
 fold_step a b c vs ws xs d j bottom past i z h names l built t e s =
     let p : Place = h.place in
     let n : ℕ = h.node in

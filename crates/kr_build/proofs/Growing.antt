@@ -20,7 +20,7 @@ use Rattle.kr_build.specs.declared.plan.Plan.{Plan}
 use Rattle.kr_build.specs.declared.moves.Move.{Move}
 use Rattle.kr_build.specs.Perm.{Perm, done}
 use Rattle.kr_build.specs.Plans.{tree}
-use Rattle.kr_build.specs.Shown.{item, shown, nodes_of, names_of, sizes, IsBuilt, listed, Fits, stacked, planned, moving, FitsMove, moved}
+use Rattle.kr_build.specs.Shown.{item, shown, nodes_of, names_of, sizes, AreBuilt, listed, Fits, stacked, planned, moving, FitsMove, moved}
 use Rattle.kr_build.proofs.Roots.{perm_append, perm_into, in_perm, roots_perm, free_front, free_back, weigh, weigh_perm, weigh_append}
 
 -- parts of lists
@@ -192,77 +192,77 @@ left_named text n vs h =
     in_back text (names_of (take n vs)) (names_of (drop n vs)) (subst (AreNamesIn text) e h)
 
 -- the parts of the node, the nodes of what stays above it, and the others
-pub roots_apart : (a : Arena) (vs : List Kept) (s : Plan) → IsBuilt a vs → Fits a.text vs s
-    → AreRoots a.entries (parts s.node ++ (nodes_of (listed s.above) ++ nodes_of (drop s.taken vs)))
-roots_apart a vs s h f =
+pub roots_apart : (a : Arena) (vs : List Kept) (s : Plan) (o : Option Kept) → AreBuilt a vs → Fits a.text vs s o
+    → AreRoots a.entries (parts s.node ++ (nodes_of (listed o) ++ nodes_of (drop s.taken vs)))
+roots_apart a vs s o h f =
     let r = subst (AreRoots a.entries) (split_nodes s.taken vs) h.roots in
     let q = roots_perm a.entries (perm_append (nodes_of (drop s.taken vs)) f.same) r in
-    subst (AreRoots a.entries) (append_assoc (parts s.node) (nodes_of (listed s.above)) (nodes_of (drop s.taken vs))) q
+    subst (AreRoots a.entries) (append_assoc (parts s.node) (nodes_of (listed o)) (nodes_of (drop s.taken vs))) q
 
-put_shown : (a b : Arena) (vs : List Kept) (s : Plan) (i : ℕ) → IsBuilt a vs → Fits a.text vs s → i ≡ length a.entries → b.text ≡ a.text
+put_shown : (a b : Arena) (vs : List Kept) (s : Plan) (o : Option Kept) (i : ℕ) → AreBuilt a vs → Fits a.text vs s o → i ≡ length a.entries → b.text ≡ a.text
     → trees b.text b.entries ≡ trees a.text a.entries ++ tree_of a.text (tree_at a.text a.entries) s.place s.node ∷ []
-    → shown b (stacked s i vs) ≡ planned a vs s
-put_shown a b vs s i h f at text more =
+    → shown b (stacked s o i vs) ≡ planned a vs s o
+put_shown a b vs s o i h f at text more =
     let t : Tree = tree_of a.text (tree_at a.text a.entries) s.place s.node in
     let x = extends_node a b t text more in
-    let r = roots_apart a vs s h f in
-    let free = free_back a.entries (parts s.node) (nodes_of (listed s.above) ++ nodes_of (drop s.taken vs)) r.free in
-    let e = shown_same a b (listed s.above) x (free_front a.entries (nodes_of (listed s.above)) (nodes_of (drop s.taken vs)) free) (in_back a.text (names s.node) (names_of (listed s.above)) f.named) in
-    let g = shown_same a b (drop s.taken vs) x (free_back a.entries (nodes_of (listed s.above)) (nodes_of (drop s.taken vs)) free) (left_named a.text s.taken vs h.named) ∙ shown_drop a s.taken vs in
+    let r = roots_apart a vs s o h f in
+    let free = free_back a.entries (parts s.node) (nodes_of (listed o) ++ nodes_of (drop s.taken vs)) r.free in
+    let e = shown_same a b (listed o) x (free_front a.entries (nodes_of (listed o)) (nodes_of (drop s.taken vs)) free) (in_back a.text (names s.node) (names_of (listed o)) f.named) in
+    let g = shown_same a b (drop s.taken vs) x (free_back a.entries (nodes_of (listed o)) (nodes_of (drop s.taken vs)) free) (left_named a.text s.taken vs h.named) ∙ shown_drop a s.taken vs in
     let l = last_tree a b t i at more in
-    shown_append b (listed s.above) (Part s.place s.form i ∷ drop s.taken vs)
+    shown_append b (listed o) (Part s.place s.form i ∷ drop s.taken vs)
     ∙ ap (λ (xs : List Item). xs ++ part s.place s.form (tree_at b.text b.entries i) ∷ shown b (drop s.taken vs)) e
-    ∙ ap (λ (xs : List Item). shown a (listed s.above) ++ part s.place s.form (tree_at b.text b.entries i) ∷ xs) g
-    ∙ ap (λ (u : Tree). shown a (listed s.above) ++ part s.place s.form u ∷ drop s.taken (shown a vs)) l
+    ∙ ap (λ (xs : List Item). shown a (listed o) ++ part s.place s.form (tree_at b.text b.entries i) ∷ xs) g
+    ∙ ap (λ (u : Tree). shown a (listed o) ++ part s.place s.form u ∷ drop s.taken (shown a vs)) l
 
-put_count : (a : Arena) (vs : List Kept) (s : Plan) → IsBuilt a vs → Fits a.text vs s → length a.entries + 1 ≡ sizes (planned a vs s)
-put_count a vs s h f =
+put_count : (a : Arena) (vs : List Kept) (s : Plan) (o : Option Kept) → AreBuilt a vs → Fits a.text vs s o → length a.entries + 1 ≡ sizes (planned a vs s o)
+put_count a vs s o h f =
     let w : ℕ → ℕ = λ i. size (tree_at a.text a.entries i) in
     let t : Tree = tree_of a.text (tree_at a.text a.entries) s.place s.node in
     let e1 : length a.entries ≡ weigh w (nodes_of (take s.taken vs)) + weigh w (nodes_of (drop s.taken vs)) = h.count ∙ sizes_of_nodes a vs ∙ ap (weigh w) (split_nodes s.taken vs) ∙ weigh_append w (nodes_of (take s.taken vs)) (nodes_of (drop s.taken vs)) in
-    let e2 : weigh w (nodes_of (take s.taken vs)) ≡ weigh w (parts s.node) + weigh w (nodes_of (listed s.above)) = weigh_perm w f.same ∙ weigh_append w (parts s.node) (nodes_of (listed s.above)) in
+    let e2 : weigh w (nodes_of (take s.taken vs)) ≡ weigh w (parts s.node) + weigh w (nodes_of (listed o)) = weigh_perm w f.same ∙ weigh_append w (parts s.node) (nodes_of (listed o)) in
     let e3 : size t ≡ 1 + weigh w (parts s.node) = size_of_tree a.text (tree_at a.text a.entries) s.place s.node in
-    let e4 : sizes (shown a (listed s.above)) ≡ weigh w (nodes_of (listed s.above)) = sizes_of_nodes a (listed s.above) in
+    let e4 : sizes (shown a (listed o)) ≡ weigh w (nodes_of (listed o)) = sizes_of_nodes a (listed o) in
     let e5 : sizes (drop s.taken (shown a vs)) ≡ weigh w (nodes_of (drop s.taken vs)) = ap sizes (sym (shown_drop a s.taken vs)) ∙ sizes_of_nodes a (drop s.taken vs) in
-    let e6 : sizes (planned a vs s) ≡ sizes (shown a (listed s.above)) + (size t + sizes (drop s.taken (shown a vs))) = sizes_append (shown a (listed s.above)) (part s.place s.form t ∷ drop s.taken (shown a vs)) in
+    let e6 : sizes (planned a vs s o) ≡ sizes (shown a (listed o)) + (size t + sizes (drop s.taken (shown a vs))) = sizes_append (shown a (listed o)) (part s.place s.form t ∷ drop s.taken (shown a vs)) in
     sum _ _ _ _ _ _ _ _ _ e1 e2 e3 e4 e5 e6
   where
     sum : (n t w p ab sz sa sd pl : ℕ) → n ≡ t + w → t ≡ p + ab → sz ≡ 1 + p → sa ≡ ab → sd ≡ w → pl ≡ sa + (sz + sd) → n + 1 ≡ pl
     sum n t w p ab sz sa sd pl e1 e2 e3 e4 e5 e6 = omega arith
 
 -- a node takes the place of values
-pub put_built : (a b : Arena) (vs us : List Kept) (s : Plan) (i : ℕ) → IsBuilt a vs → Fits a.text vs s
+pub put_built : (a b : Arena) (vs us : List Kept) (s : Plan) (o : Option Kept) (i : ℕ) → AreBuilt a vs → Fits a.text vs s o
     → i ≡ length a.entries → length b.entries ≡ length a.entries + 1 → b.text ≡ a.text
     → trees b.text b.entries ≡ trees a.text a.entries ++ tree_of a.text (tree_at a.text a.entries) s.place s.node ∷ []
     → ((rest : List ℕ) → AreRoots a.entries (parts s.node ++ rest) → AreRoots b.entries (i ∷ rest))
-    → us ≡ stacked s i vs → IsBuilt b us × (shown b us ≡ planned a vs s)
-put_built a b vs us s i h f at long text more roots e =
-    let g : shown b us ≡ planned a vs s = ap (shown b) e ∙ put_shown a b vs s i h f at text more in
-    let r = roots (nodes_of (listed s.above) ++ nodes_of (drop s.taken vs)) (roots_apart a vs s h f) in
-    let q = roots_perm b.entries (perm_into i (nodes_of (listed s.above)) (nodes_of (drop s.taken vs))) r in
-    let n = in_join a.text (names_of (listed s.above)) (names_of (drop s.taken vs)) (in_back a.text (names s.node) (names_of (listed s.above)) f.named) (left_named a.text s.taken vs h.named) in (
+    → us ≡ stacked s o i vs → AreBuilt b us × (shown b us ≡ planned a vs s o)
+put_built a b vs us s o i h f at long text more roots e =
+    let g : shown b us ≡ planned a vs s o = ap (shown b) e ∙ put_shown a b vs s o i h f at text more in
+    let r = roots (nodes_of (listed o) ++ nodes_of (drop s.taken vs)) (roots_apart a vs s o h f) in
+    let q = roots_perm b.entries (perm_into i (nodes_of (listed o)) (nodes_of (drop s.taken vs))) r in
+    let n = in_join a.text (names_of (listed o)) (names_of (drop s.taken vs)) (in_back a.text (names s.node) (names_of (listed o)) f.named) (left_named a.text s.taken vs h.named) in (
       record {
-        roots = subst (AreRoots b.entries) (sym (ap nodes_of e ∙ nodes_append (listed s.above) (Part s.place s.form i ∷ drop s.taken vs))) q;
-        named = subst (λ (ns : List Name). AreNamesIn b.text ns) (sym (ap names_of e ∙ names_append (listed s.above) (Part s.place s.form i ∷ drop s.taken vs)))
-            (subst (λ (x : List ℕ). AreNamesIn x (names_of (listed s.above) ++ names_of (drop s.taken vs))) (sym text) n);
-        count = long ∙ put_count a vs s h f ∙ ap sizes (sym g);
+        roots = subst (AreRoots b.entries) (sym (ap nodes_of e ∙ nodes_append (listed o) (Part s.place s.form i ∷ drop s.taken vs))) q;
+        named = subst (λ (ns : List Name). AreNamesIn b.text ns) (sym (ap names_of e ∙ names_append (listed o) (Part s.place s.form i ∷ drop s.taken vs)))
+            (subst (λ (x : List ℕ). AreNamesIn x (names_of (listed o) ++ names_of (drop s.taken vs))) (sym text) n);
+        count = long ∙ put_count a vs s o h f ∙ ap sizes (sym g);
         last = λ j l.
             let k : j ≡ i = omega arith in
-            subst (IsIn j) (sym (ap nodes_of e ∙ nodes_append (listed s.above) (Part s.place s.form i ∷ drop s.taken vs)))
-            (in_perm (perm_into i (nodes_of (listed s.above)) (nodes_of (drop s.taken vs))) j (inl k));
+            subst (IsIn j) (sym (ap nodes_of e ∙ nodes_append (listed o) (Part s.place s.form i ∷ drop s.taken vs)))
+            (in_perm (perm_into i (nodes_of (listed o)) (nodes_of (drop s.taken vs))) j (inl k));
       },
       g,
     )
 
 -- what a node needs of its parts and names
-pub put_free : (a : Arena) (vs : List Kept) (s : Plan) → IsBuilt a vs → Fits a.text vs s → AreFree a.entries (parts s.node)
-put_free a vs s h f = free_front a.entries (parts s.node) (nodes_of (listed s.above) ++ nodes_of (drop s.taken vs)) (roots_apart a vs s h f).free
+pub put_free : (a : Arena) (vs : List Kept) (s : Plan) (o : Option Kept) → AreBuilt a vs → Fits a.text vs s o → AreFree a.entries (parts s.node)
+put_free a vs s o h f = free_front a.entries (parts s.node) (nodes_of (listed o) ++ nodes_of (drop s.taken vs)) (roots_apart a vs s o h f).free
 
-pub put_named : (text : List ℕ) (vs : List Kept) (s : Plan) → Fits text vs s → AreNamesIn text (names s.node)
-put_named text vs s f = in_front text (names s.node) (names_of (listed s.above)) f.named
+pub put_named : (text : List ℕ) (vs : List Kept) (s : Plan) (o : Option Kept) → Fits text vs s o → AreNamesIn text (names s.node)
+put_named text vs s o f = in_front text (names s.node) (names_of (listed o)) f.named
 
 -- values take the place of others
-pub move_built : (a : Arena) (vs us : List Kept) (m : Move) → IsBuilt a vs → FitsMove a.text vs m → us ≡ moved m vs → IsBuilt a us
+pub move_built : (a : Arena) (vs us : List Kept) (m : Move) → AreBuilt a vs → FitsMove a.text vs m → us ≡ moved m vs → AreBuilt a us
 move_built a vs us m h f e =
     let w : ℕ → ℕ = λ i. size (tree_at a.text a.entries i) in
     let n : nodes_of us ≡ nodes_of (moving m) ++ nodes_of (drop m.taken vs) = ap nodes_of e ∙ nodes_append (moving m) (drop m.taken vs) in
@@ -288,9 +288,9 @@ names_kept : (text more : List ℕ) (ns : List Name) → AreNamesIn text ns → 
 names_kept text more [] h = tt
 names_kept text more (n ∷ ns) h = (h.0, omega (arith, h.1, length-append text more), names_kept text more ns h.2)
 
-pub word_built : (a b : Arena) (vs : List Kept) (p : Place) (n : Name) (bytes : List ℕ) → IsBuilt a vs → b.text ≡ a.text ++ bytes → b.entries ≡ a.entries
+pub word_built : (a b : Arena) (vs : List Kept) (p : Place) (n : Name) (bytes : List ℕ) → AreBuilt a vs → b.text ≡ a.text ++ bytes → b.entries ≡ a.entries
     → trees b.text b.entries ≡ trees a.text a.entries → AreNamesIn b.text (n ∷ []) → name_in b.text n ≡ bytes
-    → IsBuilt b (Word p n ∷ vs) × (shown b (Word p n ∷ vs) ≡ word p bytes ∷ shown a vs)
+    → AreBuilt b (Word p n ∷ vs) × (shown b (Word p n ∷ vs) ≡ word p bytes ∷ shown a vs)
 word_built a b vs p n bytes h text es ts within is =
     let x : Extends a b = record {
       text = λ m l k. ap (λ (t : List ℕ). name_in t m) text ∙ name_kept a.text bytes m l k;
@@ -307,7 +307,7 @@ word_built a b vs p n bytes h text es ts within is =
       (cc),
     )
 
-pub none_built : (a : Arena) → a.entries ≡ [] → IsBuilt a []
+pub none_built : (a : Arena) → a.entries ≡ [] → AreBuilt a []
 none_built a e = record {
   roots = record { free = tt; only = λ i x g u. absurd (no_entry a.entries i x e g) };
   named = tt;
@@ -327,7 +327,7 @@ only_in (inl e) = e
 only_in (inr h) = absurd h
 
 -- the only tree is that of the last node
-one_last : (a : Arena) (q : Place) (g : Form) (r : ℕ) → IsBuilt a (Part q g r ∷ []) → r + 1 ≡ length a.entries
+one_last : (a : Arena) (q : Place) (g : Form) (r : ℕ) → AreBuilt a (Part q g r ∷ []) → r + 1 ≡ length a.entries
 one_last a q g r h =
     let z : r < length a.entries = h.roots.free.0 in
     let e : length a.entries - 1 ≡ r = only_in (h.last (length a.entries - 1) (omega arith)) in
@@ -339,7 +339,7 @@ no_part x xs e = cc
 no_more : (x y z : Item) (xs : List Item) → x ∷ y ∷ xs ≡ z ∷ [] → ⊥
 no_more x y z xs e = cc
 
-pub one_root : (a : Arena) (vs : List Kept) (p : Place) (f : Form) (t : Tree) → IsBuilt a vs → shown a vs ≡ part p f t ∷ [] → IsOneRoot a.entries × (root a ≡ t) × (length a.entries ≡ size t)
+pub one_root : (a : Arena) (vs : List Kept) (p : Place) (f : Form) (t : Tree) → AreBuilt a vs → shown a vs ≡ part p f t ∷ [] → IsOneRoot a.entries × (root a ≡ t) × (length a.entries ≡ size t)
 one_root a [] p f t h e = absurd (no_part _ _ e)
 one_root a (Part q g r ∷ []) p f t h e =
     let l = one_last a q g r h in
@@ -354,13 +354,11 @@ one_root a (Owner b q n ∷ vs) p f t h e = cc
 one_root a (Part q g r ∷ v ∷ vs) p f t h e = absurd (no_more _ _ _ _ e)
 
 -- what the pushes leave
-pub stacked_none : (s : Plan) (i : ℕ) (vs us ws : List Kept) → s.above ≡ None → ws ≡ drop s.taken vs → us ≡ Part s.place s.form i ∷ ws → us ≡ stacked s i vs
-stacked_none s i vs us ws a d e =
-    e ∙ ap (λ (xs : List Kept). Part s.place s.form i ∷ xs) d ∙ ap (λ (o : Option Kept). listed o ++ Part s.place s.form i ∷ drop s.taken vs) (sym a)
+pub stacked_none : (s : Plan) (i : ℕ) (vs us ws : List Kept) → ws ≡ drop s.taken vs → us ≡ Part s.place s.form i ∷ ws → us ≡ stacked s None i vs
+stacked_none s i vs us ws d e = e ∙ ap (λ (xs : List Kept). Part s.place s.form i ∷ xs) d
 
-pub stacked_some : (s : Plan) (i : ℕ) (v : Kept) (vs us xs ws : List Kept) → s.above ≡ Some v → ws ≡ drop s.taken vs → xs ≡ Part s.place s.form i ∷ ws → us ≡ v ∷ xs → us ≡ stacked s i vs
-stacked_some s i v vs us xs ws a d e g =
-    g ∙ ap (λ (ys : List Kept). v ∷ ys) (e ∙ ap (λ (ys : List Kept). Part s.place s.form i ∷ ys) d) ∙ ap (λ (o : Option Kept). listed o ++ Part s.place s.form i ∷ drop s.taken vs) (sym a)
+pub stacked_some : (s : Plan) (i : ℕ) (v : Kept) (vs us xs ws : List Kept) → ws ≡ drop s.taken vs → xs ≡ Part s.place s.form i ∷ ws → us ≡ v ∷ xs → us ≡ stacked s (Some v) i vs
+stacked_some s i v vs us xs ws d e g = g ∙ ap (λ (ys : List Kept). v ∷ ys) (e ∙ ap (λ (ys : List Kept). Part s.place s.form i ∷ ys) d)
 
 pub moved_none : (m : Move) (vs us ws : List Kept) → m.below ≡ None → ws ≡ drop m.taken vs → us ≡ m.top ∷ ws → us ≡ moved m vs
 moved_none m vs us ws b d e =
@@ -370,11 +368,11 @@ pub moved_some : (m : Move) (v : Kept) (vs us xs ws : List Kept) → m.below ≡
 moved_some m v vs us xs ws b d e g =
     g ∙ ap (λ (ys : List Kept). m.top ∷ ys) (e ∙ ap (λ (ys : List Kept). v ∷ ys) d) ∙ ap (λ (o : Option Kept). m.top ∷ listed o ++ drop m.taken vs) (sym b)
 
-pub leaf_fits : (text : List ℕ) (vs : List Kept) (p : Place) (f : Form) (n : Node) → parts n ≡ [] → names n ≡ [] → Fits text vs (tree 0 p f n)
+pub leaf_fits : (text : List ℕ) (vs : List Kept) (p : Place) (f : Form) (n : Node) → parts n ≡ [] → names n ≡ [] → Fits text vs (tree 0 p f n) None
 leaf_fits text vs p f n e g = record { within = omega arith; same = rw e done; named = rw g tt }
 
 -- the same nodes in another order
-pub built_perm : (a : Arena) (vs us : List Kept) → IsBuilt a vs → Perm (nodes_of vs) (nodes_of us) → AreNamesIn a.text (names_of us) → IsBuilt a us
+pub built_perm : (a : Arena) (vs us : List Kept) → AreBuilt a vs → Perm (nodes_of vs) (nodes_of us) → AreNamesIn a.text (names_of us) → AreBuilt a us
 built_perm a vs us h p n =
     let w : ℕ → ℕ = λ i. size (tree_at a.text a.entries i) in
     record {

@@ -1,5 +1,5 @@
 -- What the moves put in the place of values is what is to be made of these.
-use Rattle.std.proofs.Common.{◌≡◌, ℕ, true, List, [], ◌∷◌, Option, Some, None, refl, sym, arith, subst}
+use Rattle.std.proofs.Common.{◌≡◌, ℕ, ◌≤◌, true, List, [], ◌∷◌, length, drop, Option, Some, None, refl, sym, ap, arith, subst}
 use Rattle.std.proofs.lemmas.Bool.{false≢true}
 use Rattle.kr_ast.specs.Arena.{Arena, AreNamesIn}
 use Rattle.kr_grammar.specs.declared.goal.Make.{Make}
@@ -10,16 +10,16 @@ use Rattle.kr_build.specs.declared.value.Kept.TheVariants.{Word, Part}
 use Rattle.kr_build.specs.declared.value.Sort.TheVariants as sort
 use Rattle.kr_build.specs.declared.moves.Move.{Move}
 use Rattle.kr_build.specs.Perm.{Perm, done, flip}
-use Rattle.kr_build.specs.Kept.{are}
-use Rattle.kr_build.specs.Plans.{sorts, move}
-use Rattle.kr_build.specs.Shown.{shown, nodes_of, names_of, IsBuilt, FitsMove, moved}
+use Rattle.kr_build.specs.Kept.{are, value_at}
+use Rattle.kr_build.specs.declared.way.Way.TheVariants as ways
+use Rattle.kr_build.specs.Plans.{sorts, way, move, over}
+use Rattle.kr_build.specs.Shown.{shown, nodes_of, names_of, AreBuilt, FitsMove, moved}
 use Rattle.kr_build.proofs.Roots.{perm_refl}
 use Rattle.kr_build.proofs.Planned.{on_mark, on_word, on_part, on_member, on_owner}
-use Rattle.kr_build.proofs.Growing.{names_append, in_join, in_front, in_back}
+use Rattle.kr_build.proofs.Growing.{names_append, in_join, in_front, in_back, move_built}
 
-abbrev pub MoveMakes : Make → Arena → List Kept → Option Move → Type 0
-MoveMakes m a vs None = Unit {0}
-MoveMakes m a vs (Some s) = FitsMove a.text vs s × (shown a (moved s vs) ≡ made m (shown a vs))
+abbrev pub MoveMakes : Make → Arena → List Kept → Move → Type 0
+MoveMakes m a vs s = FitsMove a.text vs s × (shown a (moved s vs) ≡ made m (shown a vs))
 
 abbrev Claim : Make → Arena → List Kept → Type 0
 Claim m a vs = AreNamesIn a.text (names_of vs) → MoveMakes m a vs (move m vs)
@@ -63,23 +63,31 @@ of_nested_owner a vs e = on_part (sort.Word ∷ []) (λ (ws : List Kept). Claim 
 of_nested : (a : Arena) (vs : List Kept) → are (sorts makes.Nested) vs ≡ true → Claim makes.Nested a vs
 of_nested a vs e = on_part (sort.Member ∷ []) (λ (ws : List Kept). Claim makes.Nested a ws) vs e (λ p0 f0 i0 v0 e0. on_member [] (λ (ws : List Kept). Claim makes.Nested a (Part p0 f0 i0 ∷ ws)) v0 e0 (λ b1 m1 v1 e1. λ h. (record { within = omega arith; same = perm_refl (i0 ∷ []); named = tt }, refl)))
 
-of_swap : (a : Arena) (vs : List Kept) → are (sorts makes.Swap) vs ≡ true → Claim makes.Swap a vs
-of_swap a (v ∷ w ∷ us) e = λ h. (record { within = omega arith; same = swapped v w; named = swapped_names a.text v w us h }, refl)
-of_swap a _ e = absurd (false≢true e)
+swap_fits : (a : Arena) (v w : Kept) (us : List Kept) → AreNamesIn a.text (names_of (v ∷ w ∷ us)) → FitsMove a.text (v ∷ w ∷ us) (over w (v ∷ w ∷ us))
+swap_fits a v w us h = record { within = omega arith; same = swapped v w; named = swapped_names a.text v w us h }
+
+pub swap_room : (vs : List Kept) → are (sorts makes.Swap) vs ≡ true → 2 ≤ length vs
+swap_room (v ∷ w ∷ us) e = omega arith
+swap_room _ e = absurd (false≢true e)
+
+-- the two values on top, the other way round
+pub swap_makes : (a : Arena) (vs us : List Kept) → are (sorts makes.Swap) vs ≡ true → AreBuilt a vs → us ≡ value_at vs 1 ∷ value_at vs 0 ∷ drop 2 vs
+    → AreBuilt a us × (shown a us ≡ made makes.Swap (shown a vs))
+swap_makes a (v ∷ w ∷ ts) us e h g = (move_built a (v ∷ w ∷ ts) us (over w (v ∷ w ∷ ts)) h (swap_fits a v w ts h.named) g, ap (shown a) g)
+swap_makes a _ us e h g = absurd (false≢true e)
 
 -- a move fits its values, and makes of them what it is to make
-pub move_makes : (m : Make) (a : Arena) (vs : List Kept) → are (sorts m) vs ≡ true → AreNamesIn a.text (names_of vs) → MoveMakes m a vs (move m vs)
-move_makes makes.Pair a vs e = of_pair a vs e
-move_makes makes.Enclosed a vs e = of_enclosed a vs e
-move_makes makes.MemberAhead a vs e = of_member_ahead a vs e
-move_makes makes.SetStatic a vs e = of_set_static a vs e
-move_makes makes.SetFinal a vs e = of_set_final a vs e
-move_makes makes.SetOverrides a vs e = of_set_overrides a vs e
-move_makes makes.Owner a vs e = of_owner a vs e
-move_makes makes.NestedOwner a vs e = of_nested_owner a vs e
-move_makes makes.Nested a vs e = of_nested a vs e
-move_makes makes.Swap a vs e = of_swap a vs e
-move_makes _ a vs e = λ h. tt
+move_makes : (m : Make) (a : Arena) (vs : List Kept) → way m ≡ ways.Values → are (sorts m) vs ≡ true → AreNamesIn a.text (names_of vs) → MoveMakes m a vs (move m vs)
+move_makes makes.Pair a vs w e = of_pair a vs e
+move_makes makes.Enclosed a vs w e = of_enclosed a vs e
+move_makes makes.MemberAhead a vs w e = of_member_ahead a vs e
+move_makes makes.SetStatic a vs w e = of_set_static a vs e
+move_makes makes.SetFinal a vs w e = of_set_final a vs e
+move_makes makes.SetOverrides a vs w e = of_set_overrides a vs e
+move_makes makes.Owner a vs w e = of_owner a vs e
+move_makes makes.NestedOwner a vs w e = of_nested_owner a vs e
+move_makes makes.Nested a vs w e = of_nested a vs e
+move_makes _ a vs w e = cc
 
-pub one_move : (m : Make) (a : Arena) (vs : List Kept) (s : Move) → are (sorts m) vs ≡ true → IsBuilt a vs → Some s ≡ move m vs → FitsMove a.text vs s × (shown a (moved s vs) ≡ made m (shown a vs))
-one_move m a vs s e h g = subst (MoveMakes m a vs) (sym g) (move_makes m a vs e h.named)
+pub one_move : (m : Make) (a : Arena) (vs : List Kept) (s : Move) → way m ≡ ways.Values → are (sorts m) vs ≡ true → AreBuilt a vs → s ≡ move m vs → MoveMakes m a vs s
+one_move m a vs s w e h g = subst (MoveMakes m a vs) (sym g) (move_makes m a vs w e h.named)

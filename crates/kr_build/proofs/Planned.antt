@@ -21,8 +21,9 @@ use Rattle.kr_build.specs.declared.value.Sort.TheVariants as sort
 use Rattle.kr_build.specs.declared.plan.Plan.{Plan}
 use Rattle.kr_build.specs.Perm.{done}
 use Rattle.kr_build.specs.Kept.{are}
-use Rattle.kr_build.specs.Plans.{sorts, plan, assignment, jump_node}
-use Rattle.kr_build.specs.Shown.{shown, names_of, IsBuilt, Fits, planned}
+use Rattle.kr_build.specs.declared.way.Way.TheVariants as ways
+use Rattle.kr_build.specs.Plans.{sorts, way, plan, assignment, jump_node}
+use Rattle.kr_build.specs.Shown.{shown, names_of, AreBuilt, Fits, planned}
 use Rattle.kr_build.proofs.Roots.{perm_refl, reverse_two, reverse_three, reverse_four}
 
 -- the values on top are of the sorts that are asked for
@@ -55,9 +56,9 @@ pub on_any : (ss : List Sort) (P : List Kept → Type 0) (vs : List Kept) → ar
 on_any ss P (v ∷ us) e g = g v us e
 on_any ss P [] e g = absurd (false≢true e)
 
-abbrev pub PlanMakes : Make → Arena → List Kept → Option Plan → Type 0
-PlanMakes m a vs None = Unit {0}
-PlanMakes m a vs (Some s) = Fits a.text vs s × (planned a vs s ≡ made m (shown a vs))
+-- the node fits its values, and makes of them what it is to make
+abbrev pub PlanMakes : Make → Arena → List Kept → Plan → Type 0
+PlanMakes m a vs s = Fits a.text vs s None × (planned a vs s None ≡ made m (shown a vs))
 
 abbrev Claim : Make → Arena → List Kept → Type 0
 Claim m a vs = AreNamesIn a.text (names_of vs) → PlanMakes m a vs (plan m vs)
@@ -200,63 +201,47 @@ of_constructor a vs e = on_part (sort.Part ∷ sort.Part ∷ sort.Word ∷ sort.
 of_class : (a : Arena) (vs : List Kept) → are (sorts makes.Class) vs ≡ true → Claim makes.Class a vs
 of_class a vs e = on_owner (sort.Part ∷ sort.Part ∷ []) (λ (ws : List Kept). Claim makes.Class a ws) vs e (λ b0 p0 n0 v0 e0. on_part (sort.Part ∷ []) (λ (ws : List Kept). Claim makes.Class a (Owner b0 p0 n0 ∷ ws)) v0 e0 (λ p1 f1 i1 v1 e1. on_part [] (λ (ws : List Kept). Claim makes.Class a (Owner b0 p0 n0 ∷ Part p1 f1 i1 ∷ ws)) v1 e1 (λ p2 f2 i2 v2 e2. λ h. (record { within = omega arith; same = reverse_two i2 i1; named = (h.0, h.1, tt) }, refl))))
 
-of_variable : (a : Arena) (vs : List Kept) → are (sorts makes.Variable) vs ≡ true → Claim makes.Variable a vs
-of_variable a vs e = on_name [] (λ (ws : List Kept). Claim makes.Variable a ws) vs e (λ p0 n0 v0 e0. λ h. (record { within = omega arith; same = done; named = (h.0, h.1, tt) }, refl)) (λ p0 o0 n0 v0 e0. λ h. tt)
-
-of_call_of_name : (a : Arena) (vs : List Kept) → are (sorts makes.CallOfName) vs ≡ true → Claim makes.CallOfName a vs
-of_call_of_name a vs e = on_part (sort.Name ∷ []) (λ (ws : List Kept). Claim makes.CallOfName a ws) vs e (λ p0 f0 i0 v0 e0. on_name [] (λ (ws : List Kept). Claim makes.CallOfName a (Part p0 f0 i0 ∷ ws)) v0 e0 (λ p1 n1 v1 e1. λ h. (record { within = omega arith; same = perm_refl (i0 ∷ []); named = (h.0, h.1, tt) }, refl)) (λ p1 o1 n1 v1 e1. λ h. tt))
-
-of_cons_below : (a : Arena) (vs : List Kept) → are (sorts makes.ConsBelow) vs ≡ true → Claim makes.ConsBelow a vs
-of_cons_below a vs e = on_owner (sort.Part ∷ sort.Part ∷ []) (λ (ws : List Kept). Claim makes.ConsBelow a ws) vs e (λ b0 p0 n0 v0 e0. on_part (sort.Part ∷ []) (λ (ws : List Kept). Claim makes.ConsBelow a (Owner b0 p0 n0 ∷ ws)) v0 e0 (λ p1 f1 i1 v1 e1. on_part [] (λ (ws : List Kept). Claim makes.ConsBelow a (Owner b0 p0 n0 ∷ Part p1 f1 i1 ∷ ws)) v1 e1 (λ p2 f2 i2 v2 e2. λ h. (record { within = omega arith; same = reverse_two i2 i1; named = (h.0, h.1, tt) }, refl))))
-
-of_end_members : (a : Arena) (vs : List Kept) → are (sorts makes.EndMembers) vs ≡ true → Claim makes.EndMembers a vs
-of_end_members a vs e = on_member (sort.Owner ∷ []) (λ (ws : List Kept). Claim makes.EndMembers a ws) vs e (λ b0 m0 v0 e0. on_owner [] (λ (ws : List Kept). Claim makes.EndMembers a (Member b0 m0 ∷ ws)) v0 e0 (λ b1 p1 n1 v1 e1. λ h. (record { within = omega arith; same = done; named = (h.0, h.1, tt) }, refl)))
-
 -- the node of a plan fits its values, and makes of them what it is to make
-pub plan_makes : (m : Make) (a : Arena) (vs : List Kept) → are (sorts m) vs ≡ true → AreNamesIn a.text (names_of vs) → PlanMakes m a vs (plan m vs)
-plan_makes makes.TypeOfMark a vs e = of_type_of_mark a vs e
-plan_makes makes.TypeOfName a vs e = of_type_of_name a vs e
-plan_makes makes.Array a vs e = of_array a vs e
-plan_makes makes.SuperCall a vs e = of_super_call a vs e
-plan_makes makes.ObjectCreation a vs e = of_object_creation a vs e
-plan_makes makes.ArrayCreation a vs e = of_array_creation a vs e
-plan_makes makes.FieldAccess a vs e = of_field_access a vs e
-plan_makes makes.MethodCall a vs e = of_method_call a vs e
-plan_makes makes.ArrayAccess a vs e = of_array_access a vs e
-plan_makes makes.StepBehind a vs e = of_step_behind a vs e
-plan_makes makes.StepBefore a vs e = of_step_before a vs e
-plan_makes makes.Unary a vs e = of_unary a vs e
-plan_makes makes.Cast a vs e = of_cast a vs e
-plan_makes makes.Binary a vs e = of_binary a vs e
-plan_makes makes.Less a vs e = of_less a vs e
-plan_makes makes.Greater a vs e = of_greater a vs e
-plan_makes makes.InstanceOf a vs e = of_instance_of a vs e
-plan_makes makes.Conditional a vs e = of_conditional a vs e
-plan_makes makes.Assign a vs e = of_assign a vs e
-plan_makes makes.Declarator a vs e = of_declarator a vs e
-plan_makes makes.Local a vs e = of_local a vs e
-plan_makes makes.ExpressionStatement a vs e = of_expression_statement a vs e
-plan_makes makes.Block a vs e = of_block a vs e
-plan_makes makes.Return a vs e = of_return a vs e
-plan_makes makes.ConstructorCall a vs e = of_constructor_call a vs e
-plan_makes makes.Empty a vs e = of_empty a vs e
-plan_makes makes.Jump a vs e = of_jump a vs e
-plan_makes makes.IfThen a vs e = of_if_then a vs e
-plan_makes makes.While a vs e = of_while a vs e
-plan_makes makes.Do a vs e = of_do a vs e
-plan_makes makes.IfElse a vs e = of_if_else a vs e
-plan_makes makes.For a vs e = of_for a vs e
-plan_makes makes.Nil a vs e = of_nil a vs e
-plan_makes makes.Cons a vs e = of_cons a vs e
-plan_makes makes.Parameter a vs e = of_parameter a vs e
-plan_makes makes.Field a vs e = of_field a vs e
-plan_makes makes.Constructor a vs e = of_constructor a vs e
-plan_makes makes.Class a vs e = of_class a vs e
-plan_makes makes.Variable a vs e = of_variable a vs e
-plan_makes makes.CallOfName a vs e = of_call_of_name a vs e
-plan_makes makes.ConsBelow a vs e = of_cons_below a vs e
-plan_makes makes.EndMembers a vs e = of_end_members a vs e
-plan_makes _ a vs e = λ h. tt
+pub plan_makes : (m : Make) (a : Arena) (vs : List Kept) → way m ≡ ways.Node → are (sorts m) vs ≡ true → AreNamesIn a.text (names_of vs) → PlanMakes m a vs (plan m vs)
+plan_makes makes.TypeOfMark a vs w e = of_type_of_mark a vs e
+plan_makes makes.TypeOfName a vs w e = of_type_of_name a vs e
+plan_makes makes.Array a vs w e = of_array a vs e
+plan_makes makes.SuperCall a vs w e = of_super_call a vs e
+plan_makes makes.ObjectCreation a vs w e = of_object_creation a vs e
+plan_makes makes.ArrayCreation a vs w e = of_array_creation a vs e
+plan_makes makes.FieldAccess a vs w e = of_field_access a vs e
+plan_makes makes.MethodCall a vs w e = of_method_call a vs e
+plan_makes makes.ArrayAccess a vs w e = of_array_access a vs e
+plan_makes makes.StepBehind a vs w e = of_step_behind a vs e
+plan_makes makes.StepBefore a vs w e = of_step_before a vs e
+plan_makes makes.Unary a vs w e = of_unary a vs e
+plan_makes makes.Cast a vs w e = of_cast a vs e
+plan_makes makes.Binary a vs w e = of_binary a vs e
+plan_makes makes.Less a vs w e = of_less a vs e
+plan_makes makes.Greater a vs w e = of_greater a vs e
+plan_makes makes.InstanceOf a vs w e = of_instance_of a vs e
+plan_makes makes.Conditional a vs w e = of_conditional a vs e
+plan_makes makes.Assign a vs w e = of_assign a vs e
+plan_makes makes.Declarator a vs w e = of_declarator a vs e
+plan_makes makes.Local a vs w e = of_local a vs e
+plan_makes makes.ExpressionStatement a vs w e = of_expression_statement a vs e
+plan_makes makes.Block a vs w e = of_block a vs e
+plan_makes makes.Return a vs w e = of_return a vs e
+plan_makes makes.ConstructorCall a vs w e = of_constructor_call a vs e
+plan_makes makes.Empty a vs w e = of_empty a vs e
+plan_makes makes.Jump a vs w e = of_jump a vs e
+plan_makes makes.IfThen a vs w e = of_if_then a vs e
+plan_makes makes.While a vs w e = of_while a vs e
+plan_makes makes.Do a vs w e = of_do a vs e
+plan_makes makes.IfElse a vs w e = of_if_else a vs e
+plan_makes makes.For a vs w e = of_for a vs e
+plan_makes makes.Nil a vs w e = of_nil a vs e
+plan_makes makes.Cons a vs w e = of_cons a vs e
+plan_makes makes.Parameter a vs w e = of_parameter a vs e
+plan_makes makes.Field a vs w e = of_field a vs e
+plan_makes makes.Constructor a vs w e = of_constructor a vs e
+plan_makes makes.Class a vs w e = of_class a vs e
+plan_makes _ a vs w e = cc
 
-pub one_node : (m : Make) (a : Arena) (vs : List Kept) (s : Plan) → are (sorts m) vs ≡ true → IsBuilt a vs → Some s ≡ plan m vs → Fits a.text vs s × (planned a vs s ≡ made m (shown a vs))
-one_node m a vs s e h g = subst (PlanMakes m a vs) (sym g) (plan_makes m a vs e h.named)
+pub one_node : (m : Make) (a : Arena) (vs : List Kept) (s : Plan) → way m ≡ ways.Node → are (sorts m) vs ≡ true → AreBuilt a vs → s ≡ plan m vs → PlanMakes m a vs s
+one_node m a vs s w e h g = subst (PlanMakes m a vs) (sym g) (plan_makes m a vs w e h.named)

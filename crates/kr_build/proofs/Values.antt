@@ -64,3 +64,18 @@ are_all [] vs k h = rw (drop_none k) refl
     drop_none (suc k) = refl
 are_all (x ∷ ss) vs zero h = absurd (omega arith)
 are_all (x ∷ ss) vs (suc k) h = are_all ss vs k (omega arith)
+
+pub none_behind : (vs : List Kept) (k : ℕ) → length vs ≤ k → slice_get vs k ≡ None
+none_behind [] k h = refl
+none_behind (v ∷ vs) zero h = absurd (omega arith)
+none_behind (v ∷ vs) (suc k) h = none_behind vs k (omega arith)
+
+-- a value below another, in the place of those that were there
+pub tucked : (xs : List Kept) (b c n m : ℕ) (v a : Kept) → b + c ≡ length xs → 2 ≤ c → n ≡ b + 1 → m ≡ b + 2 → take m (set (set xs n a) b v) ≡ take b xs ++ v ∷ a ∷ []
+tucked [] b c n m v a e l p q = absurd (omega arith)
+tucked (x ∷ []) zero c n m v a e l p q = absurd (omega arith)
+tucked (x ∷ y ∷ ys) zero c n m v a e l p q = rw (p, q) refl
+tucked (x ∷ xs) (suc b) c n m v a e l p q =
+    let r : n ≡ suc (b + 1) = omega arith in
+    let s : m ≡ suc (b + 2) = omega arith in
+    rw (r, s) (ap (λ (ys : List Kept). x ∷ ys) (tucked xs b c (b + 1) (b + 2) v a (omega arith) l refl refl))

@@ -12,7 +12,7 @@ use Rattle.kr_grammar.specs.Values.{Item, part}
 use Rattle.kr_grammar.specs.Made.{compared}
 use Rattle.kr_build.specs.declared.value.Kept.{Kept}
 use Rattle.kr_build.specs.declared.value.Kept.TheVariants.{Word, Pair, Part}
-use Rattle.kr_build.specs.Shown.{shown, IsBuilt}
+use Rattle.kr_build.specs.Shown.{shown, AreBuilt}
 
 -- the value at a depth is a name
 abbrev pub is_name_in : Option Kept → Bool
@@ -60,12 +60,12 @@ pub record Folding (a : Arena) (vs : List Kept) (b : Arena) (ws : List Kept) (j 
   pub text : b.text ≡ a.text
   pub shows : shown b others ≡ shown a others
   pub folded : compared (shown a (drop j vs)) ≡ part place form (tree_at b.text b.entries node) ∷ shown a (drop past others)
-  pub built : IsBuilt b ws
+  pub built : AreBuilt b ws
   pub beyond : bottom ≤ past
   pub within : past ≤ length others
   pub bare : (i : ℕ) → bottom ≤ i → i < past → is_tree_at others i ≡ false
 
 -- the names from a depth on became comparisons, or there are none
 abbrev pub Compares : Arena → List Kept → Arena → List Kept → ℕ → Option ℕ → Type 0
-Compares a vs b ws start None = IsBuilt b ws × (shown b ws ≡ shown a vs) × (is_named vs start ≡ false)
+Compares a vs b ws start None = AreBuilt b ws × (shown b ws ≡ shown a vs) × (is_named vs start ≡ false)
 Compares a vs b ws start (Some past) = (bottom : ℕ) × (start < bottom) × AreNamed vs start bottom × Folding a vs b ws start bottom past

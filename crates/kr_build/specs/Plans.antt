@@ -1,6 +1,5 @@
 -- What takes the place of the values on top: the tree of one node above theirs, or some of these values again.
-use Rattle.std.specs.Prelude.{ℕ, true, false, List, [], ◌∷◌, Option, Some, None, slice_get}
-use Rattle.std.specs.Option.{option_or}
+use Rattle.std.specs.Prelude.{ℕ, Bool, true, false, List, [], ◌∷◌, Option, Some, None, slice_get}
 use Rattle.kr_base.specs.declared.place.Place.{Place}
 use Rattle.kr_lex.specs.declared.kind.Kind.{Kind}
 use Rattle.kr_lex.specs.declared.kind.Kind.TheVariants as kinds
@@ -9,6 +8,7 @@ use Rattle.kr_ast.specs.declared.node.Node.TheVariants as nodes
 use Rattle.kr_ast.specs.declared.node.BinaryOperator.TheVariants as binaries
 use Rattle.kr_grammar.specs.declared.value.Form.{Form}
 use Rattle.kr_grammar.specs.declared.value.Form.TheVariants as forms
+use Rattle.kr_grammar.specs.declared.value.Modifiers.{Modifiers}
 use Rattle.kr_grammar.specs.declared.goal.Make.{Make}
 use Rattle.kr_grammar.specs.declared.goal.Make.TheVariants as makes
 use Rattle.kr_grammar.specs.Values.{no_modifiers}
@@ -19,6 +19,8 @@ use Rattle.kr_build.specs.declared.value.Sort.{Sort}
 use Rattle.kr_build.specs.declared.value.Sort.TheVariants as sort
 use Rattle.kr_build.specs.declared.plan.Plan.{Plan}
 use Rattle.kr_build.specs.declared.moves.Move.{Move}
+use Rattle.kr_build.specs.declared.way.Way.{Way}
+use Rattle.kr_build.specs.declared.way.Way.TheVariants as ways
 use Rattle.kr_build.specs.Kept.{place_at, kind_at, node_at, name_at, outer_at, modifiers_at, nested_at, value_at, name_in}
 
 -- the values that something is made of, the top one first
@@ -81,14 +83,34 @@ sorts makes.For = sort.Part ∷ sort.Part ∷ sort.Part ∷ sort.Part ∷ sort.M
 sorts makes.Method = sort.Part ∷ sort.Part ∷ sort.Word ∷ sort.Part ∷ sort.Member ∷ []
 sorts makes.Constructor = sort.Part ∷ sort.Part ∷ sort.Part ∷ sort.Word ∷ sort.Member ∷ []
 
+-- how something is made of them
+abbrev pub way : Make → Way
+way makes.Variable = ways.Name
+way makes.CallOfName = ways.Name
+way makes.Generic = ways.Name
+way makes.Diamond = ways.Name
+way makes.ConsBelow = ways.Under
+way makes.EndMembers = ways.Under
+way makes.Pair = ways.Values
+way makes.Swap = ways.Swap
+way makes.Enclosed = ways.Values
+way makes.MemberAhead = ways.Values
+way makes.SetStatic = ways.Values
+way makes.SetFinal = ways.Values
+way makes.SetOverrides = ways.Values
+way makes.Owner = ways.Values
+way makes.NestedOwner = ways.Values
+way makes.Nested = ways.Values
+way makes.Method = ways.Method
+way makes.CompareBelow = ways.Compare
+way makes.CompareAll = ways.Compare
+way _ = ways.Node
+
 abbrev pub tree : ℕ → Place → Form → Node → Plan
-tree n p f node = record { taken = n; place = p; form = f; node = node; above = None }
+tree n p f node = record { taken = n; place = p; form = f; node = node }
 
-abbrev pub plain : ℕ → Place → Node → Option Plan
-plain n p node = Some (tree n p forms.Other node)
-
-abbrev pub formed : ℕ → Place → Form → Node → Option Plan
-formed n p f node = Some (tree n p f node)
+abbrev pub plain : ℕ → Place → Node → Plan
+plain n p node = tree n p forms.Other node
 
 -- a name as a type
 abbrev pub type_node : Option Kept → Node
@@ -103,114 +125,169 @@ abbrev pub assignment : Kind → ℕ → ℕ → Node
 assignment kinds.Equal t u = nodes.Assignment t u
 assignment k t u = nodes.CompoundAssignment (the_compound k) t u
 
-abbrev pub types : Make → List Kept → Option Plan
-types makes.TypeOfMark vs = formed 1 (place_at vs 0) forms.Type (nodes.PrimitiveType (the_primitive (kind_at vs 0)))
-types makes.TypeOfName vs = formed 1 (place_at vs 0) forms.Type (type_node (slice_get vs 0))
-types makes.Array vs = formed 1 (place_at vs 0) forms.Type (nodes.ArrayType (node_at vs 0))
-types _ vs = None
+-- The node above the values, and what it takes, in groups. Of what is in no group, the empty list is made.
+abbrev pub types : Make → List Kept → Plan
+types makes.TypeOfMark vs = tree 1 (place_at vs 0) forms.Type (nodes.PrimitiveType (the_primitive (kind_at vs 0)))
+types makes.TypeOfName vs = tree 1 (place_at vs 0) forms.Type (type_node (slice_get vs 0))
+types _ vs = tree 1 (place_at vs 0) forms.Type (nodes.ArrayType (node_at vs 0))
 
-abbrev pub primaries : Make → List Kept → Option Plan
-primaries makes.SuperCall vs = formed 3 (place_at vs 2) forms.Invocation (nodes.SuperCall (name_at vs 1) (node_at vs 0))
-primaries makes.ObjectCreation vs = formed 3 (place_at vs 2) forms.Invocation (nodes.ObjectCreation (node_at vs 1) (node_at vs 0))
-primaries makes.ArrayCreation vs = formed 3 (place_at vs 2) forms.ArrayCreation (nodes.ArrayCreation (node_at vs 1) (node_at vs 0))
-primaries makes.FieldAccess vs = formed 2 (place_at vs 1) forms.Target (nodes.FieldAccess (node_at vs 1) (name_at vs 0))
-primaries makes.MethodCall vs = formed 3 (place_at vs 2) forms.Invocation (nodes.MethodCall (node_at vs 2) (name_at vs 1) (node_at vs 0))
-primaries makes.ArrayAccess vs = formed 2 (place_at vs 1) forms.Target (nodes.ArrayAccess (node_at vs 1) (node_at vs 0))
-primaries _ vs = None
+abbrev pub selections : Make → List Kept → Plan
+selections makes.FieldAccess vs = tree 2 (place_at vs 1) forms.Target (nodes.FieldAccess (node_at vs 1) (name_at vs 0))
+selections makes.MethodCall vs = tree 3 (place_at vs 2) forms.Invocation (nodes.MethodCall (node_at vs 2) (name_at vs 1) (node_at vs 0))
+selections _ vs = tree 2 (place_at vs 1) forms.Target (nodes.ArrayAccess (node_at vs 1) (node_at vs 0))
 
-abbrev pub operations : Make → List Kept → Option Plan
-operations makes.StepBehind vs = plain 2 (place_at vs 1) (nodes.Step (the_step_behind (kind_at vs 0)) (node_at vs 1))
-operations makes.StepBefore vs = plain 2 (place_at vs 1) (nodes.Step (the_step_before (kind_at vs 1)) (node_at vs 0))
-operations makes.Unary vs = plain 2 (place_at vs 1) (nodes.Unary (the_unary (kind_at vs 1)) (node_at vs 0))
-operations makes.Cast vs = plain 3 (place_at vs 2) (nodes.Cast (node_at vs 1) (node_at vs 0))
-operations makes.Binary vs = plain 3 (place_at vs 2) (nodes.Binary (the_binary (kind_at vs 1)) (node_at vs 2) (node_at vs 0))
-operations makes.Less vs = plain 2 (place_at vs 1) (nodes.Binary binaries.Less (node_at vs 1) (node_at vs 0))
-operations makes.Greater vs = plain 2 (place_at vs 1) (nodes.Binary binaries.Greater (node_at vs 1) (node_at vs 0))
-operations makes.InstanceOf vs = plain 2 (place_at vs 1) (nodes.InstanceOf (node_at vs 1) (node_at vs 0))
-operations makes.Conditional vs = plain 3 (place_at vs 2) (nodes.Conditional (node_at vs 2) (node_at vs 1) (node_at vs 0))
-operations makes.Assign vs = plain 3 (place_at vs 2) (assignment (kind_at vs 1) (node_at vs 2) (node_at vs 0))
-operations _ vs = None
+abbrev pub creations : Make → List Kept → Plan
+creations makes.ObjectCreation vs = tree 3 (place_at vs 2) forms.Invocation (nodes.ObjectCreation (node_at vs 1) (node_at vs 0))
+creations makes.ArrayCreation vs = tree 3 (place_at vs 2) forms.ArrayCreation (nodes.ArrayCreation (node_at vs 1) (node_at vs 0))
+creations _ vs = tree 3 (place_at vs 2) forms.Invocation (nodes.SuperCall (name_at vs 1) (node_at vs 0))
 
-abbrev pub statements : Make → List Kept → Option Plan
-statements makes.Declarator vs = plain 2 (place_at vs 1) (nodes.Declarator (name_at vs 1) (node_at vs 0))
-statements makes.Local vs = formed 2 (place_at vs 1) forms.Local (nodes.Local (node_at vs 1) (node_at vs 0))
-statements makes.ExpressionStatement vs = plain 1 (place_at vs 0) (nodes.ExpressionStatement (node_at vs 0))
+abbrev pub prefixes : Make → List Kept → Plan
+prefixes makes.StepBehind vs = plain 2 (place_at vs 1) (nodes.Step (the_step_behind (kind_at vs 0)) (node_at vs 1))
+prefixes makes.StepBefore vs = plain 2 (place_at vs 1) (nodes.Step (the_step_before (kind_at vs 1)) (node_at vs 0))
+prefixes makes.Unary vs = plain 2 (place_at vs 1) (nodes.Unary (the_unary (kind_at vs 1)) (node_at vs 0))
+prefixes _ vs = plain 3 (place_at vs 2) (nodes.Cast (node_at vs 1) (node_at vs 0))
+
+abbrev pub infixes : Make → List Kept → Plan
+infixes makes.Binary vs = plain 3 (place_at vs 2) (nodes.Binary (the_binary (kind_at vs 1)) (node_at vs 2) (node_at vs 0))
+infixes makes.Conditional vs = plain 3 (place_at vs 2) (nodes.Conditional (node_at vs 2) (node_at vs 1) (node_at vs 0))
+infixes _ vs = plain 3 (place_at vs 2) (assignment (kind_at vs 1) (node_at vs 2) (node_at vs 0))
+
+abbrev pub comparisons : Make → List Kept → Plan
+comparisons makes.Less vs = plain 2 (place_at vs 1) (nodes.Binary binaries.Less (node_at vs 1) (node_at vs 0))
+comparisons makes.Greater vs = plain 2 (place_at vs 1) (nodes.Binary binaries.Greater (node_at vs 1) (node_at vs 0))
+comparisons _ vs = plain 2 (place_at vs 1) (nodes.InstanceOf (node_at vs 1) (node_at vs 0))
+
+abbrev pub locals : Make → List Kept → Plan
+locals makes.Declarator vs = plain 2 (place_at vs 1) (nodes.Declarator (name_at vs 1) (node_at vs 0))
+locals makes.Local vs = tree 2 (place_at vs 1) forms.Local (nodes.Local (node_at vs 1) (node_at vs 0))
+locals _ vs = plain 1 (place_at vs 0) (nodes.ExpressionStatement (node_at vs 0))
+
+abbrev pub statements : Make → List Kept → Plan
 statements makes.Block vs = plain 2 (place_at vs 1) (nodes.Block (node_at vs 0))
 statements makes.Return vs = plain 2 (place_at vs 1) (nodes.Return (node_at vs 0))
 statements makes.ConstructorCall vs = plain 2 (place_at vs 1) (nodes.ConstructorCall (node_at vs 0))
 statements makes.Empty vs = plain 1 (place_at vs 0) nodes.Empty
-statements makes.Jump vs = plain 1 (place_at vs 0) (jump_node (kind_at vs 0))
-statements _ vs = None
+statements _ vs = plain 1 (place_at vs 0) (jump_node (kind_at vs 0))
 
-abbrev pub branches : Make → List Kept → Option Plan
+abbrev pub branches : Make → List Kept → Plan
 branches makes.IfThen vs = plain 3 (place_at vs 2) (nodes.IfThen (node_at vs 1) (node_at vs 0))
-branches makes.While vs = plain 3 (place_at vs 2) (nodes.While (node_at vs 1) (node_at vs 0))
-branches makes.Do vs = plain 3 (place_at vs 2) (nodes.Do (node_at vs 1) (node_at vs 0))
-branches makes.IfElse vs = plain 4 (place_at vs 3) (nodes.IfElse (node_at vs 2) (node_at vs 1) (node_at vs 0))
-branches makes.For vs = plain 5 (place_at vs 4) (nodes.For (node_at vs 3) (node_at vs 2) (node_at vs 1) (node_at vs 0))
-branches _ vs = None
+branches _ vs = plain 4 (place_at vs 3) (nodes.IfElse (node_at vs 2) (node_at vs 1) (node_at vs 0))
 
-abbrev pub declarations : Make → List Kept → Option Plan
-declarations makes.Nil vs = plain 0 nowhere nodes.Nil
-declarations makes.Cons vs = plain 2 (place_at vs 1) (nodes.Cons (node_at vs 1) (node_at vs 0))
+abbrev pub loops : Make → List Kept → Plan
+loops makes.While vs = plain 3 (place_at vs 2) (nodes.While (node_at vs 1) (node_at vs 0))
+loops makes.Do vs = plain 3 (place_at vs 2) (nodes.Do (node_at vs 1) (node_at vs 0))
+loops _ vs = plain 5 (place_at vs 4) (nodes.For (node_at vs 3) (node_at vs 2) (node_at vs 1) (node_at vs 0))
+
+abbrev pub declarations : Make → List Kept → Plan
 declarations makes.Parameter vs = plain 2 (place_at vs 0) (nodes.Parameter (node_at vs 1) (name_at vs 0))
 declarations makes.Field vs = plain 3 (place_at vs 1) (nodes.Field (modifiers_at vs 2).is_static (modifiers_at vs 2).is_final (node_at vs 1) (node_at vs 0))
 declarations makes.Constructor vs = plain 5 (place_at vs 3) (nodes.Constructor (node_at vs 2) (node_at vs 1) (node_at vs 0))
-declarations makes.Class vs = plain 3 (place_at vs 0) (nodes.Class (name_at vs 0) (node_at vs 2) (node_at vs 1))
-declarations _ vs = None
+declarations _ vs = plain 3 (place_at vs 0) (nodes.Class (name_at vs 0) (node_at vs 2) (node_at vs 1))
 
--- names that are one node, and lists under the owner of their members
+abbrev pub lists : Make → List Kept → Plan
+lists makes.Cons vs = plain 2 (place_at vs 1) (nodes.Cons (node_at vs 1) (node_at vs 0))
+lists _ vs = plain 0 nowhere nodes.Nil
+
+abbrev pub plan : Make → List Kept → Plan
+plan makes.TypeOfMark vs = types makes.TypeOfMark vs
+plan makes.TypeOfName vs = types makes.TypeOfName vs
+plan makes.Array vs = types makes.Array vs
+plan makes.FieldAccess vs = selections makes.FieldAccess vs
+plan makes.MethodCall vs = selections makes.MethodCall vs
+plan makes.ArrayAccess vs = selections makes.ArrayAccess vs
+plan makes.ObjectCreation vs = creations makes.ObjectCreation vs
+plan makes.ArrayCreation vs = creations makes.ArrayCreation vs
+plan makes.SuperCall vs = creations makes.SuperCall vs
+plan makes.StepBehind vs = prefixes makes.StepBehind vs
+plan makes.StepBefore vs = prefixes makes.StepBefore vs
+plan makes.Unary vs = prefixes makes.Unary vs
+plan makes.Cast vs = prefixes makes.Cast vs
+plan makes.Binary vs = infixes makes.Binary vs
+plan makes.Conditional vs = infixes makes.Conditional vs
+plan makes.Assign vs = infixes makes.Assign vs
+plan makes.Less vs = comparisons makes.Less vs
+plan makes.Greater vs = comparisons makes.Greater vs
+plan makes.InstanceOf vs = comparisons makes.InstanceOf vs
+plan makes.Declarator vs = locals makes.Declarator vs
+plan makes.Local vs = locals makes.Local vs
+plan makes.ExpressionStatement vs = locals makes.ExpressionStatement vs
+plan makes.Block vs = statements makes.Block vs
+plan makes.Return vs = statements makes.Return vs
+plan makes.ConstructorCall vs = statements makes.ConstructorCall vs
+plan makes.Empty vs = statements makes.Empty vs
+plan makes.Jump vs = statements makes.Jump vs
+plan makes.IfThen vs = branches makes.IfThen vs
+plan makes.IfElse vs = branches makes.IfElse vs
+plan makes.While vs = loops makes.While vs
+plan makes.Do vs = loops makes.Do vs
+plan makes.For vs = loops makes.For vs
+plan makes.Parameter vs = declarations makes.Parameter vs
+plan makes.Field vs = declarations makes.Field vs
+plan makes.Constructor vs = declarations makes.Constructor vs
+plan makes.Class vs = declarations makes.Class vs
+plan m vs = lists m vs
+
+-- the node of a name that is a word
 abbrev pub variable : Option Kept → Option Plan
-variable (Some (Word p n)) = formed 1 p forms.Target (nodes.Variable n)
+variable (Some (Word p n)) = Some (tree 1 p forms.Target (nodes.Variable n))
 variable _ = None
 
 abbrev pub call : Option Kept → ℕ → Option Plan
-call (Some (Word p n)) i = formed 2 p forms.Invocation (nodes.Call n i)
+call (Some (Word p n)) i = Some (tree 2 p forms.Invocation (nodes.Call n i))
 call _ i = None
 
-abbrev pub under : ℕ → Place → Node → Option Kept → Option Plan
-under n p node v = Some (record { taken = n; place = p; form = forms.Other; node = node; above = v })
-
-abbrev pub names_and_lists : Make → List Kept → Option Plan
-names_and_lists makes.Variable vs = variable (slice_get vs 0)
-names_and_lists makes.CallOfName vs = call (slice_get vs 1) (node_at vs 0)
-names_and_lists makes.ConsBelow vs = under 3 (place_at vs 2) (nodes.Cons (node_at vs 2) (node_at vs 1)) (slice_get vs 0)
-names_and_lists makes.EndMembers vs = under 2 nowhere nodes.Nil (slice_get vs 1)
-names_and_lists _ vs = None
-
--- one node above the values
-abbrev pub plan : Make → List Kept → Option Plan
-plan m vs = option_or (option_or (option_or (option_or (option_or (option_or (types m vs) (primaries m vs)) (operations m vs)) (statements m vs)) (branches m vs)) (declarations m vs)) (names_and_lists m vs)
+abbrev pub single : Make → List Kept → Option Plan
+single makes.Variable vs = variable (slice_get vs 0)
+single makes.CallOfName vs = call (slice_get vs 1) (node_at vs 0)
+single _ vs = None
 
 -- of two nodes the lower one, of a name
-abbrev pub head : Make → List Kept → Option Plan
-head makes.Generic vs = formed 0 (place_at vs 1) forms.Type (type_node (slice_get vs 1))
-head makes.Diamond vs = formed 0 (place_at vs 0) forms.Type (type_node (slice_get vs 0))
-head makes.Variable vs = plain 0 (place_at vs 0) (nodes.Variable (outer_at vs 0))
-head makes.CallOfName vs = plain 0 (place_at vs 1) (nodes.Variable (outer_at vs 1))
-head _ vs = None
+abbrev pub lower : Make → List Kept → Plan
+lower makes.Generic vs = tree 0 (place_at vs 1) forms.Type (type_node (slice_get vs 1))
+lower makes.Diamond vs = tree 0 (place_at vs 0) forms.Type (type_node (slice_get vs 0))
+lower makes.CallOfName vs = plain 0 (place_at vs 1) (nodes.Variable (outer_at vs 1))
+lower _ vs = plain 0 (place_at vs 0) (nodes.Variable (outer_at vs 0))
 
 -- and the upper one
-abbrev pub over : Make → List Kept → Option Plan
-over makes.Generic vs = formed 3 (place_at vs 2) forms.Type (nodes.GenericType (node_at vs 0) (node_at vs 1))
-over makes.Diamond vs = formed 2 (place_at vs 1) forms.Type (nodes.DiamondType (node_at vs 0))
-over makes.Variable vs = formed 2 (place_at vs 1) forms.Target (nodes.FieldAccess (node_at vs 0) (name_at vs 1))
-over makes.CallOfName vs = formed 3 (place_at vs 2) forms.Invocation (nodes.MethodCall (node_at vs 0) (name_at vs 2) (node_at vs 1))
-over _ vs = None
+abbrev pub upper : Make → List Kept → Plan
+upper makes.Generic vs = tree 3 (place_at vs 2) forms.Type (nodes.GenericType (node_at vs 0) (node_at vs 1))
+upper makes.Diamond vs = tree 2 (place_at vs 1) forms.Type (nodes.DiamondType (node_at vs 0))
+upper makes.CallOfName vs = tree 3 (place_at vs 2) forms.Invocation (nodes.MethodCall (node_at vs 0) (name_at vs 2) (node_at vs 1))
+upper _ vs = tree 2 (place_at vs 1) forms.Target (nodes.FieldAccess (node_at vs 0) (name_at vs 1))
 
-abbrev pub one : ℕ → Kept → Option Move
-one n v = Some (record { taken = n; top = v; below = None })
+-- the list below a value that stays on top
+abbrev pub below : Make → List Kept → Plan
+below makes.ConsBelow vs = plain 3 (place_at vs 2) (nodes.Cons (node_at vs 2) (node_at vs 1))
+below _ vs = plain 2 nowhere nodes.Nil
+
+-- and under how many others that value stood
+abbrev pub staying : Make → ℕ
+staying makes.ConsBelow = 0
+staying _ = 1
+
+abbrev pub one : ℕ → Kept → Move
+one n v = record { taken = n; top = v; below = None }
+
+abbrev pub over : Kept → List Kept → Move
+over v vs = record { taken = 2; top = v; below = slice_get vs 0 }
+
+abbrev pub member : ℕ → List Kept → Modifiers → Move
+member n vs m = one n (Member (nested_at vs 0) m)
+
+abbrev pub modified : Make → List Kept → Move
+modified makes.SetStatic vs = member 1 vs (record (modifiers_at vs 0) { is_static = true })
+modified makes.SetFinal vs = member 1 vs (record (modifiers_at vs 0) { is_final = true })
+modified makes.SetOverrides vs = member 1 vs (record (modifiers_at vs 0) { overrides = true })
+modified _ vs = member 0 vs no_modifiers
+
+abbrev pub owner : Bool → List Kept → Move
+owner b vs = over (Owner b (place_at vs 1) (name_at vs 1)) vs
 
 -- values again
-abbrev pub move : Make → List Kept → Option Move
+abbrev pub move : Make → List Kept → Move
 move makes.Pair vs = one 2 (Pair (place_at vs 1) (name_at vs 1) (name_at vs 0))
-move makes.Swap vs = Some (record { taken = 2; top = value_at vs 1; below = slice_get vs 0 })
 move makes.Enclosed vs = one 2 (Part (place_at vs 1) forms.Other (node_at vs 0))
-move makes.MemberAhead vs = one 0 (Member (nested_at vs 0) no_modifiers)
-move makes.SetStatic vs = one 1 (Member (nested_at vs 0) (record (modifiers_at vs 0) { is_static = true }))
-move makes.SetFinal vs = one 1 (Member (nested_at vs 0) (record (modifiers_at vs 0) { is_final = true }))
-move makes.SetOverrides vs = one 1 (Member (nested_at vs 0) (record (modifiers_at vs 0) { overrides = true }))
-move makes.Owner vs = Some (record { taken = 2; top = Owner false (place_at vs 1) (name_at vs 1); below = slice_get vs 0 })
-move makes.NestedOwner vs = Some (record { taken = 2; top = Owner true (place_at vs 1) (name_at vs 1); below = slice_get vs 0 })
+move makes.Owner vs = owner false vs
+move makes.NestedOwner vs = owner true vs
 move makes.Nested vs = one 2 (value_at vs 0)
-move _ vs = None
+move m vs = modified m vs

@@ -48,11 +48,15 @@ sizes (part p f t ∷ vs) = size t + sizes vs
 sizes (v ∷ vs) = sizes vs
 
 -- every node belongs to the tree of one value, the last node is the top of one, and every name stands in the text
-pub record IsBuilt (a : Arena) (vs : List Kept) : Type 0 where
+pub record AreBuilt (a : Arena) (vs : List Kept) : Type 0 where
   pub roots : AreRoots a.entries (nodes_of vs)
   pub named : AreNamesIn a.text (names_of vs)
   pub count : length a.entries ≡ sizes (shown a vs)
   pub last : (i : ℕ) → i + 1 ≡ length a.entries → IsIn i (nodes_of vs)
+
+-- the builder's values and nodes belong together. So it is but where memory was refused while something was made.
+abbrev pub IsBuilt : Builder → Type 0
+IsBuilt b = AreBuilt b.forest b.values
 
 abbrev pub values_of : Builder → List Item
 values_of b = shown b.forest b.values
@@ -69,18 +73,18 @@ abbrev pub listed : Option Kept → List Kept
 listed None = []
 listed (Some v) = v ∷ []
 
--- A node may take the place of values: the nodes among these become its parts or stay above it.
-pub record Fits (text : List ℕ) (vs : List Kept) (s : Plan) : Type 0 where
+-- A node may take the place of values, below one that may stay: the nodes among these become its parts or stay.
+pub record Fits (text : List ℕ) (vs : List Kept) (s : Plan) (o : Option Kept) : Type 0 where
   pub within : s.taken ≤ length vs
-  pub same : Perm (nodes_of (take s.taken vs)) (parts s.node ++ nodes_of (listed s.above))
-  pub named : AreNamesIn text (names s.node ++ names_of (listed s.above))
+  pub same : Perm (nodes_of (take s.taken vs)) (parts s.node ++ nodes_of (listed o))
+  pub named : AreNamesIn text (names s.node ++ names_of (listed o))
 
 -- the values with the node i in their place
-abbrev pub stacked : Plan → ℕ → List Kept → List Kept
-stacked s i vs = listed s.above ++ Part s.place s.form i ∷ drop s.taken vs
+abbrev pub stacked : Plan → Option Kept → ℕ → List Kept → List Kept
+stacked s o i vs = listed o ++ Part s.place s.form i ∷ drop s.taken vs
 
-abbrev pub planned : Arena → List Kept → Plan → List Item
-planned a vs s = shown a (listed s.above) ++ part s.place s.form (tree_of a.text (tree_at a.text a.entries) s.place s.node) ∷ drop s.taken (shown a vs)
+abbrev pub planned : Arena → List Kept → Plan → Option Kept → List Item
+planned a vs s o = shown a (listed o) ++ part s.place s.form (tree_of a.text (tree_at a.text a.entries) s.place s.node) ∷ drop s.taken (shown a vs)
 
 abbrev pub moving : Move → List Kept
 moving m = m.top ∷ listed m.below

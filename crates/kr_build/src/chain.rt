@@ -58,10 +58,10 @@ impl Builder {
 
     /// Puts the expression that a name is on top.
     fn put_operand(&mut self, value: Kept) -> Result<(), NoMemory>
-        requires built { IsBuilt self.old.forest self.old.values }
+        requires built { IsBuilt self.old }
         requires named { AreNamesIn self.old.forest.text (names_of (value ∷ [])) }
         requires name { is_name_in (Some value) ≡ true }
-        ensures built { IfOk result (λ none. IsBuilt self.new.forest self.new.values) }
+        ensures built { IfOk result (λ none. IsBuilt self.new) }
         ensures text { IfOk result (λ none. self.new.forest.text ≡ self.old.forest.text) }
         ensures kept { IfOk result (λ none. (i : ℕ) × (self.new.values ≡ Part (place_in (Some value)) Target i ∷ self.old.values)) }
         ensures shown { IfOk result (λ none. values_of self.new ≡ part (place_in (Some value)) Target (operand self.old.forest.text value) ∷ values_of self.old) }
@@ -86,11 +86,11 @@ impl Builder {
 
     /// Tests the tree at a depth by the type on top. Where the tree stood, a mark stays.
     fn put_test(&mut self, depth: usize) -> Result<(), NoMemory>
-        requires built { IsBuilt self.old.forest self.old.values }
+        requires built { IsBuilt self.old }
         requires top { are (Sort.Part ∷ []) self.old.values ≡ true }
         requires tree { is_tree_at self.old.values depth ≡ true }
         requires apart { 0 < depth }
-        ensures built { IfOk result (λ none. IsBuilt self.new.forest self.new.values) }
+        ensures built { IfOk result (λ none. IsBuilt self.new) }
         ensures text { IfOk result (λ none. self.new.forest.text ≡ self.old.forest.text) }
         ensures kept { IfOk result (λ none. (i : ℕ) × (self.new.values ≡ Part (place_at self.old.values depth) Other i ∷ without self.old.values depth)) }
         ensures shown { IfOk result (λ none. values_of self.new ≡ test_of self.old.forest self.old.values depth ∷ shown self.old.forest (without self.old.values depth)) }
@@ -113,7 +113,7 @@ impl Builder {
 
     /// Puts the lowest name on top, or the test that it is of the tree below it. Answers how many values that uses up.
     fn put_lowest(&mut self, depth: usize) -> Result<usize, NoMemory>
-        requires built { IsBuilt self.old.forest self.old.values }
+        requires built { IsBuilt self.old }
         requires name { is_named self.old.values depth ≡ true }
         requires end { is_named self.old.values (depth + 1) ≡ false }
         ensures { IfOk result (λ past. Folding self.old.forest self.old.values self.new.forest self.new.values depth (depth + 1) past) }
@@ -135,10 +135,10 @@ impl Builder {
 
     /// Compares what is on top with the name under so many others.
     fn put_less(&mut self, depth: usize) -> Result<(), NoMemory>
-        requires built { IsBuilt self.old.forest self.old.values }
+        requires built { IsBuilt self.old }
         requires top { are (Sort.Part ∷ []) self.old.values ≡ true }
         requires name { is_named self.old.values depth ≡ true }
-        ensures built { IfOk result (λ none. IsBuilt self.new.forest self.new.values) }
+        ensures built { IfOk result (λ none. IsBuilt self.new) }
         ensures text { IfOk result (λ none. self.new.forest.text ≡ self.old.forest.text) }
         ensures kept { IfOk result (λ none. (i : ℕ) × (self.new.values ≡ Part (place_at self.old.values 0) Other i ∷ drop 1 self.old.values)) }
         ensures shown { IfOk result (λ none. values_of self.new ≡ less_of self.old.forest self.old.values depth ∷ shown self.old.forest (drop 1 self.old.values)) }
@@ -157,7 +157,7 @@ impl Builder {
 
     /// Puts the comparisons of the names from a depth on on top. Answers how many values they use up, if there are any.
     fn compare(&mut self, start: usize) -> Result<Option<usize>, NoMemory>
-        requires built { IsBuilt self.old.forest self.old.values }
+        requires built { IsBuilt self.old }
         requires from { start ≤ length self.old.values }
         ensures { IfOk result (λ past. Compares self.old.forest self.old.values self.new.forest self.new.values start past) }
     {
@@ -176,8 +176,8 @@ impl Builder {
 
     /// The names on top.
     pub fn compare_all(&mut self) -> Result<(), NoMemory>
-        requires { IsBuilt self.old.forest self.old.values }
-        ensures built { IfOk result (λ none. IsBuilt self.new.forest self.new.values) }
+        requires { IsBuilt self.old }
+        ensures built { IfOk result (λ none. IsBuilt self.new) }
         ensures shown { IfOk result (λ none. values_of self.new ≡ compared (values_of self.old)) }
     {
         let used = self.compare(0)?;
@@ -199,9 +199,9 @@ impl Builder {
 
     /// The names below the value on top.
     pub fn compare_below(&mut self) -> Result<(), NoMemory>
-        requires built { IsBuilt self.old.forest self.old.values }
+        requires built { IsBuilt self.old }
         requires some { 0 < length self.old.values }
-        ensures built { IfOk result (λ none. IsBuilt self.new.forest self.new.values) }
+        ensures built { IfOk result (λ none. IsBuilt self.new) }
         ensures shown { IfOk result (λ none. values_of self.new ≡ take 1 (values_of self.old) ++ compared (drop 1 (values_of self.old))) }
     {
         let used = self.compare(1)?;

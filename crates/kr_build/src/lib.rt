@@ -8,5 +8,6 @@ mod operators;
 mod plan;
 mod tags;
 mod value;
+mod way;
 
 pub use builder::Builder;

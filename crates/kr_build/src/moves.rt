@@ -1,8 +1,8 @@
-// Values that take the place of others, and what is made of which values.
+// Values that take the place of others.
 ghost use Rattle.std.specs.Prelude.{◌≡◌};
-ghost use Rattle.kr_build.specs.Plans.{sorts, one, move};
+ghost use Rattle.kr_build.specs.Plans.{one, over, member, modified, owner, move};
 
-use crate::value::{Kept, Sort, Values, no_modifiers};
+use crate::value::{Kept, Values, no_modifiers};
 use kr_grammar::{Form, Make, Modifiers};
 
 /// A value that takes the place of so many others, maybe with one of these below it.
@@ -13,69 +13,92 @@ pub struct Move {
     pub below: Option<Kept>,
 }
 
-/// The values that something is made of, the top one first.
-pub fn sorts_of(make: Make) -> &'static [Sort]
-    ensures { result.now ≡ sorts make }
-{
-    match make {
-        Make::TypeOfMark | Make::Empty | Make::Jump => &[Sort::Mark],
-        Make::TypeOfName | Make::Diamond | Make::Variable => &[Sort::Name],
-        Make::Array | Make::ExpressionStatement => &[Sort::Part],
-        Make::Cons
-        | Make::ArrayAccess
-        | Make::Less
-        | Make::Greater
-        | Make::InstanceOf
-        | Make::Local => &[Sort::Part, Sort::Part],
-        Make::StepBefore
-        | Make::Unary
-        | Make::Block
-        | Make::Return
-        | Make::ConstructorCall
-        | Make::Enclosed => &[Sort::Part, Sort::Mark],
-        Make::Declarator | Make::Owner | Make::NestedOwner => &[Sort::Part, Sort::Word],
-        Make::StepBehind => &[Sort::Mark, Sort::Part],
-        Make::FieldAccess | Make::Parameter => &[Sort::Word, Sort::Part],
-        Make::SuperCall => &[Sort::Part, Sort::Word, Sort::Mark],
-        Make::ObjectCreation
-        | Make::ArrayCreation
-        | Make::Cast
-        | Make::IfThen
-        | Make::While
-        | Make::Do => &[Sort::Part, Sort::Part, Sort::Mark],
-        Make::MethodCall => &[Sort::Part, Sort::Word, Sort::Part],
-        Make::Binary | Make::Assign => &[Sort::Part, Sort::Mark, Sort::Part],
-        Make::Conditional => &[Sort::Part, Sort::Part, Sort::Part],
-        Make::Field => &[Sort::Part, Sort::Part, Sort::Member],
-        Make::ConsBelow | Make::Class => &[Sort::Owner, Sort::Part, Sort::Part],
-        Make::IfElse => &[Sort::Part, Sort::Part, Sort::Part, Sort::Mark],
-        Make::For => &[Sort::Part, Sort::Part, Sort::Part, Sort::Part, Sort::Mark],
-        Make::Method => &[Sort::Part, Sort::Part, Sort::Word, Sort::Part, Sort::Member],
-        Make::Constructor => &[Sort::Part, Sort::Part, Sort::Part, Sort::Word, Sort::Member],
-        Make::CompareAll | Make::Nil => &[],
-        Make::CompareBelow => &[Sort::Any],
-        Make::SetStatic | Make::SetFinal | Make::SetOverrides => &[Sort::Member],
-        Make::MemberAhead => &[Sort::Owner],
-        Make::Swap => &[Sort::Any, Sort::Any],
-        Make::Pair => &[Sort::Word, Sort::Word],
-        Make::EndMembers => &[Sort::Member, Sort::Owner],
-        Make::Generic | Make::CallOfName => &[Sort::Part, Sort::Name],
-        Make::Nested => &[Sort::Part, Sort::Member],
-    }
-}
-
-const fn one(taken: usize, top: Kept) -> Option<Move>
+const fn one(taken: usize, top: Kept) -> Move
     ensures { result ≡ one taken top }
 {
-    Some(Move {
+    Move {
         taken,
         top,
         below: None,
-    })
+    }
 }
 
-/// Values again, where that is all.
-pub fn move_of(make: Make, values: &Values) -> Option<Move>
+/// A value in the place of two, below it the one that was on top.
+fn over(top: Kept, values: &Values) -> Move
+    ensures { result ≡ over top values.now }
+{
+    Move {
+        taken: 2,
+        top,
+        below: values.peek(0),
+    }
+}
+
+/// The member ahead, with these modifiers.
+fn member(taken: usize, values: &Values, modifiers: Modifiers) -> Move
+    ensures { result ≡ member taken values.now modifiers }
+{
+    one(
+        taken,
+        Kept::Member {
+            is_nested: values.is_nested(0),
+            modifiers,
+        },
+    )
+}
+
+/// The member ahead with one modifier more, or with none.
+#[inline(always)]
+fn modified(make: Make, values: &Values) -> Move
+    ensures { result ≡ modified make values.now }
+{
+    let before = values.modifiers(0);
+    match make {
+        Make::SetStatic => member(
+            1,
+            values,
+            Modifiers {
+                is_static: true,
+                ..before
+            },
+        ),
+        Make::SetFinal => member(
+            1,
+            values,
+            Modifiers {
+                is_final: true,
+                ..before
+            },
+        ),
+        Make::SetOverrides => member(
+            1,
+            values,
+            Modifiers {
+                overrides: true,
+                ..before
+            },
+        ),
+        _ => member(0, values, no_modifiers()),
+    }
+}
+
+/// The name of a class, above the class that it extends.
+fn owner(is_nested: bool, values: &Values) -> Move
+    ensures { result ≡ owner is_nested values.now }
+{
+    over(
+        Kept::Owner {
+            is_nested,
+            place: values.place(1),
+            name: values.name(1),
+        },
+        values,
+    )
+}
+
+/// Values again.
+#[inline(always)]
+pub fn move_of(make: Make, values: &Values) -> Move
     ensures { result ≡ move make values.now }
 {
     match make {
@@ -87,11 +110,6 @@ pub fn move_of(make: Make, values: &Values) -> Option<Move>
                 name: values.name(0),
             },
         ),
-        Make::Swap => Some(Move {
-            taken: 2,
-            top: values.value(1),
-            below: values.peek(0),
-        }),
         Make::Enclosed => one(
             2,
             Kept::Part {
@@ -100,62 +118,9 @@ pub fn move_of(make: Make, values: &Values) -> Option<Move>
                 node: values.node(0),
             },
         ),
-        Make::MemberAhead => one(
-            0,
-            Kept::Member {
-                is_nested: values.is_nested(0),
-                modifiers: no_modifiers(),
-            },
-        ),
-        Make::SetStatic => one(
-            1,
-            Kept::Member {
-                is_nested: values.is_nested(0),
-                modifiers: Modifiers {
-                    is_static: true,
-                    ..values.modifiers(0)
-                },
-            },
-        ),
-        Make::SetFinal => one(
-            1,
-            Kept::Member {
-                is_nested: values.is_nested(0),
-                modifiers: Modifiers {
-                    is_final: true,
-                    ..values.modifiers(0)
-                },
-            },
-        ),
-        Make::SetOverrides => one(
-            1,
-            Kept::Member {
-                is_nested: values.is_nested(0),
-                modifiers: Modifiers {
-                    overrides: true,
-                    ..values.modifiers(0)
-                },
-            },
-        ),
-        Make::Owner => Some(Move {
-            taken: 2,
-            top: Kept::Owner {
-                is_nested: false,
-                place: values.place(1),
-                name: values.name(1),
-            },
-            below: values.peek(0),
-        }),
-        Make::NestedOwner => Some(Move {
-            taken: 2,
-            top: Kept::Owner {
-                is_nested: true,
-                place: values.place(1),
-                name: values.name(1),
-            },
-            below: values.peek(0),
-        }),
+        Make::Owner => owner(false, values),
+        Make::NestedOwner => owner(true, values),
         Make::Nested => one(2, values.value(0)),
-        _ => None,
+        _ => modified(make, values),
     }
 }

@@ -1,7 +1,6 @@
 // The node that is put above some values.
 ghost use Rattle.std.specs.Prelude.{◌≡◌, Some, None};
-ghost use Rattle.kr_grammar.specs.Made.{the_primitive, the_unary, the_step_before, the_step_behind, the_binary, the_compound};
-ghost use Rattle.kr_build.specs.Plans.{tree, plain, formed, under, type_node, jump_node, assignment, variable, call, types, primaries, operations, statements, branches, declarations, names_and_lists, plan, head, over};
+ghost use Rattle.kr_build.specs.Plans.{tree, plain, type_node, jump_node, assignment, types, lists, declarations, loops, branches, statements, locals, comparisons, infixes, prefixes, creations, selections, plan, variable, call, single, lower, upper, below, staying};
 
 use crate::operators::{
     binary_of, compound_of, primitive_of, step_before_of, step_behind_of, unary_of,
@@ -12,15 +11,13 @@ use kr_base::Place;
 use kr_grammar::{Form, Make};
 use kr_lex::Kind;
 
-/// A node that takes the place of so many values, with its place and the form that its tree has. One value may stay
-/// above it.
+/// A node that takes the place of so many values, with its place and the form that its tree has.
 #[derive(Clone, Copy, Debug)]
 pub struct Plan {
     pub taken: usize,
     pub place: Place,
     pub form: Form,
     pub node: Node,
-    pub above: Option<Kept>,
 }
 
 pub const fn tree(taken: usize, place: Place, form: Form, node: Node) -> Plan
@@ -31,32 +28,13 @@ pub const fn tree(taken: usize, place: Place, form: Form, node: Node) -> Plan
         place,
         form,
         node,
-        above: None,
     }
 }
 
-const fn formed(taken: usize, place: Place, form: Form, node: Node) -> Option<Plan>
-    ensures { result ≡ formed taken place form node }
-{
-    Some(tree(taken, place, form, node))
-}
-
-const fn plain(taken: usize, place: Place, node: Node) -> Option<Plan>
+const fn plain(taken: usize, place: Place, node: Node) -> Plan
     ensures { result ≡ plain taken place node }
 {
-    Some(tree(taken, place, Form::Other, node))
-}
-
-const fn under(taken: usize, place: Place, node: Node, above: Option<Kept>) -> Option<Plan>
-    ensures { result ≡ under taken place node above }
-{
-    Some(Plan {
-        taken,
-        place,
-        form: Form::Other,
-        node,
-        above,
-    })
+    tree(taken, place, Form::Other, node)
 }
 
 /// A name as a type.
@@ -94,11 +72,11 @@ fn assignment(kind: Kind, target: u32, value: u32) -> Node
 }
 
 /// Types.
-fn types(make: Make, values: &Values) -> Option<Plan>
+fn types(make: Make, values: &Values) -> Plan
     ensures { result ≡ types make values.now }
 {
     match make {
-        Make::TypeOfMark => formed(
+        Make::TypeOfMark => tree(
             1,
             values.place(0),
             Form::Type,
@@ -106,8 +84,8 @@ fn types(make: Make, values: &Values) -> Option<Plan>
                 primitive: primitive_of(values.kind(0)),
             },
         ),
-        Make::TypeOfName => formed(1, values.place(0), Form::Type, type_node(values.peek(0))),
-        Make::Array => formed(
+        Make::TypeOfName => tree(1, values.place(0), Form::Type, type_node(values.peek(0))),
+        _ => tree(
             1,
             values.place(0),
             Form::Type,
@@ -115,43 +93,15 @@ fn types(make: Make, values: &Values) -> Option<Plan>
                 element: values.node(0),
             },
         ),
-        _ => None,
     }
 }
 
-/// Primary expressions.
-fn primaries(make: Make, values: &Values) -> Option<Plan>
-    ensures { result ≡ primaries make values.now }
+/// What is selected of an expression.
+fn selections(make: Make, values: &Values) -> Plan
+    ensures { result ≡ selections make values.now }
 {
     match make {
-        Make::SuperCall => formed(
-            3,
-            values.place(2),
-            Form::Invocation,
-            Node::SuperCall {
-                name: values.name(1),
-                arguments: values.node(0),
-            },
-        ),
-        Make::ObjectCreation => formed(
-            3,
-            values.place(2),
-            Form::Invocation,
-            Node::ObjectCreation {
-                class: values.node(1),
-                arguments: values.node(0),
-            },
-        ),
-        Make::ArrayCreation => formed(
-            3,
-            values.place(2),
-            Form::ArrayCreation,
-            Node::ArrayCreation {
-                element: values.node(1),
-                length: values.node(0),
-            },
-        ),
-        Make::FieldAccess => formed(
+        Make::FieldAccess => tree(
             2,
             values.place(1),
             Form::Target,
@@ -160,7 +110,7 @@ fn primaries(make: Make, values: &Values) -> Option<Plan>
                 name: values.name(0),
             },
         ),
-        Make::MethodCall => formed(
+        Make::MethodCall => tree(
             3,
             values.place(2),
             Form::Invocation,
@@ -170,7 +120,7 @@ fn primaries(make: Make, values: &Values) -> Option<Plan>
                 arguments: values.node(0),
             },
         ),
-        Make::ArrayAccess => formed(
+        _ => tree(
             2,
             values.place(1),
             Form::Target,
@@ -179,13 +129,47 @@ fn primaries(make: Make, values: &Values) -> Option<Plan>
                 index: values.node(0),
             },
         ),
-        _ => None,
     }
 }
 
-/// Operations.
-fn operations(make: Make, values: &Values) -> Option<Plan>
-    ensures { result ≡ operations make values.now }
+/// Creations, and calls of the superclass.
+fn creations(make: Make, values: &Values) -> Plan
+    ensures { result ≡ creations make values.now }
+{
+    match make {
+        Make::ObjectCreation => tree(
+            3,
+            values.place(2),
+            Form::Invocation,
+            Node::ObjectCreation {
+                class: values.node(1),
+                arguments: values.node(0),
+            },
+        ),
+        Make::ArrayCreation => tree(
+            3,
+            values.place(2),
+            Form::ArrayCreation,
+            Node::ArrayCreation {
+                element: values.node(1),
+                length: values.node(0),
+            },
+        ),
+        _ => tree(
+            3,
+            values.place(2),
+            Form::Invocation,
+            Node::SuperCall {
+                name: values.name(1),
+                arguments: values.node(0),
+            },
+        ),
+    }
+}
+
+/// Operations on one operand.
+fn prefixes(make: Make, values: &Values) -> Plan
+    ensures { result ≡ prefixes make values.now }
 {
     match make {
         Make::StepBehind => plain(
@@ -212,7 +196,7 @@ fn operations(make: Make, values: &Values) -> Option<Plan>
                 operand: values.node(0),
             },
         ),
-        Make::Cast => plain(
+        _ => plain(
             3,
             values.place(2),
             Node::Cast {
@@ -220,6 +204,14 @@ fn operations(make: Make, values: &Values) -> Option<Plan>
                 operand: values.node(0),
             },
         ),
+    }
+}
+
+/// Operations with an operator between operands.
+fn infixes(make: Make, values: &Values) -> Plan
+    ensures { result ≡ infixes make values.now }
+{
+    match make {
         Make::Binary => plain(
             3,
             values.place(2),
@@ -229,6 +221,28 @@ fn operations(make: Make, values: &Values) -> Option<Plan>
                 right: values.node(0),
             },
         ),
+        Make::Conditional => plain(
+            3,
+            values.place(2),
+            Node::Conditional {
+                condition: values.node(2),
+                holds: values.node(1),
+                fails: values.node(0),
+            },
+        ),
+        _ => plain(
+            3,
+            values.place(2),
+            assignment(values.kind(1), values.node(2), values.node(0)),
+        ),
+    }
+}
+
+/// Comparisons of two values.
+fn comparisons(make: Make, values: &Values) -> Plan
+    ensures { result ≡ comparisons make values.now }
+{
+    match make {
         Make::Less => plain(
             2,
             values.place(1),
@@ -247,7 +261,7 @@ fn operations(make: Make, values: &Values) -> Option<Plan>
                 right: values.node(0),
             },
         ),
-        Make::InstanceOf => plain(
+        _ => plain(
             2,
             values.place(1),
             Node::InstanceOf {
@@ -255,27 +269,12 @@ fn operations(make: Make, values: &Values) -> Option<Plan>
                 tested: values.node(0),
             },
         ),
-        Make::Conditional => plain(
-            3,
-            values.place(2),
-            Node::Conditional {
-                condition: values.node(2),
-                holds: values.node(1),
-                fails: values.node(0),
-            },
-        ),
-        Make::Assign => plain(
-            3,
-            values.place(2),
-            assignment(values.kind(1), values.node(2), values.node(0)),
-        ),
-        _ => None,
     }
 }
 
-/// Statements without parts that are statements, and locals.
-fn statements(make: Make, values: &Values) -> Option<Plan>
-    ensures { result ≡ statements make values.now }
+/// Locals, and expressions as statements.
+fn locals(make: Make, values: &Values) -> Plan
+    ensures { result ≡ locals make values.now }
 {
     match make {
         Make::Declarator => plain(
@@ -286,7 +285,7 @@ fn statements(make: Make, values: &Values) -> Option<Plan>
                 initial: values.node(0),
             },
         ),
-        Make::Local => formed(
+        Make::Local => tree(
             2,
             values.place(1),
             Form::Local,
@@ -295,13 +294,21 @@ fn statements(make: Make, values: &Values) -> Option<Plan>
                 declarators: values.node(0),
             },
         ),
-        Make::ExpressionStatement => plain(
+        _ => plain(
             1,
             values.place(0),
             Node::ExpressionStatement {
                 expression: values.node(0),
             },
         ),
+    }
+}
+
+/// Statements with no statement in them but in blocks.
+fn statements(make: Make, values: &Values) -> Plan
+    ensures { result ≡ statements make values.now }
+{
+    match make {
         Make::Block => plain(
             2,
             values.place(1),
@@ -324,13 +331,12 @@ fn statements(make: Make, values: &Values) -> Option<Plan>
             },
         ),
         Make::Empty => plain(1, values.place(0), Node::Empty),
-        Make::Jump => plain(1, values.place(0), jump_node(values.kind(0))),
-        _ => None,
+        _ => plain(1, values.place(0), jump_node(values.kind(0))),
     }
 }
 
-/// Statements that branch or loop.
-fn branches(make: Make, values: &Values) -> Option<Plan>
+/// Statements that branch.
+fn branches(make: Make, values: &Values) -> Plan
     ensures { result ≡ branches make values.now }
 {
     match make {
@@ -342,6 +348,23 @@ fn branches(make: Make, values: &Values) -> Option<Plan>
                 holds: values.node(0),
             },
         ),
+        _ => plain(
+            4,
+            values.place(3),
+            Node::IfElse {
+                condition: values.node(2),
+                holds: values.node(1),
+                fails: values.node(0),
+            },
+        ),
+    }
+}
+
+/// Loops.
+fn loops(make: Make, values: &Values) -> Plan
+    ensures { result ≡ loops make values.now }
+{
+    match make {
         Make::While => plain(
             3,
             values.place(2),
@@ -358,16 +381,7 @@ fn branches(make: Make, values: &Values) -> Option<Plan>
                 condition: values.node(0),
             },
         ),
-        Make::IfElse => plain(
-            4,
-            values.place(3),
-            Node::IfElse {
-                condition: values.node(2),
-                holds: values.node(1),
-                fails: values.node(0),
-            },
-        ),
-        Make::For => plain(
+        _ => plain(
             5,
             values.place(4),
             Node::For {
@@ -377,24 +391,14 @@ fn branches(make: Make, values: &Values) -> Option<Plan>
                 body: values.node(0),
             },
         ),
-        _ => None,
     }
 }
 
-/// Lists and declarations.
-fn declarations(make: Make, values: &Values) -> Option<Plan>
+/// Declarations.
+fn declarations(make: Make, values: &Values) -> Plan
     ensures { result ≡ declarations make values.now }
 {
     match make {
-        Make::Nil => plain(0, nowhere(), Node::Nil),
-        Make::Cons => plain(
-            2,
-            values.place(1),
-            Node::Cons {
-                first: values.node(1),
-                rest: values.node(0),
-            },
-        ),
         Make::Parameter => plain(
             2,
             values.place(0),
@@ -422,7 +426,7 @@ fn declarations(make: Make, values: &Values) -> Option<Plan>
                 body: values.node(0),
             },
         ),
-        Make::Class => plain(
+        _ => plain(
             3,
             values.place(0),
             Node::Class {
@@ -431,7 +435,47 @@ fn declarations(make: Make, values: &Values) -> Option<Plan>
                 members: values.node(1),
             },
         ),
-        _ => None,
+    }
+}
+
+/// Lists, and what is absent.
+fn lists(make: Make, values: &Values) -> Plan
+    ensures { result ≡ lists make values.now }
+{
+    match make {
+        Make::Cons => plain(
+            2,
+            values.place(1),
+            Node::Cons {
+                first: values.node(1),
+                rest: values.node(0),
+            },
+        ),
+        _ => plain(0, nowhere(), Node::Nil),
+    }
+}
+
+/// One node above the values.
+pub fn plan_of(make: Make, values: &Values) -> Plan
+    ensures { result ≡ plan make values.now }
+{
+    match make {
+        Make::TypeOfMark | Make::TypeOfName | Make::Array => types(make, values),
+        Make::FieldAccess | Make::MethodCall | Make::ArrayAccess => selections(make, values),
+        Make::ObjectCreation | Make::ArrayCreation | Make::SuperCall => creations(make, values),
+        Make::StepBehind | Make::StepBefore | Make::Unary | Make::Cast => prefixes(make, values),
+        Make::Binary | Make::Conditional | Make::Assign => infixes(make, values),
+        Make::Less | Make::Greater | Make::InstanceOf => comparisons(make, values),
+        Make::Declarator | Make::Local | Make::ExpressionStatement => locals(make, values),
+        Make::Block | Make::Return | Make::ConstructorCall | Make::Empty | Make::Jump => statements(
+            make, values,
+        ),
+        Make::IfThen | Make::IfElse => branches(make, values),
+        Make::While | Make::Do | Make::For => loops(make, values),
+        Make::Parameter | Make::Field | Make::Constructor | Make::Class => declarations(
+            make, values,
+        ),
+        _ => lists(make, values),
     }
 }
 
@@ -440,7 +484,9 @@ fn variable(value: Option<Kept>) -> Option<Plan>
     ensures { result ≡ variable value }
 {
     match value {
-        Some(Kept::Word { place, name }) => formed(1, place, Form::Target, Node::Variable { name }),
+        Some(Kept::Word { place, name }) => {
+            Some(tree(1, place, Form::Target, Node::Variable { name }))
+        }
         _ => None,
     }
 }
@@ -449,64 +495,31 @@ fn call(value: Option<Kept>, arguments: u32) -> Option<Plan>
     ensures { result ≡ call value arguments }
 {
     match value {
-        Some(Kept::Word { place, name }) => formed(
-            2,
-            place,
-            Form::Invocation,
-            Node::Call { name, arguments },
-        ),
+        Some(Kept::Word { place, name }) => {
+            Some(tree(2, place, Form::Invocation, Node::Call { name, arguments }))
+        }
         _ => None,
     }
 }
 
-/// Names that are one node, and lists under the owner of their members.
-fn names_and_lists(make: Make, values: &Values) -> Option<Plan>
-    ensures { result ≡ names_and_lists make values.now }
+/// The only node of a name, where it is one word.
+pub fn single(make: Make, values: &Values) -> Option<Plan>
+    ensures { result ≡ single make values.now }
 {
     match make {
         Make::Variable => variable(values.peek(0)),
         Make::CallOfName => call(values.peek(1), values.node(0)),
-        Make::ConsBelow => under(
-            3,
-            values.place(2),
-            Node::Cons {
-                first: values.node(2),
-                rest: values.node(1),
-            },
-            values.peek(0),
-        ),
-        Make::EndMembers => under(2, nowhere(), Node::Nil, values.peek(1)),
         _ => None,
     }
 }
 
-/// One node above the values, where that is all.
-pub fn plan_of(make: Make, values: &Values) -> Option<Plan>
-    ensures { result ≡ plan make values.now }
-{
-    types(make, values)
-        .or(primaries(make, values))
-        .or(operations(make, values))
-        .or(statements(make, values))
-        .or(branches(make, values))
-        .or(declarations(make, values))
-        .or(names_and_lists(make, values))
-}
-
 /// Of two nodes the lower one, of a name.
-pub fn head(make: Make, values: &Values) -> Option<Plan>
-    ensures { result ≡ head make values.now }
+pub fn lower(make: Make, values: &Values) -> Plan
+    ensures { result ≡ lower make values.now }
 {
     match make {
-        Make::Generic => formed(0, values.place(1), Form::Type, type_node(values.peek(1))),
-        Make::Diamond => formed(0, values.place(0), Form::Type, type_node(values.peek(0))),
-        Make::Variable => plain(
-            0,
-            values.place(0),
-            Node::Variable {
-                name: values.outer(0),
-            },
-        ),
+        Make::Generic => tree(0, values.place(1), Form::Type, type_node(values.peek(1))),
+        Make::Diamond => tree(0, values.place(0), Form::Type, type_node(values.peek(0))),
         Make::CallOfName => plain(
             0,
             values.place(1),
@@ -514,16 +527,22 @@ pub fn head(make: Make, values: &Values) -> Option<Plan>
                 name: values.outer(1),
             },
         ),
-        _ => None,
+        _ => plain(
+            0,
+            values.place(0),
+            Node::Variable {
+                name: values.outer(0),
+            },
+        ),
     }
 }
 
 /// And the upper one.
-pub fn over(make: Make, values: &Values) -> Option<Plan>
-    ensures { result ≡ over make values.now }
+pub fn upper(make: Make, values: &Values) -> Plan
+    ensures { result ≡ upper make values.now }
 {
     match make {
-        Make::Generic => formed(
+        Make::Generic => tree(
             3,
             values.place(2),
             Form::Type,
@@ -532,7 +551,7 @@ pub fn over(make: Make, values: &Values) -> Option<Plan>
                 argument: values.node(1),
             },
         ),
-        Make::Diamond => formed(
+        Make::Diamond => tree(
             2,
             values.place(1),
             Form::Type,
@@ -540,16 +559,7 @@ pub fn over(make: Make, values: &Values) -> Option<Plan>
                 head: values.node(0),
             },
         ),
-        Make::Variable => formed(
-            2,
-            values.place(1),
-            Form::Target,
-            Node::FieldAccess {
-                object: values.node(0),
-                name: values.name(1),
-            },
-        ),
-        Make::CallOfName => formed(
+        Make::CallOfName => tree(
             3,
             values.place(2),
             Form::Invocation,
@@ -559,6 +569,41 @@ pub fn over(make: Make, values: &Values) -> Option<Plan>
                 arguments: values.node(1),
             },
         ),
-        _ => None,
+        _ => tree(
+            2,
+            values.place(1),
+            Form::Target,
+            Node::FieldAccess {
+                object: values.node(0),
+                name: values.name(1),
+            },
+        ),
+    }
+}
+
+/// The list below a value that stays on top.
+pub fn below(make: Make, values: &Values) -> Plan
+    ensures { result ≡ below make values.now }
+{
+    match make {
+        Make::ConsBelow => plain(
+            3,
+            values.place(2),
+            Node::Cons {
+                first: values.node(2),
+                rest: values.node(1),
+            },
+        ),
+        _ => plain(2, nowhere(), Node::Nil),
+    }
+}
+
+/// Under how many others that value stood.
+pub fn staying(make: Make) -> usize
+    ensures { result ≡ staying make }
+{
+    match make {
+        Make::ConsBelow => 0,
+        _ => 1,
     }
 }

@@ -42,7 +42,7 @@ fn is_plain(modifiers: Modifiers) -> bool
 impl Builder {
     /// A word on top: the name of the class where a constructor may stand, or another one.
     fn tag_of_word(&self) -> Tag
-        requires built { IsBuilt self.now.forest self.now.values }
+        requires built { IsBuilt self.now }
         requires top { are (Sort.Word ∷ []) self.now.values ≡ true }
         ensures { result ≡ tag (values_of self.now) }
     {
@@ -81,22 +81,22 @@ impl Builder {
 
     /// What the values on top are, where a choice depends on them.
     pub fn tag(&self) -> Tag
-        requires { IsBuilt self.now.forest self.now.values }
+        requires { IsBuilt self.now }
         ensures { result ≡ tag (values_of self.now) }
     {
-        match self.values.peek(0) {
-            Some(Kept::Word { .. }) => self.tag_of_word(),
-            Some(Kept::Pair { .. }) => Tag::Pair,
-            Some(Kept::Part { .. }) => self.tag_of_part(),
-            Some(
-                Kept::Member {
-                    is_nested,
-                    modifiers,
-                },
-            ) => tag_of_member(is_nested, modifiers),
-            Some(Kept::Mark { .. }) => Tag::Other,
-            Some(Kept::Owner { .. }) => Tag::Other,
-            None => Tag::Other,
+        if self.values.is_empty() {
+            return Tag::Other;
+        }
+        match self.values.top(0) {
+            Kept::Word { .. } => self.tag_of_word(),
+            Kept::Pair { .. } => Tag::Pair,
+            Kept::Part { .. } => self.tag_of_part(),
+            Kept::Member {
+                is_nested,
+                modifiers,
+            } => tag_of_member(*is_nested, *modifiers),
+            Kept::Mark { .. } => Tag::Other,
+            Kept::Owner { .. } => Tag::Other,
         }
     }
 }

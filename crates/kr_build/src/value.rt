@@ -1,5 +1,5 @@
 // What the parser keeps of the tokens behind it.
-ghost use Rattle.std.specs.Prelude.{◌≡◌, ◌∷◌, [], ◌<◌, ◌≤◌, None, slice_set, length, drop, OnOk, OnErr, slice_get};
+ghost use Rattle.std.specs.Prelude.{◌≡◌, ◌∷◌, [], true, false, ◌<◌, ◌≤◌, Some, None, slice_set, length, drop, OnOk, OnErr, slice_get};
 ghost use Rattle.kr_grammar.specs.Made.{nowhere};
 ghost use Rattle.kr_grammar.specs.Values.{no_modifiers};
 ghost use Rattle.kr_build.specs.Kept.{no_name, place_in, kind_in, node_in, form_in, name_in, outer_in, modifiers_in, nested_in, value_in, place_at, kind_at, node_at, form_at, name_at, outer_at, modifiers_at, nested_at, value_at, is_of, are};
@@ -89,47 +89,6 @@ pub const fn no_modifiers() -> Modifiers
     }
 }
 
-fn place_in(value: Option<Kept>) -> Place
-    ensures { result ≡ place_in value }
-{
-    match value {
-        Some(Kept::Mark { place, .. }) => place,
-        Some(Kept::Word { place, .. }) => place,
-        Some(Kept::Pair { place, .. }) => place,
-        Some(Kept::Part { place, .. }) => place,
-        Some(Kept::Owner { place, .. }) => place,
-        Some(Kept::Member { .. }) => nowhere(),
-        None => nowhere(),
-    }
-}
-
-fn kind_in(value: Option<Kept>) -> Kind
-    ensures { result ≡ kind_in value }
-{
-    match value {
-        Some(Kept::Mark { kind, .. }) => kind,
-        _ => Kind::Semicolon,
-    }
-}
-
-fn node_in(value: Option<Kept>) -> u32
-    ensures { result ≡ node_in value }
-{
-    match value {
-        Some(Kept::Part { node, .. }) => node,
-        _ => 0,
-    }
-}
-
-fn form_in(value: Option<Kept>) -> Form
-    ensures { result ≡ form_in value }
-{
-    match value {
-        Some(Kept::Part { form, .. }) => form,
-        _ => Form::Other,
-    }
-}
-
 /// The name in a value that has one.
 pub fn name_in(value: Option<Kept>) -> Name
     ensures { result ≡ name_in value }
@@ -139,34 +98,6 @@ pub fn name_in(value: Option<Kept>) -> Name
         Some(Kept::Pair { name, .. }) => name,
         Some(Kept::Owner { name, .. }) => name,
         _ => no_name(),
-    }
-}
-
-fn outer_in(value: Option<Kept>) -> Name
-    ensures { result ≡ outer_in value }
-{
-    match value {
-        Some(Kept::Pair { outer, .. }) => outer,
-        _ => no_name(),
-    }
-}
-
-fn modifiers_in(value: Option<Kept>) -> Modifiers
-    ensures { result ≡ modifiers_in value }
-{
-    match value {
-        Some(Kept::Member { modifiers, .. }) => modifiers,
-        _ => no_modifiers(),
-    }
-}
-
-fn nested_in(value: Option<Kept>) -> bool
-    ensures { result ≡ nested_in value }
-{
-    match value {
-        Some(Kept::Member { is_nested, .. }) => is_nested,
-        Some(Kept::Owner { is_nested, .. }) => is_nested,
-        _ => false,
     }
 }
 
@@ -182,18 +113,108 @@ fn value_in(value: Option<Kept>) -> Kept
     }
 }
 
-/// Whether a value is of a sort.
-fn is_of(sort: Sort, value: Kept) -> bool
-    ensures { result ≡ is_of sort value }
-{
-    match sort {
-        Sort::Any => true,
-        Sort::Mark => matches!(value, Kept::Mark { .. }),
-        Sort::Word => matches!(value, Kept::Word { .. }),
-        Sort::Name => matches!(value, Kept::Word { .. } | Kept::Pair { .. }),
-        Sort::Part => matches!(value, Kept::Part { .. }),
-        Sort::Member => matches!(value, Kept::Member { .. }),
-        Sort::Owner => matches!(value, Kept::Owner { .. }),
+impl Kept {
+    /// The place of a value that has one.
+    #[inline(always)]
+    fn place(&self) -> Place
+        ensures { result ≡ place_in (Some self.now) }
+    {
+        match self {
+            Kept::Mark { place, .. } => *place,
+            Kept::Word { place, .. } => *place,
+            Kept::Pair { place, .. } => *place,
+            Kept::Part { place, .. } => *place,
+            Kept::Owner { place, .. } => *place,
+            Kept::Member { .. } => nowhere(),
+        }
+    }
+
+    /// The token that a mark stands for.
+    fn kind(&self) -> Kind
+        ensures { result ≡ kind_in (Some self.now) }
+    {
+        match self {
+            Kept::Mark { kind, .. } => *kind,
+            _ => Kind::Semicolon,
+        }
+    }
+
+    /// The node of a tree.
+    fn node(&self) -> u32
+        ensures { result ≡ node_in (Some self.now) }
+    {
+        match self {
+            Kept::Part { node, .. } => *node,
+            _ => 0,
+        }
+    }
+
+    /// The form of a tree.
+    fn form(&self) -> Form
+        ensures { result ≡ form_in (Some self.now) }
+    {
+        match self {
+            Kept::Part { form, .. } => *form,
+            _ => Form::Other,
+        }
+    }
+
+    /// The name of a word, a pair or an owner.
+    fn name(&self) -> Name
+        ensures { result ≡ name_in (Some self.now) }
+    {
+        match self {
+            Kept::Word { name, .. } => *name,
+            Kept::Pair { name, .. } => *name,
+            Kept::Owner { name, .. } => *name,
+            _ => no_name(),
+        }
+    }
+
+    /// The first name of a pair.
+    fn outer(&self) -> Name
+        ensures { result ≡ outer_in (Some self.now) }
+    {
+        match self {
+            Kept::Pair { outer, .. } => *outer,
+            _ => no_name(),
+        }
+    }
+
+    /// The modifiers of a member.
+    fn modifiers(&self) -> Modifiers
+        ensures { result ≡ modifiers_in (Some self.now) }
+    {
+        match self {
+            Kept::Member { modifiers, .. } => *modifiers,
+            _ => no_modifiers(),
+        }
+    }
+
+    /// Whether a member or an owner is of a nested class.
+    fn is_nested(&self) -> bool
+        ensures { result ≡ nested_in (Some self.now) }
+    {
+        match self {
+            Kept::Member { is_nested, .. } => *is_nested,
+            Kept::Owner { is_nested, .. } => *is_nested,
+            _ => false,
+        }
+    }
+
+    /// Whether it is of a sort.
+    fn is_of(&self, sort: Sort) -> bool
+        ensures { result ≡ is_of sort self.now }
+    {
+        match sort {
+            Sort::Any => true,
+            Sort::Mark => matches!(self, Kept::Mark { .. }),
+            Sort::Word => matches!(self, Kept::Word { .. }),
+            Sort::Name => matches!(self, Kept::Word { .. } | Kept::Pair { .. }),
+            Sort::Part => matches!(self, Kept::Part { .. }),
+            Sort::Member => matches!(self, Kept::Member { .. }),
+            Sort::Owner => matches!(self, Kept::Owner { .. }),
+        }
     }
 }
 
@@ -227,6 +248,13 @@ impl Values {
         self.items.len()
     }
 
+    pub fn is_empty(&self) -> bool
+        ensures yes { result ≡ true → self.now ≡ [] }
+        ensures no { result ≡ false → 0 < length self.now }
+    {
+        self.items.is_empty()
+    }
+
     pub fn push(&mut self, value: Kept) -> Result<(), NoMemory>
         ensures pushed { OnOk result (self.new ≡ value ∷ self.old) }
         ensures unchanged { OnErr result (self.new ≡ self.old) }
@@ -256,6 +284,21 @@ impl Values {
         self.items.truncate(left);
     }
 
+    /// Puts a value in the place of so many on top, below one of these.
+    #[inline(always)]
+    pub fn tuck(&mut self, count: usize, depth: usize, value: Kept)
+        requires within { count ≤ length self.old }
+        requires room { 2 ≤ count }
+        requires above { depth < count }
+        ensures { self.new ≡ value_at self.old depth ∷ value ∷ drop count self.old }
+    {
+        let bottom = self.items.len() - count;
+        let above = *self.top(depth);
+        self.items[bottom + 1] = above;
+        self.items[bottom] = value;
+        self.items.truncate(bottom + 2);
+    }
+
     /// Leaves a mark in the place of a value.
     pub fn mark(&mut self, depth: usize)
         requires { depth < length self.old }
@@ -265,19 +308,26 @@ impl Values {
         self.items[at] = value_in(None);
     }
 
+    /// The value under so many others, where there are more.
+    pub fn top(&self, depth: usize) -> &Kept
+        requires { depth < length self.now }
+        ensures { slice_get self.now depth ≡ Some result.now }
+    {
+        &self.items[self.items.len() - 1 - depth]
+    }
+
     /// Whether the values on top are of these sorts, the top one first.
     pub fn are(&self, sorts: &[Sort]) -> bool
         ensures { result ≡ are sorts.now self.now }
     {
+        let count = self.len();
         let mut depth = 0;
         while depth < sorts.len() {
-            match self.peek(depth) {
-                None => return false,
-                Some(value) => {
-                    if !is_of(sorts[depth], value) {
-                        return false;
-                    }
-                }
+            if depth >= count {
+                return false;
+            }
+            if !self.top(depth).is_of(sorts[depth]) {
+                return false;
             }
             depth += 1;
         }
@@ -285,59 +335,92 @@ impl Values {
     }
 
     /// The place of the value under so many others.
+    #[inline(always)]
     pub fn place(&self, depth: usize) -> Place
         ensures { result ≡ place_at self.now depth }
     {
-        place_in(self.peek(depth))
+        if depth < self.items.len() {
+            self.top(depth).place()
+        } else {
+            nowhere()
+        }
     }
 
     /// The token that a mark stands for.
     pub fn kind(&self, depth: usize) -> Kind
         ensures { result ≡ kind_at self.now depth }
     {
-        kind_in(self.peek(depth))
+        if depth < self.items.len() {
+            self.top(depth).kind()
+        } else {
+            Kind::Semicolon
+        }
     }
 
     /// The node of a tree.
     pub fn node(&self, depth: usize) -> u32
         ensures { result ≡ node_at self.now depth }
     {
-        node_in(self.peek(depth))
+        if depth < self.items.len() {
+            self.top(depth).node()
+        } else {
+            0
+        }
     }
 
     /// The form of a tree.
     pub fn form(&self, depth: usize) -> Form
         ensures { result ≡ form_at self.now depth }
     {
-        form_in(self.peek(depth))
+        if depth < self.items.len() {
+            self.top(depth).form()
+        } else {
+            Form::Other
+        }
     }
 
     /// The name of a word, a pair or an owner.
     pub fn name(&self, depth: usize) -> Name
         ensures { result ≡ name_at self.now depth }
     {
-        name_in(self.peek(depth))
+        if depth < self.items.len() {
+            self.top(depth).name()
+        } else {
+            no_name()
+        }
     }
 
     /// The first name of a pair.
     pub fn outer(&self, depth: usize) -> Name
         ensures { result ≡ outer_at self.now depth }
     {
-        outer_in(self.peek(depth))
+        if depth < self.items.len() {
+            self.top(depth).outer()
+        } else {
+            no_name()
+        }
     }
 
     /// The modifiers of a member.
     pub fn modifiers(&self, depth: usize) -> Modifiers
         ensures { result ≡ modifiers_at self.now depth }
     {
-        modifiers_in(self.peek(depth))
+        if depth < self.items.len() {
+            self.top(depth).modifiers()
+        } else {
+            no_modifiers()
+        }
     }
 
     /// Whether a member or an owner is of a nested class.
     pub fn is_nested(&self, depth: usize) -> bool
         ensures { result ≡ nested_at self.now depth }
     {
-        nested_in(self.peek(depth))
+        if depth < self.items.len() {
+            self.top(depth).is_nested()
+        } else {
+            false
+        }
     }
 
     /// The value itself.

@@ -6,7 +6,9 @@ use Rattle.std.proofs.lemmas.Bool.{cases_lt}
 use Rattle.std.proofs.lemmas.Grind.{common_steps}
 use Rattle.kr_lex.specs.Lexemes.{Lexeme, Lexemes, lexeme_at}
 use Rattle.kr_lex.specs.declared.kind.Kind.TheVariants as kinds
+use Rattle.kr_grammar.specs.Machine.{ahead}
 use Rattle.kr_grammar.specs.State.{front}
+use Rattle.kr_grammar.specs.Terminals.{terminal_of}
 use Rattle.kr_parse.specs.Refusals.{token_at}
 
 -- the token behind the last one
@@ -36,3 +38,7 @@ same_token ts at l = grind (arith, common_steps)
 
 pub no_token : (ts : Lexemes) (at : ℕ) → length ts.list ≤ at → token_at ts at ≡ behind_all ts
 no_token ts at l = grind (arith, common_steps)
+
+-- what is ahead, where a token is
+pub terminal_ahead : (ts : Lexemes) (at : ℕ) → at < length ts.list → ahead (drop at ts.list) ≡ terminal_of (token_at ts at).kind
+terminal_ahead ts at l = ap ahead (token_ahead ts at l)

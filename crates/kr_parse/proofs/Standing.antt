@@ -1,5 +1,5 @@
 -- Where the parser stands among the tokens, and what it answers there.
-use Rattle.std.proofs.Common.{◌≡◌, ℕ, ◌+◌, ◌<◌, ◌≤◌, ◌⊎◌, inl, inr, not, true, false, List, [], ◌∷◌, ◌++◌, length, take, refl, sym, ap, subst, ◌∙◌, arith}
+use Rattle.std.proofs.Common.{◌≡◌, ℕ, ◌+◌, ◌<◌, ◌≤◌, ◌⊎◌, inl, inr, not, true, false, List, [], ◌∷◌, ◌++◌, length, take, drop, refl, sym, ap, subst, ◌∙◌, arith}
 use Rattle.std.proofs.lemmas.List.{take_more}
 use Rattle.std.proofs.lemmas.Bool.{cases_lt}
 use Rattle.kr_lex.specs.Lexemes.{Lexeme, Lexemes}
@@ -9,6 +9,7 @@ use Rattle.kr_lex.specs.declared.kind.Kind.TheVariants as kinds
 use Rattle.kr_grammar.specs.declared.terminal.Terminal.{Terminal}
 use Rattle.kr_grammar.specs.declared.terminal.Terminal.TheVariants.{Outside}
 use Rattle.kr_grammar.specs.Terminals.{terminal_of}
+use Rattle.kr_grammar.specs.Machine.{ahead}
 use Rattle.kr_grammar.specs.State.{is_inside}
 use Rattle.kr_parse.specs.Refusals.{IsViable, IsTooNested, IsLeastDead, IsFirstTooNested, is_opening, open_behind, token_at}
 use Rattle.kr_parse.proofs.Ahead.{behind_all, no_token}
@@ -18,9 +19,9 @@ open_more : (n : ℕ) (i : List Lexeme) (a : Lexeme) → open_behind n (i ++ a �
 open_more n [] a = refl
 open_more n (b ∷ i) a = open_more (depth_behind b.kind n) i a
 
-pub standing_next : (ts : Lexemes) (at n : ℕ) → at < length ts.list → IsStanding ts (record { at = at; depth = n }) → (is_opening (token_at ts at).kind ≡ true → n < 64)
-    → IsStanding ts (record { at = at + 1; depth = depth_behind (token_at ts at).kind n })
-standing_next ts at n l h room = record { within = omega arith; depth = deep; shallow = λ j m d. shallow j m d }
+pub standing_next : (ts : Lexemes) (at n : ℕ) (k m : Terminal) → at < length ts.list → IsStanding ts (record { at = at; depth = n; next = k }) → m ≡ ahead (drop (at + 1) ts.list) → (is_opening (token_at ts at).kind ≡ true → n < 64)
+    → IsStanding ts (record { at = at + 1; depth = depth_behind (token_at ts at).kind n; next = m })
+standing_next ts at n k m l h e room = record { within = omega arith; next = e; depth = deep; shallow = λ j m d. shallow j m d }
   where
     deep : depth_behind (token_at ts at).kind n ≡ open_behind 0 (take (at + 1) ts.list)
     deep =
@@ -37,9 +38,9 @@ standing_next ts at n l h room = record { within = omega arith; depth = deep; sh
         go (inl k) = h.shallow j k d
         go (inr k) = let e : j ≡ at = omega arith in here (subst (λ (x : ℕ). IsTooNested ts x) e d)
 
-pub too_nested : (ts : Lexemes) (at n : ℕ) → at < length ts.list → IsStanding ts (record { at = at; depth = n }) → IsViable ts.list (at + 1) → is_opening (token_at ts at).kind ≡ true → 64 ≤ n
+pub too_nested : (ts : Lexemes) (at n : ℕ) (k : Terminal) → at < length ts.list → IsStanding ts (record { at = at; depth = n; next = k }) → IsViable ts.list (at + 1) → is_opening (token_at ts at).kind ≡ true → 64 ≤ n
     → IsFirstTooNested ts (token_at ts at).place
-too_nested ts at n l h v o m = record {
+too_nested ts at n k l h v o m = record {
   index = at;
   place = refl;
   viable = v;

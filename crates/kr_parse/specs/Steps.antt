@@ -1,5 +1,5 @@
 -- What the parser's loop keeps, and what a token does to it.
-use Rattle.std.specs.Prelude.{◌≡◌, ◌+◌, ◌≤◌, ℕ, pred, if◌then◌else◌, List, ◌∷◌, length, take}
+use Rattle.std.specs.Prelude.{◌≡◌, ◌+◌, ◌≤◌, ℕ, pred, if◌then◌else◌, List, ◌∷◌, length, take, drop}
 use Rattle.kr_lex.specs.Lexemes.{Lexeme, Lexemes}
 use Rattle.kr_lex.specs.declared.kind.Kind.{Kind}
 use Rattle.kr_grammar.specs.declared.terminal.Terminal.TheVariants.{Identifier, Literal}
@@ -9,7 +9,7 @@ use Rattle.kr_grammar.specs.declared.goal.Symbol.TheVariants.{Take, Keep, Word, 
 use Rattle.kr_grammar.specs.Terminals.{terminal_of}
 use Rattle.kr_grammar.specs.Values.{Item, mark, word, part}
 use Rattle.kr_grammar.specs.Made.{literal}
-use Rattle.kr_grammar.specs.Machine.{spelling}
+use Rattle.kr_grammar.specs.Machine.{ahead, spelling}
 use Rattle.kr_laws.specs.Laws.{Soundness, Completeness, SmallTrees, Productivity, Preservation, Termination}
 use Rattle.kr_parse.specs.declared.cursor.Cursor.{Cursor}
 use Rattle.kr_parse.specs.Refusals.{IsDead, IsViable, IsShallow, is_opening, is_closing, open_behind}
@@ -50,9 +50,10 @@ kept_of _ a vs = vs
 abbrev pub depth_behind : Kind → ℕ → ℕ
 depth_behind k n = if is_opening k then n + 1 else if is_closing k then pred n else n
 
--- the cursor knows how many brackets are open, and none before it is too deep
+-- the cursor knows what is ahead and how many brackets are open, and none before it is too deep
 pub record IsStanding (ts : Lexemes) (c : Cursor) : Type 0 where
   pub within : c.at ≤ length ts.list
+  pub next : c.next ≡ ahead (drop c.at ts.list)
   pub depth : c.depth ≡ open_behind 0 (take c.at ts.list)
   pub shallow : IsShallow ts c.at
 

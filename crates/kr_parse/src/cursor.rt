@@ -12,15 +12,16 @@ use kr_lex::{Kind, Tokens};
 /// How many brackets may be open.
 pub const OPEN_BRACKETS: u32 = 64;
 
-/// The place of the next token, and how many brackets are open before it.
+/// The index of the next token, how many brackets are open before it, and what it is: `End` behind the last token.
 #[derive(Clone, Copy, Debug)]
 pub struct Cursor {
     pub at: usize,
     pub depth: u32,
+    pub next: Terminal,
 }
 
 /// What stands at an index, `End` behind the last token.
-pub fn ahead(tokens: &Tokens, at: usize) -> Terminal
+fn ahead(tokens: &Tokens, at: usize) -> Terminal
     ensures { result ≡ ahead (drop at tokens.now.list) }
 {
     if at < tokens.len() {
@@ -31,6 +32,8 @@ pub fn ahead(tokens: &Tokens, at: usize) -> Terminal
 }
 
 /// The refusal of a token with which no derivable file goes on.
+#[cold]
+#[inline(never)]
 pub fn dead(tokens: &Tokens, at: usize) -> ParseRefusal
     requires { IsLeast tokens.now at }
     ensures { IsRefusal tokens.now result }
@@ -60,36 +63,6 @@ fn spelling(spelled: Spelled) -> &'static [u8]
         Spelled::Java => b"java",
         Spelled::Util => b"util",
         Spelled::Override => b"Override",
-    }
-}
-
-/// Whether a token of a kind stands at an index.
-fn is_ahead(tokens: &Tokens, at: usize, terminal: Terminal) -> bool
-    ensures yes { result ≡ true → (at < length tokens.now.list) × (terminal_of (token_at tokens.now at).kind ≡ terminal) }
-    ensures no { result ≡ false → at < length tokens.now.list → terminal_of (token_at tokens.now at).kind ≡ terminal → ⊥ }
-{
-    at < tokens.len() && terminal_of(tokens.kind(at)) == terminal
-}
-
-/// Whether an identifier of a spelling stands at an index.
-fn is_spelled(tokens: &Tokens, at: usize, spelled: Spelled) -> bool
-    ensures yes { result ≡ true → (at < length tokens.now.list) × IsAsked (Symbol.Spell spelled) (token_at tokens.now at) }
-    ensures no { result ≡ false → at < length tokens.now.list → IsAsked (Symbol.Spell spelled) (token_at tokens.now at) → ⊥ }
-{
-    is_ahead(tokens, at, Terminal::Identifier) && tokens.text(at) == spelling(spelled)
-}
-
-/// Whether a token that the symbol asks for stands at an index.
-pub fn is_expected(tokens: &Tokens, at: usize, symbol: Symbol) -> bool
-    ensures yes { result ≡ true → (at < length tokens.now.list) × IsAsked symbol (token_at tokens.now at) }
-    ensures no { result ≡ false → at < length tokens.now.list → IsAsked symbol (token_at tokens.now at) → ⊥ }
-{
-    match symbol {
-        Symbol::Take(terminal) | Symbol::Keep(terminal) => is_ahead(tokens, at, terminal),
-        Symbol::Word => is_ahead(tokens, at, Terminal::Identifier),
-        Symbol::Literal => is_ahead(tokens, at, Terminal::Literal),
-        Symbol::Spell(spelled) => is_spelled(tokens, at, spelled),
-        Symbol::Want(_) | Symbol::Build(_) => false,
     }
 }
 
@@ -126,13 +99,59 @@ fn depth_behind(kind: Kind, depth: u32) -> u32
 }
 
 impl Cursor {
+    /// Before the first token.
+    pub fn start(tokens: &Tokens) -> Cursor
+        ensures first { result.at ≡ 0 }
+        ensures standing { IsStanding tokens.now result }
+    {
+        Cursor {
+            at: 0,
+            depth: 0,
+            next: ahead(tokens, 0),
+        }
+    }
+
+    /// Whether a token of a kind is ahead.
+    fn is_at(self, tokens: &Tokens, terminal: Terminal) -> bool
+        requires { IsStanding tokens.now self }
+        ensures yes { result ≡ true → (self.at < length tokens.now.list) × (terminal_of (token_at tokens.now self.at).kind ≡ terminal) }
+        ensures no { result ≡ false → self.at < length tokens.now.list → terminal_of (token_at tokens.now self.at).kind ≡ terminal → ⊥ }
+    {
+        self.at < tokens.len() && self.next == terminal
+    }
+
+    /// Whether an identifier of a spelling is ahead.
+    #[inline(never)]
+    fn is_spelled(self, tokens: &Tokens, spelled: Spelled) -> bool
+        requires { IsStanding tokens.now self }
+        ensures yes { result ≡ true → (self.at < length tokens.now.list) × IsAsked (Symbol.Spell spelled) (token_at tokens.now self.at) }
+        ensures no { result ≡ false → self.at < length tokens.now.list → IsAsked (Symbol.Spell spelled) (token_at tokens.now self.at) → ⊥ }
+    {
+        self.is_at(tokens, Terminal::Identifier) && tokens.text(self.at) == spelling(spelled)
+    }
+
+    /// Whether a token that the symbol asks for is ahead.
+    pub fn is_expected(self, tokens: &Tokens, symbol: Symbol) -> bool
+        requires { IsStanding tokens.now self }
+        ensures yes { result ≡ true → (self.at < length tokens.now.list) × IsAsked symbol (token_at tokens.now self.at) }
+        ensures no { result ≡ false → self.at < length tokens.now.list → IsAsked symbol (token_at tokens.now self.at) → ⊥ }
+    {
+        match symbol {
+            Symbol::Take(terminal) | Symbol::Keep(terminal) => self.is_at(tokens, terminal),
+            Symbol::Word => self.is_at(tokens, Terminal::Identifier),
+            Symbol::Literal => self.is_at(tokens, Terminal::Literal),
+            Symbol::Spell(spelled) => self.is_spelled(tokens, spelled),
+            Symbol::Want(_) | Symbol::Build(_) => false,
+        }
+    }
+
     /// Goes behind the token ahead, with which some derivable file goes on.
-    pub fn step(self, tokens: &Tokens) -> Result<Cursor, ParseRefusal>
-        requires within { self.at < length tokens.now.list }
-        requires standing { IsStanding tokens.now self }
-        requires viable { IsViable tokens.now.list (self.at + 1) }
-        ensures onward { IfOk result (λ then. then.at ≡ self.at + 1) }
-        ensures standing { IfOk result (λ then. IsStanding tokens.now then) }
+    pub fn step(&mut self, tokens: &Tokens) -> Result<(), ParseRefusal>
+        requires within { self.old.at < length tokens.now.list }
+        requires standing { IsStanding tokens.now self.old }
+        requires viable { IsViable tokens.now.list (self.old.at + 1) }
+        ensures onward { IfOk result (λ none. self.new.at ≡ self.old.at + 1) }
+        ensures standing { IfOk result (λ none. IsStanding tokens.now self.new) }
         ensures refused { IfErr result (λ refusal. IsRefusal tokens.now refusal) }
     {
         prove!(self.at < tokens.len());
@@ -143,9 +162,9 @@ impl Cursor {
                 rule: ParseRule::TooNested,
             });
         }
-        Ok(Cursor {
-            at: self.at + 1,
-            depth: depth_behind(kind, self.depth),
-        })
+        self.depth = depth_behind(kind, self.depth);
+        self.at += 1;
+        self.next = ahead(tokens, self.at);
+        Ok(())
     }
 }

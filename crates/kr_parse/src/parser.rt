@@ -9,7 +9,7 @@ ghost use Rattle.kr_parse.specs.Refusals.{IsRefusal, IsShallow, token_at};
 ghost use Rattle.kr_build.specs.Shown.{values_of, IsBuilt};
 ghost use Rattle.kr_parse.specs.Steps.{AreLaws, kept_of, IsStanding};
 
-use crate::cursor::{Cursor, ahead, dead, is_expected};
+use crate::cursor::{Cursor, dead};
 use crate::refusal::ParseRefusal;
 use crate::stack::Stack;
 use kr_ast::{Node, Tree};
@@ -39,14 +39,14 @@ fn expand(
     builder: &Builder,
 ) -> Result<(), ParseRefusal>
     requires standing { IsStanding tokens.now cursor }
-    requires built { IsBuilt builder.now.forest builder.now.values }
+    requires built { IsBuilt builder.now }
     requires state { State tokens.now.list cursor.at (Symbol.Want goal ∷ stack.old) (values_of builder.now) }
     ensures state { IfOk result (λ none. State tokens.now.list cursor.at stack.new (values_of builder.now)) }
     ensures falls { IfOk result (λ none. load stack.new < load (Symbol.Want goal ∷ stack.old)) }
     ensures refused { IfErr result (λ refusal. IsRefusal tokens.now refusal) }
 {
     laws();
-    let next = ahead(tokens, cursor.at);
+    let next = cursor.next;
     match goal {
         Goal::Operators { least, most } => match after_operand(least, most, next) {
             Infix::Dead => Err(dead(tokens, cursor.at)),
@@ -91,8 +91,8 @@ fn literal(tokens: &Tokens, at: usize) -> Node
 /// Keeps the token ahead as the value that the symbol asks for.
 fn keep(tokens: &Tokens, at: usize, symbol: Symbol, builder: &mut Builder) -> Result<(), NoMemory>
     requires within { at < length tokens.now.list }
-    requires built { IsBuilt builder.old.forest builder.old.values }
-    ensures built { IfOk result (λ none. IsBuilt builder.new.forest builder.new.values) }
+    requires built { IsBuilt builder.old }
+    ensures built { IfOk result (λ none. IsBuilt builder.new) }
     ensures shown { IfOk result (λ none. values_of builder.new ≡ kept_of symbol (token_at tokens.now at) (values_of builder.old)) }
 {
     let place = tokens.place(at);
@@ -105,39 +105,41 @@ fn keep(tokens: &Tokens, at: usize, symbol: Symbol, builder: &mut Builder) -> Re
 }
 
 /// Goes on by one symbol, which was taken off the stack.
+#[inline(always)]
 fn advance(
     tokens: &Tokens,
-    cursor: Cursor,
+    cursor: &mut Cursor,
     symbol: Symbol,
     stack: &mut Stack,
     builder: &mut Builder,
-) -> Result<Cursor, ParseRefusal>
-    requires standing { IsStanding tokens.now cursor }
-    requires built { IsBuilt builder.old.forest builder.old.values }
-    requires state { State tokens.now.list cursor.at (symbol ∷ stack.old) (values_of builder.old) }
-    ensures standing { IfOk result (λ then. IsStanding tokens.now then) }
-    ensures built { IfOk result (λ then. IsBuilt builder.new.forest builder.new.values) }
-    ensures state { IfOk result (λ then. State tokens.now.list then.at stack.new (values_of builder.new)) }
-    ensures falls { IfOk result (λ then. load stack.new + 100 * (length tokens.now.list - then.at) < load (symbol ∷ stack.old) + 100 * (length tokens.now.list - cursor.at)) }
+) -> Result<(), ParseRefusal>
+    requires standing { IsStanding tokens.now cursor.old }
+    requires built { IsBuilt builder.old }
+    requires state { State tokens.now.list cursor.old.at (symbol ∷ stack.old) (values_of builder.old) }
+    ensures standing { IfOk result (λ none. IsStanding tokens.now cursor.new) }
+    ensures built { IfOk result (λ none. IsBuilt builder.new) }
+    ensures state { IfOk result (λ none. State tokens.now.list cursor.new.at stack.new (values_of builder.new)) }
+    ensures falls { IfOk result (λ none. load stack.new + 100 * (length tokens.now.list - cursor.new.at) < load (symbol ∷ stack.old) + 100 * (length tokens.now.list - cursor.old.at)) }
     ensures refused { IfErr result (λ refusal. IsRefusal tokens.now refusal) }
 {
     laws();
     match symbol {
         Symbol::Want(goal) => {
-            expand(tokens, cursor, goal, stack, builder)?;
-            Ok(cursor)
+            expand(tokens, *cursor, goal, stack, builder)?;
+            Ok(())
         }
         Symbol::Build(make) => {
             builder.build(make)?;
-            Ok(cursor)
+            Ok(())
         }
         Symbol::Take(_) | Symbol::Keep(_) | Symbol::Word | Symbol::Literal | Symbol::Spell(_) => {
-            if !is_expected(tokens, cursor.at, symbol) {
-                return Err(dead(tokens, cursor.at));
+            let at = cursor.at;
+            if !cursor.is_expected(tokens, symbol) {
+                return Err(dead(tokens, at));
             }
-            let onward = cursor.step(tokens)?;
-            keep(tokens, cursor.at, symbol, builder)?;
-            Ok(onward)
+            cursor.step(tokens)?;
+            keep(tokens, at, symbol, builder)?;
+            Ok(())
         }
     }
 }
@@ -153,10 +155,10 @@ pub fn parse(alloc: Global, tokens: &Tokens) -> Result<Tree, ParseRefusal>
     laws();
     let mut stack = Stack::new(alloc);
     let mut builder = Builder::new(alloc);
-    let mut cursor = Cursor { at: 0, depth: 0 };
+    let mut cursor = Cursor::start(tokens);
     stack.push(Symbol::Want(Goal::File))?;
     while let Some(symbol) = stack.pop() {
-        cursor = advance(tokens, cursor, symbol, &mut stack, &mut builder)?;
+        advance(tokens, &mut cursor, symbol, &mut stack, &mut builder)?;
     }
     if cursor.at < tokens.len() {
         return Err(dead(tokens, cursor.at));

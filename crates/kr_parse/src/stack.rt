@@ -1,5 +1,5 @@
 // The symbols that the parser still wants.
-ghost use Rattle.std.specs.Prelude.{◌≡◌, ◌∷◌, [], ◌++◌, OnOk, MatchOption};
+ghost use Rattle.std.specs.Prelude.{◌≡◌, ◌∷◌, [], ◌++◌, reverse, OnOk, MatchOption};
 
 use kr_base::NoMemory;
 use kr_grammar::Symbol;
@@ -19,6 +19,19 @@ impl Model for Stack {
     ghost Value = { List Symbol };
 
     ghost view = { λ s. reverse s.items.items };
+}
+
+/// Appends the symbols, the last one first.
+fn append_reversed(items: &mut Vec<Symbol>, body: &[Symbol]) -> Result<(), NoMemory>
+    ensures { OnOk result (items.new.items ≡ items.old.items ++ reverse body.now) }
+{
+    items.reserve(body.len())?;
+    let mut left = body.len();
+    while left > 0 {
+        left -= 1;
+        items.push_reserved(body[left]);
+    }
+    Ok(())
 }
 
 impl Stack {
@@ -47,11 +60,7 @@ impl Stack {
     pub fn push_all(&mut self, body: &[Symbol]) -> Result<(), NoMemory>
         ensures { OnOk result (self.new ≡ body.now ++ self.old) }
     {
-        let mut left = body.len();
-        while left > 0 {
-            left -= 1;
-            self.push(body[left])?;
-        }
+        append_reversed(&mut self.items, body)?;
         Ok(())
     }
 }

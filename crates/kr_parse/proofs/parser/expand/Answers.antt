@@ -12,7 +12,7 @@ dead-requires c =
     let at = c.args.cursor.at in
     let vs = values_of c.args.builder.now in
     least_want c.laws.ensures ts at c.args.goal c.args.stack.now vs c.requires.state c.requires.standing.shallow
-    (same_rule c.args.goal (goals.Operators c.in-Operators.least c.in-Operators.most) c.ahead-next.result (ahead (drop at ts.list)) (tag vs) (tag vs) None c.in-Operators.is c.ahead-next.ensures refl
+    (same_rule c.args.goal (goals.Operators c.in-Operators.least c.in-Operators.most) c.args.cursor.next (ahead (drop at ts.list)) (tag vs) (tag vs) None c.in-Operators.is c.requires.standing.next refl
     (c.in-Dead.ensures (tag vs)))
 
 pub dead-requires-in-None : goal.dead-requires-in-None
@@ -21,7 +21,7 @@ dead-requires-in-None c =
     let at = c.args.cursor.at in
     let vs = values_of c.args.builder.now in
     least_want c.laws.ensures ts at c.args.goal c.args.stack.now vs c.requires.state c.requires.standing.shallow
-    (same_rule c.args.goal c.args.goal c.ahead-next.result (ahead (drop at ts.list)) (tag vs) c.tag.result None refl c.ahead-next.ensures (sym c.tag.ensures) c.in-None.ensures)
+    (same_rule c.args.goal c.args.goal c.args.cursor.next (ahead (drop at ts.list)) (tag vs) c.tag.result None refl c.requires.standing.next (sym c.tag.ensures) c.in-None.ensures)
 
 pub returns-in-Ends-clause-state : goal.returns-in-Ends-clause-state
 returns-in-Ends-clause-state c =
@@ -29,7 +29,7 @@ returns-in-Ends-clause-state c =
     let at = c.args.cursor.at in
     let vs = values_of c.args.builder.now in
     expanded c.laws.ensures ts at c.args.goal [] c.args.stack.now c.args.stack.now vs refl
-    (same_rule c.args.goal (goals.Operators c.in-Operators.least c.in-Operators.most) c.ahead-next.result (ahead (drop at ts.list)) (tag vs) (tag vs) (Some []) c.in-Operators.is c.ahead-next.ensures refl
+    (same_rule c.args.goal (goals.Operators c.in-Operators.least c.in-Operators.most) c.args.cursor.next (ahead (drop at ts.list)) (tag vs) (tag vs) (Some []) c.in-Operators.is c.requires.standing.next refl
     (c.in-Ends.ensures (tag vs)))
     c.requires.state
 
@@ -40,8 +40,8 @@ returns-in_ok-push_all-in-Tests-clause-state c =
     let at = c.args.cursor.at in
     let vs = values_of c.args.builder.now in
     expanded c.laws.ensures ts at c.args.goal c.in-Tests.body c.args.stack.now c.push_all.new.self vs c.in_ok-push_all-in-Tests.ensures
-    (same_rule c.args.goal (goals.Operators c.in-Operators.least c.in-Operators.most) c.ahead-next.result (ahead (drop at ts.list)) (tag vs) (tag vs) (Some c.in-Tests.body) c.in-Operators.is
-    c.ahead-next.ensures refl (c.in-Tests.ensures (tag vs)))
+    (same_rule c.args.goal (goals.Operators c.in-Operators.least c.in-Operators.most) c.args.cursor.next (ahead (drop at ts.list)) (tag vs) (tag vs) (Some c.in-Tests.body) c.in-Operators.is
+    c.requires.standing.next refl (c.in-Tests.ensures (tag vs)))
     c.requires.state
 
 pub returns-in_ok-push_all-in-Tests-clause-falls :
@@ -51,8 +51,8 @@ returns-in_ok-push_all-in-Tests-clause-falls c =
     let at = c.args.cursor.at in
     let vs = values_of c.args.builder.now in
     expanding_falls c.laws.ensures c.args.goal (ahead (drop at ts.list)) (tag vs) c.in-Tests.body c.args.stack.now c.push_all.new.self c.in_ok-push_all-in-Tests.ensures
-    (same_rule c.args.goal (goals.Operators c.in-Operators.least c.in-Operators.most) c.ahead-next.result (ahead (drop at ts.list)) (tag vs) (tag vs) (Some c.in-Tests.body) c.in-Operators.is
-    c.ahead-next.ensures refl (c.in-Tests.ensures (tag vs)))
+    (same_rule c.args.goal (goals.Operators c.in-Operators.least c.in-Operators.most) c.args.cursor.next (ahead (drop at ts.list)) (tag vs) (tag vs) (Some c.in-Tests.body) c.in-Operators.is
+    c.requires.standing.next refl (c.in-Tests.ensures (tag vs)))
 
 pub returns-in_ok-push_all-in-Operates-clause-state :
     goal.returns-in_ok-push_all-in-Operates-clause-state
@@ -61,8 +61,8 @@ returns-in_ok-push_all-in-Operates-clause-state c =
     let at = c.args.cursor.at in
     let vs = values_of c.args.builder.now in
     expanded c.laws.ensures ts at c.args.goal c.in-Operates.body c.args.stack.now c.push_all-in-Operates.new.self vs c.in_ok-push_all-in-Operates.ensures
-    (same_rule c.args.goal (goals.Operators c.in-Operators.least c.in-Operators.most) c.ahead-next.result (ahead (drop at ts.list)) (tag vs) (tag vs) (Some c.in-Operates.body) c.in-Operators.is
-    c.ahead-next.ensures refl (c.in-Operates.ensures (tag vs)))
+    (same_rule c.args.goal (goals.Operators c.in-Operators.least c.in-Operators.most) c.args.cursor.next (ahead (drop at ts.list)) (tag vs) (tag vs) (Some c.in-Operates.body) c.in-Operators.is
+    c.requires.standing.next refl (c.in-Operates.ensures (tag vs)))
     c.requires.state
 
 pub returns-in_ok-push_all-in-Operates-clause-falls :
@@ -72,8 +72,8 @@ returns-in_ok-push_all-in-Operates-clause-falls c =
     let at = c.args.cursor.at in
     let vs = values_of c.args.builder.now in
     expanding_falls c.laws.ensures c.args.goal (ahead (drop at ts.list)) (tag vs) c.in-Operates.body c.args.stack.now c.push_all-in-Operates.new.self c.in_ok-push_all-in-Operates.ensures
-    (same_rule c.args.goal (goals.Operators c.in-Operators.least c.in-Operators.most) c.ahead-next.result (ahead (drop at ts.list)) (tag vs) (tag vs) (Some c.in-Operates.body) c.in-Operators.is
-    c.ahead-next.ensures refl (c.in-Operates.ensures (tag vs)))
+    (same_rule c.args.goal (goals.Operators c.in-Operators.least c.in-Operators.most) c.args.cursor.next (ahead (drop at ts.list)) (tag vs) (tag vs) (Some c.in-Operates.body) c.in-Operators.is
+    c.requires.standing.next refl (c.in-Operates.ensures (tag vs)))
 
 pub returns-in_ok-push_all-in-Some : goal.returns-in_ok-push_all-in-Some
 returns-in_ok-push_all-in-Some c =
@@ -81,7 +81,7 @@ returns-in_ok-push_all-in-Some c =
     let at = c.args.cursor.at in
     let vs = values_of c.args.builder.now in
     let r =
-    same_rule c.args.goal c.args.goal c.ahead-next.result (ahead (drop at ts.list)) (tag vs) c.tag.result (Some c.in-Some.body.now) refl c.ahead-next.ensures (sym c.tag.ensures) c.in-Some.ensures in
+    same_rule c.args.goal c.args.goal c.args.cursor.next (ahead (drop at ts.list)) (tag vs) c.tag.result (Some c.in-Some.body.now) refl c.requires.standing.next (sym c.tag.ensures) c.in-Some.ensures in
     record {
       state = expanded c.laws.ensures ts at c.args.goal c.in-Some.body.now c.args.stack.now c.push_all-in-Some.new.self vs c.in_ok-push_all-in-Some.ensures r c.requires.state;
       falls = expanding_falls c.laws.ensures c.args.goal (ahead (drop at ts.list)) (tag vs) c.in-Some.body.now c.args.stack.now c.push_all-in-Some.new.self c.in_ok-push_all-in-Some.ensures r;

@@ -4,8 +4,16 @@ use Rattle.kr_grammar.specs.declared.goal.Symbol.{Symbol}
 use Rattle.kr_grammar.specs.Grammar.{Derives}
 use Rattle.kr_grammar.specs.State.{State}
 use Rattle.kr_build.specs.Shown.{values_of}
-use Rattle.kr_parse.proofs.States.{least_left, derived}
+use Rattle.kr_parse.proofs.States.{state_start, least_left, derived}
 use Rattle.kr_parse.proofs.parser.parse.Goals as goal
+
+pub loop-symbol-init : goal.loop-symbol-init
+loop-symbol-init c =
+    record {
+      standing = c.start-cursor.ensures.standing;
+      built = c.new-builder.ensures.built;
+      state = rw (c.start-cursor.ensures.first, c.in_ok-push.ensures, c.new-stack.ensures, c.new-builder.ensures.none) (state_start c.laws.ensures c.args.tokens.now.list);
+    }
 
 pub dead-requires : goal.dead-requires
 dead-requires c =

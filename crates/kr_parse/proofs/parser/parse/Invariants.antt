@@ -7,7 +7,7 @@ use Rattle.kr_parse.proofs.parser.parse.Given as goal
 abbrev pub invariant-loop-symbol : goal.invariant-loop-symbol
 invariant-loop-symbol l = record {
   standing : IsStanding l.tokens l.cursor;
-  built : IsBuilt l.builder.forest l.builder.values;
+  built : IsBuilt l.builder;
   state : State l.tokens.list l.cursor.at l.stack (values_of l.builder);
 }
 

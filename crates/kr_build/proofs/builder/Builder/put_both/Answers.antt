@@ -1,19 +1,20 @@
 use Rattle.std.proofs.Common.{◌∙◌}
-use Rattle.kr_build.proofs.Heads.{both, head_fits, over_some}
+use Rattle.kr_build.proofs.Heads.{both, lower_fits}
 use Rattle.kr_build.proofs.builder.Builder.put_both.Goals as goal
 
 pub put-requires-clause-fits : goal.put-requires-clause-fits
 put-requires-clause-fits c =
-    head_fits c.args.make c.args.self.now.forest c.args.self.now.values c.args.lower c.requires.values c.requires.none c.requires.built c.requires.head
+    lower_fits c.args.make c.args.self.now.forest c.args.self.now.values c.lower-lower_node.result c.requires.name c.requires.values c.requires.two c.requires.built c.lower-lower_node.ensures
 
-pub put-requires-in-Some-clause-fits : goal.put-requires-in-Some-clause-fits
-put-requires-in-Some-clause-fits c =
+pub put-requires-2-clause-fits : goal.put-requires-2-clause-fits
+put-requires-2-clause-fits c =
     let o = c.in_ok-put.ensures in
-    let r = both c.args.make c.args.self.now.forest c.put.new.self.forest c.args.self.now.values c.put.new.self.values c.args.lower o.kept.0 c.requires.values c.requires.none c.requires.built c.requires.head o.built o.kept.1 o.shown in
-    (over_some c.args.make c.args.self.now.forest c.put.new.self.forest c.args.self.now.values c.put.new.self.values c.in-Some.upper c.in-Some.ensures r).0
+    (both c.args.make c.args.self.now.forest c.put.new.self.forest c.args.self.now.values c.put.new.self.values c.lower-lower_node.result c.upper-upper_node.result o.kept.0
+    c.requires.name c.requires.values c.requires.two c.requires.built c.lower-lower_node.ensures o.built o.kept.1 o.shown c.upper-upper_node.ensures).0
 
-pub returns-in_ok-put-in-Some-clause-shown : goal.returns-in_ok-put-in-Some-clause-shown
-returns-in_ok-put-in-Some-clause-shown c =
+pub returns-clause-shown : goal.returns-clause-shown
+returns-clause-shown c =
     let o = c.in_ok-put.ensures in
-    let r = both c.args.make c.args.self.now.forest c.put.new.self.forest c.args.self.now.values c.put.new.self.values c.args.lower o.kept.0 c.requires.values c.requires.none c.requires.built c.requires.head o.built o.kept.1 o.shown in
-    c.in_ok-put-in-Some.ensures.shown ∙ (over_some c.args.make c.args.self.now.forest c.put.new.self.forest c.args.self.now.values c.put.new.self.values c.in-Some.upper c.in-Some.ensures r).1
+    c.in_ok-put-2.ensures.shown
+    ∙ (both c.args.make c.args.self.now.forest c.put.new.self.forest c.args.self.now.values c.put.new.self.values c.lower-lower_node.result c.upper-upper_node.result o.kept.0
+    c.requires.name c.requires.values c.requires.two c.requires.built c.lower-lower_node.ensures o.built o.kept.1 o.shown c.upper-upper_node.ensures).1

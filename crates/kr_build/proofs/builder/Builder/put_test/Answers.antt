@@ -1,4 +1,4 @@
-use Rattle.std.proofs.Common.{arith}
+use Rattle.std.proofs.Common.{None, arith}
 use Rattle.std.proofs.Math.ListN.{length-set}
 use Rattle.kr_build.proofs.Growing.{put_built, put_free}
 use Rattle.kr_build.proofs.Chains.{pulled, test, pulled_built, pulled_fits, tree_within}
@@ -7,7 +7,7 @@ use Rattle.kr_build.proofs.builder.Builder.put_test.Goals as goal
 pub put-requires-clause-free : goal.put-requires-clause-free
 put-requires-clause-free c =
     rw (c.node-operand.ensures, c.node-tested.ensures)
-    (put_free c.args.self.now.forest (pulled c.args.self.now.values c.args.depth) (test c.args.self.now.values c.args.depth)
+    (put_free c.args.self.now.forest (pulled c.args.self.now.values c.args.depth) (test c.args.self.now.values c.args.depth) None
     (pulled_built c.args.self.now.forest c.args.self.now.values c.args.depth c.requires.built c.requires.top c.requires.tree c.requires.apart)
     (pulled_fits c.args.self.now.forest.text c.args.self.now.values c.args.depth))
 
@@ -25,7 +25,7 @@ returns-clause-built c =
     let t = rw (c.place-place.ensures, c.node-operand.ensures, c.node-tested.ensures) at o.trees in
     let r = rw (c.node-operand.ensures, c.node-tested.ensures) at o.roots in
     let e = rw (c.place-place.ensures, c.drop_top.ensures, c.mark.ensures) at c.in_ok-push.ensures.pushed in
-    (put_built c.args.self.now.forest c.put.new.self (pulled c.args.self.now.values c.args.depth) c.push.new.self (test c.args.self.now.values c.args.depth) c.in_ok-node.node
+    (put_built c.args.self.now.forest c.put.new.self (pulled c.args.self.now.values c.args.depth) c.push.new.self (test c.args.self.now.values c.args.depth) None c.in_ok-node.node
     (pulled_built c.args.self.now.forest c.args.self.now.values c.args.depth c.requires.built c.requires.top c.requires.tree c.requires.apart)
     (pulled_fits c.args.self.now.forest.text c.args.self.now.values c.args.depth) o.at o.count o.text t r e).0
 
@@ -35,6 +35,6 @@ returns-clause-shown c =
     let t = rw (c.place-place.ensures, c.node-operand.ensures, c.node-tested.ensures) at o.trees in
     let r = rw (c.node-operand.ensures, c.node-tested.ensures) at o.roots in
     let e = rw (c.place-place.ensures, c.drop_top.ensures, c.mark.ensures) at c.in_ok-push.ensures.pushed in
-    (put_built c.args.self.now.forest c.put.new.self (pulled c.args.self.now.values c.args.depth) c.push.new.self (test c.args.self.now.values c.args.depth) c.in_ok-node.node
+    (put_built c.args.self.now.forest c.put.new.self (pulled c.args.self.now.values c.args.depth) c.push.new.self (test c.args.self.now.values c.args.depth) None c.in_ok-node.node
     (pulled_built c.args.self.now.forest c.args.self.now.values c.args.depth c.requires.built c.requires.top c.requires.tree c.requires.apart)
     (pulled_fits c.args.self.now.forest.text c.args.self.now.values c.args.depth) o.at o.count o.text t r e).1

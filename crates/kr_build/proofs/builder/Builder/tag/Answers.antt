@@ -1,22 +1,17 @@
-use Rattle.std.proofs.Common.{refl, sym, ◌∙◌}
+use Rattle.std.proofs.Common.{Some, refl, sym, ap, ◌∙◌}
+use Rattle.kr_build.specs.declared.value.Kept.{Kept}
 use Rattle.kr_build.proofs.Tagged.{tag_of_none, tag_of_top}
 use Rattle.kr_build.proofs.builder.Builder.tag.Goals as goal
 
-pub returns-in-Some-Pair : goal.returns-in-Some-Pair
-returns-in-Some-Pair c =
-    sym (tag_of_top c.args.self.now.forest c.args.self.now.values _ _ (rw c.in-Some-Pair.field-0-is at c.in-Some-Pair.ensures) (λ us. refl))
+pub returns-in-Pair : goal.returns-in-Pair
+returns-in-Pair c = sym (tag_of_top c.args.self.now.forest c.args.self.now.values _ _ (sym (c.top.ensures ∙ ap (λ (v : Kept). Some v) c.in-Pair.is)) (λ us. refl))
 
-pub returns-in-Some-Member : goal.returns-in-Some-Member
-returns-in-Some-Member c =
-    c.tag_of_member.ensures ∙ sym (tag_of_top c.args.self.now.forest c.args.self.now.values _ _ (rw c.in-Some-Member.field-0-is at c.in-Some-Member.ensures) (λ us. refl))
+pub returns-in-Member : goal.returns-in-Member
+returns-in-Member c =
+    c.tag_of_member.ensures ∙ sym (tag_of_top c.args.self.now.forest c.args.self.now.values _ _ (sym (c.top.ensures ∙ ap (λ (v : Kept). Some v) c.in-Member.is)) (λ us. refl))
 
-pub returns-in-Some-Mark : goal.returns-in-Some-Mark
-returns-in-Some-Mark c =
-    sym (tag_of_top c.args.self.now.forest c.args.self.now.values _ _ (rw c.in-Some-Mark.field-0-is at c.in-Some-Mark.ensures) (λ us. refl))
+pub returns-in-Mark : goal.returns-in-Mark
+returns-in-Mark c = sym (tag_of_top c.args.self.now.forest c.args.self.now.values _ _ (sym (c.top.ensures ∙ ap (λ (v : Kept). Some v) c.in-Mark.is)) (λ us. refl))
 
-pub returns-in-Some-Owner : goal.returns-in-Some-Owner
-returns-in-Some-Owner c =
-    sym (tag_of_top c.args.self.now.forest c.args.self.now.values _ _ (rw c.in-Some-Owner.field-0-is at c.in-Some-Owner.ensures) (λ us. refl))
-
-pub returns-in-None : goal.returns-in-None
-returns-in-None c = sym (tag_of_none c.args.self.now.forest c.args.self.now.values c.in-None.ensures)
+pub returns-in-Owner : goal.returns-in-Owner
+returns-in-Owner c = sym (tag_of_top c.args.self.now.forest c.args.self.now.values _ _ (sym (c.top.ensures ∙ ap (λ (v : Kept). Some v) c.in-Owner.is)) (λ us. refl))

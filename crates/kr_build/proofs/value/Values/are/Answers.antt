@@ -1,22 +1,24 @@
-use Rattle.std.proofs.Common.{sym, ◌∙◌, arith}
+use Rattle.std.proofs.Common.{◌≡◌, Some, None, length, sym, ap, ◌∙◌, arith}
+use Rattle.std.specs.Prelude.{slice_get}
 use Rattle.std.proofs.lemmas.Option.{slice_get-get_or}
 use Rattle.kr_build.specs.declared.value.Sort.TheVariants.{Any}
-use Rattle.kr_build.proofs.Values.{are_short, are_wrong, are_more}
+use Rattle.kr_build.proofs.Values.{are_short, are_wrong, are_more, none_behind}
 use Rattle.kr_build.proofs.value.Values.are.Goals as goal
 
-pub returns-in-None : goal.returns-in-None
-returns-in-None c =
+pub returns-then-depth-count : goal.returns-then-depth-count
+returns-then-depth-count c =
     let g = slice_get-get_or c.args.sorts.now c.loop-depth.depth Any c.loop-depth-test.true in
-    sym (c.loop-depth.invariant.0 ∙ are_short c.args.sorts.now c.args.self.now c.loop-depth.depth _ g (sym c.in-None.ensures))
+    let n = none_behind c.args.self.now c.loop-depth.depth (omega (arith, c.len-count.ensures)) in
+    sym (c.loop-depth.invariant.0 ∙ are_short c.args.sorts.now c.args.self.now c.loop-depth.depth _ g n)
 
 pub returns-then-not-is_of : goal.returns-then-not-is_of
 returns-then-not-is_of c =
     let g = slice_get-get_or c.args.sorts.now c.loop-depth.depth Any c.loop-depth-test.true in
-    sym (c.loop-depth.invariant.0 ∙ are_wrong c.args.sorts.now c.args.self.now c.loop-depth.depth _ c.in-Some.value g (sym c.in-Some.ensures) (sym c.is_of.ensures ∙ c.if-not-is_of.true))
+    sym (c.loop-depth.invariant.0 ∙ are_wrong c.args.sorts.now c.args.self.now c.loop-depth.depth _ _ g c.top.ensures (sym c.is_of.ensures ∙ c.if-not-is_of.true))
 
 pub loop-depth-preserved : goal.loop-depth-preserved
 loop-depth-preserved c =
     let g = slice_get-get_or c.args.sorts.now c.loop-depth.depth Any c.loop-depth-test.true in (
-      c.loop-depth.invariant.0 ∙ are_more c.args.sorts.now c.args.self.now c.loop-depth.depth _ c.in-Some.value g (sym c.in-Some.ensures) (sym c.is_of.ensures ∙ c.if-not-is_of.false),
+      c.loop-depth.invariant.0 ∙ are_more c.args.sorts.now c.args.self.now c.loop-depth.depth _ _ g c.top.ensures (sym c.is_of.ensures ∙ c.if-not-is_of.false),
       omega arith,
     )

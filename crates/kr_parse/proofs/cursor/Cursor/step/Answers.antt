@@ -10,13 +10,13 @@ use Rattle.kr_parse.proofs.cursor.Cursor.step.Goals as goal
 pub returns-clause-standing : goal.returns-clause-standing
 returns-clause-standing c =
     let ts = c.args.tokens.now in
-    let at = c.args.self.at in
+    let at = c.args.self.now.at in
     let same = same_token ts at c.requires.within in
-    let room : is_opening (token_at ts at).kind ≡ true → c.args.self.depth < 64 =
+    let room : is_opening (token_at ts at).kind ≡ true → c.args.self.now.depth < 64 =
     λ o. elim c.else-self-ge-OPEN_BRACKETS.branch [
       | else-self-ge-OPEN_BRACKETS-via-then-self-ge-OPEN_BRACKETS+else-is_opening w ↦ (let h = w.is_opening.ensures in let k = w.if-is_opening.false in let e = c.kind-kind.ensures in cc)
       | else-self-ge-OPEN_BRACKETS-via-else-self-ge-OPEN_BRACKETS w ↦ (let h = w.if-self-ge-OPEN_BRACKETS.false in omega arith)
     ] in
-    let next = standing_next ts at c.args.self.depth c.requires.within c.requires.standing room in
-    let e = c.depth_behind.ensures ∙ ap (λ k. depth_behind k c.args.self.depth) (c.kind-kind.ensures ∙ ap (λ (a : Lexeme). a.kind) same) in
-    subst (λ (n : ℕ). IsStanding ts (record { at = at + 1; depth = n })) (sym e) next
+    let next = standing_next ts at c.args.self.now.depth c.args.self.now.next c.ahead-self.result c.requires.within c.requires.standing c.ahead-self.ensures room in
+    let e = c.depth_behind-self.ensures ∙ ap (λ k. depth_behind k c.args.self.now.depth) (c.kind-kind.ensures ∙ ap (λ (a : Lexeme). a.kind) same) in
+    subst (λ (n : ℕ). IsStanding ts (record { at = at + 1; depth = n; next = c.ahead-self.result })) (sym e) next

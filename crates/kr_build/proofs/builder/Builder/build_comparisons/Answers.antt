@@ -5,7 +5,7 @@ use Rattle.kr_build.specs.Kept.{are}
 use Rattle.kr_build.specs.Plans.{sorts}
 use Rattle.kr_build.specs.Shown.{values_of}
 use Rattle.kr_build.proofs.Methods.{below_made, below_some}
-use Rattle.kr_build.proofs.builder.Builder.build_rest.Goals as goal
+use Rattle.kr_build.proofs.builder.Builder.build_comparisons.Goals as goal
 
 pub compare_below-requires-clause-some : goal.compare_below-requires-clause-some
 compare_below-requires-clause-some c =
