@@ -1,5 +1,5 @@
 -- What the moves put in the place of values is what is to be made of these.
-use Rattle.std.proofs.Common.{◌≡◌, ℕ, ◌≤◌, true, List, [], ◌∷◌, length, drop, Option, Some, None, refl, sym, ap, arith, subst}
+use Rattle.std.proofs.Common.{◌≡◌, ℕ, ◌≤◌, true, List, [], ◌∷◌, length, drop, refl, sym, ap, arith, subst}
 use Rattle.std.proofs.lemmas.Bool.{false≢true}
 use Rattle.kr_ast.specs.Arena.{Arena, AreNamesIn}
 use Rattle.kr_grammar.specs.declared.goal.Make.{Make}

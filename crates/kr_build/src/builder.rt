@@ -91,7 +91,7 @@ impl Builder {
     }
 
     /// Puts a node above its parts, and its tree in the place of the values taken, below one of these.
-    #[inline(never)]
+    #[inline(always)]
     fn put_below(&mut self, under: Plan, depth: usize) -> Result<(), NoMemory>
         requires built { IsBuilt self.old }
         requires room { 2 ≤ under.taken }

@@ -1,14 +1,13 @@
 -- Tokens break at most one rule of the grammar first, and none where they have a tree.
-use Rattle.std.proofs.Common.{◌≡◌, ℕ, ◌+◌, ◌<◌, ◌≤◌, ◌⊎◌, inl, inr, true, false, List, [], ◌∷◌, ◌++◌, length, take, drop, refl, sym, ap, subst, ◌∙◌, arith, append_assoc, append-nil}
+use Rattle.std.proofs.Common.{◌≡◌, ℕ, ◌+◌, ◌<◌, ◌≤◌, ◌⊎◌, inl, inr, true, false, List, ◌++◌, length, take, drop, refl, sym, ap, subst, ◌∙◌, arith, append_assoc}
 use Rattle.std.proofs.lemmas.List.{take-append-drop, take-take}
 use Rattle.std.proofs.lemmas.Bool.{cases_lt}
 use Rattle.kr_base.specs.declared.place.Place.{Place}
 use Rattle.kr_lex.specs.Lexemes.{Lexeme, Lexemes}
 use Rattle.kr_ast.specs.Tree.{Tree}
 use Rattle.kr_grammar.specs.Grammar.{Derives}
-use Rattle.kr_parse.specs.declared.refusal.ParseRule.{ParseRule}
 use Rattle.kr_parse.specs.declared.refusal.ParseRule.TheVariants as rules
-use Rattle.kr_parse.specs.Refusals.{IsDead, IsViable, IsLeastDead, IsFirstTooNested, IsUnparsed, IsParsed, OneRefusal, ParsedUnbroken, is_unsupported, place_at}
+use Rattle.kr_parse.specs.Refusals.{IsDead, IsViable, IsLeastDead, IsFirstTooNested, OneRefusal, ParsedUnbroken, is_unsupported, place_at}
 
 front_of : (xs : List Lexeme) (i j : ℕ) → i + 1 ≤ j → take (i + 1) xs ++ drop (i + 1) (take j xs) ≡ take j xs
 front_of xs i j l = ap (λ a. a ++ drop (i + 1) (take j xs)) (sym (take-take (i + 1) j xs l)) ∙ take-append-drop (i + 1) (take j xs)

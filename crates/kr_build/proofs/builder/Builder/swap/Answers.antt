@@ -1,4 +1,4 @@
-use Rattle.std.proofs.Common.{◌≡◌, ◌∷◌, drop, ap, ◌∙◌}
+use Rattle.std.proofs.Common.{◌∷◌, drop, ap, ◌∙◌}
 use Rattle.kr_build.specs.declared.value.Kept.{Kept}
 use Rattle.kr_build.specs.Kept.{value_at}
 use Rattle.kr_build.proofs.Moved.{swap_room, swap_makes}

@@ -1,6 +1,6 @@
 use Rattle.std.proofs.Common.{Some, refl, sym, ap, ◌∙◌}
 use Rattle.kr_build.specs.declared.value.Kept.{Kept}
-use Rattle.kr_build.proofs.Tagged.{tag_of_none, tag_of_top}
+use Rattle.kr_build.proofs.Tagged.{tag_of_top}
 use Rattle.kr_build.proofs.builder.Builder.tag.Goals as goal
 
 pub returns-in-Pair : goal.returns-in-Pair
