@@ -2,10 +2,12 @@
 use Rattle.std.specs.Prelude.{◌≡◌, ℕ, ◌+◌, ◌≤◌, List, [], ◌∷◌, ◌++◌, Option, Some, None, length, take, drop}
 use Rattle.kr_base.specs.declared.place.Place.{Place}
 use Rattle.kr_ast.specs.declared.node.Name.{Name}
-use Rattle.kr_ast.specs.Tree.{Tree, size}
+use Rattle.kr_ast.specs.declared.node.Node.{Node}
+use Rattle.kr_ast.specs.Tree.{Tree, Nil, size}
 use Rattle.kr_ast.specs.Arena.{Arena, name_in, tree_at, tree_of, parts, names, AreNamesIn, root}
 use Rattle.kr_ast.specs.Forest.{AreRoots, IsIn}
 use Rattle.kr_grammar.specs.declared.value.Form.{Form}
+use Rattle.kr_grammar.specs.declared.value.Form.TheVariants.{Other}
 use Rattle.kr_grammar.specs.Values.{Item, mark, word, pair, part, member, owner}
 use Rattle.kr_build.specs.declared.value.Kept.{Kept}
 use Rattle.kr_build.specs.declared.value.Kept.TheVariants.{Mark, Word, Pair, Part, Member, Owner}
@@ -60,6 +62,10 @@ IsBuilt b = AreBuilt b.forest b.values
 
 abbrev pub values_of : Builder → List Item
 values_of b = shown b.forest b.values
+
+-- the tree of a node without parts or names
+abbrev pub leaf : Place → Node → Item
+leaf p n = part p Other (tree_of [] (λ i. Nil) p n)
 
 -- one tree and nothing else
 abbrev pub IsOnePart : List Item → Type 0

@@ -1,4 +1,7 @@
 // Puts trees together from what the parser keeps.
+//
+// The hints on inlining are for speed: a node above its values is made most often, and goes from these into the forest with
+// no copy between; what is rarer stands apart.
 ghost use Rattle.std.specs.Prelude.{◌≡◌, ◌<◌, ◌≤◌, ◌++◌, ◌∷◌, [], IfOk, ℕ, true, Some, None, length};
 ghost use Rattle.kr_ast.specs.Arena.{parts, names, tree_at, tree_of};
 ghost use Rattle.kr_grammar.specs.declared.value.Form.TheVariants.{Other};
@@ -6,7 +9,7 @@ ghost use Rattle.kr_grammar.specs.Made.{made};
 ghost use Rattle.kr_grammar.specs.Values.{mark, word, part};
 ghost use Rattle.kr_build.specs.Kept.{are, value_at};
 ghost use Rattle.kr_build.specs.Plans.{sorts, way, single};
-ghost use Rattle.kr_build.specs.Shown.{values_of, IsOnePart, IsTreeOf, shown, IsBuilt, Fits, FitsMove, planned, stacked, moved};
+ghost use Rattle.kr_build.specs.Shown.{values_of, leaf, IsOnePart, IsTreeOf, shown, IsBuilt, Fits, FitsMove, planned, stacked, moved};
 
 use crate::moves::{Move, move_of};
 use crate::plan::{Plan, below, lower, plan_of, single, staying, tree, upper};
@@ -64,7 +67,7 @@ impl Builder {
         requires alone { parts node ≡ [] }
         requires nameless { names node ≡ [] }
         ensures built { IfOk result (λ none. IsBuilt self.new) }
-        ensures shown { IfOk result (λ none. values_of self.new ≡ part place Other (tree_of self.old.forest.text (tree_at self.old.forest.text self.old.forest.entries) place node) ∷ values_of self.old) }
+        ensures shown { IfOk result (λ none. values_of self.new ≡ leaf place node ∷ values_of self.old) }
     {
         self.put(tree(0, place, Form::Other, node))?;
         Ok(())

@@ -175,7 +175,7 @@ impl Builder {
     }
 
     /// The names on top.
-    pub fn compare_all(&mut self) -> Result<(), NoMemory>
+    pub(crate) fn compare_all(&mut self) -> Result<(), NoMemory>
         requires { IsBuilt self.old }
         ensures built { IfOk result (λ none. IsBuilt self.new) }
         ensures shown { IfOk result (λ none. values_of self.new ≡ compared (values_of self.old)) }
@@ -198,7 +198,7 @@ impl Builder {
     }
 
     /// The names below the value on top.
-    pub fn compare_below(&mut self) -> Result<(), NoMemory>
+    pub(crate) fn compare_below(&mut self) -> Result<(), NoMemory>
         requires built { IsBuilt self.old }
         requires some { 0 < length self.old.values }
         ensures built { IfOk result (λ none. IsBuilt self.new) }
