@@ -1,12 +1,21 @@
 // Finitizations of the cell that are taken and that are refused.
 use super::{Finitization, read_finitization};
-use crate::source::read_source;
+use crate::source::Source;
+use kr_ast::BinaryOperator;
+use kr_base::NoMemory;
 use std::alloc::Global;
 
-const CELL: &str = "class Cell { int v; boolean repOk() { return v > 0; } }";
+fn cell(alloc: Global) -> Result<Source, NoMemory> {
+    Ok(Source {
+        class_name: String::from_str(alloc, "Cell")?,
+        field_name: String::from_str(alloc, "v")?,
+        test: BinaryOperator::Greater,
+        number: 0,
+    })
+}
 
 fn read(alloc: Global, bytes: &[u8]) -> Option<Finitization> {
-    let Ok(Some(source)) = read_source(alloc, CELL.as_bytes()) else {
+    let Ok(source) = cell(alloc) else {
         return None;
     };
     match read_finitization(alloc, bytes, &source) {
