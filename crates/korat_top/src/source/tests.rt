@@ -1,5 +1,6 @@
 // Sources that are taken and sources that are refused, by the Java Language Specification's tokens.
 use super::{Source, read_source};
+use crate::MAX_FILE_BYTES;
 use kr_ast::BinaryOperator;
 use kr_lex::lex;
 use kr_parse::parse;
@@ -7,6 +8,9 @@ use std::alloc::Global;
 
 /// The source that a text is. None where it has no tokens or no tree, too.
 fn source_of(alloc: Global, text: &str) -> Option<Source> {
+    if text.len() > MAX_FILE_BYTES {
+        return None;
+    }
     let Ok(tokens) = lex(alloc, 0, text.as_bytes()) else {
         return None;
     };
