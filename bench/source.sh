@@ -2,8 +2,8 @@
 # Times the built program on sources of 1 MiB, the longest that it takes, which are read, cut into tokens, parsed and
 # then refused: `SOURCE:1:1: N0`, status 3. So nearly all of the time is the lexer's and the parser's; where the source is
 # one comment, the lexer's alone. The others are many fields, many methods with some statements each, and one expression
-# of as many nodes as there can be. For each it prints the call's line and status, the best wall time of several runs,
-# MB/s over the whole call, and peak memory. It judges nothing and never fails.
+# of a token a byte. For each it prints the call's line and status, the best wall time of several runs, MB/s over the
+# whole call, and peak memory. It judges nothing and never fails.
 #
 # It needs bash 5 and the program (run ./korat once). Peak memory needs GNU time as /usr/bin/time; where it isn't there,
 # the script says so in place of the figure.

@@ -203,7 +203,6 @@ abbrev pub IsTold : Held → Option Command → Type 0
 IsTold held None = Unit {0}
 IsTold held (Some (ListFiles fin source)) = TellsBoth (held fin) (held source)
 
--- the file is one that the command reads, and as far as bytes are told no step before it is broken: both are read
--- before anything is judged
+-- the file is one that the command reads; both are read before anything is judged, so no step before it can be broken
 abbrev pub Reads : Held → Command → List ℕ → Type 0
 Reads held (ListFiles fin source) file = (fin ≡ file) ⊎ (source ≡ file)
