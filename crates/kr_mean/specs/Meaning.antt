@@ -1,440 +1,346 @@
--- What expressions and statements do (the Java Language Specification, 15 and 14): a value or an end, the heap, the
--- fuel that is left, and the places of candidates that were read, in order. Each node takes one unit of fuel on entry.
-use Rattle.std.specs.Prelude.{ℕ, zero, suc, ◌+◌, ◌-◌, Bool, true, false, ◌&&◌, not, List, [], ◌∷◌, ◌++◌, length, map, drop, slice_set, Option, Some, None, Result, Ok, Err, ℤ, pos, negsuc, codes, nat_eq, nat_lt, int_lt, if◌then◌else◌}
-use Rattle.std.specs.Ordering.{int_eq}
-use Rattle.std.specs.Str.{bytes_eq}
-use Rattle.std.specs.Int.{w32, int_wrapping_add, int_wrapping_sub, int_wrapping_mul}
-use Rattle.std.proofs.Common.{get_or}
+-- What expressions and statements do (the Java Language Specification, 15 and 14). Each node takes one unit of fuel before
+-- all else; what only holds others together takes none: a list, and the group of a declaration. The scope says what names
+-- and types mean where a node stands; the locals are the scope's, by their numbers.
+use Rattle.std.specs.Prelude.{ℕ, zero, suc, Bool, true, false, List, [], ◌∷◌, length, map, replicate, Option, Some, None, option_and_then, option_map, pos, negsuc, nat_lt, if◌then◌else◌}
 use Rattle.kr_ast.specs.declared.node.BinaryOperator.{BinaryOperator}
-use Rattle.kr_ast.specs.declared.node.BinaryOperator.TheVariants.{Less, LessOrEqual, Greater, GreaterOrEqual, Equal, NotEqual, And, Or, Add, Subtract, Multiply}
-use Rattle.kr_ast.specs.declared.node.UnaryOperator.{UnaryOperator}
-use Rattle.kr_ast.specs.declared.node.UnaryOperator.TheVariants.{Not}
-use Rattle.kr_ast.specs.declared.node.Primitive.TheVariants.{Int as IntType, Boolean}
+use Rattle.kr_ast.specs.declared.node.BinaryOperator.TheVariants.{And, Or}
+use Rattle.kr_ast.specs.declared.node.StepOperator.{StepOperator}
 use Rattle.kr_ast.specs.Tree as trees
 use Rattle.kr_ast.specs.Tree.{Tree}
-use Rattle.kr_mean.specs.Program.{Program, ClassOf, Field as FieldOf, Method, items}
-use Rattle.kr_mean.specs.Problem.{SlotPlace, At}
-use Rattle.kr_value.specs.Heaps.{HeapObject, object_in, has_spot as fits, value_of_spot}
-use Rattle.kr_mean.specs.declared.kind.Kind.{Kind}
-use Rattle.kr_mean.specs.declared.kind.Kind.TheVariants.{NullPointerException, ArrayIndexOutOfBoundsException, NoReturn}
-use Rattle.kr_value.specs.declared.object.Class.{Class}
-use Rattle.kr_value.specs.declared.object.Class.TheVariants.{Object, Array}
-use Rattle.kr_value.specs.declared.object.Spot.{Spot}
-use Rattle.kr_value.specs.declared.object.Spot.TheVariants.{Field, Length, Element}
 use Rattle.kr_value.specs.declared.value.Value.{Value}
-use Rattle.kr_value.specs.declared.value.Value.TheVariants.{Int, Bool as Truth, Null, Ref as Reference}
-
--- How a run ends early. It is stuck where a node has no meaning: one that breaks a typing rule, or a kind without a row.
-pub data Stop : Type 0 where
-  Trapped : Kind → Stop
-  OutOfFuel : Stop
-  Stuck : Stop
-
--- a parameter with its value, and with the place that is read with it where a candidate gives it
-pub record Local : Type 0 where
-  pub name : List ℕ
-  pub value : Value
-  pub slot : Option SlotPlace
-
--- What a run changes; the first objects of the heap are the candidates. The code that runs is that of a class, which
--- `this` is of, or below it.
-pub record State : Type 0 where
-  pub this_value : Value
-  pub code_class : ℕ
-  pub locals : List Local
-  pub heap : List HeapObject
-  pub candidates : ℕ
-  pub fuel : ℕ
-
--- what a run says, the state after it, and the places of candidates that it read, in order
-pub record Outcome (A : Type 0) : Type 0 where
-  pub said : Result A Stop
-  pub after : State
-  pub reads : List SlotPlace
-
-abbrev pub Run : Type 0 → Type 0
-Run A = State → Outcome A
-
-abbrev pub outcome : {A : Type 0} → Result A Stop → State → Outcome A
-outcome r s = record { said = r; after = s; reads = [] }
-
-abbrev pub give : {A : Type 0} → A → Run A
-give a s = outcome (Ok a) s
-
-abbrev pub stop : {A : Type 0} → Stop → Run A
-stop e s = outcome (Err e) s
-
--- what was read before, and then an outcome
-abbrev pub after_reads : {A : Type 0} → List SlotPlace → Outcome A → Outcome A
-after_reads reads o = record { said = o.said; after = o.after; reads = reads ++ o.reads }
-
--- goes on with what was given, unless the run has ended
-abbrev pub go_on : {A B : Type 0} → Result A Stop → State → List SlotPlace → (A → Run B) → Outcome B
-go_on (Ok a) s reads f = after_reads reads (f a s)
-go_on (Err e) s reads f = record { said = Err e; after = s; reads = reads }
-
--- one run and then another
-unfoldable pub bind : {A B : Type 0} → Run A → (A → Run B) → Run B
-bind m f s = go_on (m s).said (m s).after (m s).reads f
-
-infixl 10 ◌>>=◌
-abbrev pub ◌>>=◌ : {A B : Type 0} → Run A → (A → Run B) → Run B
-m >>= f = bind m f
-
-infixl 10 ◌>>◌
-abbrev pub ◌>>◌ : {A B : Type 0} → Run A → Run B → Run B
-m >> n = m >>= (λ _. n)
-
--- one unit of fuel
-abbrev pub tick_at : ℕ → Run (Unit {0})
-tick_at zero s = stop OutOfFuel s
-tick_at (suc n) s = give tt (record s { fuel = n })
-
-abbrev pub tick : Run (Unit {0})
-tick s = tick_at s.fuel s
-
-abbrev pub get_this : Run Value
-get_this s = give s.this_value s
-
-abbrev pub get_code_class : Run ℕ
-get_code_class s = give s.code_class s
-
--- a place that is read, if it is a candidate's
-abbrev pub noted : Bool → SlotPlace → List SlotPlace
-noted true p = p ∷ []
-noted false p = []
-
-abbrev pub load_fit : Bool → ℕ → Spot → Run Value
-load_fit false o spot s = stop Stuck s
-load_fit true o spot s = record { said = Ok (value_of_spot (object_in s.heap o) spot); after = s; reads = noted (nat_lt o s.candidates) (At o spot) }
-
--- reads a field, or an array's length; null traps
-abbrev pub load : Value → Spot → Run Value
-load (Reference o) spot s = load_fit (fits (object_in s.heap o).class spot) o spot s
-load Null spot s = stop (Trapped NullPointerException) s
-load (Int n) spot s = stop Stuck s
-load (Truth b) spot s = stop Stuck s
-
--- an index that is below a length
-abbrev pub index_within : ℤ → ℕ → Option ℕ
-index_within (pos i) n = if nat_lt i n then Some i else None
-index_within (negsuc i) n = None
-
-abbrev pub element_read : Option ℕ → ℕ → Run Value
-element_read None o s = record { said = Err (Trapped ArrayIndexOutOfBoundsException); after = s; reads = noted (nat_lt o s.candidates) (At o Length) }
-element_read (Some k) o s = record { said = Ok (value_of_spot (object_in s.heap o) (Element k)); after = s; reads = noted (nat_lt o s.candidates) (At o Length) ++ noted (nat_lt o s.candidates) (At o (Element k)) }
-
-abbrev pub element_fit : Bool → ℕ → ℤ → Run Value
-element_fit false o i s = stop Stuck s
-element_fit true o i s = element_read (index_within i (length (object_in s.heap o).values)) o s
-
--- An element of an array: null traps, the length is read, an index that isn't below it traps, and the element is read
--- (15.10.4).
-abbrev pub element : Value → Value → Run Value
-element (Reference o) (Int i) s = element_fit (fits (object_in s.heap o).class Length) o i s
-element Null (Int i) s = stop (Trapped NullPointerException) s
-element _ _ s = stop Stuck s
-
--- what an object is of, while the program runs; null traps
-abbrev pub class_of : Value → Run Class
-class_of (Reference o) s = give (object_in s.heap o).class s
-class_of Null s = stop (Trapped NullPointerException) s
-class_of (Int n) s = stop Stuck s
-class_of (Truth b) s = stop Stuck s
-
--- ---- names
-
--- where the field of a name stands, the first one standing at a number
-abbrev pub field_of : ℕ → List FieldOf → List ℕ → Option ℕ
-field_of i [] n = None
-field_of i (f ∷ fs) n = if bytes_eq f.name n then Some i else field_of (i + 1) fs n
-
--- the newest local of a name
-abbrev pub local_of : List Local → List ℕ → Option Local
-local_of [] n = None
-local_of (l ∷ ls) n = if bytes_eq l.name n then Some l else local_of ls n
-
-abbrev pub method_of : List Method → List ℕ → Option Method
-method_of [] n = None
-method_of (m ∷ ms) n = if bytes_eq m.name n then Some m else method_of ms n
-
-abbrev pub no_class : ClassOf
-no_class = record { name = []; fields = []; methods = [] }
-
-abbrev pub class_in : Program → Class → ClassOf
-class_in program (Object c) = get_or program.classes c no_class
-class_in program _ = no_class
-
--- the method of a name in a class
-abbrev pub method_in : Program → Class → List ℕ → Option Method
-method_in program class n = method_of (class_in program class).methods n
-
-abbrev pub load_at : Value → Option ℕ → Run Value
-load_at v None = stop Stuck
-load_at v (Some f) = load v (Field f)
-
-abbrev pub load_of : Program → Value → List ℕ → Class → Run Value
-load_of program o n (Object c) = load_at o (field_of 0 (class_in program (Object c)).fields n)
-load_of program o n (Array t) = if bytes_eq n (codes "length") then load o Length else stop Stuck
-load_of program o n _ = stop Stuck
-
--- the field of a name that the object's class has, or an array's length
-abbrev pub load_field : Program → Value → List ℕ → Run Value
-load_field program o n = do
-  class ← class_of o
-  load_of program o n class
-
-abbrev pub slot_reads : Option SlotPlace → List SlotPlace
-slot_reads None = []
-slot_reads (Some p) = p ∷ []
-
-abbrev pub local_given : Option Local → Run (Option Value)
-local_given None s = give None s
-local_given (Some l) s = record { said = Ok (Some l.value); after = s; reads = slot_reads l.slot }
-
--- reads the newest local of a name, if there is one
-abbrev pub read_local : List ℕ → Run (Option Value)
-read_local n s = local_given (local_of s.locals n) s
-
--- A local's value; or, where there is none of the name, that of the field of `this` which the running code's class has
--- (6.5.6.1).
-abbrev pub read_name : Program → List ℕ → Option Value → Run Value
-read_name program n (Some v) = give v
-read_name program n None = do
-  o ← get_this
-  class ← get_code_class
-  load_at o (field_of 0 (class_in program (Object class)).fields n)
-
--- ---- what a run writes
-
--- a new local
-abbrev pub declare : List ℕ → Value → Run (Unit {0})
-declare n v s = give tt (record s { locals = record { name = n; value = v; slot = None } ∷ s.locals })
-
-abbrev pub with_head : Local → Option (List Local) → Option (List Local)
-with_head l None = None
-with_head l (Some ls) = Some (l ∷ ls)
-
--- the newest local of a name has another value; none where there is no local of the name
-abbrev pub assigned : List ℕ → Value → List Local → Option (List Local)
-assigned n v [] = None
-assigned n v (l ∷ ls) = if bytes_eq l.name n then Some (record { name = l.name; value = v; slot = None } ∷ ls) else with_head l (assigned n v ls)
-
-abbrev pub with_locals : Option (List Local) → Run (Unit {0})
-with_locals None s = stop Stuck s
-with_locals (Some ls) s = give tt (record s { locals = ls })
-
-abbrev pub assign : List ℕ → Value → Run (Unit {0})
-assign n v s = with_locals (assigned n v s.locals) s
-
--- an object with another value in a field
-abbrev pub put : List HeapObject → ℕ → ℕ → Value → List HeapObject
-put heap o f v = slice_set heap o (record { class = (object_in heap o).class; values = slice_set (object_in heap o).values f v })
-
-abbrev pub store_at : ℕ → Option ℕ → Value → Run (Unit {0})
-store_at o None v s = stop Stuck s
-store_at o (Some f) v s = give tt (record s { heap = put s.heap o f v })
-
--- writes the field of a name that the object's class has; null traps
-abbrev pub store : Program → Value → List ℕ → Value → Run (Unit {0})
-store program (Reference o) n v s = store_at o (field_of 0 (class_in program (object_in s.heap o).class).fields n) v s
-store program Null n v s = stop (Trapped NullPointerException) s
-store program (Int m) n v s = stop Stuck s
-store program (Truth b) n v s = stop Stuck s
-
--- the value that a variable of a type begins with (4.12.5)
-abbrev pub default_of : Tree → Value
-default_of (trees.PrimitiveType p IntType) = Int (pos 0)
-default_of (trees.PrimitiveType p Boolean) = Truth false
-default_of _ = Null
-
--- the class of a name, the first one standing at a number
-abbrev pub class_named : ℕ → List ClassOf → List ℕ → Option ℕ
-class_named c [] n = None
-class_named c (k ∷ ks) n = if bytes_eq k.name n then Some c else class_named (c + 1) ks n
-
--- a new object of a class, after all others
-abbrev pub make : Program → ℕ → Run Value
-make program c s = give (Reference (length s.heap)) (record s { heap = s.heap ++ record { class = Object c; values = map (λ f. default_of f.type) (class_in program (Object c)).fields } ∷ [] })
-
-abbrev pub make_named : Program → Option ℕ → Run Value
-make_named program None = stop Stuck
-make_named program (Some c) = make program c
-
--- ---- operators
-
-abbrev pub int_in : Value → ℤ
-int_in (Int n) = n
-int_in (Truth b) = pos 0
-int_in Null = pos 0
-int_in (Reference o) = pos 0
-
--- numbers and booleans compare by value, references by identity
-abbrev pub is_same : Value → Value → Bool
-is_same (Reference o) (Reference p) = nat_eq o p
-is_same (Int m) (Int n) = int_eq m n
-is_same (Truth true) (Truth b) = b
-is_same (Truth false) (Truth b) = not b
-is_same Null Null = true
-is_same _ _ = false
-
-abbrev pub is_comparison : BinaryOperator → Bool
-is_comparison Less = true
-is_comparison LessOrEqual = true
-is_comparison Greater = true
-is_comparison GreaterOrEqual = true
-is_comparison Equal = true
-is_comparison NotEqual = true
-is_comparison _ = false
-
--- what a comparison says
-abbrev pub holds_of : BinaryOperator → Value → Value → Bool
-holds_of Less v w = int_lt (int_in v) (int_in w)
-holds_of LessOrEqual v w = not (int_lt (int_in w) (int_in v))
-holds_of Greater v w = int_lt (int_in w) (int_in v)
-holds_of GreaterOrEqual v w = not (int_lt (int_in v) (int_in w))
-holds_of Equal v w = is_same v w
-holds_of NotEqual v w = not (is_same v w)
-holds_of _ v w = false
-
-abbrev pub are_numbers : Value → Value → Bool
-are_numbers (Int m) (Int n) = true
-are_numbers _ _ = false
-
--- two numbers, two booleans, or two references, of which null is one
-abbrev pub are_alike : Value → Value → Bool
-are_alike (Int m) (Int n) = true
-are_alike (Truth a) (Truth b) = true
-are_alike Null Null = true
-are_alike Null (Reference p) = true
-are_alike (Reference o) Null = true
-are_alike (Reference o) (Reference p) = true
-are_alike _ _ = false
-
--- whether the operator has a meaning on these
-abbrev pub takes : BinaryOperator → Value → Value → Bool
-takes Equal v w = are_alike v w
-takes NotEqual v w = are_alike v w
-takes o v w = is_comparison o && are_numbers v w
-
--- sums, differences and products wrap (15.17, 15.18)
-abbrev pub calculated : BinaryOperator → ℤ → ℤ → Run Value
-calculated Add m n = give (Int (int_wrapping_add w32 m n))
-calculated Subtract m n = give (Int (int_wrapping_sub w32 m n))
-calculated Multiply m n = give (Int (int_wrapping_mul w32 m n))
-calculated _ m n = stop Stuck
-
-abbrev pub arithmetic : BinaryOperator → Value → Value → Run Value
-arithmetic o (Int m) (Int n) = calculated o m n
-arithmetic o _ _ = stop Stuck
-
-abbrev pub operated : BinaryOperator → Value → Value → Run Value
-operated o v w = if takes o v w then give (Truth (holds_of o v w)) else arithmetic o v w
-
-abbrev pub negated : Value → Run Value
-negated (Truth b) = give (Truth (not b))
-negated _ = stop Stuck
+use Rattle.kr_value.specs.declared.value.Value.TheVariants.{Int, Bool as Truth, Null}
+use Rattle.kr_value.specs.declared.object.Class.{Class}
+use Rattle.kr_value.specs.declared.object.Class.TheVariants.{Object, Array, Set, List as ListClass}
+use Rattle.kr_table.specs.Types.{JavaType, ClassType, ArrayType, SetType, ListType, is_void}
+use Rattle.kr_table.specs.Table.{Table, Field, Method, Constructor, items, fields_of, line_of, field_named, method_named}
+use Rattle.kr_table.specs.Arrays.{array_number}
+use Rattle.kr_table.specs.Constants.{constant_of, wrap, value_of as constant_value}
+use Rattle.kr_typing.specs.Scopes.{Scope, Locals, Meant, LocalName, FieldName, NoName, written, declaring, bind as with_local, after, meant, class_before, static_only, method_meant, super_class}
+use Rattle.kr_typing.specs.Typing.{type_of}
+use Rattle.kr_mean.specs.declared.kind.Kind.TheVariants.{NegativeArraySizeException, ClassCastException, NoReturn, ArrayTooLong}
+use Rattle.kr_mean.specs.Program.{Program, default_of, is_of_type, overriding, class_scope, method_scope, constructor_scope, constructor_of, declared_fields}
+use Rattle.kr_mean.specs.Steps.{Trapped, OutOfFuel, Stuck, Run, say, give, stop, given, ◌>>=◌, ◌>>◌, tick, get_this, read_local, declare, assign, get_result, get_old, within, scoped, load_field, element, class_or_null, class_of, store, store_new, store_element, make, collect}
+use Rattle.kr_mean.specs.Operators.{value_of_constant, operated, operated_alone, step_operator, gives_old}
+
+-- ---- where statements lead
+
+-- on, out of a loop or to its next round, or out of the body, which may give a value
+pub data Flow : Type 0 where
+  Next : Flow
+  Broke : Flow
+  Continued : Flow
+  Left : Flow
+  Gave : Value → Flow
+
+-- goes on after a statement that led to the next one
+abbrev pub then_on : Flow → Run Flow → Run Flow
+then_on Next m = m
+then_on flow m = give flow
+
+-- goes on after a round of a loop
+abbrev pub then_round : Flow → Run Flow → Run Flow
+then_round Next m = m
+then_round Continued m = m
+then_round Broke m = give Next
+then_round flow m = give flow
+
+-- the end of a body without a value traps where the method gives one
+abbrev pub returned : Bool → Flow → Run Value
+returned true Next = give Null
+returned true Left = give Null
+returned false Next = stop (Trapped NoReturn)
+returned false (Gave v) = give v
+returned void flow = stop Stuck
+
+-- the end of a constructor's body
+abbrev pub completed : Flow → Run (Unit {0})
+completed Next = give tt
+completed Left = give tt
+completed flow = stop Stuck
 
 -- the first where a condition holds, and else the second
 abbrev pub choose : {A : Type 0} → Value → Run A → Run A → Run A
 choose (Truth true) m n = m
 choose (Truth false) m n = n
-choose _ m n = stop Stuck
+choose v m n = stop Stuck
 
--- ---- statements and calls
+-- ---- the parts of a node
 
--- what a statement leads to
-pub data Flow : Type 0 where
-  Next : Flow
-  Broke : Flow
-  Continued : Flow
-  Gave : Value → Flow
+-- what expressions and statements below a node do, and how many rounds its loop has at most
+pub record Parts : Type 0 where
+  pub value : Scope → Tree → Run Value
+  pub exec : Scope → Tree → Run Flow
+  pub rounds : ℕ
 
--- goes on after a statement that led to the next one
-abbrev pub after : Flow → Run Flow → Run Flow
-after Next m = m
-after Broke m = give Broke
-after Continued m = give Continued
-after (Gave v) m = give (Gave v)
-
--- goes on after a round of a loop
-abbrev pub after_round : Flow → Run Flow → Run Flow
-after_round Next m = m
-after_round Broke m = give Next
-after_round Continued m = m
-after_round (Gave v) m = give (Gave v)
-
-abbrev pub all : (Tree → Run Flow) → List Tree → Run Flow
-all exec [] = give Next
-all exec (t ∷ ts) = do
-  flow ← exec t
-  after flow (all exec ts)
-
--- the end of a body without a value traps where the method gives one
-abbrev pub returned : Bool → Flow → Run Value
-returned true Next = stop (Trapped NoReturn)
-returned false Next = give Null
-returned gives_value Broke = stop Stuck
-returned gives_value Continued = stop Stuck
-returned gives_value (Gave v) = give v
-
--- the parameters with the arguments as their values, as many of one as of the other
-abbrev pub bound : List (List ℕ) → List Value → Option (List Local)
-bound [] [] = Some []
-bound (n ∷ ns) (v ∷ vs) = with_head (record { name = n; value = v; slot = None }) (bound ns vs)
-bound _ _ = None
-
--- what a body leaves, with `this`, code and locals as they were
-abbrev pub back_to : {A : Type 0} → State → Outcome A → Outcome A
-back_to s o = record { said = o.said; after = record o.after { this_value = s.this_value; code_class = s.code_class; locals = s.locals }; reads = o.reads }
-
-abbrev pub entered : {A : Type 0} → Value → ℕ → Option (List Local) → Run A → Run A
-entered receiver class None body s = stop Stuck s
-entered receiver class (Some locals) body s = back_to s (body (record s { this_value = receiver; code_class = class; locals = locals }))
-
--- a body with an object as `this`, in the code of a class, with the parameters as its locals
-abbrev pub within : {A : Type 0} → Value → ℕ → List (List ℕ) → List Value → Run A → Run A
-within receiver class parameters arguments body s = entered receiver class (bound parameters arguments) body s
-
--- the oldest n locals
-abbrev pub oldest : ℕ → List Local → List Local
-oldest n locals = drop (length locals - n) locals
-
--- what is declared inside ends with it
-abbrev pub scoped : {A : Type 0} → Run A → Run A
-scoped m s = record { said = (m s).said; after = record (m s).after { locals = oldest (length s.locals) (m s).after.locals }; reads = (m s).reads }
-
-abbrev pub run_body : (Tree → Run Flow) → Method → Run Value
-run_body exec method = do
-  flow ← all exec method.body
-  returned method.gives_value flow
-
-abbrev pub run_method : (Tree → Run Flow) → Value → List Value → Option Method → Run Value
-run_method exec receiver arguments None = stop Stuck
-run_method exec receiver arguments (Some method) = within receiver method.class method.parameters arguments (run_body exec method)
-
--- the method of a name that the receiver's class has; null traps (15.12.4)
-abbrev pub called : Program → (Tree → Run Flow) → List ℕ → Value → List Value → Run Value
-called program exec n receiver arguments = do
-  class ← class_of receiver
-  run_method exec receiver arguments (method_in program class n)
-
--- the values of arguments, left to right
-abbrev pub values_of : (Tree → Run Value) → List Tree → Run (List Value)
-values_of value [] = give []
-values_of value (e ∷ es) = do
-  v ← value e
-  vs ← values_of value es
+-- the values of arguments, left to right (15.7.4)
+abbrev pub values_of : Parts → Scope → List Tree → Run (List Value)
+values_of parts s [] = give []
+values_of parts s (e ∷ es) = do
+  v ← parts.value s e
+  vs ← values_of parts (after s e) es
   give (v ∷ vs)
 
--- at most n rounds of a loop
+-- statements in order, each in the scope that those before it leave
+abbrev pub all : Parts → Scope → List Tree → Run Flow
+all parts s [] = give Next
+all parts s (t ∷ ts) = do
+  flow ← parts.exec s t
+  then_on flow (all parts (after s t) ts)
+
+-- the expressions alone
+abbrev pub updates : Parts → Scope → List Tree → Run Flow
+updates parts s [] = give Next
+updates parts s (e ∷ es) = parts.value s e >> updates parts (after s e) es
+
+-- a condition that is absent holds (14.14.1)
+abbrev pub condition : Parts → Scope → Tree → Run Value
+condition parts s trees.Nil = give (Truth true)
+condition parts s e = parts.value s e
+
+-- at most n rounds of a loop, each with a unit of fuel for its test
 abbrev pub rounds : ℕ → Run Value → Run Flow → Run Flow
 rounds zero test body = stop OutOfFuel
 rounds (suc n) test body = do
+  tick
   v ← test
-  choose v (body >>= (λ flow. after_round flow (rounds n test body))) (give Next)
+  choose v (body >>= (λ flow. then_round flow (rounds n test body))) (give Next)
 
--- ---- nodes
+-- ---- names
+
+abbrev pub constant : Scope → Option Field → Run Value
+constant s f = given (option_map value_of_constant (constant_value s.values f))
+
+-- a local; a constant; a field of `this` (6.5.6.1)
+abbrev pub read_name : Program → Scope → Meant → Run Value
+read_name program s (LocalName k t) = read_local k
+read_name program s (FieldName f) = if f.is_static then constant s (Some f) else get_this >>= load_field program f.name
+read_name program s NoName = stop Stuck
+
+-- behind a class's name a constant, else a field of an object or the length of an array (15.11)
+abbrev pub access : Program → Parts → Scope → Tree → List ℕ → Option ℕ → Run Value
+access program parts s e n (Some c) = constant s (constant_of s.table (Some c) n)
+access program parts s e n None = parts.value s e >>= load_field program n
+
+abbrev pub field_of_type : Table → List ℕ → Option JavaType → Option Field
+field_of_type table n (Some (ClassType c)) = option_and_then (λ f. if f.is_static then None else Some f) (field_named table c n)
+field_of_type table n type = None
+
+-- the field that an expression's type has
+abbrev pub typed_field : Scope → Tree → List ℕ → Option Field
+typed_field s e n = field_of_type s.table n (type_of s e)
+
+abbrev pub method_of_type : Table → List ℕ → Option JavaType → Option Method
+method_of_type table n (Some (ClassType c)) = method_named table c n
+method_of_type table n type = None
+
+-- the method that an expression's type has
+abbrev pub typed_method : Scope → Tree → List ℕ → Option Method
+typed_method s e n = method_of_type s.table n (type_of s e)
+
+-- ---- calls (15.12)
+
+abbrev pub run_body : Program → Parts → Method → Run Value
+run_body program parts m = do
+  flow ← all parts (method_scope program m) m.body
+  returned (is_void m.result) flow
+
+abbrev pub run_method : Program → Parts → Value → List Value → Option Method → Run Value
+run_method program parts receiver arguments None = stop Stuck
+run_method program parts receiver arguments (Some m) = within receiver (length m.parameters) arguments (run_body program parts m)
+
+-- a static method is run as it is, of an instance method the one that the object's class has
+abbrev pub run_chosen : Program → Parts → Method → Value → List Value → Class → Run Value
+run_chosen program parts m receiver arguments class = if m.is_static then run_method program parts Null arguments (Some m) else run_method program parts receiver arguments (overriding program m class)
+
+-- a call without object: of a method of `this`, or a static one
+abbrev pub own_call : Program → Parts → List Value → Option Method → Run Value
+own_call program parts arguments None = stop Stuck
+own_call program parts arguments (Some m) = if m.is_static then run_method program parts Null arguments (Some m) else (do
+  o ← get_this
+  class ← class_of o
+  run_method program parts o arguments (overriding program m class))
+
+-- null traps behind the arguments; a method that the type doesn't have is a collection's
+abbrev pub called : Program → Parts → List ℕ → Value → List Value → Option Method → Run Value
+called program parts n o arguments (Some m) = class_of o >>= run_chosen program parts m o arguments
+called program parts n o arguments None = collect n o arguments
+
+-- behind a class's name a static method, else one of an object
+abbrev pub method_call : Program → Parts → Scope → Tree → List ℕ → List Tree → Option ℕ → Run Value
+method_call program parts s e n es (Some c) = do
+  vs ← values_of parts s es
+  run_method program parts Null vs (option_and_then static_only (method_named s.table c n))
+method_call program parts s e n es None = do
+  o ← parts.value s e
+  vs ← values_of parts s es
+  called program parts n o vs (typed_method s e n)
+
+-- the superclass's method, whatever the object's class
+abbrev pub super_method : Scope → List ℕ → Option Method
+super_method s n = option_and_then (λ d. method_named s.table d n) (super_class s)
+
+-- ---- creation (15.9, 12.5)
+
+-- the arguments of the call of the superclass's constructor; an implied call has none, and costs nothing
+abbrev pub super_arguments : Parts → Scope → Tree → Run (List Value)
+super_arguments parts s (trees.ConstructorCall p es) = tick >> values_of parts s (items es)
+super_arguments parts s t = give []
+
+abbrev pub initialised : Program → Parts → Value → Field → Tree → Run (Unit {0})
+initialised program parts o f trees.Nil = give tt
+initialised program parts o f e = do
+  v ← parts.value (class_scope program f.class) e
+  store_new program f o v
+
+-- the initial values of fields, in order
+abbrev pub all_initialised : Program → Parts → Value → List Field → Run (Unit {0})
+all_initialised program parts o [] = give tt
+all_initialised program parts o (f ∷ fs) = initialised program parts o f f.initial >> all_initialised program parts o fs
+
+-- by the constructor that the class declares, or by the implied one; `up` is what its superclass does
+abbrev pub constructed_by : Program → Parts → ℕ → Option Constructor → Value → List Value → (List Value → Run (Unit {0})) → Run (Unit {0})
+constructed_by program parts c None o arguments up = within o 0 arguments (up [] >> all_initialised program parts o (declared_fields program c))
+constructed_by program parts c (Some k) o arguments up = within o (length k.parameters) arguments (do
+  vs ← super_arguments parts (constructor_scope program c k) k.call
+  up vs
+  within o 0 [] (all_initialised program parts o (declared_fields program c))
+  flow ← all parts (constructor_scope program c k) k.body
+  completed flow)
+
+-- the constructors of a class and of its ancestors, the nearest first, each after the superclass's
+abbrev pub constructed : Program → Parts → List ℕ → Value → List Value → Run (Unit {0})
+constructed program parts [] o [] = give tt
+constructed program parts [] o (v ∷ vs) = stop Stuck
+constructed program parts (c ∷ cs) o arguments = constructed_by program parts c (constructor_of program c) o arguments (constructed program parts cs o)
+
+abbrev pub create : Program → Parts → JavaType → List Value → Run Value
+create program parts (ClassType c) arguments = do
+  o ← make (Object c) (map (λ f. default_of f.type) (fields_of program.table c))
+  constructed program parts (line_of program.table c) o arguments
+  give o
+create program parts (SetType t) [] = make Set []
+create program parts (ListType t) [] = make ListClass []
+create program parts type arguments = stop Stuck
+
+abbrev pub make_array : JavaType → ℕ → Option ℕ → Run Value
+make_array t n (Some k) = make (Array k) (replicate n (default_of t))
+make_array t n None = stop Stuck
+
+-- elements of a type (15.10.1); a negative length traps, and one above 64
+abbrev pub create_array : Program → JavaType → Value → Run Value
+create_array program t (Int (pos n)) = if nat_lt 64 n then stop (Trapped ArrayTooLong) else make_array t n (array_number program.arrays (ArrayType t))
+create_array program t (Int (negsuc n)) = stop (Trapped NegativeArraySizeException)
+create_array program t v = stop Stuck
+
+-- ---- variables that are written (15.26, 15.14, 15.15)
+
+pub data Target : Type 0 where
+  LocalTarget : ℕ → Target
+  -- of `this`
+  OwnField : Field → Target
+  -- of an object
+  FieldOf : Tree → Field → Target
+  -- array, index, type of the elements
+  ElementOf : Tree → Tree → JavaType → Target
+  NoTarget : Target
+
+abbrev pub name_target : Meant → Target
+name_target (LocalName k t) = LocalTarget k
+name_target (FieldName f) = if f.is_static then NoTarget else OwnField f
+name_target NoName = NoTarget
+
+abbrev pub field_target : Tree → Option Field → Target
+field_target e (Some f) = FieldOf e f
+field_target e None = NoTarget
+
+abbrev pub element_target : Tree → Tree → Option JavaType → Target
+element_target a i (Some (ArrayType t)) = ElementOf a i t
+element_target a i type = NoTarget
+
+abbrev pub target_of : Scope → Tree → Target
+target_of s (trees.Variable p n) = name_target (meant s n)
+target_of s (trees.FieldAccess p e n) = field_target e (typed_field s e n)
+target_of s (trees.ArrayAccess p a i) = element_target a i (type_of s a)
+target_of s t = NoTarget
+
+-- an assignment: the parts of the target, the value, and then the write
+abbrev pub assigned : Program → Parts → Scope → Target → Run Value → Run Value
+assigned program parts s (LocalTarget k) m = do
+  v ← m
+  assign k v
+  give v
+assigned program parts s (OwnField f) m = do
+  v ← m
+  o ← get_this
+  store program f o v
+  give v
+assigned program parts s (FieldOf e f) m = do
+  o ← parts.value s e
+  v ← m
+  store program f o v
+  give v
+assigned program parts s (ElementOf a i t) m = do
+  o ← parts.value s a
+  j ← parts.value s i
+  v ← m
+  store_element program t o j v
+  give v
+assigned program parts s NoTarget m = stop Stuck
+
+-- what a variable has after a change, and what the change gives
+pub record Change : Type 0 where
+  pub new : Value
+  pub given : Value
+
+-- a change: the parts of the target, its value, what is made of it, and then the write
+abbrev pub changed : Program → Parts → Scope → Target → (Value → Run Change) → Run Value
+changed program parts s (LocalTarget k) f = do
+  v ← read_local k
+  c ← f v
+  assign k c.new
+  give c.given
+changed program parts s (OwnField g) f = do
+  o ← get_this
+  v ← load_field program g.name o
+  c ← f v
+  store program g o c.new
+  give c.given
+changed program parts s (FieldOf e g) f = do
+  o ← parts.value s e
+  v ← load_field program g.name o
+  c ← f v
+  store program g o c.new
+  give c.given
+changed program parts s (ElementOf a i t) f = do
+  o ← parts.value s a
+  j ← parts.value s i
+  v ← element o j
+  c ← f v
+  store_element program t o j c.new
+  give c.given
+changed program parts s NoTarget f = stop Stuck
+
+abbrev pub change_to : Value → Change
+change_to v = record { new = v; given = v }
+
+-- the right operand, and the operator on both (15.26.2)
+abbrev pub compound : BinaryOperator → Run Value → Value → Run Change
+compound o m v = do
+  w ← m
+  x ← say (operated o v w)
+  give (change_to x)
+
+abbrev pub change_from : Bool → Value → Value → Change
+change_from true old new = record { new = new; given = old }
+change_from false old new = change_to new
+
+-- one more or one less
+abbrev pub stepped : StepOperator → Value → Run Change
+stepped o v = do
+  w ← say (operated (step_operator o) v (Int (pos 1)))
+  give (change_from (gives_old o) v w)
+
+-- ---- expressions
 
 -- two operands: `&&` and `||` look at the second only where the first leaves it open (15.23, 15.24)
 abbrev pub binary : BinaryOperator → Run Value → Run Value → Run Value
@@ -447,103 +353,152 @@ binary Or m n = do
 binary o m n = do
   v ← m
   w ← n
-  operated o v w
+  say (operated o v w)
 
-abbrev pub unary : UnaryOperator → Run Value → Run Value
-unary Not m = do
-  v ← m
-  negated v
-unary _ m = stop Stuck
+-- null is of each type (15.16)
+abbrev pub cast : Program → JavaType → Value → Option Class → Run Value
+cast program t v None = give v
+cast program t v (Some class) = if is_of_type program t class then give v else stop (Trapped ClassCastException)
 
--- an assignment gives the value (15.26.1)
-abbrev pub assignment : Program → (Tree → Run Value) → Tree → Run Value → Run Value
-assignment program value (trees.Variable p n) m = do
-  v ← m
-  assign n v
-  give v
-assignment program value (trees.FieldAccess p e n) m = do
-  o ← value e
-  v ← m
-  store program o n v
-  give v
-assignment program value _ m = stop Stuck
+abbrev pub is_primitive : Tree → Bool
+is_primitive (trees.PrimitiveType p k) = true
+is_primitive t = false
 
-abbrev pub creation : Program → Tree → Tree → Run Value
-creation program (trees.NamedType p n) trees.Nil = make_named program (class_named 0 program.classes n)
-creation program _ _ = stop Stuck
+abbrev pub instance : Program → JavaType → Option Class → Value
+instance program t None = Truth false
+instance program t (Some class) = Truth (is_of_type program t class)
 
 -- an expression after its unit
-abbrev pub value_of : Program → (Tree → Run Value) → (List ℕ → Value → List Value → Run Value) → Tree → Run Value
-value_of program value call (trees.Number p n) = give (Int (pos n))
-value_of program value call (trees.Truth p b) = give (Truth b)
-value_of program value call (trees.Null p) = give Null
-value_of program value call (trees.This p) = get_this
-value_of program value call (trees.Variable p n) = do
-  found ← read_local n
-  read_name program n found
-value_of program value call (trees.FieldAccess p e n) = do
-  o ← value e
-  load_field program o n
-value_of program value call (trees.ArrayAccess p a b) = do
-  o ← value a
-  i ← value b
-  element o i
-value_of program value call (trees.Binary p o a b) = binary o (value a) (value b)
-value_of program value call (trees.Unary p o a) = unary o (value a)
-value_of program value call (trees.Conditional p a b c) = do
-  v ← value a
-  choose v (value b) (value c)
-value_of program value call (trees.Assignment p a b) = assignment program value a (value b)
-value_of program value call (trees.ObjectCreation p t es) = creation program t es
-value_of program value call (trees.MethodCall p e n es) = do
-  o ← value e
-  vs ← values_of value (items es)
-  call n o vs
-value_of program value call _ = stop Stuck
+abbrev pub value_of : Program → Parts → Scope → Tree → Run Value
+value_of program parts s (trees.Number p n) = give (Int (wrap (pos n)))
+value_of program parts s (trees.Truth p b) = give (Truth b)
+value_of program parts s (trees.Null p) = give Null
+value_of program parts s (trees.This p) = get_this
+value_of program parts s (trees.Variable p n) = read_name program s (meant s n)
+value_of program parts s (trees.FieldAccess p e n) = access program parts s e n (class_before s e)
+value_of program parts s (trees.ArrayAccess p a i) = do
+  o ← parts.value s a
+  j ← parts.value s i
+  element o j
+value_of program parts s (trees.Call p n es) = do
+  vs ← values_of parts s (items es)
+  own_call program parts vs (method_meant s n)
+value_of program parts s (trees.MethodCall p e n es) = method_call program parts s e n (items es) (class_before s e)
+value_of program parts s (trees.SuperCall p n es) = do
+  o ← get_this
+  vs ← values_of parts s (items es)
+  run_method program parts o vs (super_method s n)
+value_of program parts s (trees.ObjectCreation p t es) = do
+  vs ← values_of parts s (items es)
+  create program parts (written s t) vs
+value_of program parts s (trees.ArrayCreation p t e) = do
+  n ← parts.value s e
+  create_array program (written s t) n
+value_of program parts s (trees.Unary p o e) = do
+  v ← parts.value s e
+  say (operated_alone o v)
+value_of program parts s (trees.Step p o e) = changed program parts s (target_of s e) (stepped o)
+value_of program parts s (trees.Binary p o a b) = binary o (parts.value s a) (parts.value s b)
+value_of program parts s (trees.InstanceOf p e t) = do
+  v ← parts.value s e
+  class ← class_or_null v
+  give (instance program (written s t) class)
+value_of program parts s (trees.Conditional p c a b) = do
+  v ← parts.value s c
+  choose v (parts.value s a) (parts.value s b)
+value_of program parts s (trees.Cast p t e) = if is_primitive t then parts.value s e else (do
+  v ← parts.value s e
+  class ← class_or_null v
+  cast program (written s t) v class)
+value_of program parts s (trees.Assignment p a e) = assigned program parts s (target_of s a) (parts.value s e)
+value_of program parts s (trees.CompoundAssignment p o a e) = changed program parts s (target_of s a) (compound o (parts.value s e))
+value_of program parts s (trees.Result p) = get_result
+value_of program parts s (trees.Old p e) = get_old p
+value_of program parts s t = stop Stuck
 
--- a declared local with its initial value (14.4.2)
-abbrev pub declared : (Tree → Run Value) → Tree → Tree → Run Flow
-declared value type (trees.Declarator p n trees.Nil) = do
-  declare n (default_of type)
-  give Next
-declared value type (trees.Declarator p n e) = do
-  v ← value e
-  declare n v
-  give Next
-declared value type _ = stop Stuck
+-- ---- statements
+
+-- A local begins at its default, which it has while its initial value is found (6.3, 14.4.2).
+abbrev pub initial_value : Parts → Scope → ℕ → Tree → Run (Unit {0})
+initial_value parts s k trees.Nil = give tt
+initial_value parts s k e = do
+  v ← parts.value s e
+  assign k v
+
+abbrev pub declared : Parts → Scope → Tree → Run (Unit {0})
+declared parts s (trees.Declarator p n e) = do
+  tick
+  declare (default_of s.declared)
+  initial_value parts (with_local n s.declared s) (length s.locals) e
+declared parts s t = stop Stuck
+
+-- the declarators of a group, each with a unit of its own
+abbrev pub all_declared : Parts → Scope → List Tree → Run Flow
+all_declared parts s [] = give Next
+all_declared parts s (t ∷ ts) = declared parts s t >> all_declared parts (after s t) ts
+
+-- a loop's updates come after each round that goes on
+abbrev pub then_update : Flow → Run Flow → Run Flow
+then_update Next m = m
+then_update Continued m = m
+then_update flow m = give flow
 
 -- a statement after its unit
-abbrev pub flow_of : Program → (Run Value → Run Flow → Run Flow) → (Tree → Run Value) → (Tree → Run Flow) → Tree → Run Flow
-flow_of program loop value exec (trees.Empty p) = give Next
-flow_of program loop value exec (trees.Block p ts) = scoped (all exec (items ts))
-flow_of program loop value exec (trees.Local p type ds) = all (declared value type) (items ds)
-flow_of program loop value exec (trees.ExpressionStatement p e) = do
-  v ← value e
-  give Next
-flow_of program loop value exec (trees.IfThen p e a) = do
-  v ← value e
-  choose v (exec a) (give Next)
-flow_of program loop value exec (trees.IfElse p e a b) = do
-  v ← value e
-  choose v (exec a) (exec b)
-flow_of program loop value exec (trees.While p e a) = loop (value e) (exec a)
-flow_of program loop value exec (trees.Break p) = give Broke
-flow_of program loop value exec (trees.Continue p) = give Continued
-flow_of program loop value exec (trees.Return p e) = do
-  v ← value e
+abbrev pub flow_of : Program → Parts → Scope → Tree → Run Flow
+flow_of program parts s (trees.Empty p) = give Next
+flow_of program parts s (trees.Block p ts) = scoped (all parts s (items ts))
+flow_of program parts s (trees.ExpressionStatement p e) = parts.value s e >> give Next
+flow_of program parts s (trees.IfThen p e a) = do
+  v ← parts.value s e
+  choose v (parts.exec s a) (give Next)
+flow_of program parts s (trees.IfElse p e a b) = do
+  v ← parts.value s e
+  choose v (parts.exec s a) (parts.exec s b)
+flow_of program parts s (trees.While p e a) = rounds parts.rounds (parts.value s e) (parts.exec s a)
+flow_of program parts s (trees.Do p a e) = do
+  flow ← parts.exec s a
+  then_round flow (rounds parts.rounds (parts.value s e) (parts.exec s a))
+flow_of program parts s (trees.For p i e u a) = scoped (do
+  flow ← all parts s (items i)
+  then_on flow (rounds parts.rounds (condition parts (after s i) e) (do
+    leads ← parts.exec (after s i) a
+    then_update leads (updates parts (after s i) (items u)))))
+flow_of program parts s (trees.Break p) = give Broke
+flow_of program parts s (trees.Continue p) = give Continued
+flow_of program parts s (trees.Return p trees.Nil) = give Left
+flow_of program parts s (trees.Return p e) = do
+  v ← parts.value s e
   give (Gave v)
-flow_of program loop value exec _ = stop Stuck
+flow_of program parts s t = stop Stuck
+
+-- ---- whole trees
+
+-- the scope in which a group's declarators stand
+abbrev pub declaring_locals : Scope → Tree → Scope
+declaring_locals s t = declaring Locals t s
+
+-- a statement, with its unit
+abbrev pub statement : Program → Parts → Scope → Tree → Run Flow
+statement program parts s (trees.Local p t ds) = all_declared parts (declaring_locals s t) (items ds)
+statement program parts s t = tick >> flow_of program parts s t
 
 -- expressions and statements, nested at most n deep: each level takes a unit, so a bound of the fuel cuts nothing off
 unfoldable mutual
-  pub eval : Program → ℕ → Tree → Run Value
-  eval program zero e = stop OutOfFuel
-  eval program (suc n) e = tick >> value_of program (eval program n) (λ m o vs. called program (exec program n) m o vs) e
+  pub eval : Program → ℕ → Scope → Tree → Run Value
+  eval program zero s e = stop OutOfFuel
+  eval program (suc n) s e = tick >> value_of program (record { value = eval program n; exec = exec program n; rounds = n }) s e
 
-  pub exec : Program → ℕ → Tree → Run Flow
-  exec program zero t = stop OutOfFuel
-  exec program (suc n) t = tick >> flow_of program (rounds n) (eval program n) (exec program n) t
+  pub exec : Program → ℕ → Scope → Tree → Run Flow
+  exec program zero s t = stop OutOfFuel
+  exec program (suc n) s t = statement program (record { value = eval program n; exec = exec program n; rounds = n }) s t
+
+abbrev pub parts_within : Program → ℕ → Parts
+parts_within program n = record { value = eval program n; exec = exec program n; rounds = n }
 
 -- the meaning of an expression
-unfoldable pub value : Program → Tree → Run Value
-value program e s = eval program s.fuel e s
+unfoldable pub value : Program → Scope → Tree → Run Value
+value program s e state = eval program state.fuel s e state
+
+-- the meaning of a method's body, with the arguments
+unfoldable pub body_of : Program → Value → List Value → Method → Run Value
+body_of program receiver arguments m state = run_method program (parts_within program state.fuel) receiver arguments (Some m) state

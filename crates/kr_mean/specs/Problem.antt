@@ -10,6 +10,7 @@ use Rattle.kr_value.specs.declared.object.Class.TheVariants.{Object}
 use Rattle.kr_value.specs.declared.object.Spot.{Spot}
 use Rattle.kr_mean.specs.declared.mode.Mode.{Mode}
 use Rattle.kr_mean.specs.Program.{Program}
+use Rattle.kr_mean.specs.Places.{SlotPlace, This, Parameter, At}
 
 -- one entry of a domain: a plain value, or all objects of a class domain, in order
 pub data Item : Type 0 where
@@ -79,12 +80,6 @@ abbrev pub heap_number : Problem → DomainObject → ℕ
 heap_number problem o = objects_before o.domain problem.domains + o.number
 
 -- ---- slots and their domains
-
--- Where a candidate has a value: what `this` is, a parameter, or a spot of an object.
-pub data SlotPlace : Type 0 where
-  This : SlotPlace
-  Parameter : ℕ → SlotPlace
-  At : ℕ → Spot → SlotPlace
 
 pub record Slot : Type 0 where
   pub place : SlotPlace

@@ -1,22 +1,27 @@
 -- The predicate run on a vector, the order of the slots that decide it, and the key that they give.
-use Rattle.std.specs.Prelude.{◌≡◌, ℕ, ◌+◌, ◌==◌, Bool, true, false, ◌&&◌, ◌||◌, List, [], ◌∷◌, ◌++◌, length, map, flat_map, filter, Option, Some, None, Result, Ok, Err, codes, if◌then◌else◌}
+use Rattle.std.specs.Prelude.{◌≡◌, ℕ, ◌+◌, ◌==◌, Bool, true, false, ◌&&◌, ◌||◌, List, [], ◌∷◌, ◌++◌, length, map, flat_map, filter, Option, Some, None, option_to_list, Result, Ok, Err, codes, if◌then◌else◌}
 use Rattle.std.proofs.Common.{get_or}
 use Rattle.kr_base.specs.declared.place.Place.{Place}
 use Rattle.kr_ast.specs.Tree as trees
 use Rattle.kr_ast.specs.Tree.{Tree, MethodCall}
-use Rattle.kr_mean.specs.Program.{Program, Method}
-use Rattle.kr_mean.specs.Problem.{Problem, SlotPlace, This, Parameter, At, all_objects, slot_at, slots, domain_at, upto}
-use Rattle.kr_mean.specs.Heaps.{distinct, heap_of, value_at, walk}
-use Rattle.kr_mean.specs.Meaning.{Stop, Trapped, OutOfFuel, Stuck, Local, State, Outcome, Run, after_reads, give, stop, ◌>>=◌, method_in, value}
-use Rattle.kr_mean.specs.declared.kind.Kind.{Kind}
-use Rattle.kr_mean.specs.declared.mode.Mode.{Mode}
-use Rattle.kr_mean.specs.declared.mode.Mode.TheVariants.{List as Listing, Method as Testing}
 use Rattle.kr_value.specs.declared.object.Class.{Class}
 use Rattle.kr_value.specs.declared.object.Class.TheVariants.{Object}
 use Rattle.kr_value.specs.declared.object.Spot.{Spot}
 use Rattle.kr_value.specs.declared.object.Spot.TheVariants.{Field, Length, Element}
 use Rattle.kr_value.specs.declared.value.Value.{Value}
 use Rattle.kr_value.specs.declared.value.Value.TheVariants.{Bool as Truth}
+use Rattle.kr_table.specs.Table.{Method, method_named}
+use Rattle.kr_typing.specs.Scopes.{Part, Requiring, Ensuring, in_contract}
+use Rattle.kr_mean.specs.declared.kind.Kind.{Kind}
+use Rattle.kr_mean.specs.declared.mode.Mode.{Mode}
+use Rattle.kr_mean.specs.declared.mode.Mode.TheVariants.{List as Listing, Method as Testing}
+use Rattle.kr_mean.specs.Program.{Program, class_scope, method_scope}
+use Rattle.kr_mean.specs.Places.{SlotPlace, This, Parameter, At}
+use Rattle.kr_mean.specs.Problem.{Problem, all_objects, slot_at, slots, domain_at, upto}
+use Rattle.kr_mean.specs.Heaps.{distinct, heap_of, value_at, walk}
+use Rattle.kr_mean.specs.Steps.{Stop, Trapped, OutOfFuel, Stuck, Local, State, Outcome, Run, after_reads, give, stop, ◌>>=◌}
+use Rattle.kr_mean.specs.Meaning.{value}
+use Rattle.kr_mean.specs.Code.{Node}
 
 -- ---- the run
 
@@ -27,76 +32,78 @@ pub data End : Type 0 where
   Trap : Kind → End
   Spent : End
 
--- the method of a name in the root's class
-abbrev pub root_method : Problem → List ℕ → Option Method
-root_method problem n = method_in problem.program (domain_at problem problem.root).class n
+-- the class of the root's objects
+abbrev pub class_number : Class → ℕ
+class_number (Object c) = c
+class_number class = 0
+
+abbrev pub root_class : Problem → ℕ
+root_class problem = class_number (domain_at problem problem.root).class
 
 -- the method under test, where one is tested
 abbrev pub tested_method : Problem → Mode → Option Method
 tested_method problem Listing = None
-tested_method problem (Testing n) = root_method problem n
+tested_method problem (Testing n) = method_named problem.program.table (root_class problem) n
 
-abbrev pub required_by : Option Method → List Tree
-required_by None = []
-required_by (Some method) = method.requires_all
+abbrev pub required_in : Tree → List Tree
+required_in (trees.Requires p e) = e ∷ []
+required_in t = []
 
--- its preconditions
-abbrev pub requires_of : Problem → List Tree
-requires_of problem = required_by (tested_method problem problem.mode)
+abbrev pub ensured_in : Tree → List Tree
+ensured_in (trees.Ensures p e) = e ∷ []
+ensured_in t = []
+
+abbrev pub contract_nodes : Program → Part → (Tree → List Tree) → Method → List Node
+contract_nodes program part chosen m = map (λ e. record { scope = in_contract part (method_scope program m); tree = e }) (flat_map chosen m.contracts)
+
+-- the conditions of the contract that stands before a method, in its scope
+abbrev pub requires_of : Program → Method → List Node
+requires_of program m = contract_nodes program Requiring required_in m
+
+abbrev pub ensures_of : Program → Method → List Node
+ensures_of program m = contract_nodes program Ensuring ensured_in m
 
 -- the place of what stands in no source
 abbrev pub nowhere : Place
 nowhere = record { file = 0; line = 0; col = 0 }
 
--- `this.repOk()`
+-- `this.repOk()`, in the code of the root's class
 abbrev pub rep_ok : Tree
 rep_ok = MethodCall nowhere (trees.This nowhere) (codes "repOk") trees.Nil
 
+abbrev pub rep_ok_node : Problem → Node
+rep_ok_node problem = record { scope = class_scope problem.program (root_class problem); tree = rep_ok }
+
 -- what has to hold: `this.repOk()`, and then each precondition in order
-abbrev pub conditions : Problem → List Tree
-conditions problem = rep_ok ∷ requires_of problem
+abbrev pub conditions : Problem → List Node
+conditions problem = rep_ok_node problem ∷ flat_map (requires_of problem.program) (option_to_list (tested_method problem problem.mode))
 
 -- goes on where a condition holds
 abbrev pub where_true : Value → Run Bool → Run Bool
 where_true (Truth true) m = m
 where_true (Truth false) m = give false
-where_true _ m = stop Stuck
+where_true v m = stop Stuck
 
 -- whether all hold, each looked at only where those before it do
-abbrev pub hold_all : Program → List Tree → Run Bool
+abbrev pub hold_all : Program → List Node → Run Bool
 hold_all program [] = give true
-hold_all program (e ∷ es) = value program e >>= (λ v. where_true v (hold_all program es))
+hold_all program (e ∷ es) = value program e.scope e.tree >>= (λ v. where_true v (hold_all program es))
 
 -- the values of the parameters of the method under test
 abbrev pub parameter_values : Problem → List ℕ → List Value
 parameter_values problem vector = map (λ i. value_at problem vector (i + 1)) (upto (length problem.parameters))
 
-abbrev pub parameters_of : Option Method → List (List ℕ)
-parameters_of None = []
-parameters_of (Some method) = method.parameters
-
-abbrev pub tested_parameters : Problem → List (List ℕ)
-tested_parameters problem = parameters_of (tested_method problem problem.mode)
-
--- the parameters with their values, which are read where they are named
-abbrev pub parameters_from : ℕ → List (List ℕ) → List Value → List Local
-parameters_from i (n ∷ ns) (v ∷ vs) = record { name = n; value = v; slot = Some (Parameter i) } ∷ parameters_from (i + 1) ns vs
-parameters_from i _ _ = []
-
-abbrev pub class_number : Class → ℕ
-class_number (Object c) = c
-class_number _ = 0
-
--- the class whose code the conditions are: that of the method under test, else the root's
-abbrev pub conditions_class : Problem → Option Method → ℕ
-conditions_class problem None = class_number (domain_at problem problem.root).class
-conditions_class problem (Some method) = method.class
+-- they are read where they are named
+abbrev pub parameters_from : ℕ → List Value → List Local
+parameters_from i [] = []
+parameters_from i (v ∷ vs) = record { value = v; place = Some (Parameter i) } ∷ parameters_from (i + 1) vs
 
 abbrev pub start : Problem → List ℕ → State
 start problem vector = record {
   this_value = value_at problem vector 0;
-  code_class = conditions_class problem (tested_method problem problem.mode);
-  locals = parameters_from 0 (tested_parameters problem) (parameter_values problem vector);
+  locals = parameters_from 0 (parameter_values problem vector);
+  result = None;
+  olds = [];
   heap = heap_of problem vector;
   candidates = length (all_objects problem);
   fuel = problem.fuel;

@@ -1,5 +1,5 @@
 -- A heap: its objects by their numbers.
-use Rattle.std.specs.Prelude.{ℕ, pos, Bool, true, false, List, [], length, Option, Some, None}
+use Rattle.std.specs.Prelude.{ℕ, nat_lt, pos, Bool, true, false, List, [], length, Option, Some, None}
 use Rattle.std.proofs.Common.{get_or}
 use Rattle.kr_value.specs.declared.value.Value.{Value}
 use Rattle.kr_value.specs.declared.value.Value.TheVariants.{Int, Null, Ref}
@@ -24,12 +24,15 @@ no_object = record { class = Object 0; values = [] }
 abbrev pub object_in : Heap → ℕ → HeapObject
 object_in heap o = get_or heap o no_object
 
--- which spots objects of a class have
-abbrev pub has_spot : Class → Spot → Bool
-has_spot (Object c) (Field f) = true
-has_spot (Array t) Length = true
-has_spot (Array t) (Element i) = true
-has_spot class spot = false
+-- whether an object has a value at a spot: an object of a class at its fields, an array at its length and its elements
+abbrev pub has_spot_of : Class → ℕ → Spot → Bool
+has_spot_of (Object c) n (Field f) = nat_lt f n
+has_spot_of (Array t) n Length = true
+has_spot_of (Array t) n (Element i) = nat_lt i n
+has_spot_of class n spot = false
+
+abbrev pub has_spot : HeapObject → Spot → Bool
+has_spot object spot = has_spot_of object.class (length object.values) spot
 
 -- what an object has at a spot that it has
 abbrev pub value_of_spot : HeapObject → Spot → Value

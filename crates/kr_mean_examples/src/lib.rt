@@ -1,0 +1,6 @@
+//! Small programs and problems, worked by hand: what the definitions of the meaning give them. The checker computes each.
+#![tactic(auto)]
+
+mod rows;
+
+pub use rows::{worked_constructs, worked_listings};

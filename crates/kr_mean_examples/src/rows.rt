@@ -1,0 +1,15 @@
+// The worked rows.
+ghost use Rattle.kr_mean_examples.specs.Constructs.{Constructs};
+ghost use Rattle.kr_mean_examples.specs.Listings.{Listings};
+
+/// Each construct of the language: what it gives, what it costs, and what it reads.
+#[tactic(auto, using(crate::proofs::Constructs::constructs))]
+pub fn worked_constructs()
+    ensures { Constructs }
+{}
+
+/// The entries of small problems.
+#[tactic(auto, using(crate::proofs::Listings::listings))]
+pub fn worked_listings()
+    ensures { Listings }
+{}
