@@ -155,10 +155,13 @@ fn read_contract(
             };
             pass(file, bytes, valid, behind, line.head.end)
         }
-        None => Err(LexRefusal::Broken {
-            place: progress.cursor.place(file),
-            rule: LexRule::ContractLine,
-        }),
+        None => {
+            let at_mark = progress.cursor;
+            Err(LexRefusal::Broken {
+                place: at_mark.place(file),
+                rule: LexRule::ContractLine,
+            })
+        }
     }
 }
 
