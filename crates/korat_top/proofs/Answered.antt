@@ -1,7 +1,7 @@
 -- The answer to a command, from what was found of its files.
 use Rattle.std.proofs.Common.{◌≡◌, ℕ, ◌⊎◌, List, refl, sym, ap, subst, inl, inr}
 use Rattle.std.specs.Prelude.{Option, Some, None, IfSome}
-use Rattle.kr_mean.specs.OneField.{OneFieldLaw}
+use Rattle.kr_pruning.specs.OneField.{OneFieldLaw}
 use Rattle.korat_top.specs.Source.{source_of}
 use Rattle.korat_top.specs.Finitization.{finitization_of}
 use Rattle.korat_top.specs.Answer.{Answer, ListFiles, Held, IsAnswer, too_long, no_tokens, no_tree, no_source, no_finitization, listed, TellsBoth, IsTold, Reads, too_long_answer, no_tokens_answer, no_tree_answer, no_source_answer, no_finitization_answer}
@@ -27,7 +27,7 @@ for_bytes held fin source f s (Unparsed place rule) law hf hs j = no_tree place 
 for_bytes held fin source f s NoSource law hf hs j = no_source hf hs j.0 j.1
 for_bytes held fin source f s NoFinitization law hf hs j = no_finitization j.1 hf hs j.0 j.2 j.3
 for_bytes held fin source f s (Cells x r) law hf hs j =
-    subst (λ (a : Answer). IsAnswer held (Some (ListFiles fin source)) a) (summarized j.0.tree j.1.is_shaped.0 (source_of x) (finitization_of r) law j.1.is_shaped.1 j.1.compares j.2.is_within)
+    subst (λ (a : Answer). IsAnswer held (Some (ListFiles fin source)) a) (summarized j.0.tree j.1.is_shaped.0 (source_of x) (finitization_of r) law j.1.is_shaped.1 j.1.compares j.1.in_range j.2.is_within)
     (listed (source_of x) (finitization_of r) hf hs j.0 j.1 j.2)
 
 for_told : (held : Held) (fin source : List ℕ) (found : Found) (fins sources : Option (List ℕ)) → OneFieldLaw → held fin ≡ fins → held source ≡ sources

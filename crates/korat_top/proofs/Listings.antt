@@ -12,10 +12,11 @@ use Rattle.kr_base.specs.Bounds.{less}
 use Rattle.kr_base.specs.Entries.{entries_in, within, through_spent, is_spent}
 use Rattle.kr_ast.specs.declared.node.BinaryOperator.{BinaryOperator}
 use Rattle.kr_ast.specs.Tree.{Tree}
+use Rattle.kr_table.specs.Table.{table_of}
 use Rattle.kr_mean.specs.Problem.{Problem}
-use Rattle.kr_mean.specs.Meaning.{is_comparison, holds_of}
+use Rattle.kr_mean.specs.Operators.{is_comparison, holds_of}
 use Rattle.kr_mean.specs.Entries.{all_entries}
-use Rattle.kr_mean.specs.OneField.{OneFieldLaw, Places, one_field, one_field_tree, one_field_row, one_field_entry, one_field_entries}
+use Rattle.kr_pruning.specs.OneField.{OneFieldLaw, Places, one_field, one_field_tree, one_field_row, one_field_entry, one_field_entries}
 use Rattle.kr_mean.specs.declared.mode.Mode.TheVariants.{List as Listing}
 use Rattle.kr_mean.specs.declared.row.Row.{Row}
 use Rattle.kr_value.specs.declared.value.Value.TheVariants.{Int}
@@ -36,7 +37,7 @@ zero_text = decimal_digit 0 (omega arith)
 structure_is : (at : Places) (source : Source) (values : List ℤ) (fuel i : ℕ) (z : ℤ)
     → structure_text (one_field at source.class_name source.field_name source.test source.number values fuel) (one_field_row i z).structure
     ≡ ((source.class_name ++ codes "#" ++ decimal 0) ++ (codes "{" ++ ((source.field_name ++ codes "=" ++ signed_decimal z) ++ []) ++ codes "}")) ++ []
-unfolding structure_text
+unfolding structure_text table_of
 structure_is at source values fuel i z = refl
 
 regrouped : (o d i sp c h b f e z cb nl : List ℕ)
@@ -165,22 +166,22 @@ few_values : (range : Finitization) → IsWithinLimits range → (1 ≤ range_co
 few_values range h = counted ((range.to -ℤ range.from) +ℤ pos 1) (omega (arith, ints, h.in_order)) (omega (arith, ints, h.few))
 
 -- the report of a class of one field
-summary_for : (at : Places) (source : Source) (range : Finitization) → OneFieldLaw → is_comparison source.test ≡ true → IsWithinLimits range
+summary_for : (at : Places) (source : Source) (range : Finitization) → OneFieldLaw → is_comparison source.test ≡ true → source.number ≤ 2147483647 → IsWithinLimits range
     → listing_answer (problem_of (tree_at at source) range) NO_LIMIT (entries_in (At []) End (all_entries (problem_of (tree_at at source) range))) ≡ cells_answer source range
-summary_for at source range law compares h =
+summary_for at source range law compares small h =
     let values = values_of range in
     let n = source.number in
     let problem = problem_of (tree_at at source) range in
     let few = few_values range h in
     let long : length values ≡ range_count range = length_values range.from (range_count range) in
-    let form = law at source.class_name source.field_name source.test n values range.fuel compares h.enough (omega (arith, long, few.0)) in
+    let form = law at source.class_name source.field_name source.test n values range.fuel compares small h.enough (omega (arith, long, few.0)) in
     ap (λ (es : List (Entry Row)). listing_answer problem NO_LIMIT (entries_in (At []) End es)) form.listed
     ∙ (ap (λ (es : List (Entry Row)). listing_answer problem NO_LIMIT es) (all_in_span source.test n values)
     ∙ reported problem (one_field_entries source.test n 0 values) (range_lines source range) (range_count range) refl
     (omega (arith, few_rows source.test n 0 values, long, few.1)) (no_spent_key source.test n 0 values) (no_failing source.test n 0 values)
     (lines_of_rows at source values range.fuel 0 range.from (range_count range)) (length_entries source.test n 0 values ∙ long))
 
-pub summarized : (tree : Tree) (at : Places) (source : Source) (range : Finitization) → OneFieldLaw → tree ≡ tree_at at source → is_comparison source.test ≡ true → IsWithinLimits range
+pub summarized : (tree : Tree) (at : Places) (source : Source) (range : Finitization) → OneFieldLaw → tree ≡ tree_at at source → is_comparison source.test ≡ true → source.number ≤ 2147483647 → IsWithinLimits range
     → listing_answer (problem_of tree range) NO_LIMIT (entries_in (At []) End (all_entries (problem_of tree range))) ≡ cells_answer source range
-summarized tree at source range law e compares h =
-    ap (λ (t : Tree). listing_answer (problem_of t range) NO_LIMIT (entries_in (At []) End (all_entries (problem_of t range)))) e ∙ summary_for at source range law compares h
+summarized tree at source range law e compares small h =
+    ap (λ (t : Tree). listing_answer (problem_of t range) NO_LIMIT (entries_in (At []) End (all_entries (problem_of t range)))) e ∙ summary_for at source range law compares small h

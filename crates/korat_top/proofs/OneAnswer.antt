@@ -14,7 +14,7 @@ use Rattle.kr_ast.specs.Tree.{Tree}
 use Rattle.kr_parse.specs.declared.refusal.ParseRule.{ParseRule}
 use Rattle.kr_parse.specs.Refusals.{IsParsed, IsUnparsed, OneRefusal, ParsedUnbroken}
 use Rattle.kr_laws.specs.Laws.{OneTree}
-use Rattle.kr_mean.specs.OneField.{one_field_tree}
+use Rattle.kr_pruning.specs.OneField.{one_field_tree}
 use Rattle.kr_mean.specs.Entries.{all_entries}
 use Rattle.korat_top.specs.Source.{Source, IsSource}
 use Rattle.korat_top.specs.Finitization.{Finitization, IsFinitization}

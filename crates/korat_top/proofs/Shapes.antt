@@ -5,7 +5,7 @@ use Rattle.kr_ast.specs.declared.node.Primitive.TheVariants as primitives
 use Rattle.kr_ast.specs.declared.node.BinaryOperator.{BinaryOperator}
 use Rattle.kr_ast.specs.Tree as trees
 use Rattle.kr_ast.specs.Tree.{Tree, Nil, Cons}
-use Rattle.kr_mean.specs.OneField.{Places, one_field_tree}
+use Rattle.kr_pruning.specs.OneField.{Places, one_field_tree}
 
 pub shaped : (here : Places) (class_name field_name other : List ℕ) (test : BinaryOperator) (n : ℕ) (file class members field method value : Tree)
     → file ≡ Cons class Nil → class ≡ trees.Class here.class class_name Nil members → members ≡ Cons field (Cons method Nil)

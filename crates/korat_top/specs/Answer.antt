@@ -20,7 +20,7 @@ use Rattle.kr_parse.specs.Rules.{rule_code as parse_code}
 use Rattle.kr_parse.specs.Refusals.{IsParsed, IsUnparsed}
 use Rattle.kr_mean.specs.Problem.{Problem}
 use Rattle.kr_mean.specs.Entries.{all_entries}
-use Rattle.kr_mean.specs.OneField.{one_object}
+use Rattle.kr_pruning.specs.OneField.{one_object}
 use Rattle.kr_mean.specs.declared.kind.Verdict.{Verdict}
 use Rattle.kr_mean.specs.declared.kind.Verdict.TheVariants.{Pass, Ensures, RepOk, Trap, CheckTrap, Spent as OutOfFuel}
 use Rattle.kr_mean.specs.declared.mode.Mode.{Mode}

@@ -4,7 +4,7 @@ use Rattle.kr_base.specs.declared.span.Bound.TheVariants.{At, End}
 use Rattle.kr_base.specs.Entries.{entries_in}
 use Rattle.kr_mean.specs.Problem.{Problem}
 use Rattle.kr_mean.specs.Entries.{all_entries}
-use Rattle.kr_mean.specs.Examples.{cell, two_ints, two_nodes, two_subclasses, arrays}
+use Rattle.kr_mean_examples.specs.Examples.{cell, two_ints, two_nodes, two_subclasses, arrays}
 use Rattle.korat_top.specs.Texts.{row_text}
 use Rattle.korat_top.specs.Answer.{Answer, bytes_of, rows_in, listing_answer}
 

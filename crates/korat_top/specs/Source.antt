@@ -4,8 +4,8 @@ use Rattle.std.specs.Char.{is_ascii_alphanumeric}
 use Rattle.kr_lex.specs.Lexemes.{Lexemes}
 use Rattle.kr_ast.specs.declared.node.BinaryOperator.{BinaryOperator}
 use Rattle.kr_ast.specs.Tree.{Tree}
-use Rattle.kr_mean.specs.Meaning.{is_comparison}
-use Rattle.kr_mean.specs.OneField.{Places, one_field_tree}
+use Rattle.kr_mean.specs.Operators.{is_comparison}
+use Rattle.kr_pruning.specs.OneField.{Places, one_field_tree}
 use Rattle.korat_top.specs.declared.source.Source.{Source as OwnedSource}
 
 -- a class `class_name` with the field `field_name`, valid where the field's value meets the test against the number

@@ -3,19 +3,18 @@ use Rattle.std.specs.Prelude.{ℕ, ◌-◌, ◌^◌, true, false, List, [], ◌�
 use Rattle.std.specs.Fmt.{signed_decimal}
 use Rattle.std.proofs.Common.{get_or}
 use Rattle.kr_base.specs.Cuts.{cut_text}
-use Rattle.kr_mean.specs.Problem.{Problem, DomainObject, SlotPlace, This, Parameter, At, all_objects, domain_at, slot_at}
+use Rattle.kr_table.specs.Table.{Table, Method, fields_of}
+use Rattle.kr_mean.specs.Places.{SlotPlace, This, Parameter, At}
+use Rattle.kr_mean.specs.Problem.{Problem, DomainObject, all_objects, domain_at, slot_at}
 use Rattle.kr_mean.specs.Heaps.{distinct, is_same_object, is_owner}
-use Rattle.kr_mean.specs.Meaning.{class_in}
-use Rattle.kr_mean.specs.Runs.{tested_parameters}
-use Rattle.kr_ast.specs.Tree.{Nil}
-use Rattle.kr_mean.specs.Program.{Field as FieldOf}
+use Rattle.kr_mean.specs.Runs.{tested_method}
 use Rattle.kr_mean.specs.declared.kind.Kind.{Kind}
 use Rattle.kr_mean.specs.declared.kind.Kind.TheVariants.{NullPointerException, ArithmeticException, ArrayIndexOutOfBoundsException, NegativeArraySizeException, ClassCastException, NoSuchElementException, NoReturn, ArrayTooLong}
 use Rattle.kr_mean.specs.declared.kind.Verdict.{Verdict}
 use Rattle.kr_mean.specs.declared.kind.Verdict.TheVariants.{Pass, Ensures, RepOk, Trap, CheckTrap, Spent as OutOfFuel}
 use Rattle.kr_mean.specs.declared.row.Row.{Row}
 use Rattle.kr_value.specs.declared.object.Class.{Class}
-use Rattle.kr_value.specs.declared.object.Class.TheVariants.{Array}
+use Rattle.kr_value.specs.declared.object.Class.TheVariants.{Object, Array}
 use Rattle.kr_value.specs.declared.object.Spot.{Spot}
 use Rattle.kr_value.specs.declared.object.Spot.TheVariants.{Field, Length, Element}
 use Rattle.kr_value.specs.declared.value.Value.{Value}
@@ -46,18 +45,28 @@ value_text problem (Truth false) = codes "false"
 value_text problem Null = codes "null"
 value_text problem (Reference o) = object_name problem (get_or (all_objects problem) o no_domain_object)
 
+-- the names of the parameters of the method under test
+abbrev pub parameter_names : Option Method → List (List ℕ)
+parameter_names None = []
+parameter_names (Some m) = map (λ p. p.name) m.parameters
+
+abbrev pub tested_parameters : Problem → List (List ℕ)
+tested_parameters problem = parameter_names (tested_method problem problem.mode)
+
 -- `x=value` of a parameter
 abbrev pub parameter_text : Problem → Value → SlotPlace → List (List ℕ)
 parameter_text problem v (Parameter i) = (get_or (tested_parameters problem) i [] ++ codes "=" ++ value_text problem v) ∷ []
 parameter_text problem v This = []
 parameter_text problem v (At o spot) = []
 
-abbrev pub no_field : FieldOf
-no_field = record { name = []; type = Nil; initial = Nil }
+-- the names of the fields of a class's objects
+abbrev pub field_names : Table → Class → List (List ℕ)
+field_names table (Object c) = map (λ f. f.name) (fields_of table c)
+field_names table class = []
 
 -- of a field `f=value`, of an element the value
 abbrev pub spot_text : Problem → Class → Value → Spot → List (List ℕ)
-spot_text problem class v (Field f) = ((get_or (class_in problem.program class).fields f no_field).name ++ codes "=" ++ value_text problem v) ∷ []
+spot_text problem class v (Field f) = (get_or (field_names problem.program.table class) f [] ++ codes "=" ++ value_text problem v) ∷ []
 spot_text problem class v Length = []
 spot_text problem class v (Element i) = value_text problem v ∷ []
 

@@ -1,7 +1,7 @@
 // The rows of a class of one field: each value whose test holds, in order, a line each.
 ghost use Rattle.std.specs.Prelude.{◌≡◌, ◌<◌, ◌≤◌, ◌≤ℤ◌, ◌+ℤ◌, ◌-ℤ◌, ◌<ℤ◌, pos, IfOk};
 ghost use Rattle.kr_base.specs.Told.{Writes};
-ghost use Rattle.kr_mean.specs.Meaning.{holds_of};
+ghost use Rattle.kr_mean.specs.Operators.{holds_of};
 ghost use Rattle.kr_value.specs.declared.value.Value.TheVariants.{Int};
 ghost use Rattle.korat_top.specs.Cells.{PutsRows, cell_text, value_lines, range_count, range_lines};
 ghost use Rattle.korat_top.specs.Source.{source_of};

@@ -19,7 +19,7 @@ use crate::source::Source;
 use crate::words::{FINITIZATION, SOURCE, is_listing};
 use kr_base::{Failed, Sink, Words};
 use kr_io::{Files, Gate};
-use kr_mean::one_field_law;
+use kr_pruning::one_field_law;
 use std::alloc::Global;
 
 /// A status once its text is written, or that of a write fault.

@@ -1,6 +1,7 @@
 // The worked rows.
 ghost use Rattle.kr_mean_examples.specs.Constructs.{Constructs};
 ghost use Rattle.kr_mean_examples.specs.Listings.{Listings};
+ghost use Rattle.kr_mean_examples.specs.Examples.{Worked};
 
 /// Each construct of the language: what it gives, what it costs, and what it reads.
 #[tactic(auto, using(crate::proofs::Constructs::constructs))]
@@ -12,4 +13,10 @@ pub fn worked_constructs()
 #[tactic(auto, using(crate::proofs::Listings::listings))]
 pub fn worked_listings()
     ensures { Listings }
+{}
+
+/// The entries and runs of more small problems, whose trees are put together by name.
+#[tactic(auto, using(crate::proofs::Examples::worked))]
+pub fn worked_examples()
+    ensures { Worked }
 {}

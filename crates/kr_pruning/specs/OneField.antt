@@ -1,6 +1,6 @@
 -- Classes of one `int` field whose `repOk` compares it with a number: their trees and their problems, and the entries of
 -- these.
-use Rattle.std.specs.Prelude.{◌≡◌, ℕ, ◌+◌, ◌<◌, ◌≤◌, ℤ, pos, false, true, List, [], ◌∷◌, length, map, flat_map, option_to_list, None, if◌then◌else◌, codes}
+use Rattle.std.specs.Prelude.{◌≡◌, ℕ, ◌+◌, ◌<◌, ◌≤◌, ℤ, pos, false, true, List, [], ◌∷◌, length, map, Option, Some, None, if◌then◌else◌, codes}
 use Rattle.kr_base.specs.declared.place.Place.{Place}
 use Rattle.kr_base.specs.declared.entry.Mark.TheVariants.{Valid, Invalid}
 use Rattle.kr_base.specs.declared.entry.Entry.{Entry}
@@ -10,7 +10,7 @@ use Rattle.kr_ast.specs.Tree as trees
 use Rattle.kr_ast.specs.Tree.{Tree, Nil, Cons}
 use Rattle.kr_mean.specs.Program.{program_of}
 use Rattle.kr_mean.specs.Problem.{Problem, Domain, Plain}
-use Rattle.kr_table.specs.Table.{Table, class_at}
+use Rattle.kr_table.specs.Table.{Table, Class, class_at}
 use Rattle.kr_mean.specs.Operators.{is_comparison, holds_of}
 use Rattle.kr_mean.specs.Space.{space_of, IsVector}
 use Rattle.kr_mean.specs.Runs.{IsStuck}
@@ -55,9 +55,13 @@ one_field_tree at class_name field_name test n = one (trees.Class at.class class
 abbrev pub int_domain : List ℤ → Domain
 int_domain values = map (λ z. Plain (Int z)) values
 
+abbrev pub name_in : Option Class → List ℕ
+name_in None = []
+name_in (Some d) = d.name
+
 -- the name of a class by its number
 abbrev pub class_name_of : Table → ℕ → List ℕ
-class_name_of table c = flat_map (λ d. d.name) (option_to_list (class_at table.classes c))
+class_name_of table c = name_in (class_at table.classes c)
 
 -- one object of a file's first class, whose first field has these values
 abbrev pub one_object : Tree → List ℤ → ℕ → Problem

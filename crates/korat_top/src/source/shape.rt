@@ -5,8 +5,8 @@ ghost use Rattle.kr_ast.specs.Arena.{root, tree_in};
 ghost use Rattle.kr_ast.specs.declared.node.Primitive.TheVariants as primitives;
 ghost use Rattle.kr_ast.specs.Tree as trees;
 ghost use Rattle.kr_ast.specs.Tree.{Tree as SyntaxTree, Nil, Cons};
-ghost use Rattle.kr_mean.specs.Meaning.{is_comparison};
-ghost use Rattle.kr_mean.specs.OneField.{Places, one_field_tree};
+ghost use Rattle.kr_mean.specs.Operators.{is_comparison};
+ghost use Rattle.kr_pruning.specs.OneField.{Places, one_field_tree};
 
 use kr_ast::{BinaryOperator, Node, Primitive, Tree};
 

@@ -1,4 +1,4 @@
-use Rattle.kr_mean.specs.OneField.{Places}
+use Rattle.kr_pruning.specs.OneField.{Places}
 use Rattle.korat_top.proofs.Texts.{unlike_not}
 use Rattle.korat_top.proofs.Shapes.{shaped}
 use Rattle.korat_top.proofs.source.shape.parts_of.Goals as goal
