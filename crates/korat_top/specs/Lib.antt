@@ -1,12 +1,15 @@
 pub use Rattle.kr_base.specs.Causes
 pub use Rattle.kr_base.specs.Told
 pub use Rattle.kr_io.specs.Reads
-pub mod Source
+pub mod OneField
 pub mod Finitization
 pub mod Texts
+pub mod Refusals
+pub mod Steps
 pub mod Answer
 pub mod Ends
-pub mod Cells
+pub mod Starts
+pub mod OneFieldListing
 pub mod Found
 pub mod Listed
 pub mod Examples

@@ -1,7 +1,7 @@
 // What a call answers and writes over files and sinks in memory, worked by hand from the files.
 ghost use Rattle.std.specs.Prelude.{◌<◌};
 
-use crate::run;
+use crate::{NoWords, run, start};
 use kr_base::{NoMemory, Words};
 use kr_io::{MemFile, MemFiles, MemSink, OpenGate};
 use std::alloc::Global;
@@ -60,7 +60,7 @@ fn padded(alloc: Global, text: &str, length: usize) -> Result<String, NoMemory> 
 }
 
 /// `class Cell` whose field is compared with a number.
-fn source_of(alloc: Global, test: &str) -> Result<String, NoMemory> {
+fn one_field_of(alloc: Global, test: &str) -> Result<String, NoMemory> {
     let mut text = String::from_str(alloc, "class Cell { int v; boolean repOk() { return v ")?;
     text.push_str(test)?;
     text.push_str("; } }")?;
@@ -161,7 +161,7 @@ fn listings(rt: HostRuntime) -> Result<(), Fail> {
             "0.9 Cell#0{v=9}\n0.10 Cell#0{v=10}\nvalid 2 tried 11\n",
         ),
     ] {
-        let source = source_of(alloc, test)?;
+        let source = one_field_of(alloc, test)?;
         let fin = finitization_of(alloc, range)?;
         let files = files_of(alloc, &[("fin.toml", &fin), ("Cell.java", &source)], &[])?;
         let mut out = output(alloc, 1024)?;
@@ -238,7 +238,7 @@ fn broken_tokens(rt: HostRuntime) -> Result<(), Fail> {
         ("class X { int v = 08; }", "X.java:1:19: L4\n"),
         // Tokens that are well spelled, in a source of another form.
         ("class X { int v = 2147483648; }", "X.java:1:1: N0\n"),
-        ("\tclass X { }", "X.java:1:1: N0\n"),
+        ("\tclass X { } // class", "X.java:1:1: N0\n"),
         ("// class X", "X.java:1:1: N0\n"),
         ("", "X.java:1:1: N0\n"),
     ] {
@@ -291,9 +291,39 @@ fn broken_trees(rt: HostRuntime) -> Result<(), Fail> {
 }
 
 #[test]
+fn what_makes_no_node(rt: HostRuntime) -> Result<(), Fail> {
+    let alloc = rt.alloc();
+    let source =
+        "/* a */ public class Cell {\tint v;\r\n boolean repOk() { return (v > 0); } } // b";
+    let files = files_of(alloc, &[("fin.toml", FIN), ("Cell.java", source)], &[])?;
+    let mut out = output(alloc, 1024)?;
+    assert_eq!(rt; call(alloc, &LIST, files, &mut out)?, 0);
+    assert_eq!(rt; out.bytes(), LISTED.as_bytes());
+    Ok(())
+}
+
+#[test]
+fn given_words(rt: HostRuntime) -> Result<(), Fail> {
+    let alloc = rt.alloc();
+    for (words, status, text) in [
+        (Ok(words_of(alloc, &LIST)?), 0, LISTED),
+        (Ok(words_of(alloc, &["", "list"])?), 2, USAGE_FAULT),
+        (Err(NoWords::NotText), 2, USAGE_FAULT),
+        (Err(NoWords::Memory), 8, ""),
+    ] {
+        let mut files = cell(alloc)?;
+        let mut out = output(alloc, 1024)?;
+        let ended = start(&(), alloc, words, &mut files, &mut out, &OpenGate);
+        assert_eq!(rt; ended, status, "{text}");
+        assert_eq!(rt; out.bytes(), text.as_bytes());
+    }
+    Ok(())
+}
+
+#[test]
 fn failing_reads(rt: HostRuntime) -> Result<(), Fail> {
     let alloc = rt.alloc();
-    // Nothing is judged before both files are read.
+    // Nothing but a file's length is judged before both are read.
     for (failing, source, text) in [
         (1, CELL, "read fault fin.toml\n"),
         (2, CELL, "read fault Cell.java\n"),
@@ -363,9 +393,9 @@ fn long_files(rt: HostRuntime) -> Result<(), Fail> {
     let alloc = rt.alloc();
     for (fin, source, status, text) in [
         (LIMIT, LIMIT, 0, LISTED),
-        (LIMIT + 1, LIMIT, 4, "fin.toml: N0 form\n"),
+        (LIMIT + 1, LIMIT, 4, "fin.toml: F6 size\n"),
         (LIMIT, LIMIT + 1, 3, "Cell.java:1:1: B1\n"),
-        (LIMIT + 1, LIMIT + 1, 3, "Cell.java:1:1: B1\n"),
+        (LIMIT + 1, LIMIT + 1, 4, "fin.toml: F6 size\n"),
     ] {
         let fin = padded(alloc, FIN, fin)?;
         let source = padded(alloc, CELL, source)?;
