@@ -26,7 +26,7 @@ use Rattle.korat_top.specs.Answer.{Answer, rows_in, rows_of_mark, spent_key, spe
 use Rattle.korat_top.specs.OneFieldListing.{one_field_text, one_field_lines, range_lines, range_count, one_field_answer}
 
 -- the tree of a class
-abbrev tree_at : Places → OneField → Tree
+abbrev pub tree_at : Places → OneField → Tree
 tree_at at class = one_field_tree at class.class_name class.field_name class.test class.number
 
 -- the line of a row

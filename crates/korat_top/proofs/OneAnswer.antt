@@ -14,14 +14,16 @@ use Rattle.kr_parse.specs.declared.refusal.ParseRule.{ParseRule}
 use Rattle.kr_parse.specs.Rules.{rule_code as parse_code}
 use Rattle.kr_parse.specs.Refusals.{IsParsed, IsUnparsed, OneRefusal, ParsedUnbroken}
 use Rattle.kr_laws.specs.Laws.{OneTree}
+use Rattle.kr_fin.specs.declared.refusal.Fault.{Fault}
+use Rattle.kr_fin.specs.Order.{rule_code as fin_code}
 use Rattle.kr_mean.specs.OneField.{one_field_tree}
 use Rattle.korat_top.specs.OneField.{OneField, IsOneField}
 use Rattle.korat_top.specs.Finitization.{Finitization, IsFinitization}
 use Rattle.korat_top.specs.Texts.{usage_text}
 use Rattle.korat_top.specs.declared.refusal.InputFile.{InputFile}
 use Rattle.korat_top.specs.declared.refusal.InputFile.TheVariants as input
-use Rattle.korat_top.specs.Refusals.{Inputs, Refusal, at_place}
-use Rattle.korat_top.specs.Steps.{Held, Checked, and_then, each, made, reading, lexing, parsing, growing, forming, bounding, judging, checking}
+use Rattle.korat_top.specs.Refusals.{Inputs, Refusal, at_place, of_finitization}
+use Rattle.korat_top.specs.Steps.{Held, Checked, and_then, each, made, reading, lexing, parsing, growing, stating, forming, bounding, from_class, from_document, from_trees, from_texts, checking}
 use Rattle.korat_top.specs.Answer.{Answer, Command, IsAnswer, usage, refused, served, line_answer, inputs_of, refusal_answer, report_of}
 use Rattle.korat_top.specs.Ends.{OneAnswer}
 use Rattle.korat_top.proofs.Outcomes.{HasOne, one_then, one_each}
@@ -100,6 +102,15 @@ one_parsing laws tokens (Err r) (Err t) x y =
 one_growing : Laws → (n : ℕ) (bytes : List ℕ) → HasOne (growing n bytes)
 one_growing laws n bytes = one_then (lexing n bytes) parsing (one_lexing laws n bytes) (one_parsing laws)
 
+one_stating : (fin : List ℕ) → HasOne (stating fin)
+one_stating fin (Ok a) (Ok b) x y = let same = sym x ∙ y in cc (same)
+one_stating fin (Ok a) (Err t) x y = let differ = sym x ∙ y.1 in absurd (cc (differ))
+one_stating fin (Err r) (Ok b) x y = let differ = sym x.1 ∙ y in absurd (cc (differ))
+one_stating fin (Err r) (Err t) x y =
+    let same = sym x.1 ∙ y.1 in
+    let faults : x.0 ≡ y.0 = cc (same) in
+    ap Err (x.2 ∙ (ap (λ (f : Fault). of_finitization (fin_code f.rule) f.item) faults ∙ sym y.2))
+
 one_class : (tree : Tree) (c d : OneField) → IsOneField tree c → IsOneField tree d → c ≡ d
 one_class tree c d x y =
     let same : one_field_tree x.is_shaped.0 c.class_name c.field_name c.test c.number ≡ one_field_tree y.is_shaped.0 d.class_name d.field_name d.test d.number = sym x.is_shaped.1 ∙ y.is_shaped.1 in
@@ -142,18 +153,23 @@ one_made a (Ok b) (Ok c) x y = ap Ok (sym x ∙ y)
 one_made a (Ok b) (Err t) x y = absurd y
 one_made a (Err r) z x y = absurd x
 
-one_judging : Laws → (fin : List ℕ) (sources : List (List ℕ)) → HasOne (judging fin sources)
-one_judging laws fin sources =
-    one_then _ _ (one_each growing (one_growing laws) 0 sources) (λ trees.
-    one_then _ _ (one_forming trees) (λ class.
-    one_then _ _ (one_bounding fin class) (λ range.
-    one_made (record { trees = trees; class = class; range = range }))))
+one_from_class : (fin : List ℕ) (trees : List Tree) (class : OneField) → HasOne (from_class fin trees class)
+one_from_class fin trees class = one_then (bounding fin class) (λ range. made (record { trees = trees; class = class; range = range })) (one_bounding fin class) (λ range. one_made (record { trees = trees; class = class; range = range }))
+
+one_from_document : (fin : List ℕ) (trees : List Tree) → HasOne (from_document fin trees)
+one_from_document fin trees = one_then (forming trees) (λ class. from_class fin trees class) (one_forming trees) (λ class. one_from_class fin trees class)
+
+one_from_trees : (fin : List ℕ) (trees : List Tree) → HasOne (from_trees fin trees)
+one_from_trees fin trees = one_then (stating fin) (λ document. from_document fin trees) (one_stating fin) (λ document. one_from_document fin trees)
+
+one_from_texts : Laws → (fin : List ℕ) (sources : List (List ℕ)) → HasOne (from_texts fin sources)
+one_from_texts laws fin sources = one_then (each growing 0 sources) (λ trees. from_trees fin trees) (one_each growing (one_growing laws) 0 sources) (λ trees. one_from_trees fin trees)
 
 one_checking : Laws → (held : Held) (inputs : Inputs) → HasOne (checking held inputs)
 one_checking laws held inputs =
     one_then _ _ (one_reading held input.Finitization inputs.fin) (λ fin.
     one_then _ _ (one_each (λ n name. reading held (input.Source n) name) (λ n name. one_reading held (input.Source n) name) 0 inputs.sources) (λ sources.
-    one_judging laws fin sources))
+    one_from_texts laws fin sources))
 
 -- ---- one answer
 

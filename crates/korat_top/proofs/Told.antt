@@ -9,8 +9,7 @@ use Rattle.korat_top.specs.declared.refusal.Stop.{Stop}
 use Rattle.korat_top.specs.declared.refusal.Stop.TheVariants.{Read, Refused, Memory}
 use Rattle.korat_top.specs.declared.find.Found.{Found}
 use Rattle.korat_top.specs.Refusals.{Inputs, Refusal, too_long, name_of, refusal_of}
-use Rattle.korat_top.specs.Steps.{Held, LIMIT, Checked, each, reading, judging, checking, ReadsIn, Reads}
-use Rattle.korat_top.specs.Answer.{ListFiles, IsTold}
+use Rattle.korat_top.specs.Steps.{Held, LIMIT, Checked, each, reading, from_texts, checking, ReadsIn, Reads, AllTold}
 use Rattle.korat_top.specs.Found.{telling, telling_source, HasRead, HasReadAll, Judges, Finds}
 use Rattle.korat_top.proofs.Outcomes.{split_at, each_refused}
 
@@ -121,9 +120,6 @@ each_long held n (f ∷ names) r (inr h) told = inr (
 
 -- ---- all files of a command
 
-abbrev pub AllTold : Held → Inputs → Type 0
-AllTold held inputs = (file : List ℕ) → Reads held inputs file → IsSome (held file)
-
 -- the finitization is too long
 pub finitization_long : (held : Held) (inputs : Inputs) (r : Refusal) → telling held input.Finitization inputs.fin (Err r) → AllTold held inputs → checking held inputs (Err r)
 finitization_long held inputs r h told = inl (read_long held input.Finitization inputs.fin r h (told inputs.fin (inl refl)))
@@ -141,7 +137,7 @@ source_long held inputs fin r h s told = inr (
 
 -- what is judged of the files that were read
 pub judged : (held : Held) (inputs : Inputs) (fin : List ℕ) (texts : List (List ℕ)) (x : Result Checked Refusal) → telling held input.Finitization inputs.fin (Ok fin) → each (telling_source held) 0 inputs.sources (Ok texts)
-    → judging fin texts x → AllTold held inputs → checking held inputs x
+    → from_texts fin texts x → AllTold held inputs → checking held inputs x
 judged held inputs fin texts (Ok checked) h s j told = (
   fin,
   read_whole held input.Finitization inputs.fin fin h (told inputs.fin (inl refl)),
@@ -185,7 +181,7 @@ sources_stopped held faults last inputs files before after fin Memory f same cou
 -- all files were read, and judged
 pub judged_found : {F : Type 0} (held : F → Held) (faults : F → ℕ) (last : F → Option (List ℕ)) (inputs : Inputs) (files before after : F) (fin : List ℕ) (texts : List (List ℕ)) (r : Result Found Stop)
     → telling (held files) input.Finitization inputs.fin (Ok fin) → ((name : List ℕ) → held before name ≡ held files name) → each (telling_source (held before)) 0 inputs.sources (Ok texts)
-    → Judges (judging fin texts) r → Finds held faults last inputs files after r
+    → Judges (from_texts fin texts) r → Finds held faults last inputs files after r
 judged_found held faults last inputs files before after fin texts (Ok found) f same e j = (
   j.0,
   λ told. (j.1.0, judged (held files) inputs fin texts (Ok j.1.0) f (each_before (held files) (held before) 0 inputs.sources (Ok texts) same e) j.1.1 told, j.1.2),

@@ -1,7 +1,6 @@
 -- What a call answers over what its files hold: a status, the lines of rows, and the last line.
-use Rattle.std.specs.Prelude.{◌≡◌, ℕ, Bool, true, false, ◌&&◌, not, List, [], ◌∷◌, ◌++◌, length, take, map, filter, flat_map, Option, Some, None, Ok, Err, IsSome, codes, nat_lt, if◌then◌else◌}
+use Rattle.std.specs.Prelude.{◌≡◌, ℕ, Bool, true, false, ◌&&◌, List, [], ◌∷◌, ◌++◌, length, take, map, filter, flat_map, Option, Some, None, Ok, Err, nat_lt, nat_le, nat_eq, if◌then◌else◌}
 use Rattle.std.proofs.Common.{get_or}
-use Rattle.std.specs.Str.{bytes_eq}
 use Rattle.kr_base.specs.declared.span.Bound.{Bound}
 use Rattle.kr_base.specs.declared.span.Bound.TheVariants.{At, End}
 use Rattle.kr_base.specs.declared.entry.Mark.{Mark}
@@ -9,7 +8,8 @@ use Rattle.kr_base.specs.declared.entry.Mark.TheVariants.{Valid, Invalid, Spent}
 use Rattle.kr_base.specs.declared.entry.Entry.{Entry}
 use Rattle.kr_base.specs.Entries.{entries_in}
 use Rattle.kr_ast.specs.Tree.{Nil}
-use Rattle.kr_mean.specs.Problem.{Problem}
+use Rattle.kr_args.specs.Reading.{Task, Lists, Checks, Demos, Range, command_of}
+use Rattle.kr_mean.specs.Problem.{Problem, slots}
 use Rattle.kr_mean.specs.Entries.{all_entries}
 use Rattle.kr_mean.specs.OneField.{one_object}
 use Rattle.kr_mean.specs.declared.kind.Verdict.{Verdict}
@@ -18,9 +18,9 @@ use Rattle.kr_mean.specs.declared.mode.Mode.{Mode}
 use Rattle.kr_mean.specs.declared.mode.Mode.TheVariants.{List as Listing, Method as Testing}
 use Rattle.kr_mean.specs.declared.row.Row.{Row}
 use Rattle.korat_top.specs.Finitization.{values_of}
-use Rattle.korat_top.specs.Texts.{row_text, listed_text, tested_text, more_text, spent_text, usage_text}
+use Rattle.korat_top.specs.Texts.{row_text, listed_text, tested_text, more_text, spent_text, usage_text, checked_text}
 use Rattle.korat_top.specs.Refusals.{Inputs, Refusal, status_of_file, line_of}
-use Rattle.korat_top.specs.Steps.{Held, Checked, checking, Reads}
+use Rattle.korat_top.specs.Steps.{Held, Checked, checking, AllTold}
 
 pub record Answer : Type 0 where
   pub status : ℕ
@@ -103,37 +103,44 @@ listing_answer problem limit es =
 
 -- ---- commands
 
+-- a command that is served
 pub data Command : Type 0 where
+  -- `list FIN SOURCE..`
   ListFiles : Inputs → Command
+  -- `check FIN SOURCE..`
+  CheckFiles : Inputs → Command
 
 -- the files that a command names
 abbrev pub inputs_of : Command → Inputs
 inputs_of (ListFiles inputs) = inputs
+inputs_of (CheckFiles inputs) = inputs
 
--- begins with `-`
-abbrev pub is_option : List ℕ → Bool
-is_option [] = false
-is_option (c ∷ cs) = if nat_lt c 45 then false else (if nat_lt 45 c then false else true)
-
--- `list FIN SOURCE`
-abbrev pub command_of : List (List ℕ) → Option Command
-command_of (word ∷ fin ∷ source ∷ []) =
-    if bytes_eq word (codes "list") && (not (is_option fin) && not (is_option source)) then Some (ListFiles (record { fin = fin; sources = source ∷ [] })) else None
-command_of words = None
-
--- the span of keys that a command asks for, and how many rows: all, where it says nothing
-abbrev pub after_of : Command → List ℕ
-after_of (ListFiles inputs) = []
-
-abbrev pub upto_of : Command → Bound
-upto_of (ListFiles inputs) = End
+-- at most 16 sources
+abbrev pub is_few : Inputs → Bool
+is_few inputs = nat_le (length inputs.sources) 16
 
 -- the limit on rows where none is asked for
 abbrev pub NO_LIMIT : ℕ
 NO_LIMIT = 4294967295
 
-abbrev pub limit_of : Command → ℕ
-limit_of (ListFiles inputs) = NO_LIMIT
+abbrev pub is_end : Bound → Bool
+is_end (At cut) = false
+is_end End = true
+
+-- all keys, and no limit
+abbrev pub is_whole : Range → Bool
+is_whole range = nat_eq (length range.from) 0 && (is_end range.to && nat_eq range.limit NO_LIMIT)
+
+-- what is served of the commands that there are: parts of a listing and `demo` are not yet
+abbrev pub served_of : Option Task → Option Command
+served_of None = None
+served_of (Some (Lists inputs range)) = if is_few inputs && is_whole range then Some (ListFiles inputs) else None
+served_of (Some (Checks inputs)) = if is_few inputs then Some (CheckFiles inputs) else None
+served_of (Some (Demos n)) = None
+
+-- the command that words give
+abbrev pub asked_of : List (List ℕ) → Option Command
+asked_of words = served_of (command_of words)
 
 -- ---- the answer
 
@@ -146,8 +153,8 @@ refusal_answer inputs refusal = line_answer (status_of_file refusal.file) (line_
 
 -- what a command reports of files of which none is refused
 abbrev pub report_of : Command → Checked → Answer
-report_of command checked =
-    listing_answer (problem_of checked) (limit_of command) (entries_in (At (after_of command)) (upto_of command) (all_entries (problem_of checked)))
+report_of (ListFiles inputs) checked = listing_answer (problem_of checked) NO_LIMIT (entries_in (At []) End (all_entries (problem_of checked)))
+report_of (CheckFiles inputs) checked = line_answer 0 (checked_text (length (problem_of checked).program.classes) (length (slots (problem_of checked))))
 
 -- The answer to a command, or to words that give none, over what the files hold: the first refusal, in the order of the
 -- steps; else the report.
@@ -159,4 +166,4 @@ pub data IsAnswer (held : Held) : Option Command → Answer → Type 0 where
 -- the bytes of all files that the command reads are told
 abbrev pub IsTold : Held → Option Command → Type 0
 IsTold held None = Unit {0}
-IsTold held (Some command) = (file : List ℕ) → Reads held (inputs_of command) file → IsSome (held file)
+IsTold held (Some command) = AllTold held (inputs_of command)

@@ -5,8 +5,7 @@ use Rattle.kr_base.specs.Causes.{Rose}
 use Rattle.korat_top.specs.OneField.{one_field_of}
 use Rattle.korat_top.specs.Finitization.{finitization_of, IsWithinLimits}
 use Rattle.korat_top.specs.Refusals.{Inputs, Refusal, too_long, name_of, refusal_of}
-use Rattle.korat_top.specs.Steps.{Held, LIMIT, Checked, each, checking, ReadsIn, Reads}
-use Rattle.korat_top.specs.Answer.{ListFiles, IsTold}
+use Rattle.korat_top.specs.Steps.{Held, LIMIT, Checked, each, checking, ReadsIn, Reads, AllTold}
 use Rattle.korat_top.specs.declared.refusal.InputFile.{InputFile}
 use Rattle.korat_top.specs.declared.refusal.InputFile.TheVariants as input
 use Rattle.korat_top.specs.declared.refusal.Stop.{Stop}
@@ -92,7 +91,7 @@ pub record FailsToRead {F : Type 0} (held : F → Held) (faults : F → ℕ) (la
 
 -- what the steps say of what the files hold, where it is told; or a read fault; or want of memory, which is free
 abbrev pub Finds : {F : Type 0} → (F → Held) → (F → ℕ) → (F → Option (List ℕ)) → Inputs → F → F → Result Found Stop → Type 0
-Finds held faults last inputs files files' (Ok f) = IsLimited f × (IsTold (held files) (Some (ListFiles inputs)) → (checked : Checked) × checking (held files) inputs (Ok checked) × IsFound checked f)
-Finds held faults last inputs files files' (Err (Refused r)) = IsTold (held files) (Some (ListFiles inputs)) → checking (held files) inputs (Err (refusal_of r))
+Finds held faults last inputs files files' (Ok f) = IsLimited f × (AllTold (held files) inputs → (checked : Checked) × checking (held files) inputs (Ok checked) × IsFound checked f)
+Finds held faults last inputs files files' (Err (Refused r)) = AllTold (held files) inputs → checking (held files) inputs (Err (refusal_of r))
 Finds held faults last inputs files files' (Err (Read failed)) = FailsToRead held faults last inputs files files' failed
 Finds held faults last inputs files files' (Err Memory) = Unit {0}

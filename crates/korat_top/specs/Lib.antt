@@ -10,6 +10,7 @@ pub mod Answer
 pub mod Ends
 pub mod Starts
 pub mod OneFieldListing
+pub mod Orders
 pub mod Found
 pub mod Listed
 pub mod Examples

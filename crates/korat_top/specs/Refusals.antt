@@ -1,15 +1,15 @@
 -- What a file of a call is refused with.
 use Rattle.std.specs.Prelude.{ℕ, List, [], Option, Some, None, codes, string_bytes, slice_index_or}
 use Rattle.kr_base.specs.declared.place.Place.{Place}
+use Rattle.kr_args.specs.Reading.{Files}
 use Rattle.kr_text.specs.Texts.{refusal_text}
 use Rattle.korat_top.specs.declared.refusal.InputFile.{InputFile}
 use Rattle.korat_top.specs.declared.refusal.InputFile.TheVariants as input
 use Rattle.korat_top.specs.declared.refusal.Refusal.{Refusal as OwnRefusal}
 
 -- the files that a command names: the finitization, and the sources in order
-pub record Inputs : Type 0 where
-  pub fin : List ℕ
-  pub sources : List (List ℕ)
+abbrev pub Inputs : Type 0
+Inputs = Files
 
 -- A file breaks a rule, which has a code; where in it, if there is a place; of what item, if that isn't empty.
 pub record Refusal : Type 0 where

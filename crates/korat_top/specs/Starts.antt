@@ -8,7 +8,7 @@ use Rattle.std.specs.declared.vec.IntoIter.{IntoIter}
 use Rattle.std.specs.IoError.{error_kind}
 use Rattle.std.specs.Vec.Iter.{into_iter_items}
 use Rattle.korat_top.specs.Steps.{Held}
-use Rattle.korat_top.specs.Answer.{Command, command_of}
+use Rattle.korat_top.specs.Answer.{Command, asked_of}
 use Rattle.korat_top.specs.Ends.{EndsFor, IsComplete}
 use Rattle.korat_top.specs.declared.given.NoWords.{NoWords}
 use Rattle.korat_top.specs.declared.given.NoWords.TheVariants.{NotText, Memory}
@@ -42,6 +42,6 @@ pub record EndsUnread {F K : Type 0} (files files' : F) (out out' : K) (status :
 
 -- Words are served. Words of which one isn't text give no command.
 abbrev pub Starts : {F K : Type 0} → (F → Held) → (F → ℕ) → (F → Option (List ℕ)) → (K → Option (List ℕ)) → (K → ℕ) → Result (List (List ℕ)) NoWords → F → F → K → K → ℕ → Type 0
-Starts held read_faults last taken faults (Ok words) files files' out out' status = Serves held read_faults last taken faults (command_of words) files files' out out' status
+Starts held read_faults last taken faults (Ok words) files files' out out' status = Serves held read_faults last taken faults (asked_of words) files files' out out' status
 Starts held read_faults last taken faults (Err NotText) files files' out out' status = Serves held read_faults last taken faults None files files' out out' status
 Starts held read_faults last taken faults (Err Memory) files files' out out' status = EndsUnread files files' out out' status

@@ -1,5 +1,5 @@
 -- The steps that the files of a command go through, in their order. The first that refuses a file decides.
-use Rattle.std.specs.Prelude.{◌≡◌, ℕ, ◌+◌, ◌<◌, ◌≤◌, ◌⊎◌, List, [], ◌∷◌, length, Option, Some, Result, Ok, Err, IfSome, codes}
+use Rattle.std.specs.Prelude.{◌≡◌, ℕ, ◌+◌, ◌<◌, ◌≤◌, ◌⊎◌, List, [], ◌∷◌, length, Option, Some, Result, Ok, Err, IfSome, IsSome, codes}
 use Rattle.kr_base.specs.declared.place.Place.{Place}
 use Rattle.kr_lex.specs.declared.refusal.LexRule.{LexRule}
 use Rattle.kr_lex.specs.Lexemes.{Lexemes}
@@ -10,6 +10,10 @@ use Rattle.kr_ast.specs.Tree.{Tree}
 use Rattle.kr_parse.specs.declared.refusal.ParseRule.{ParseRule}
 use Rattle.kr_parse.specs.Rules.{rule_code as parse_code}
 use Rattle.kr_parse.specs.Refusals.{IsParsed, IsUnparsed}
+use Rattle.kr_fin.specs.declared.document.FinDoc.{FinDoc}
+use Rattle.kr_fin.specs.declared.refusal.Fault.{Fault}
+use Rattle.kr_fin.specs.Order.{rule_code as fin_code}
+use Rattle.kr_fin.specs.Meaning.{meaning}
 use Rattle.korat_top.specs.declared.refusal.InputFile.{InputFile}
 use Rattle.korat_top.specs.declared.refusal.InputFile.TheVariants as input
 use Rattle.korat_top.specs.OneField.{OneField, IsOneField}
@@ -66,6 +70,11 @@ parsing tokens (Err r) = (place : Place) × (rule : ParseRule) × IsUnparsed tok
 abbrev pub growing : ℕ → List ℕ → Result Tree Refusal → Type 0
 growing n bytes = and_then (lexing n bytes) parsing
 
+-- the document that the finitization is
+abbrev pub stating : List ℕ → Result FinDoc Refusal → Type 0
+stating fin (Ok document) = meaning fin ≡ Ok document
+stating fin (Err r) = (fault : Fault) × (meaning fin ≡ Err fault) × (r ≡ of_finitization (fin_code fault.rule) fault.item)
+
 -- the one class of the form that the sources are
 abbrev pub forming : List Tree → Result OneField Refusal → Type 0
 forming trees (Ok class) = (tree : Tree) × (trees ≡ tree ∷ []) × IsOneField tree class
@@ -82,20 +91,26 @@ pub record Checked : Type 0 where
   pub class : OneField
   pub range : Finitization
 
--- what is read is judged
-abbrev pub judging : List ℕ → List (List ℕ) → Result Checked Refusal → Type 0
-judging fin sources =
-    and_then (each growing 0 sources) (λ trees.
-    and_then (forming trees) (λ class.
-    and_then (bounding fin class) (λ range.
-    made (record { trees = trees; class = class; range = range }))))
+-- ---- Their order, from the last one on: each goes on over what those before it make
+
+abbrev pub from_class : List ℕ → List Tree → OneField → Result Checked Refusal → Type 0
+from_class fin trees class = and_then (bounding fin class) (λ range. made (record { trees = trees; class = class; range = range }))
+
+abbrev pub from_document : List ℕ → List Tree → Result Checked Refusal → Type 0
+from_document fin trees = and_then (forming trees) (λ class. from_class fin trees class)
+
+abbrev pub from_trees : List ℕ → List Tree → Result Checked Refusal → Type 0
+from_trees fin trees = and_then (stating fin) (λ document. from_document fin trees)
+
+abbrev pub from_texts : List ℕ → List (List ℕ) → Result Checked Refusal → Type 0
+from_texts fin sources = and_then (each growing 0 sources) (λ trees. from_trees fin trees)
 
 -- all steps, the finitization read first
 abbrev pub checking : Held → Inputs → Result Checked Refusal → Type 0
 checking held inputs =
     and_then (reading held input.Finitization inputs.fin) (λ fin.
     and_then (each (λ n name. reading held (input.Source n) name) 0 inputs.sources) (λ sources.
-    judging fin sources))
+    from_texts fin sources))
 
 -- ---- Which files are read
 
@@ -104,6 +119,10 @@ abbrev pub ReadsIn : Held → List (List ℕ) → List ℕ → Type 0
 ReadsIn held [] file = ⊥
 ReadsIn held (name ∷ names) file = (name ≡ file) ⊎ (IfSome (held name) (λ bytes. length bytes ≤ LIMIT) × ReadsIn held names file)
 
--- the file is one that the command reads: no step before it is broken
+-- the file is one that the command reads: no step before its read is broken
 abbrev pub Reads : Held → Inputs → List ℕ → Type 0
 Reads held inputs file = ReadsIn held (inputs.fin ∷ inputs.sources) file
+
+-- the bytes of all files that the command reads are told
+abbrev pub AllTold : Held → Inputs → Type 0
+AllTold held inputs = (file : List ℕ) → Reads held inputs file → IsSome (held file)

@@ -4,7 +4,7 @@ ghost use Rattle.kr_ast.specs.Arena.{root};
 ghost use Rattle.korat_top.specs.OneField.{one_field_of};
 ghost use Rattle.korat_top.specs.Finitization.{finitization_of};
 ghost use Rattle.korat_top.specs.Refusals.{refusal_of, too_long as too_long_of, source_start as start_of};
-ghost use Rattle.korat_top.specs.Steps.{LIMIT, lexing, parsing, growing, forming, bounding, judging, each};
+ghost use Rattle.korat_top.specs.Steps.{LIMIT, lexing, parsing, growing, stating, forming, bounding, from_texts, from_trees, from_document, each};
 ghost use Rattle.korat_top.specs.Found.{HasRead, HasReadAll, IsLater, Meets, Judges, Finds, CountStays};
 
 use crate::MAX_FILE_BYTES;
@@ -14,6 +14,7 @@ use crate::refusal::{InputFile, Refusal, Stop};
 use crate::sources::Texts;
 use kr_ast::Tree;
 use kr_base::{NoMemory, Place, Words};
+use kr_fin::{FinDoc, FinRefusal, read_fin};
 use kr_io::{Files, ReadRefusal};
 use kr_lex::{LexRefusal, Tokens, lex};
 use kr_parse::{ParseRefusal, parse};
@@ -173,18 +174,47 @@ fn range_of(alloc: Global, fin: &[u8], class: &OneField) -> Result<Finitization,
     }
 }
 
-/// Judges what was read.
-fn judge(alloc: Global, fin: &[u8], texts: &Texts) -> Result<Found, Stop>
-    requires few { length texts.now ≤ 16 }
-    requires short { All (λ text. length text ≤ LIMIT) texts.now }
-    ensures { Judges (judging fin.now texts.now) result }
+/// The document that the finitization is.
+fn document_of(alloc: Global, fin: &[u8]) -> Result<FinDoc, Stop>
+    ensures { Meets (stating fin.now) (λ document. document) result }
 {
-    let trees = trees_of(alloc, texts)?;
-    let class = class_of(alloc, &trees)?;
+    match read_fin(alloc, fin) {
+        Ok(document) => Ok(document),
+        Err(FinRefusal::Broken(fault)) => {
+            let item = String::from_str(alloc, fault.item.as_str())?;
+            Err(Stop::Refused(Refusal::of_finitization(fault.rule.code(), item)))
+        }
+        Err(FinRefusal::NoMemory) => Err(Stop::Memory),
+    }
+}
+
+// The steps behind each other: what is judged from one of them on.
+
+fn judge_document(alloc: Global, fin: &[u8], trees: &[Tree]) -> Result<Found, Stop>
+    ensures { Judges (from_document fin.now (map root trees.now)) result }
+{
+    let class = class_of(alloc, trees)?;
     match range_of(alloc, fin, &class) {
         Ok(range) => Ok(Found { class, range }),
         Err(stop) => Err(stop),
     }
+}
+
+fn judge_trees(alloc: Global, fin: &[u8], trees: &[Tree]) -> Result<Found, Stop>
+    ensures { Judges (from_trees fin.now (map root trees.now)) result }
+{
+    let _document = document_of(alloc, fin)?;
+    judge_document(alloc, fin, trees)
+}
+
+/// Judges what was read.
+fn judge(alloc: Global, fin: &[u8], texts: &Texts) -> Result<Found, Stop>
+    requires few { length texts.now ≤ 16 }
+    requires short { All (λ text. length text ≤ LIMIT) texts.now }
+    ensures { Judges (from_texts fin.now texts.now) result }
+{
+    let trees = trees_of(alloc, texts)?;
+    judge_trees(alloc, fin, &trees)
 }
 
 /// Reads the files of a command, the finitization first, and judges them.

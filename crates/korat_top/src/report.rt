@@ -1,7 +1,7 @@
 // The lines of a call, but for rows.
 ghost use Rattle.std.specs.Prelude.{◌≡◌};
 ghost use Rattle.kr_base.specs.Told.{Writes};
-ghost use Rattle.korat_top.specs.Texts.{listed_text, read_fault_text, memory_text, usage_text};
+ghost use Rattle.korat_top.specs.Texts.{listed_text, checked_text, read_fault_text, memory_text, usage_text};
 ghost use Rattle.korat_top.specs.Refusals.{name_of as name_in, line_of, status_of_file, refusal_of};
 
 use crate::refusal::{InputFile, Refusal};
@@ -18,6 +18,17 @@ pub(crate) fn put_listed<K: Sink>(valid: u64, tried: u64, out: &mut K) -> Result
     let valid = first.format(valid).as_bytes();
     let tried = second.format(tried).as_bytes();
     put_pieces(out, &[b"valid ", valid, b" tried ", tried, b"\n"])
+}
+
+/// `ok classes C slots S`
+pub(crate) fn put_checked<K: Sink>(classes: u64, slots: u64, out: &mut K) -> Result<(), Failed>
+    ensures { Writes K.taken K.faults out.old out.new (checked_text classes slots) result }
+{
+    let mut first = Buffer::new();
+    let mut second = Buffer::new();
+    let classes = first.format(classes).as_bytes();
+    let slots = second.format(slots).as_bytes();
+    put_pieces(out, &[b"ok classes ", classes, b" slots ", slots, b"\n"])
 }
 
 /// A file's name, as the words give it.

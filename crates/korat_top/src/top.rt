@@ -1,20 +1,21 @@
 // The call.
-ghost use Rattle.std.specs.Prelude.{◌≡◌, ◌≤◌, ◌≤ℤ◌, ◌-ℤ◌, ◌<ℤ◌, pos, None, Some, is_ok, if◌then◌else◌, length, slice_index_or, [], ◌∷◌};
-ghost use Rattle.korat_top.specs.Answer.{ListFiles, command_of};
+ghost use Rattle.std.specs.Prelude.{◌≡◌, ◌≤◌, ◌≤ℤ◌, ◌-ℤ◌, ◌<ℤ◌, pos, Some, is_ok, if◌then◌else◌, length};
+ghost use Rattle.korat_top.specs.Answer.{asked_of};
 ghost use Rattle.korat_top.specs.OneFieldListing.{one_field_answer};
+ghost use Rattle.korat_top.specs.Orders.{command_for, command_in, report_for};
 ghost use Rattle.korat_top.specs.Ends.{EndsFor, IsComplete};
 ghost use Rattle.korat_top.specs.OneField.{one_field_of};
 ghost use Rattle.korat_top.specs.Finitization.{finitization_of};
 ghost use Rattle.korat_top.specs.Listed.{EndsListing};
 
-use crate::command::{is_listing, sources_of};
-use crate::find::find;
+use crate::command::{Order, Purpose, order_of};
+use crate::find::{Found, find};
 use crate::finitization::Finitization;
 use crate::listing::{Halt, count, put_range};
 use crate::one_field::OneField;
 use crate::refusal::Stop;
 use crate::report::{
-    name_of, put_listed, put_out_of_memory, put_read_fault, put_refused, put_usage_fault, status_of,
+    name_of, put_checked, put_listed, put_out_of_memory, put_read_fault, put_refused, put_usage_fault, status_of,
 };
 use kr_base::{Failed, NoMemory, Sink, Words};
 use kr_io::{Files, Gate};
@@ -41,26 +42,37 @@ fn list_range<K: Sink>(alloc: Global, class: &OneField, range: Finitization, out
     }
 }
 
-/// Serves `list FIN SOURCE..`.
+/// Reports of a class of one field.
+fn report<K: Sink>(alloc: Global, purpose: Purpose, found: &Found, out: &mut K) -> u8
+    requires order { found.now.range.from ≤ℤ found.now.range.to }
+    requires few { (found.now.range.to -ℤ found.now.range.from) <ℤ pos 65536 }
+    ensures { EndsListing K.taken K.faults (report_for purpose (one_field_of found.now.class) (finitization_of found.now.range)) out.old out.new result }
+{
+    match purpose {
+        Purpose::List => list_range(alloc, &found.class, found.range, out),
+        Purpose::Check => once_written(put_checked(1, 2, out), 0),
+    }
+}
+
+/// Serves a command over the files that it names.
 fn serve<F: Files, K: Sink>(
     alloc: Global,
+    purpose: Purpose,
     fin: &str,
     sources: &Words,
     files: &mut F,
     out: &mut K,
 ) -> u8
     requires { length sources.now ≤ 16 }
-    ensures { EndsFor F.held F.faults F.last K.taken K.faults (Some (ListFiles (record { fin = fin.now; sources = sources.now }))) files.old files.new out.old out.new result }
+    ensures { EndsFor F.held F.faults F.last K.taken K.faults (Some (command_for purpose (record { fin = fin.now; sources = sources.now }))) files.old files.new out.old out.new result }
 {
     one_field_law();
     match find(alloc, fin, sources, files) {
-        Ok(found) => list_range(alloc, &found.class, found.range, out),
-        Err(Stop::Refused(refusal)) => {
-            once_written(
-                put_refused(fin, sources, &refusal, out),
-                status_of(refusal.file),
-            )
-        }
+        Ok(found) => report(alloc, purpose, &found, out),
+        Err(Stop::Refused(refusal)) => once_written(
+            put_refused(fin, sources, &refusal, out),
+            status_of(refusal.file),
+        ),
         Err(Stop::Read(file)) => {
             once_written(put_read_fault(name_of(fin, sources, file), out), 6)
         }
@@ -68,15 +80,24 @@ fn serve<F: Files, K: Sink>(
     }
 }
 
-/// Serves the words of `list FIN SOURCE`.
-fn list<F: Files, K: Sink>(alloc: Global, words: &Words, files: &mut F, out: &mut K) -> u8
-    requires { length words.now ≡ 3 }
-    ensures { EndsFor F.held F.faults F.last K.taken K.faults (Some (ListFiles (record { fin = slice_index_or words.now 1 []; sources = slice_index_or words.now 2 [] ∷ [] }))) files.old files.new out.old out.new result }
+/// Serves an order.
+fn serve_order<F: Files, K: Sink>(
+    alloc: Global,
+    order: &Order,
+    files: &mut F,
+    out: &mut K,
+) -> u8
+    requires { length order.now.sources ≤ 16 }
+    ensures { EndsFor F.held F.faults F.last K.taken K.faults (Some (command_in order.now)) files.old files.new out.old out.new result }
 {
-    match sources_of(alloc, words) {
-        Ok(sources) => serve(alloc, words.get(1), &sources, files, out),
-        Err(NoMemory) => once_written(put_out_of_memory(out), 8),
-    }
+    serve(
+        alloc,
+        order.purpose,
+        order.fin.as_str(),
+        &order.sources,
+        files,
+        out,
+    )
 }
 
 /// All that the program does: it serves the words, which are without the program's own name, and answers the status to
@@ -89,12 +110,12 @@ pub fn run<R, F: Files, K: Sink, G: Gate + Sync>(
     out: &mut K,
     _gate: &G,
 ) -> u8
-    ensures headline { EndsFor F.held F.faults F.last K.taken K.faults (command_of words.now) files.old files.new out.old out.new result }
-    ensures complete { IsComplete F.held F.faults K.taken K.faults (command_of words.now) files.old files.new out.old out.new result }
+    ensures headline { EndsFor F.held F.faults F.last K.taken K.faults (asked_of words.now) files.old files.new out.old out.new result }
+    ensures complete { IsComplete F.held F.faults K.taken K.faults (asked_of words.now) files.old files.new out.old out.new result }
 {
-    if is_listing(words) {
-        list(alloc, words, files, out)
-    } else {
-        once_written(put_usage_fault(out), 2)
+    match order_of(alloc, words) {
+        Ok(Some(order)) => serve_order(alloc, &order, files, out),
+        Ok(None) => once_written(put_usage_fault(out), 2),
+        Err(NoMemory) => once_written(put_out_of_memory(out), 8),
     }
 }
