@@ -21,6 +21,8 @@ const LIST: [&str; 3] = ["list", "fin.toml", "Cell.java"];
 
 const LISTED: &str = "0.1 Cell#0{v=1}\n0.2 Cell#0{v=2}\nvalid 2 tried 3\n";
 
+const CHECKED: &str = "ok classes 1 slots 2\n";
+
 const USAGE_FAULT: &str = "usage fault\n";
 
 /// The longest file that is taken.
@@ -174,7 +176,7 @@ fn listings(rt: HostRuntime) -> Result<(), Fail> {
 #[test]
 fn words(rt: HostRuntime) -> Result<(), Fail> {
     let alloc = rt.alloc();
-    let table: [(&[&str], u8, &str); 17] = [
+    let table: [(&[&str], u8, &str); 23] = [
         (&["list", "fin.toml", "Cell.java"], 0, LISTED),
         (
             &["list", "five.toml", "Cell.java"],
@@ -199,15 +201,34 @@ fn words(rt: HostRuntime) -> Result<(), Fail> {
         (&[], 2, USAGE_FAULT),
         (&["list"], 2, USAGE_FAULT),
         (&["list", "fin.toml"], 2, USAGE_FAULT),
+        (&["check", "fin.toml", "Cell.java"], 0, CHECKED),
+        (&["check", "fin.toml", "P.java"], 3, "P.java:1:1: N0\n"),
+        (&["check", "fin.toml"], 2, USAGE_FAULT),
         (
-            &["list", "fin.toml", "Cell.java", "Cell.java"],
+            &["check", "fin.toml", "Cell.java", "--limit", "1"],
+            2,
+            USAGE_FAULT,
+        ),
+        (
+            &["list", "--limit", "4294967295", "fin.toml", "Cell.java"],
+            0,
+            LISTED,
+        ),
+        (
+            &["list", "fin.toml", "Cell.java", "--limit", "0"],
+            2,
+            USAGE_FAULT,
+        ),
+        (
+            &["list", "fin.toml", "Cell.java", "--from", "0.1"],
             2,
             USAGE_FAULT,
         ),
         (&["test", "fin.toml", "Cell.java"], 2, USAGE_FAULT),
+        (&["demo", "3"], 2, USAGE_FAULT),
         (&["list", "-x", "Cell.java"], 2, USAGE_FAULT),
         (&["list", "fin.toml", "-x"], 2, USAGE_FAULT),
-        (&["list", "fin.toml", "-"], 2, USAGE_FAULT),
+        (&["list", "fin.toml", "-"], 6, "read fault -\n"),
     ];
     for (words, status, text) in table {
         let files = files_of(
@@ -286,6 +307,75 @@ fn broken_trees(rt: HostRuntime) -> Result<(), Fail> {
             assert_eq!(rt; call(alloc, &words, files, &mut out)?, 3, "{text}");
             assert_eq!(rt; out.bytes(), text.as_bytes());
         }
+    }
+    Ok(())
+}
+
+/// What a call with these sources writes, in order, and its status.
+fn called(alloc: Global, sources: &[&str], files: &[(&str, &str)]) -> Result<(u8, MemSink), NoMemory> {
+    let mut words = Words::new(alloc);
+    words.push("list")?;
+    words.push("fin.toml")?;
+    for source in sources {
+        words.push(source)?;
+    }
+    let mut files = files_of(alloc, files, &[])?;
+    let mut out = output(alloc, 1024)?;
+    let status = run(&(), alloc, &words, &mut files, &mut out, &OpenGate);
+    Ok((status, out))
+}
+
+#[test]
+fn several_sources(rt: HostRuntime) -> Result<(), Fail> {
+    let alloc = rt.alloc();
+    let long = padded(alloc, CELL, LIMIT + 1)?;
+    let files = [
+        ("fin.toml", FIN),
+        ("A.java", "class A { }"),
+        ("L.java", "class L {\n #"),
+        ("P.java", "class P { int int v; }"),
+        ("Long.java", &long),
+    ];
+    let table: [(&[&str], u8, &str); 8] = [
+        (&["A.java", "L.java"], 3, "L.java:2:2: L2\n"),
+        (&["A.java", "A.java", "P.java"], 3, "P.java:1:15: P1\n"),
+        // Each file's tokens and tree, before the next file's tokens.
+        (&["P.java", "L.java"], 3, "P.java:1:15: P1\n"),
+        // Each file's length where it is read, before anything else.
+        (&["L.java", "Long.java", "P.java"], 3, "Long.java:1:1: B1\n"),
+        (&["Long.java", "none.java"], 3, "Long.java:1:1: B1\n"),
+        (&["L.java", "none.java"], 6, "read fault none.java\n"),
+        (&["none.java", "Long.java"], 6, "read fault none.java\n"),
+        (&["A.java", "A.java"], 3, "A.java:1:1: N0\n"),
+    ];
+    for (sources, status, text) in table {
+        let (ended, out) = called(alloc, sources, &files)?;
+        assert_eq!(rt; ended, status, "{text}");
+        assert_eq!(rt; out.bytes(), text.as_bytes());
+    }
+    Ok(())
+}
+
+#[test]
+fn broken_finitizations(rt: HostRuntime) -> Result<(), Fail> {
+    let alloc = rt.alloc();
+    for (fin, text) in [
+        ("root =", "fin.toml: F1 toml\n"),
+        ("root = 'Cell'\nfuel = 6\nmode = 1\n", "fin.toml: F2 mode\n"),
+        ("root = 'Cell'\nfuel = '6'\n", "fin.toml: F3 fuel\n"),
+        ("root = 'Cell'\nfuel = 0\n", "fin.toml: F4 fuel\n"),
+        ("root = 'Cell'\n", "fin.toml: F5 fuel\n"),
+    ] {
+        // Behind all rules of the source, and before its form.
+        for source in [CELL, TWO_FIELDS] {
+            let files = [("fin.toml", fin), ("X.java", source)];
+            let (ended, out) = called(alloc, &["X.java"], &files)?;
+            assert_eq!(rt; ended, 4, "{text}");
+            assert_eq!(rt; out.bytes(), text.as_bytes());
+        }
+        let files = [("fin.toml", fin), ("X.java", "class X { #")];
+        let (ended, _) = called(alloc, &["X.java"], &files)?;
+        assert_eq!(rt; ended, 3, "{text}");
     }
     Ok(())
 }
