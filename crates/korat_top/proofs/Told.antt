@@ -9,9 +9,9 @@ use Rattle.korat_top.specs.declared.refusal.Stop.{Stop}
 use Rattle.korat_top.specs.declared.refusal.Stop.TheVariants.{Read, Refused, Memory}
 use Rattle.korat_top.specs.declared.find.Found.{Found}
 use Rattle.korat_top.specs.Refusals.{Inputs, Refusal, too_long, name_of, refusal_of}
-use Rattle.korat_top.specs.Steps.{Held, LIMIT, Checked, each, reading, from_texts, checking, ReadsIn, Reads, AllTold}
+use Rattle.korat_top.specs.Steps.{Held, LIMIT, Checked, and_then, each, reading, from_texts, checking, ReadsIn, Reads, AllTold}
 use Rattle.korat_top.specs.Found.{telling, telling_source, HasRead, HasReadAll, Judges, Finds}
-use Rattle.korat_top.proofs.Outcomes.{split_at, each_refused}
+use Rattle.korat_top.proofs.Outcomes.{split_at, each_refused, stops_next}
 
 -- ---- one read, of at most one byte more than is taken
 
@@ -177,6 +177,11 @@ sources_stopped held faults last inputs files before after fin (Read failed) f s
   cause = subst (λ n. Rose n (faults after)) count h.cause;
 }
 sources_stopped held faults last inputs files before after fin Memory f same count h = tt
+
+-- what is judged behind a step
+pub judges_next : {A : Type 0} (first : Result A Refusal → Type 0) (next : A → Result Checked Refusal → Type 0) (a : A) (r : Result Found Stop) → first (Ok a) → Judges (next a) r → Judges (and_then first next) r
+judges_next first next a (Ok found) h j = (j.0, (j.1.0, (a, h, j.1.1), j.1.2))
+judges_next first next a (Err stop) h j = stops_next first next a stop h j
 
 -- all files were read, and judged
 pub judged_found : {F : Type 0} (held : F → Held) (faults : F → ℕ) (last : F → Option (List ℕ)) (inputs : Inputs) (files before after : F) (fin : List ℕ) (texts : List (List ℕ)) (r : Result Found Stop)

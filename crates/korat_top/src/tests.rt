@@ -312,7 +312,11 @@ fn broken_trees(rt: HostRuntime) -> Result<(), Fail> {
 }
 
 /// What a call with these sources writes, in order, and its status.
-fn called(alloc: Global, sources: &[&str], files: &[(&str, &str)]) -> Result<(u8, MemSink), NoMemory> {
+fn called(
+    alloc: Global,
+    sources: &[&str],
+    files: &[(&str, &str)],
+) -> Result<(u8, MemSink), NoMemory> {
     let mut words = Words::new(alloc);
     words.push("list")?;
     words.push("fin.toml")?;

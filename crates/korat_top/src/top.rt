@@ -15,7 +15,8 @@ use crate::listing::{Halt, count, put_range};
 use crate::one_field::OneField;
 use crate::refusal::Stop;
 use crate::report::{
-    name_of, put_checked, put_listed, put_out_of_memory, put_read_fault, put_refused, put_usage_fault, status_of,
+    name_of, put_checked, put_listed, put_out_of_memory, put_read_fault, put_refused,
+    put_usage_fault, status_of,
 };
 use kr_base::{Failed, NoMemory, Sink, Words};
 use kr_io::{Files, Gate};
@@ -23,7 +24,7 @@ use kr_mean::one_field_law;
 use std::alloc::Global;
 
 /// A status once its text is written, or that of a write fault.
-fn once_written(written: Result<(), Failed>, status: u8) -> u8
+pub(crate) fn once_written(written: Result<(), Failed>, status: u8) -> u8
     ensures { result ≡ (if is_ok written then status else 7) }
 {
     if written.is_ok() { status } else { 7 }
@@ -81,12 +82,7 @@ fn serve<F: Files, K: Sink>(
 }
 
 /// Serves an order.
-fn serve_order<F: Files, K: Sink>(
-    alloc: Global,
-    order: &Order,
-    files: &mut F,
-    out: &mut K,
-) -> u8
+fn serve_order<F: Files, K: Sink>(alloc: Global, order: &Order, files: &mut F, out: &mut K) -> u8
     requires { length order.now.sources ≤ 16 }
     ensures { EndsFor F.held F.faults F.last K.taken K.faults (Some (command_in order.now)) files.old files.new out.old out.new result }
 {
