@@ -1,5 +1,5 @@
 -- What the program does with what it was given for words.
-use Rattle.std.specs.Prelude.{◌≡◌, ℕ, List, [], Option, None, Result, Ok, Err, drop, map, string_bytes}
+use Rattle.std.specs.Prelude.{◌≡◌, ℕ, List, [], Option, Result, Ok, Err, drop, map, string_bytes}
 use Rattle.std.specs.declared.alloc.Global.{Global}
 use Rattle.std.specs.declared.io.Error.{Error}
 use Rattle.std.specs.declared.io.ErrorKind.TheVariants.{OutOfMemory}
@@ -40,8 +40,8 @@ pub record EndsUnread {F K : Type 0} (files files' : F) (out out' : K) (status :
   pub unread : files' ≡ files
   pub unwritten : out' ≡ out
 
--- Words are served. Words of which one isn't text give no command.
+-- Words are served. Words of which one isn't text are served as none, which are no command.
 abbrev pub Starts : {F K : Type 0} → (F → Held) → (F → ℕ) → (F → Option (List ℕ)) → (K → Option (List ℕ)) → (K → ℕ) → Result (List (List ℕ)) NoWords → F → F → K → K → ℕ → Type 0
 Starts held read_faults last taken faults (Ok words) files files' out out' status = Serves held read_faults last taken faults (asked_of words) files files' out out' status
-Starts held read_faults last taken faults (Err NotText) files files' out out' status = Serves held read_faults last taken faults None files files' out out' status
+Starts held read_faults last taken faults (Err NotText) files files' out out' status = Serves held read_faults last taken faults (asked_of []) files files' out out' status
 Starts held read_faults last taken faults (Err Memory) files files' out out' status = EndsUnread files files' out out' status

@@ -2,8 +2,7 @@
 ghost use Rattle.std.specs.Prelude.{IfOk, IfErr};
 ghost use Rattle.korat_top.specs.Starts.{IsGiven, WhyNone, Starts};
 
-use crate::report::put_usage_fault;
-use crate::top::{once_written, run};
+use crate::top::run;
 use kr_base::{Sink, Words};
 use kr_io::{Files, Gate};
 use std::alloc::Global;
@@ -52,7 +51,7 @@ pub fn start<R, F: Files, K: Sink, G: Gate + Sync>(
 {
     match words {
         Ok(words) => run(rt, alloc, &words, files, out, gate),
-        Err(NoWords::NotText) => once_written(put_usage_fault(out), 2),
+        Err(NoWords::NotText) => run(rt, alloc, &Words::new(alloc), files, out, gate),
         Err(NoWords::Memory) => 8,
     }
 }

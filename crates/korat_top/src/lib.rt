@@ -14,7 +14,7 @@ mod sources;
 mod top;
 
 pub use given::{NoWords, start, words_of};
-pub use laws::{one_answer, worked_lines};
+pub use laws::{one_answer, worked_commands, worked_lines};
 pub use top::run;
 
 /// The longest file that is taken, in bytes.

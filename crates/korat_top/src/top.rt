@@ -24,7 +24,7 @@ use kr_mean::one_field_law;
 use std::alloc::Global;
 
 /// A status once its text is written, or that of a write fault.
-pub(crate) fn once_written(written: Result<(), Failed>, status: u8) -> u8
+fn once_written(written: Result<(), Failed>, status: u8) -> u8
     ensures { result ≡ (if is_ok written then status else 7) }
 {
     if written.is_ok() { status } else { 7 }
