@@ -233,7 +233,7 @@ fn broken_tokens(rt: HostRuntime) -> Result<(), Fail> {
     for (source, text) in [
         ("/* x", "X.java:1:1: L3\n"),
         ("class X { #", "X.java:1:11: L2\n"),
-        ("class X {\n  //@ requires x;\n", "X.java:2:3: L6\n"),
+        ("class X {\n  //@ requires x\n", "X.java:2:3: L6\n"),
         ("class X {\r\n\\u0041", "X.java:2:1: L5\n"),
         ("class X { int v = 08; }", "X.java:1:19: L4\n"),
         // Tokens that are well spelled, in a source of another form.

@@ -70,6 +70,8 @@ pub enum Terminal {
     Shift,
     /// `/` and `%`
     Division,
+    /// what stands in contract lines alone
+    Contract,
     /// keywords that the language doesn't use
     Outside,
 }
@@ -127,6 +129,9 @@ pub fn terminal_of(kind: Kind) -> Terminal
         | Kind::Transient
         | Kind::Try
         | Kind::Volatile => Terminal::Outside,
+        Kind::Contract | Kind::Requires | Kind::Ensures | Kind::Result | Kind::Old => {
+            Terminal::Contract
+        }
         Kind::LeftParenthesis => Terminal::LeftParenthesis,
         Kind::RightParenthesis => Terminal::RightParenthesis,
         Kind::LeftBrace => Terminal::LeftBrace,

@@ -7,7 +7,7 @@ use Rattle.kr_lex.specs.declared.kind.Kind.TheVariants as kinds
 use Rattle.kr_ast.specs.Tree as trees
 use Rattle.kr_ast.specs.Tree.{Tree}
 use Rattle.kr_grammar.specs.declared.terminal.Terminal.{Terminal}
-use Rattle.kr_grammar.specs.declared.terminal.Terminal.TheVariants.{End, Identifier, Literal, Primitive, Access, Static, Final, Package, Import, Class, Extends, Void, New, Super, Instanceof, Return, Break, Continue, If, Else, While, Do, For, LeftParenthesis, RightParenthesis, LeftBrace, RightBrace, LeftBracket, RightBracket, Semicolon, Comma, Dot, At, Question, Colon, Equal, Compound, Less, Greater, Star, Sign, Step, Complement, Or, And, BitOr, BitXor, BitAnd, Equality, Relation, Shift, Division, Outside}
+use Rattle.kr_grammar.specs.declared.terminal.Terminal.TheVariants.{End, Identifier, Literal, Primitive, Access, Static, Final, Package, Import, Class, Extends, Void, New, Super, Instanceof, Return, Break, Continue, If, Else, While, Do, For, LeftParenthesis, RightParenthesis, LeftBrace, RightBrace, LeftBracket, RightBracket, Semicolon, Comma, Dot, At, Question, Colon, Equal, Compound, Less, Greater, Star, Sign, Step, Complement, Or, And, BitOr, BitXor, BitAnd, Equality, Relation, Shift, Division, Contract, Outside}
 use Rattle.kr_grammar.specs.declared.value.Form.{Form}
 use Rattle.kr_grammar.specs.declared.value.Form.TheVariants as forms
 use Rattle.kr_grammar.specs.declared.value.Modifiers.{Modifiers}
@@ -90,6 +90,7 @@ kind_of Equality = kinds.EqualEqual
 kind_of Relation = kinds.LessEqual
 kind_of Shift = kinds.LessLess
 kind_of Division = kinds.Slash
+kind_of Contract = kinds.Contract
 kind_of _ = kinds.Null
 
 is_kind : (k : Terminal) → IsTaken k → terminal_of (kind_of k) ≡ k

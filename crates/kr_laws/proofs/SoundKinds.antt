@@ -81,6 +81,7 @@ Kinds terminals.Equality x = IsBinary 6 x
 Kinds terminals.Relation x = IsBinary 7 x
 Kinds terminals.Shift x = IsBinary 8 x
 Kinds terminals.Division x = IsBinary 10 x
+Kinds terminals.Contract x = Unit {0}
 Kinds terminals.Outside x = Unit {0}
 
 kinds_are : (x : Kind) → Kinds (terminal_of x) x
@@ -139,6 +140,11 @@ kinds_are kinds.Throws = tt
 kinds_are kinds.Transient = tt
 kinds_are kinds.Try = tt
 kinds_are kinds.Volatile = tt
+kinds_are kinds.Contract = tt
+kinds_are kinds.Requires = tt
+kinds_are kinds.Ensures = tt
+kinds_are kinds.Result = tt
+kinds_are kinds.Old = tt
 kinds_are kinds.LeftParenthesis = refl
 kinds_are kinds.RightParenthesis = refl
 kinds_are kinds.LeftBrace = refl

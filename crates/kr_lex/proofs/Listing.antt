@@ -51,6 +51,11 @@ pub listed : (kind : Kind) → 0 < length (spelling kind) → IsListed kind
 unfolding spelling beginning_with
 listed kinds.Identifier h = absurd (omega (arith, h))
 listed kinds.Number h = absurd (omega (arith, h))
+listed kinds.Contract h = absurd (omega (arith, h))
+listed kinds.Requires h = absurd (omega (arith, h))
+listed kinds.Ensures h = absurd (omega (arith, h))
+listed kinds.Result h = absurd (omega (arith, h))
+listed kinds.Old h = absurd (omega (arith, h))
 listed kinds.True h = record { index = 4; within = omega arith; there = refl; found = refl; ascii = refl; shape = inl refl }
 listed kinds.False h = record { index = 1; within = omega arith; there = refl; found = refl; ascii = refl; shape = inl refl }
 listed kinds.Null h = record { index = 1; within = omega arith; there = refl; found = refl; ascii = refl; shape = inl refl }

@@ -4,7 +4,7 @@ use Rattle.std.specs.Prelude.{List, ℕ, [], codes, Bool, true, false}
 use Rattle.kr_lex.specs.declared.kind.Kind.{Kind}
 use Rattle.kr_lex.specs.declared.kind.Kind.TheVariants as kinds
 
--- how it is spelled; empty for the two kinds that have many spellings
+-- how it is spelled; empty for the two kinds that have many spellings, and for those that stand in contract lines alone
 unfoldable pub spelling : Kind → List ℕ
 spelling kinds.Identifier = []
 spelling kinds.Number = []
@@ -108,6 +108,7 @@ spelling kinds.PercentEqual = codes "%="
 spelling kinds.LessLessEqual = codes "<<="
 spelling kinds.GreaterGreaterEqual = codes ">>="
 spelling kinds.GreaterGreaterGreaterEqual = codes ">>>="
+spelling _ = []
 
 -- a keyword of Java that the language doesn't use
 unfoldable pub is_outside_profile : Kind → Bool

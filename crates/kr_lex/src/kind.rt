@@ -116,6 +116,13 @@ pub enum Kind {
     LessLessEqual,
     GreaterGreaterEqual,
     GreaterGreaterGreaterEqual,
+
+    // what stands in contract lines alone: `//@`, the word behind it, and two primaries
+    Contract,
+    Requires,
+    Ensures,
+    Result,
+    Old,
 }
 
 impl Kind {

@@ -5,7 +5,8 @@ ghost use Rattle.kr_lex.specs.Table.{beginning_with, from_exclamation, from_semi
 
 use crate::Kind;
 
-/// How a kind is spelled; empty for names and numbers, which have many spellings.
+/// How a kind is spelled; empty for names and numbers, which have many spellings, and for what stands in contract
+/// lines alone.
 #[tactic(auto, unfolding(crate::specs::Spelling::spelling))]
 pub fn spelling(kind: Kind) -> &'static [u8]
     ensures { result.now ≡ spelling kind }
@@ -112,6 +113,7 @@ pub fn spelling(kind: Kind) -> &'static [u8]
         Kind::LessLessEqual => b"<<=",
         Kind::GreaterGreaterEqual => b">>=",
         Kind::GreaterGreaterGreaterEqual => b">>>=",
+        Kind::Contract | Kind::Requires | Kind::Ensures | Kind::Result | Kind::Old => b"",
     }
 }
 
