@@ -1,5 +1,5 @@
 // What the names of classes mean.
-ghost use Rattle.std.specs.Prelude.{◌≡◌, ◌<◌, ◌^◌, List, Some, None, IfOk, length, map, slice_get, All};
+ghost use Rattle.std.specs.Prelude.{◌≡◌, ◌<◌, ◌^◌, List, Some, None, IfOk, length, map, All};
 ghost use Rattle.kr_ast.specs.Arena.{Arena, root, tree_in};
 ghost use Rattle.kr_table.specs.Table.{class_named, headings_of, number_of};
 ghost use Rattle.kr_names.specs.Listed.{IsIndexOf};
@@ -46,13 +46,13 @@ impl Heads {
         Ok(Heads { headings, index })
     }
 
-    /// The head of a class.
-    pub fn heading(&self, class: u32) -> Heading
-        requires { class < count_of self.now }
-        ensures stands { (files : List Arena) → AreHeads files self.now → IsHeading files result }
-        ensures shown { (files : List Arena) → AreHeads files self.now → slice_get (headings_of (map root files)) class ≡ Some (heading_shown files result) }
+    /// The heads of the classes, by their numbers.
+    pub fn headings(&self) -> &[Heading]
+        ensures count { length result.now ≡ count_of self.now }
+        ensures stands { (files : List Arena) → AreHeads files self.now → All (IsHeading files) result.now }
+        ensures shown { (files : List Arena) → AreHeads files self.now → map (heading_shown files) result.now ≡ headings_of (map root files) }
     {
-        self.headings[class as usize]
+        self.headings.as_slice()
     }
 
     /// How many classes there are.

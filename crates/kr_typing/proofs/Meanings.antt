@@ -12,9 +12,9 @@ use Rattle.kr_table.specs.Rules.{class_fault}
 use Rattle.kr_table.specs.Constants.{Whole, Truth, is_constant, evaluated, values_of}
 use Rattle.kr_typing.specs.Scopes.{under_minus, LocalName, NoName, meant, meant_by, class_before, method_meant}
 use Rattle.kr_typing.specs.Typing.{judged, type_of, type_fault, refusal, IsWellTyped}
-use Rattle.kr_typing.specs.Texts.{at}
+use Rattle.kr_typing.specs.Texts.{at, type_rule_at}
 use Rattle.kr_typing.specs.Examples.{family}
-use Rattle.kr_typing.specs.Meanings.{table, scope, nested, variable, field, number, with_arrays, arrays_of_collections, every_kind, numbers_in, whole, whole_class, field_of_class_name, constant_of_class_name, Meanings}
+use Rattle.kr_typing.specs.Meanings.{table, scope, nested, variable, field, number, with_arrays, arrays_of_collections, every_kind, numbers_in, whole, whole_class, field_of_class_name, constant_of_class_name, method_of_outer, Meanings}
 
 well_typed : IsWellTyped family
 unfolding table_of is_constant evaluated values_of judged
@@ -177,6 +177,10 @@ constant_first : map (λ k. k.value) (values_of (table_of constant_of_class_name
 unfolding table_of is_constant evaluated values_of
 constant_first = refl
 
+no_outer_method : refusal method_of_outer ≡ Some (type_rule_at 24 0 2 4)
+unfolding table_of class_fault is_constant evaluated values_of judged type_fault
+no_outer_method = refl
+
 pub meanings : Meanings
 meanings = record {
   well_typed = well_typed;
@@ -220,5 +224,6 @@ meanings = record {
   class_read = class_read;
   field_first = field_first;
   constant_first = constant_first;
+  no_outer_method = no_outer_method;
   unnamed = unnamed;
 }

@@ -14,7 +14,7 @@ use Rattle.kr_table.specs.Arrays.{array_types_of, array_number}
 use Rattle.kr_table.specs.Constants.{Whole, Truth, values_of}
 use Rattle.kr_typing.specs.Scopes.{Scope, LocalName, NoName, scope_of, under_minus, meant, meant_by, class_before, bind, method_meant}
 use Rattle.kr_typing.specs.Typing.{type_of, refusal, IsWellTyped}
-use Rattle.kr_typing.specs.Texts.{at, list_of}
+use Rattle.kr_typing.specs.Texts.{at, list_of, type_rule_at}
 use Rattle.kr_typing.specs.Examples.{family}
 
 abbrev pub table : Table
@@ -175,6 +175,15 @@ constant_of_class_name = list_of (
     ∷ trees.Class (at 0 4 1) (codes "B") Nil (list_of (trees.Field (at 0 5 1) true true int (list_of (trees.Declarator (at 0 5 2) (codes "L") (number 2) ∷ [])) ∷ []))
     ∷ []) ∷ []
 
+-- class A { int m() { return 1; } static class N { int k() { return m(); } } }
+abbrev pub method_of_outer : List Tree
+method_of_outer = list_of (trees.Class (at 0 1 1) (codes "A") Nil (list_of (
+    trees.Method (at 0 1 2) false (codes "m") (trees.Signature (at 0 1 2) int Nil Nil) (list_of (trees.Return (at 0 1 3) (number 1) ∷ []))
+    ∷ trees.Class (at 0 2 1) (codes "N") Nil (list_of (
+    trees.Method (at 0 2 2) false (codes "k") (trees.Signature (at 0 2 2) int Nil Nil) (list_of (trees.Return (at 0 2 3) (trees.Call (at 0 2 4) (codes "m") Nil) ∷ []))
+    ∷ []))
+    ∷ [])) ∷ []) ∷ []
+
 -- HashSet<int[]>[] a; LinkedList<boolean[]>[] b;
 abbrev pub arrays_of_collections : List Tree
 arrays_of_collections = list_of (trees.Class (at 0 9 9) (codes "E") Nil (list_of (
@@ -233,3 +242,5 @@ pub record Meanings : Type 0 where
   -- a field or constant comes before the class of its name
   pub field_first : refusal field_of_class_name ≡ None
   pub constant_first : map (λ k. k.value) (values_of (table_of constant_of_class_name)) ≡ Whole (pos 1) ∷ Whole (pos 2) ∷ []
+  -- of the outer class only static methods
+  pub no_outer_method : refusal method_of_outer ≡ Some (type_rule_at 24 0 2 4)
