@@ -14,7 +14,7 @@ use Rattle.kr_typing.specs.Scopes.{under_minus, LocalName, NoName, meant, meant_
 use Rattle.kr_typing.specs.Typing.{judged, type_of, type_fault, refusal, IsWellTyped}
 use Rattle.kr_typing.specs.Texts.{at, type_rule_at}
 use Rattle.kr_typing.specs.Examples.{family}
-use Rattle.kr_typing.specs.Meanings.{table, scope, nested, variable, field, number, with_arrays, arrays_of_collections, every_kind, numbers_in, whole, whole_class, field_of_class_name, constant_of_class_name, method_of_outer, Meanings}
+use Rattle.kr_typing.specs.Meanings.{table, scope, nested, variable, field, number, with_arrays, arrays_of_collections, every_kind, numbers_in, whole, whole_class, field_of_class_name, constant_of_class_name, method_of_outer, nested_in_second, Meanings}
 
 well_typed : IsWellTyped family
 unfolding table_of is_constant evaluated values_of judged
@@ -181,6 +181,14 @@ no_outer_method : refusal method_of_outer ≡ Some (type_rule_at 24 0 2 4)
 unfolding table_of class_fault is_constant evaluated values_of judged type_fault
 no_outer_method = refl
 
+outer_numbers : map (λ d. d.outer) (table_of nested_in_second).classes ≡ None ∷ Some 0 ∷ None ∷ Some 2 ∷ []
+unfolding table_of
+outer_numbers = refl
+
+second_outer : refusal nested_in_second ≡ None
+unfolding table_of class_fault is_constant evaluated values_of judged type_fault
+second_outer = refl
+
 pub meanings : Meanings
 meanings = record {
   well_typed = well_typed;
@@ -225,5 +233,7 @@ meanings = record {
   field_first = field_first;
   constant_first = constant_first;
   no_outer_method = no_outer_method;
+  outer_numbers = outer_numbers;
+  second_outer = second_outer;
   unnamed = unnamed;
 }

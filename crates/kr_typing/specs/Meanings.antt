@@ -184,6 +184,18 @@ method_of_outer = list_of (trees.Class (at 0 1 1) (codes "A") Nil (list_of (
     ∷ []))
     ∷ [])) ∷ []) ∷ []
 
+-- class A { static class B { } } class C { static final int K = 1; static class D { int m() { return K; } } }
+abbrev pub nested_in_second : List Tree
+nested_in_second = list_of (
+    trees.Class (at 0 1 1) (codes "A") Nil (list_of (trees.Class (at 0 1 2) (codes "B") Nil Nil ∷ []))
+    ∷ trees.Class (at 0 2 1) (codes "C") Nil (list_of (
+    trees.Field (at 0 2 2) true true int (list_of (trees.Declarator (at 0 2 3) (codes "K") (number 1) ∷ []))
+    ∷ trees.Class (at 0 3 1) (codes "D") Nil (list_of (
+    trees.Method (at 0 3 2) false (codes "m") (trees.Signature (at 0 3 2) int Nil Nil) (list_of (trees.Return (at 0 3 3) (variable (codes "K")) ∷ []))
+    ∷ []))
+    ∷ []))
+    ∷ []) ∷ []
+
 -- HashSet<int[]>[] a; LinkedList<boolean[]>[] b;
 abbrev pub arrays_of_collections : List Tree
 arrays_of_collections = list_of (trees.Class (at 0 9 9) (codes "E") Nil (list_of (
@@ -244,3 +256,5 @@ pub record Meanings : Type 0 where
   pub constant_first : map (λ k. k.value) (values_of (table_of constant_of_class_name)) ≡ Whole (pos 1) ∷ Whole (pos 2) ∷ []
   -- of the outer class only static methods
   pub no_outer_method : refusal method_of_outer ≡ Some (type_rule_at 24 0 2 4)
+  pub outer_numbers : map (λ d. d.outer) (table_of nested_in_second).classes ≡ None ∷ Some 0 ∷ None ∷ Some 2 ∷ []
+  pub second_outer : refusal nested_in_second ≡ None
