@@ -6,7 +6,7 @@ use Rattle.kr_base.specs.Bounds.{less}
 use Rattle.kr_mean.specs.Space.{space_of}
 use Rattle.kr_mean.specs.Heaps.{heap_of, walk}
 use Rattle.kr_mean.specs.Meaning.{bind, eval, exec, value}
-use Rattle.kr_mean.specs.Runs.{end_on, reads_of, order_of}
+use Rattle.kr_mean.specs.Runs.{end_on, read_slots, order_of}
 use Rattle.kr_mean.specs.Entries.{mark_of, all_of, all_entries}
 use Rattle.kr_mean.specs.Examples.{cell, two_ints, two_nodes, two_subclasses, arrays}
 use Rattle.korat_top.specs.Texts.{structure_text}
@@ -14,39 +14,39 @@ use Rattle.korat_top.specs.Answer.{listing_answer}
 use Rattle.korat_top.specs.Examples.{lines_of, told, report_of, WorkedLines}
 
 two_nodes_lines : lines_of two_nodes ≡ codes "0.0 R#0{next=null}\n" ∷ codes "0.1 R#0{next=R#0}\n" ∷ codes "0.2.0 R#0{next=R#1} R#1{next=null}\n" ∷ codes "0.2.1 R#0{next=R#1} R#1{next=R#0}\n" ∷ codes "0.2.2 R#0{next=R#1} R#1{next=R#1}\n" ∷ []
-unfolding digits less space_of heap_of walk bind eval exec value end_on reads_of order_of mark_of all_of all_entries structure_text listing_answer
+unfolding digits less space_of heap_of walk bind eval exec value end_on read_slots order_of mark_of all_of all_entries structure_text listing_answer
 two_nodes_lines = refl
 
 two_subclasses_lines : lines_of two_subclasses ≡ codes "0.0.0 R#0{x=P#0,y=P#0} P#0{}\n" ∷ codes "0.0.1 R#0{x=P#0,y=P#1} P#0{} P#1{}\n" ∷ codes "0.0.2 R#0{x=P#0,y=Q#0} P#0{} Q#0{}\n" ∷ codes "0.2.0 R#0{x=Q#0,y=P#0} Q#0{} P#0{}\n" ∷ codes "0.2.2 R#0{x=Q#0,y=Q#0} Q#0{}\n" ∷ codes "0.2.3 R#0{x=Q#0,y=Q#1} Q#0{} Q#1{}\n" ∷ []
-unfolding digits less space_of heap_of walk bind eval exec value end_on reads_of order_of mark_of all_of all_entries structure_text listing_answer
+unfolding digits less space_of heap_of walk bind eval exec value end_on read_slots order_of mark_of all_of all_entries structure_text listing_answer
 two_subclasses_lines = refl
 
 arrays_lines : lines_of arrays ≡ codes "0.0.0 R#0{a=int[]#0} int[]#0[]\n" ∷ codes "0.0.1.0 R#0{a=int[]#0} int[]#0[0]\n" ∷ codes "0.0.1.1 R#0{a=int[]#0} int[]#0[1]\n" ∷ codes "0.0.2.0.0 R#0{a=int[]#0} int[]#0[0,0]\n" ∷ codes "0.0.2.0.1 R#0{a=int[]#0} int[]#0[0,1]\n" ∷ codes "0.0.2.1.0 R#0{a=int[]#0} int[]#0[1,0]\n" ∷ codes "0.0.2.1.1 R#0{a=int[]#0} int[]#0[1,1]\n" ∷ []
-unfolding digits less space_of heap_of walk bind eval exec value end_on reads_of order_of mark_of all_of all_entries structure_text listing_answer
+unfolding digits less space_of heap_of walk bind eval exec value end_on read_slots order_of mark_of all_of all_entries structure_text listing_answer
 arrays_lines = refl
 
 two_ints_report : report_of two_ints [] 9 ≡ told 0 (codes "0.1.0 R#0{a=1,b=7}\n0.1.1 R#0{a=1,b=9}\nvalid 2 tried 3\n")
-unfolding digits less space_of heap_of walk bind eval exec value end_on reads_of order_of mark_of all_of all_entries structure_text listing_answer
+unfolding digits less space_of heap_of walk bind eval exec value end_on read_slots order_of mark_of all_of all_entries structure_text listing_answer
 two_ints_report = refl
 
 cell_report : report_of (cell 0 1000) [] 9 ≡ told 0 (codes "0.1 Cell#0{v=1}\n0.2 Cell#0{v=2}\nvalid 2 tried 3\n")
-unfolding digits less space_of heap_of walk bind eval exec value end_on reads_of order_of mark_of all_of all_entries structure_text listing_answer
+unfolding digits less space_of heap_of walk bind eval exec value end_on read_slots order_of mark_of all_of all_entries structure_text listing_answer
 cell_report = refl
 
 cell_limited : report_of (cell 0 1000) [] 1 ≡ told 0 (codes "0.1 Cell#0{v=1}\nmore 0.1\n")
-unfolding digits less space_of heap_of walk bind eval exec value end_on reads_of order_of mark_of all_of all_entries structure_text listing_answer
+unfolding digits less space_of heap_of walk bind eval exec value end_on read_slots order_of mark_of all_of all_entries structure_text listing_answer
 cell_limited = refl
 
 cell_at_the_limit : report_of (cell 0 1000) [] 2 ≡ told 0 (codes "0.1 Cell#0{v=1}\n0.2 Cell#0{v=2}\nvalid 2 tried 3\n")
-unfolding digits less space_of heap_of walk bind eval exec value end_on reads_of order_of mark_of all_of all_entries structure_text listing_answer
+unfolding digits less space_of heap_of walk bind eval exec value end_on read_slots order_of mark_of all_of all_entries structure_text listing_answer
 cell_at_the_limit = refl
 
 cell_resumed : report_of (cell 0 1000) (0 ∷ 1 ∷ []) 9 ≡ told 0 (codes "0.2 Cell#0{v=2}\nvalid 1 tried 1\n")
-unfolding digits less space_of heap_of walk bind eval exec value end_on reads_of order_of mark_of all_of all_entries structure_text listing_answer
+unfolding digits less space_of heap_of walk bind eval exec value end_on read_slots order_of mark_of all_of all_entries structure_text listing_answer
 cell_resumed = refl
 
 cell_without_fuel : report_of (cell 0 5) [] 9 ≡ told 5 (codes "spent 0.0\n")
-unfolding digits less space_of heap_of walk bind eval exec value end_on reads_of order_of mark_of all_of all_entries structure_text listing_answer
+unfolding digits less space_of heap_of walk bind eval exec value end_on read_slots order_of mark_of all_of all_entries structure_text listing_answer
 cell_without_fuel = refl
 
 pub worked : WorkedLines

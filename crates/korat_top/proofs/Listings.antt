@@ -12,10 +12,13 @@ use Rattle.kr_base.specs.Bounds.{less}
 use Rattle.kr_base.specs.Entries.{entries_in, within, through_spent, is_spent}
 use Rattle.kr_ast.specs.declared.node.BinaryOperator.{BinaryOperator}
 use Rattle.kr_ast.specs.Tree.{Tree}
-use Rattle.kr_mean.specs.Problem.{Problem, Int, Listing}
+use Rattle.kr_mean.specs.Problem.{Problem}
 use Rattle.kr_mean.specs.Meaning.{is_comparison, holds_of}
-use Rattle.kr_mean.specs.Entries.{Row, all_entries}
+use Rattle.kr_mean.specs.Entries.{all_entries}
 use Rattle.kr_mean.specs.OneField.{OneFieldLaw, Places, one_field, one_field_tree, one_field_row, one_field_entry, one_field_entries}
+use Rattle.kr_mean.specs.declared.mode.Mode.TheVariants.{List as Listing}
+use Rattle.kr_mean.specs.declared.row.Row.{Row}
+use Rattle.kr_value.specs.declared.value.Value.TheVariants.{Int}
 use Rattle.korat_top.specs.Source.{Source}
 use Rattle.korat_top.specs.Finitization.{Finitization, IsWithinLimits, values_between, values_of, count_of}
 use Rattle.korat_top.specs.Texts.{row_text, structure_text, listed_text}

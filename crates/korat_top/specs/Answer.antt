@@ -18,9 +18,14 @@ use Rattle.kr_ast.specs.Tree.{Tree}
 use Rattle.kr_parse.specs.declared.refusal.ParseRule.{ParseRule}
 use Rattle.kr_parse.specs.Rules.{rule_code as parse_code}
 use Rattle.kr_parse.specs.Refusals.{IsParsed, IsUnparsed}
-use Rattle.kr_mean.specs.Problem.{Problem, Mode, Listing, Testing}
-use Rattle.kr_mean.specs.Entries.{Row, Verdict, Pass, Ensures, RepOk, Trap, CheckTrap, OutOfFuel, all_entries}
+use Rattle.kr_mean.specs.Problem.{Problem}
+use Rattle.kr_mean.specs.Entries.{all_entries}
 use Rattle.kr_mean.specs.OneField.{one_object}
+use Rattle.kr_mean.specs.declared.kind.Verdict.{Verdict}
+use Rattle.kr_mean.specs.declared.kind.Verdict.TheVariants.{Pass, Ensures, RepOk, Trap, CheckTrap, Spent as OutOfFuel}
+use Rattle.kr_mean.specs.declared.mode.Mode.{Mode}
+use Rattle.kr_mean.specs.declared.mode.Mode.TheVariants.{List as Listing, Method as Testing}
+use Rattle.kr_mean.specs.declared.row.Row.{Row}
 use Rattle.korat_top.specs.Source.{Source, IsSource}
 use Rattle.korat_top.specs.Finitization.{Finitization, IsFinitization, values_of}
 use Rattle.korat_top.specs.Texts.{row_text, listed_text, tested_text, more_text, spent_text, usage_text}
@@ -79,7 +84,7 @@ status_of rows = if nat_lt 0 (length (failing_in rows)) then 1 else 0
 
 abbrev pub summary_text : Mode → List Row → ℕ → List ℕ
 summary_text Listing rows tried = listed_text (length rows) tried
-summary_text (Testing n domains) rows tried = tested_text (length rows) (length (failing_in rows)) tried
+summary_text (Testing n) rows tried = tested_text (length rows) (length (failing_in rows)) tried
 
 abbrev pub last_key : List Row → List ℕ
 last_key [] = []

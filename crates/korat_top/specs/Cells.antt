@@ -2,8 +2,8 @@
 use Rattle.std.specs.Prelude.{◌≡◌, ℕ, zero, suc, ◌+◌, ℤ, pos, ◌+ℤ◌, ◌-ℤ◌, List, [], ◌∷◌, ◌++◌, codes, decimal, if◌then◌else◌, length, take, Option, Result, Ok, Err}
 use Rattle.std.specs.Fmt.{signed_decimal}
 use Rattle.kr_base.specs.Told.{Added, Stopped}
-use Rattle.kr_mean.specs.Problem.{Int}
 use Rattle.kr_mean.specs.Meaning.{holds_of}
+use Rattle.kr_value.specs.declared.value.Value.TheVariants.{Int}
 use Rattle.korat_top.specs.Source.{Source}
 use Rattle.korat_top.specs.Finitization.{Finitization, count_of}
 use Rattle.korat_top.specs.Texts.{listed_text}

@@ -3,13 +3,23 @@ use Rattle.std.specs.Prelude.{ℕ, ◌-◌, ◌^◌, true, false, List, [], ◌�
 use Rattle.std.specs.Fmt.{signed_decimal}
 use Rattle.std.proofs.Common.{get_or}
 use Rattle.kr_base.specs.Cuts.{cut_text}
-use Rattle.kr_mean.specs.Problem.{Problem, DomainObject, Class, Object, Array, Spot, Field, Length, Element, SlotPlace, This, Parameter, At, Value, Int, Truth, Null, Reference, all_objects, domain_at, slot_at}
+use Rattle.kr_mean.specs.Problem.{Problem, DomainObject, SlotPlace, This, Parameter, At, all_objects, domain_at, slot_at}
 use Rattle.kr_mean.specs.Heaps.{distinct, is_same_object, is_owner}
-use Rattle.kr_mean.specs.Meaning.{TrapKind, NullPointerException, ArithmeticException, ArrayIndexOutOfBoundsException, NegativeArraySizeException, ClassCastException, NoSuchElementException, NoReturn, ArrayTooLong, class_in}
+use Rattle.kr_mean.specs.Meaning.{class_in}
 use Rattle.kr_mean.specs.Runs.{tested_parameters}
 use Rattle.kr_ast.specs.Tree.{Nil}
 use Rattle.kr_mean.specs.Program.{Field as FieldOf}
-use Rattle.kr_mean.specs.Entries.{Row, Verdict, Pass, Ensures, RepOk, Trap, CheckTrap, OutOfFuel}
+use Rattle.kr_mean.specs.declared.kind.Kind.{Kind}
+use Rattle.kr_mean.specs.declared.kind.Kind.TheVariants.{NullPointerException, ArithmeticException, ArrayIndexOutOfBoundsException, NegativeArraySizeException, ClassCastException, NoSuchElementException, NoReturn, ArrayTooLong}
+use Rattle.kr_mean.specs.declared.kind.Verdict.{Verdict}
+use Rattle.kr_mean.specs.declared.kind.Verdict.TheVariants.{Pass, Ensures, RepOk, Trap, CheckTrap, Spent as OutOfFuel}
+use Rattle.kr_mean.specs.declared.row.Row.{Row}
+use Rattle.kr_value.specs.declared.object.Class.{Class}
+use Rattle.kr_value.specs.declared.object.Class.TheVariants.{Array}
+use Rattle.kr_value.specs.declared.object.Spot.{Spot}
+use Rattle.kr_value.specs.declared.object.Spot.TheVariants.{Field, Length, Element}
+use Rattle.kr_value.specs.declared.value.Value.{Value}
+use Rattle.kr_value.specs.declared.value.Value.TheVariants.{Int, Bool as Truth, Null, Ref as Reference}
 
 -- texts with another between each two
 abbrev pub behind : List ℕ → List (List ℕ) → List ℕ
@@ -62,8 +72,8 @@ parts_of problem structure o =
     flat_map (λ (p : ℕ × Value). if is_owner o (slot_at problem p.0).owner then part_text problem (domain_at problem o.domain).class p.1 (slot_at problem p.0).place else []) structure
 
 abbrev pub in_brackets : Class → List ℕ → List ℕ
-in_brackets (Object c) text = codes "{" ++ text ++ codes "}"
 in_brackets (Array t) text = codes "[" ++ text ++ codes "]"
+in_brackets class text = codes "{" ++ text ++ codes "}"
 
 -- `Class#k{f=value,f=value}`, or of an array `int[]#k[value,value]`
 abbrev pub object_text : Problem → List (ℕ × Value) → DomainObject → List ℕ
@@ -92,7 +102,7 @@ structure_text problem structure =
 
 -- ---- lines
 
-abbrev pub trap_text : TrapKind → List ℕ
+abbrev pub trap_text : Kind → List ℕ
 trap_text NullPointerException = codes "NullPointerException"
 trap_text ArithmeticException = codes "ArithmeticException"
 trap_text ArrayIndexOutOfBoundsException = codes "ArrayIndexOutOfBoundsException"

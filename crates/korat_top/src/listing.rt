@@ -2,7 +2,7 @@
 ghost use Rattle.std.specs.Prelude.{◌≡◌, ◌<◌, ◌≤◌, ◌≤ℤ◌, ◌+ℤ◌, ◌-ℤ◌, ◌<ℤ◌, pos, IfOk};
 ghost use Rattle.kr_base.specs.Told.{Writes};
 ghost use Rattle.kr_mean.specs.Meaning.{holds_of};
-ghost use Rattle.kr_mean.specs.Problem.{Int};
+ghost use Rattle.kr_value.specs.declared.value.Value.TheVariants.{Int};
 ghost use Rattle.korat_top.specs.Cells.{PutsRows, cell_text, value_lines, range_count, range_lines};
 ghost use Rattle.korat_top.specs.Source.{source_of};
 ghost use Rattle.korat_top.specs.Finitization.{finitization_of};

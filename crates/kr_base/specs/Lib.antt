@@ -4,3 +4,6 @@ pub mod Writing
 pub mod Cuts
 pub mod Bounds
 pub mod Entries
+pub mod Inside
+pub mod Parsing
+pub mod Stages

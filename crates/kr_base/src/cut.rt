@@ -5,9 +5,13 @@ ghost use Rattle.std.specs.Cmp.Lexicographic.{slice_cmp};
 ghost use Rattle.kr_base.specs.Told.{Writes};
 ghost use Rattle.kr_base.specs.Cuts.{cut_text, dotted, is_before};
 
+mod raising;
+mod reading;
+
 use crate::NoMemory;
 use crate::sink::{Failed, Sink, put_all};
 use itoa::Buffer;
+pub use reading::CutRefusal;
 use std::alloc::Global;
 use std::cmp::Ordering;
 use std::marker::Model;

@@ -11,9 +11,9 @@ mod sink;
 mod span;
 mod words;
 
-pub use cut::Cut;
+pub use cut::{Cut, CutRefusal};
 pub use entry::{Entry, Mark};
-pub use laws::{order_law, resumption_law};
+pub use laws::{inside_law, order_law, reading_law, resumption_law};
 pub use memory::NoMemory;
 pub use place::Place;
 pub use sink::{Failed, Sink, put_all};

@@ -1,5 +1,5 @@
 // The words of a call.
-ghost use Rattle.std.specs.Prelude.{◌≡◌, ◌<◌, [], ◌∷◌, ◌++◌, ◌==◌, length, slice_index_or, OnOk, OnErr};
+ghost use Rattle.std.specs.Prelude.{◌≡◌, ◌<◌, [], ◌∷◌, ◌++◌, ◌==◌, length, map, slice_index_or, string_bytes, OnOk, OnErr};
 
 use crate::NoMemory;
 use std::alloc::Global;
@@ -47,6 +47,13 @@ impl Words {
         ensures { result.now ≡ slice_index_or self.now at [] }
     {
         self.items[at].as_str()
+    }
+
+    /// The words as texts.
+    pub fn texts(&self) -> &[String]
+        ensures { map string_bytes result.now ≡ self.now }
+    {
+        self.items.as_slice()
     }
 
     /// Adds a word at the end.

@@ -7,8 +7,11 @@ use Rattle.kr_mean.specs.Space.{space_of, IsSpace, IsVector, IsRenaming, IsRenam
 use Rattle.kr_mean.specs.Heaps.{walk}
 use Rattle.kr_mean.specs.Runs.{True, end_on, order_of, key_of}
 use Rattle.kr_mean.specs.Readings.{AreIn, IsReading}
-use Rattle.kr_mean.specs.Classes.{IsIsomorphic}
-use Rattle.kr_mean.specs.Entries.{Row, mark_of, all_entries, AreAllEntries}
+use Rattle.kr_mean.specs.Isomorphism.{IsIsomorphic}
+use Rattle.kr_mean.specs.WellFormed.{IsWellFormed}
+use Rattle.kr_mean.specs.Purity.{IsPure}
+use Rattle.kr_mean.specs.Entries.{mark_of, all_entries, AreAllEntries}
+use Rattle.kr_mean.specs.declared.row.Row.{Row}
 
 -- The premises: slots and domains go by whole class domains; orders fork and rename, and the run on a renamed vector
 -- ends as the run on the vector; a run reads only slots that are reachable.
@@ -17,6 +20,10 @@ pub record IsLawful (problem : Problem) : Type 0 where
   pub reading : IsReading (space_of problem) (order_of problem) (mark_of problem)
   pub ends : (name : ℕ → ℕ → ℕ) (v w : List ℕ) → IsRenaming (space_of problem) name → IsVector (space_of problem) v → IsRenamed (space_of problem) name v w → end_on problem w ≡ end_on problem v
   pub reachable : (v : List ℕ) → IsVector (space_of problem) v → AreIn (order_of problem v) (walk problem v)
+
+-- A predicate that leaves the candidates alone is lawful, whatever its code.
+abbrev pub LawfulLaw : Type 0
+LawfulLaw = (problem : Problem) → IsWellFormed problem → IsPure problem → IsLawful problem
 
 -- Trying every vector and every renaming gives all entries, and no other list has them all.
 pub record ListsAll (problem : Problem) : Type 0 where

@@ -5,10 +5,11 @@ pub mod Heaps
 pub mod Meaning
 pub mod Runs
 pub mod Readings
-pub mod Classes
+pub mod Isomorphism
 pub mod Entries
 pub mod Nodes
 pub mod Purity
 pub mod Laws
+pub mod WellFormed
 pub mod OneField
 pub mod Examples

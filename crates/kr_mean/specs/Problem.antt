@@ -1,27 +1,15 @@
 -- Problems: a program with its finitization, which gives each class a finite list of objects, its class domain, and
 -- each field an ordered finite list of values (the Korat paper, section on finitization).
-use Rattle.std.specs.Prelude.{ℕ, ◌+◌, ◌-◌, ◌==◌, ℤ, Bool, List, [], ◌∷◌, ◌++◌, map, flat_map, Option, Some, None, if◌then◌else◌}
+use Rattle.std.specs.Prelude.{ℕ, zero, suc, ◌+◌, List, [], ◌∷◌, ◌++◌, map, flat_map, Option, Some, None}
 use Rattle.std.specs.List.{range_with_len}
 use Rattle.std.proofs.Common.{get_or}
+use Rattle.kr_value.specs.declared.value.Value.{Value}
+use Rattle.kr_value.specs.declared.value.Value.TheVariants.{Ref as Reference}
+use Rattle.kr_value.specs.declared.object.Class.{Class}
+use Rattle.kr_value.specs.declared.object.Class.TheVariants.{Object}
+use Rattle.kr_value.specs.declared.object.Spot.{Spot}
+use Rattle.kr_mean.specs.declared.mode.Mode.{Mode}
 use Rattle.kr_mean.specs.Program.{Program}
-
--- What an expression gives. A reference is the number of its object in the heap.
-pub data Value : Type 0 where
-  Int : ℤ → Value
-  Truth : Bool → Value
-  Null : Value
-  Reference : ℕ → Value
-
--- what an object is of: a class of the table, or an array type
-pub data Class : Type 0 where
-  Object : ℕ → Class
-  Array : ℕ → Class
-
--- where an object has values
-pub data Spot : Type 0 where
-  Field : ℕ → Spot
-  Length : Spot
-  Element : ℕ → Spot
 
 -- one entry of a domain: a plain value, or all objects of a class domain, in order
 pub data Item : Type 0 where
@@ -43,20 +31,13 @@ pub record ClassDomain : Type 0 where
   pub count : ℕ
   pub spots : List Spotted
 
--- what is asked: to list, or to test the method of that name, whose parameters have these domains
-pub data Mode : Type 0 where
-  Listing : Mode
-  Testing : List ℕ → List Domain → Mode
-
-abbrev pub parameter_domains : Mode → List Domain
-parameter_domains Listing = []
-parameter_domains (Testing n domains) = domains
-
 pub record Problem : Type 0 where
   pub program : Program
   -- the class domain of the root's objects
   pub root : ℕ
   pub mode : Mode
+  -- of the parameters of the method under test; none in a listing
+  pub parameters : List Domain
   pub fuel : ℕ
   pub domains : List ClassDomain
 
@@ -89,8 +70,9 @@ all_objects problem = objects_from 0 problem.domains
 
 -- how many objects the class domains before one have
 abbrev pub objects_before : ℕ → List ClassDomain → ℕ
-objects_before d [] = 0
-objects_before d (domain ∷ domains) = if d == 0 then 0 else domain.count + objects_before (d - 1) domains
+objects_before zero domains = 0
+objects_before (suc d) [] = 0
+objects_before (suc d) (domain ∷ domains) = domain.count + objects_before d domains
 
 -- an object's number in the heap
 abbrev pub heap_number : Problem → DomainObject → ℕ
@@ -122,7 +104,7 @@ slots_of_object problem o =
 
 -- all slots: `this`, the parameters of the method under test, and what each object has
 abbrev pub slots : Problem → List Slot
-slots problem = this_slot problem ∷ (parameter_slots 0 (parameter_domains problem.mode) ++ flat_map (slots_of_object problem) (all_objects problem))
+slots problem = this_slot problem ∷ (parameter_slots 0 problem.parameters ++ flat_map (slots_of_object problem) (all_objects problem))
 
 abbrev pub no_slot : Slot
 no_slot = record { place = This; owner = None; domain = [] }

@@ -5,24 +5,53 @@ use Rattle.kr_base.specs.declared.place.Place.{Place}
 use Rattle.kr_ast.specs.Tree as trees
 use Rattle.kr_ast.specs.Tree.{Tree}
 use Rattle.kr_mean.specs.Program.{Program, Method}
-use Rattle.kr_mean.specs.Problem.{Problem, Class, Object, Array, ClassDomain, Mode, Listing, Testing, domain_at}
-use Rattle.kr_mean.specs.Meaning.{method_in}
+use Rattle.kr_mean.specs.Problem.{Problem, ClassDomain, domain_at}
+use Rattle.kr_mean.specs.Meaning.{method_in, field_of, class_in, class_named}
 use Rattle.kr_mean.specs.Runs.{requires_of, root_method, tested_method}
 use Rattle.kr_mean.specs.Nodes.{nodes}
+use Rattle.kr_mean.specs.declared.mode.Mode.{Mode}
+use Rattle.kr_mean.specs.declared.mode.Mode.TheVariants.{List as Listing, Method as Testing}
+use Rattle.kr_value.specs.declared.object.Class.{Class}
+use Rattle.kr_value.specs.declared.object.Class.TheVariants.{Object}
 
 abbrev pub IsOneOf : {A : Type 0} → A → List A → Type 0
 IsOneOf x [] = ⊥
 IsOneOf x (y ∷ ys) = (y ≡ x) ⊎ IsOneOf x ys
 
+-- the class has a field of the name
+abbrev pub HasField : Program → Class → List ℕ → Type 0
+HasField program class n = (f : ℕ) × (field_of 0 (class_in program class).fields n ≡ Some f)
+
 -- A node in the code of a class's method may create an object of the class or array type, or write a field or an element
 -- of one. Of kinds without a row nothing is known.
 abbrev pub MayTouch : Program → Class → List ℕ → Tree → Class → Type 0
 MayTouch program code method (trees.Number p n) class = ⊥
+MayTouch program code method (trees.Truth p b) class = ⊥
+MayTouch program code method (trees.Null p) class = ⊥
 MayTouch program code method (trees.This p) class = ⊥
 MayTouch program code method (trees.Variable p n) class = ⊥
+MayTouch program code method (trees.FieldAccess p e n) class = ⊥
+MayTouch program code method (trees.ArrayAccess p a b) class = ⊥
 MayTouch program code method (trees.Binary p o a b) class = ⊥
+MayTouch program code method (trees.Unary p o a) class = ⊥
+MayTouch program code method (trees.Conditional p a b c) class = ⊥
 MayTouch program code method (trees.MethodCall p e n es) class = ⊥
+MayTouch program code method (trees.Assignment p (trees.Variable q n) e) class = ⊥
+MayTouch program code method (trees.Assignment p (trees.FieldAccess q e n) a) class = HasField program class n
+MayTouch program code method (trees.ObjectCreation p (trees.NamedType q n) es) class = (c : ℕ) × (class_named 0 program.classes n ≡ Some c) × (class ≡ Object c)
+MayTouch program code method (trees.Empty p) class = ⊥
+MayTouch program code method (trees.Block p ts) class = ⊥
+MayTouch program code method (trees.Local p t ds) class = ⊥
+MayTouch program code method (trees.Declarator p n e) class = ⊥
+MayTouch program code method (trees.ExpressionStatement p e) class = ⊥
+MayTouch program code method (trees.IfThen p e a) class = ⊥
+MayTouch program code method (trees.IfElse p e a b) class = ⊥
+MayTouch program code method (trees.While p e a) class = ⊥
+MayTouch program code method (trees.Break p) class = ⊥
+MayTouch program code method (trees.Continue p) class = ⊥
 MayTouch program code method (trees.Return p e) class = ⊥
+MayTouch program code method (trees.PrimitiveType p k) class = ⊥
+MayTouch program code method (trees.NamedType p n) class = ⊥
 MayTouch program code method _ class = Unit {0}
 
 -- the nodes of a method's statements
@@ -43,7 +72,7 @@ root_class problem = (domain_at problem problem.root).class
 
 abbrev pub tested : Mode → List ℕ
 tested Listing = []
-tested (Testing n domains) = n
+tested (Testing n) = n
 
 -- A node of the predicate's code, in the code of a class's method: of the root's `repOk`, of a condition of the method
 -- under test, or of a method that such a node may call, in whatever class.
@@ -57,7 +86,7 @@ pub data IsPredicateCode (problem : Problem) : Class → List ℕ → Tree → T
 -- the finitization counts objects of the class, or names the array type
 abbrev pub IsCounted : Class → ℕ → Type 0
 IsCounted (Object c) n = 0 < n
-IsCounted (Array t) n = Unit {0}
+IsCounted _ n = Unit {0}
 
 abbrev pub IsFinitized : Problem → Class → Type 0
 IsFinitized problem class = (d : ClassDomain) × IsOneOf d problem.domains × (d.class ≡ class) × IsCounted class d.count

@@ -1,13 +1,22 @@
 -- The predicate run on a vector, the order of the slots that decide it, and the key that they give.
-use Rattle.std.specs.Prelude.{◌≡◌, ℕ, ◌+◌, ◌==◌, Bool, true, false, ◌&&◌, ◌||◌, not, List, [], ◌∷◌, ◌++◌, length, map, flat_map, filter, Option, Some, None, Result, Ok, Err, codes, if◌then◌else◌}
+use Rattle.std.specs.Prelude.{◌≡◌, ℕ, ◌+◌, ◌==◌, Bool, true, false, ◌&&◌, ◌||◌, List, [], ◌∷◌, ◌++◌, length, map, flat_map, filter, Option, Some, None, Result, Ok, Err, codes, if◌then◌else◌}
 use Rattle.std.proofs.Common.{get_or}
 use Rattle.kr_base.specs.declared.place.Place.{Place}
 use Rattle.kr_ast.specs.Tree as trees
 use Rattle.kr_ast.specs.Tree.{Tree, MethodCall}
 use Rattle.kr_mean.specs.Program.{Program, Method}
-use Rattle.kr_mean.specs.Problem.{Problem, Mode, Listing, Testing, parameter_domains, Class, Object, Array, Value, Truth, Spot, Field, Length, Element, SlotPlace, This, Parameter, At, all_objects, slot_at, slots, domain_at, upto}
+use Rattle.kr_mean.specs.Problem.{Problem, SlotPlace, This, Parameter, At, all_objects, slot_at, slots, domain_at, upto}
 use Rattle.kr_mean.specs.Heaps.{distinct, heap_of, value_at, walk}
-use Rattle.kr_mean.specs.Meaning.{TrapKind, Stop, Trapped, OutOfFuel, Stuck, Local, State, Outcome, Run, give, stop, ◌>>=◌, method_in, value}
+use Rattle.kr_mean.specs.Meaning.{Stop, Trapped, OutOfFuel, Stuck, Local, State, Outcome, Run, after_reads, give, stop, ◌>>=◌, method_in, value}
+use Rattle.kr_mean.specs.declared.kind.Kind.{Kind}
+use Rattle.kr_mean.specs.declared.mode.Mode.{Mode}
+use Rattle.kr_mean.specs.declared.mode.Mode.TheVariants.{List as Listing, Method as Testing}
+use Rattle.kr_value.specs.declared.object.Class.{Class}
+use Rattle.kr_value.specs.declared.object.Class.TheVariants.{Object}
+use Rattle.kr_value.specs.declared.object.Spot.{Spot}
+use Rattle.kr_value.specs.declared.object.Spot.TheVariants.{Field, Length, Element}
+use Rattle.kr_value.specs.declared.value.Value.{Value}
+use Rattle.kr_value.specs.declared.value.Value.TheVariants.{Bool as Truth}
 
 -- ---- the run
 
@@ -15,7 +24,7 @@ use Rattle.kr_mean.specs.Meaning.{TrapKind, Stop, Trapped, OutOfFuel, Stuck, Loc
 pub data End : Type 0 where
   True : End
   False : End
-  Trap : TrapKind → End
+  Trap : Kind → End
   Spent : End
 
 -- the method of a name in the root's class
@@ -25,7 +34,7 @@ root_method problem n = method_in problem.program (domain_at problem problem.roo
 -- the method under test, where one is tested
 abbrev pub tested_method : Problem → Mode → Option Method
 tested_method problem Listing = None
-tested_method problem (Testing n domains) = root_method problem n
+tested_method problem (Testing n) = root_method problem n
 
 abbrev pub required_by : Option Method → List Tree
 required_by None = []
@@ -60,7 +69,7 @@ hold_all program (e ∷ es) = value program e >>= (λ v. where_true v (hold_all 
 
 -- the values of the parameters of the method under test
 abbrev pub parameter_values : Problem → List ℕ → List Value
-parameter_values problem vector = map (λ i. value_at problem vector (i + 1)) (upto (length (parameter_domains problem.mode)))
+parameter_values problem vector = map (λ i. value_at problem vector (i + 1)) (upto (length problem.parameters))
 
 abbrev pub parameters_of : Option Method → List (List ℕ)
 parameters_of None = []
@@ -76,7 +85,7 @@ parameters_from i _ _ = []
 
 abbrev pub class_number : Class → ℕ
 class_number (Object c) = c
-class_number (Array t) = 0
+class_number _ = 0
 
 -- the class whose code the conditions are: that of the method under test, else the root's
 abbrev pub conditions_class : Problem → Option Method → ℕ
@@ -91,7 +100,6 @@ start problem vector = record {
   heap = heap_of problem vector;
   candidates = length (all_objects problem);
   fuel = problem.fuel;
-  reads = This ∷ [];
 }
 
 abbrev pub end_of : Result Bool Stop → End
@@ -101,8 +109,9 @@ end_of (Err (Trapped kind)) = Trap kind
 end_of (Err OutOfFuel) = Spent
 end_of (Err Stuck) = False
 
+-- the run reads `this` before all else
 abbrev pub outcome_of : Problem → List ℕ → Outcome Bool
-outcome_of problem vector = hold_all problem.program (conditions problem) (start problem vector)
+outcome_of problem vector = after_reads (This ∷ []) (hold_all problem.program (conditions problem) (start problem vector))
 
 -- the run ends at a node without a meaning
 abbrev pub IsStuck : Problem → List ℕ → Type 0
@@ -132,9 +141,9 @@ slots_for problem place = filter (λ s. is_same_place (slot_at problem s).place 
 abbrev pub is_same_number : ℕ → ℕ → Bool
 is_same_number m n = m == n
 
--- the slots that the run reads, each at its first read
-unfoldable pub reads_of : Problem → List ℕ → List ℕ
-reads_of problem vector = distinct is_same_number (flat_map (slots_for problem) (outcome_of problem vector).after.reads)
+-- the slots that the run reads
+unfoldable pub read_slots : Problem → List ℕ → List ℕ
+read_slots problem vector = flat_map (slots_for problem) (outcome_of problem vector).reads
 
 abbrev pub is_accepted : End → Bool
 is_accepted True = true
@@ -146,13 +155,14 @@ abbrev pub contains_number : List ℕ → ℕ → Bool
 contains_number [] x = false
 contains_number (y ∷ ys) x = (y == x) || contains_number ys x
 
--- those that are not among others
-abbrev pub unread : List ℕ → List ℕ → List ℕ
-unread reads ss = filter (λ s. not (contains_number reads s)) ss
+-- the reachable slots of what a run accepts
+abbrev pub accepted_walk : Problem → List ℕ → List ℕ
+accepted_walk problem vector = if is_accepted (end_on problem vector) then walk problem vector else []
 
--- the order of a vector's slots: those that the run reads and, where it accepts, the reachable ones that it didn't read
+-- The order of a vector's slots: those that the run reads and, where it accepts, the reachable ones, each where it comes
+-- first.
 unfoldable pub order_of : Problem → List ℕ → List ℕ
-order_of problem vector = reads_of problem vector ++ (if is_accepted (end_on problem vector) then unread (reads_of problem vector) (walk problem vector) else [])
+order_of problem vector = distinct is_same_number (read_slots problem vector ++ accepted_walk problem vector)
 
 -- the indices of a vector along an order
 abbrev pub key_along : List ℕ → List ℕ → List ℕ

@@ -3,6 +3,12 @@
 //! of functions that do nothing.
 #![tactic(auto)]
 
+mod kind;
 mod laws;
+mod mode;
+mod row;
 
-pub use laws::{class_law, one_field_law, plain_law, worked_examples};
+pub use kind::{Kind, Verdict};
+pub use laws::{class_law, lawful_law, one_field_law, plain_law, worked_examples};
+pub use mode::{MethodName, Mode};
+pub use row::{Row, Structure};

@@ -1,0 +1,181 @@
+// A cut read from its text.
+ghost use Rattle.std.specs.Prelude.{◌≡◌, ◌<◌, List, ℕ, true, [], ◌∷◌, ◌++◌, take, Some, None, MatchResult};
+ghost use Rattle.std.specs.Char.{is_ascii_digit};
+ghost use Rattle.kr_base.specs.Stages.{Steps};
+
+use crate::Cut;
+use std::alloc::Global;
+use thiserror::Error;
+
+/// Why a text isn't read as a cut.
+#[derive(Debug, Drop, Error)]
+pub enum CutRefusal {
+    /// The byte through which no cut's text begins, or the length of a text that ends too early.
+    #[error("no cut: byte {0}")]
+    Malformed(usize),
+    /// A cut's text of this many numbers, which are too many.
+    #[error("a cut of {0} numbers")]
+    TooLong(usize),
+    #[error("out of memory")]
+    NoMemory,
+}
+
+/// The most numbers of a cut that is read.
+const MOST: usize = 4_096;
+
+/// What a byte is behind the digits of a number.
+#[derive(Clone, Copy)]
+enum Step {
+    /// One more digit, and they go on to this number.
+    Digit(u32),
+    /// The dot behind this number.
+    Dot(u32),
+    /// No cut's text has it there.
+    Dead,
+}
+
+fn is_digit(byte: u8) -> bool
+    ensures { result ≡ is_ascii_digit byte }
+{
+    byte.is_ascii_digit()
+}
+
+/// A byte where a number begins.
+fn first_byte(byte: u8) -> Step
+    ensures { Steps None byte result }
+{
+    if !is_digit(byte) {
+        return Step::Dead;
+    }
+    Step::Digit(u32::from(byte - b'0'))
+}
+
+/// A digit behind those of a number.
+fn more_digits(number: u32, byte: u8) -> Step
+    requires digit { is_ascii_digit byte ≡ true }
+    requires some { 0 < number }
+    ensures { Steps (Some number) byte result }
+{
+    let value = u64::from(number) * 10 + u64::from(byte - b'0');
+    if value >= 4_294_967_296 {
+        return Step::Dead;
+    }
+    Step::Digit(value as u32)
+}
+
+/// A byte behind the digits of a number.
+fn later_byte(number: u32, byte: u8) -> Step
+    ensures { Steps (Some number) byte result }
+{
+    if byte == b'.' {
+        return Step::Dot(number);
+    }
+    if !is_digit(byte) {
+        return Step::Dead;
+    }
+    if number == 0 {
+        return Step::Dead;
+    }
+    more_digits(number, byte)
+}
+
+fn step_of(begun: Option<u32>, byte: u8) -> Step
+    ensures { Steps begun byte result }
+{
+    match begun {
+        None => first_byte(byte),
+        Some(number) => later_byte(number, byte),
+    }
+}
+
+/// Keeps a number, where there aren't too many.
+fn keep(kept: &mut Vec<u32>, number: u32) -> Result<(), CutRefusal>
+    ensures { MatchResult result (λ _. (done : List ℕ) → kept.old.items ≡ take 4096 done → kept.new.items ≡ take 4096 (done ++ number ∷ []))
+        (λ e. e ≡ CutRefusal.NoMemory) }
+{
+    if kept.len() >= MOST {
+        return Ok(());
+    }
+    match kept.push(number) {
+        Ok(()) => Ok(()),
+        Err(_) => Err(CutRefusal::NoMemory),
+    }
+}
+
+/// What was read of a text: the numbers that ended, as many as are kept, how many they are, and the number whose
+/// digits may go on.
+#[derive(Drop)]
+struct Reading {
+    kept: Vec<u32>,
+    count: usize,
+    begun: Option<u32>,
+}
+
+impl Reading {
+    ghost use Rattle.std.specs.Prelude.{◌≡◌, List, ℕ, ◌^◌, ◌<◌, length, MatchResult};
+    ghost use Rattle.kr_base.specs.Parsing.{Parses};
+    ghost use Rattle.kr_base.specs.Stages.{IsAt, Reads};
+
+    /// Reads one byte more. Says whether some cut's text goes on with it.
+    fn read(&mut self, byte: u8) -> Result<bool, CutRefusal>
+        requires { self.old.count < 2 ^ 63 }
+        ensures { MatchResult result (λ goes_on. (front done : List ℕ) → IsAt front done self.old.begun self.old.kept.items self.old.count →
+            Reads front done byte goes_on self.new.begun self.new.kept.items self.new.count) (λ e. e ≡ CutRefusal.NoMemory) }
+    {
+        match step_of(self.begun, byte) {
+            Step::Digit(number) => {
+                self.begun = Some(number);
+                Ok(true)
+            }
+            Step::Dot(number) => {
+                keep(&mut self.kept, number)?;
+                self.count += 1;
+                self.begun = None;
+                Ok(true)
+            }
+            Step::Dead => Ok(false),
+        }
+    }
+
+    /// The cut of a text that was read to its end.
+    fn finish(self, end: usize) -> Result<Cut, CutRefusal>
+        requires { self.count < 2 ^ 63 }
+        ensures { (text done : List ℕ) → IsAt text done self.begun self.kept.items self.count → length text ≡ end → Parses text result }
+    {
+        let Reading {
+            mut kept,
+            count,
+            begun,
+        } = self;
+        let Some(last) = begun else {
+            return Err(CutRefusal::Malformed(end));
+        };
+        keep(&mut kept, last)?;
+        if count >= MOST {
+            return Err(CutRefusal::TooLong(count + 1));
+        }
+        Ok(Cut { numbers: kept })
+    }
+}
+
+impl Cut {
+    ghost use Rattle.kr_base.specs.Parsing.{Parses};
+
+    /// The cut of a text: numbers below 2^32 in decimal, joined by dots, at least one and at most 4,096.
+    pub fn parse(alloc: Global, text: &str) -> Result<Cut, CutRefusal>
+        ensures { Parses text.now result }
+    {
+        let bytes = text.as_bytes();
+        let mut reading = Reading {
+            kept: Vec::new(alloc),
+            count: 0,
+            begun: None,
+        };
+        for at in 0..bytes.len() {
+            if !reading.read(bytes[at])? {
+                return Err(CutRefusal::Malformed(at));
+            }
+        }
+        reading.finish(bytes.len())
+    }
+}

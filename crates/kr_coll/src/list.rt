@@ -1,0 +1,76 @@
+// `LinkedList`: a list of identities.
+ghost use Rattle.std.specs.Prelude.{◌≡◌, ◌==◌, [], ◌∷◌, ◌++◌, length, OnOk, OnErr, IfOk, true, MatchOption};
+ghost use Rattle.kr_coll.specs.Identities.{is_member, without};
+
+use crate::search::position_of;
+use kr_base::NoMemory;
+use kr_heap::Members;
+use kr_value::Obj;
+
+/// A `LinkedList`, over the members of one. A member that is `None` is null.
+#[derive(Drop)]
+pub struct ListObj<'a> {
+    pub members: &'a mut Members,
+}
+
+impl<'a> ListObj<'a> {
+    /// The list of these members.
+    pub fn of(members: &'a mut Members) -> ListObj<'a>
+        ensures same_reference { result.members.ghost_name ≡ members.entry.ghost_name }
+        ensures members { result.members.now ≡ members.old }
+    {
+        ListObj { members }
+    }
+
+    /// Adds a member at the end, and answers true. Only this takes memory.
+    pub fn add(&mut self, member: Option<Obj>) -> Result<bool, NoMemory>
+        ensures same_reference { self.new.members.ghost_name ≡ self.old.members.ghost_name }
+        ensures answer { IfOk result (λ added. added ≡ true) }
+        ensures added { OnOk result (self.new.members.now ≡ self.old.members.now ++ member ∷ []) }
+        ensures unchanged { OnErr result (self.new.members.now ≡ self.old.members.now) }
+    {
+        self.members.push(member)?;
+        Ok(true)
+    }
+
+    pub fn contains(&self, member: Option<Obj>) -> bool
+        ensures { result ≡ is_member self.now.members.now member }
+    {
+        position_of(self.members.as_slice(), member).is_some()
+    }
+
+    /// Takes the first one that is this member away, and says whether there was one.
+    pub fn remove(&mut self, member: Option<Obj>) -> bool
+        ensures same_reference { self.new.members.ghost_name ≡ self.old.members.ghost_name }
+        ensures answer { result ≡ is_member self.old.members.now member }
+        ensures removed { self.new.members.now ≡ without self.old.members.now member }
+    {
+        match position_of(self.members.as_slice(), member) {
+            None => false,
+            Some(at) => {
+                self.members.remove(at);
+                true
+            }
+        }
+    }
+
+    /// Takes the first member away; none where there is none.
+    pub fn remove_first(&mut self) -> Option<Option<Obj>>
+        ensures same_reference { self.new.members.ghost_name ≡ self.old.members.ghost_name }
+        ensures first { MatchOption result ((self.old.members.now ≡ []) × (self.new.members.now ≡ [])) (λ m. self.old.members.now ≡ m ∷ self.new.members.now) }
+    {
+        self.members.pop_first()
+    }
+
+    pub fn size(&self) -> usize
+        ensures { result ≡ length self.now.members.now }
+    {
+        self.members.as_slice().len()
+    }
+
+    pub fn is_empty(&self) -> bool
+        ensures { result ≡ (length self.now.members.now == 0) }
+    {
+        self.members.as_slice().is_empty()
+    }
+}

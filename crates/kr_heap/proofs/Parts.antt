@@ -1,0 +1,14 @@
+-- Lists whose front is gone.
+use Rattle.std.specs.Prelude.{◌≡◌, ℕ, suc, ◌+◌, ◌<◌, ◌≤◌, List, ◌++◌, length, drop, take}
+use Rattle.std.specs.List.{remove}
+use Rattle.std.proofs.Common.{arith, ap, sym, ◌∙◌}
+use Rattle.std.proofs.lemmas.List.{drop-append-le, drop-take, drop-drop, length-take-le}
+
+-- an element behind the front goes
+pub drop_removed : {X : Type 0} (g a : ℕ) (xs : List X) → g + a < length xs → drop g (remove xs (g + a)) ≡ remove (drop g xs) a
+drop_removed g a xs below =
+    let fits : g ≤ length (take (g + a) xs) = omega (arith, length-take-le (g + a) xs (omega (arith, below))) in
+    let on : suc (g + a) ≡ g + suc a = omega arith in
+    drop-append-le g (take (g + a) xs) (drop (suc (g + a)) xs) fits
+    ∙ ap (λ front. front ++ drop (suc (g + a)) xs) (drop-take g a xs)
+    ∙ ap (λ rest. take a (drop g xs) ++ rest) (ap (λ n. drop n xs) on ∙ sym (drop-drop (suc a) g xs))

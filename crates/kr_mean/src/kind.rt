@@ -1,0 +1,33 @@
+// How code ends that doesn't go on.
+
+/// Why a run traps: the exceptions of the Java Language Specification that the subset can meet, and two ends of this
+/// tool's own.
+#[derive(Clone, Copy, Debug, PartialEq, Eq)]
+pub enum Kind {
+    NullPointerException,
+    ArithmeticException,
+    ArrayIndexOutOfBoundsException,
+    NegativeArraySizeException,
+    ClassCastException,
+    NoSuchElementException,
+    /// The body of a method with a result has ended without `return`.
+    NoReturn,
+    /// A longer array than this tool makes.
+    ArrayTooLong,
+}
+
+/// What a test says of the method under test on a structure.
+#[derive(Clone, Copy, Debug, PartialEq, Eq)]
+pub enum Verdict {
+    Pass,
+    /// The postcondition of this number, counted from 1, is the first that is false.
+    Ensures(u32),
+    /// `repOk` is false after the method.
+    RepOk,
+    /// The method traps.
+    Trap(Kind),
+    /// `repOk` or a postcondition traps.
+    CheckTrap(Kind),
+    /// Method, `repOk` and postconditions need more than the fuel.
+    Spent,
+}

@@ -1,0 +1,3 @@
+pub mod Ascents
+pub mod Joins
+pub mod Scans

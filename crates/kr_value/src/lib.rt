@@ -1,0 +1,9 @@
+//! What a run of the tested program works on: values, and the objects of a heap, which have a class and, at their spots,
+//! values. This crate has the types and what they mean; each object goes by its number in the heap.
+#![tactic(auto)]
+
+mod object;
+mod value;
+
+pub use object::{Class, Spot};
+pub use value::{Obj, Value};
