@@ -1,0 +1,16 @@
+//! Which scope each node of a tree has: the class and the method that it stands in, the locals that are declared before it,
+//! and what else the typing rules ask of its surroundings. Nothing is looked up: a class and a type are kept as nodes.
+#![tactic(auto)]
+
+mod after;
+mod bindings;
+mod change;
+mod hand;
+mod laws;
+mod scopes;
+mod tasks;
+mod within;
+
+pub use laws::local_law;
+pub use scopes::Scopes;
+pub use within::{Binding, Declaring, Part, Role, Within};
