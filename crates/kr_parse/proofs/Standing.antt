@@ -38,16 +38,6 @@ standing_next ts at n k m l h e room = record { within = omega arith; next = e; 
         go (inl k) = h.shallow j k d
         go (inr k) = let e : j ≡ at = omega arith in here (subst (λ (x : ℕ). IsTooNested ts x) e d)
 
-pub too_nested : (ts : Lexemes) (at n : ℕ) (k : Terminal) → at < length ts.list → IsStanding ts (record { at = at; depth = n; next = k }) → IsViable ts.list (at + 1) → is_opening (token_at ts at).kind ≡ true → 64 ≤ n
-    → IsFirstTooNested ts (token_at ts at).place
-too_nested ts at n k l h v o m = record {
-  index = at;
-  place = refl;
-  viable = v;
-  nested = (l, o, (let e = h.depth in omega arith));
-  shallow = h.shallow;
-}
-
 outside_is : (k : Kind) → is_outside_profile k ≡ not (is_inside (terminal_of k))
 unfolding is_outside_profile
 outside_is kinds.Identifier = refl

@@ -1,0 +1,3 @@
+pub mod Definition
+pub mod Reading
+pub mod Worked

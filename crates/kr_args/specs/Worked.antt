@@ -1,0 +1,53 @@
+-- Some words with what they mean, worked by hand.
+use Rattle.std.specs.Prelude.{◌≡◌, ℕ, List, [], ◌∷◌, Option, Some, None, codes}
+use Rattle.clap.specs.Words.{Text}
+use Rattle.kr_base.specs.declared.span.Bound.{Bound}
+use Rattle.kr_base.specs.declared.span.Bound.TheVariants.{At, End}
+use Rattle.kr_args.specs.Reading.{Files, Range, Task, Lists, Checks, Demos, command_of}
+
+abbrev pub files : Text → List Text → Files
+files fin sources = record { fin = fin; sources = sources }
+
+abbrev pub range : List ℕ → Bound → ℕ → Range
+range from to limit = record { from = from; to = to; limit = limit }
+
+-- the words f and a behind a word, and more
+abbrev pub with_files : Text → List Text → List Text
+with_files name more = name ∷ codes "f" ∷ codes "a" ∷ more
+
+abbrev pub listed : Range → Option Task
+listed asked = Some (Lists (files (codes "f") (codes "a" ∷ [])) asked)
+
+pub record WorkedWords : Type 0 where
+  pub no_words : command_of [] ≡ None
+  pub plain : command_of (with_files (codes "list") []) ≡ listed (range [] End 4294967295)
+  pub limit : command_of (with_files (codes "list") (codes "--limit" ∷ codes "3" ∷ [])) ≡ listed (range [] End 3)
+  pub equals : command_of (with_files (codes "list") (codes "--limit=3" ∷ [])) ≡ listed (range [] End 3)
+  pub greatest : command_of (with_files (codes "list") (codes "--limit" ∷ codes "4294967295" ∷ [])) ≡ listed (range [] End 4294967295)
+  pub no_limit : command_of (with_files (codes "list") (codes "--limit" ∷ codes "0" ∷ [])) ≡ None
+  pub past_greatest : command_of (with_files (codes "list") (codes "--limit" ∷ codes "4294967296" ∷ [])) ≡ None
+  pub padded : command_of (with_files (codes "list") (codes "--limit" ∷ codes "03" ∷ [])) ≡ None
+  pub signed : command_of (with_files (codes "list") (codes "--limit" ∷ codes "+3" ∷ [])) ≡ None
+  pub spans : command_of (codes "list" ∷ codes "--from" ∷ codes "0.2" ∷ codes "f" ∷ codes "a" ∷ codes "--to" ∷ codes "1" ∷ []) ≡ listed (range (0 ∷ 2 ∷ []) (At (1 ∷ [])) 4294967295)
+  pub two_dots : command_of (with_files (codes "list") (codes "--from" ∷ codes "0..1" ∷ [])) ≡ None
+  pub padded_cut : command_of (with_files (codes "list") (codes "--to" ∷ codes "0.01" ∷ [])) ≡ None
+  pub no_cut : command_of (with_files (codes "list") (codes "--from" ∷ [] ∷ [])) ≡ None
+  pub no_value : command_of (with_files (codes "list") (codes "--limit" ∷ [])) ≡ None
+  pub twice : command_of (with_files (codes "list") (codes "--limit" ∷ codes "3" ∷ codes "--limit" ∷ codes "3" ∷ [])) ≡ None
+  pub between : command_of (with_files (codes "list") (codes "--limit" ∷ codes "3" ∷ codes "b" ∷ [])) ≡ None
+  pub unknown : command_of (with_files (codes "list") (codes "--lim" ∷ codes "3" ∷ [])) ≡ None
+  pub workers : command_of (with_files (codes "list") (codes "--workers" ∷ codes "1" ∷ [])) ≡ None
+  pub no_source : command_of (codes "list" ∷ codes "f" ∷ []) ≡ None
+  pub checked : command_of (codes "check" ∷ codes "f" ∷ codes "a" ∷ codes "b" ∷ []) ≡ Some (Checks (files (codes "f") (codes "a" ∷ codes "b" ∷ [])))
+  pub sixteen : command_of (codes "check" ∷ codes "f" ∷ codes "1" ∷ codes "2" ∷ codes "3" ∷ codes "4" ∷ codes "5" ∷ codes "6" ∷ codes "7" ∷ codes "8" ∷ codes "9" ∷ codes "a" ∷ codes "b" ∷ codes "c" ∷ codes "d" ∷ codes "e" ∷ codes "f" ∷ codes "g" ∷ [])
+      ≡ Some (Checks (files (codes "f") (codes "1" ∷ codes "2" ∷ codes "3" ∷ codes "4" ∷ codes "5" ∷ codes "6" ∷ codes "7" ∷ codes "8" ∷ codes "9" ∷ codes "a" ∷ codes "b" ∷ codes "c" ∷ codes "d" ∷ codes "e" ∷ codes "f" ∷ codes "g" ∷ [])))
+  pub seventeen : command_of (codes "check" ∷ codes "f" ∷ codes "1" ∷ codes "2" ∷ codes "3" ∷ codes "4" ∷ codes "5" ∷ codes "6" ∷ codes "7" ∷ codes "8" ∷ codes "9" ∷ codes "a" ∷ codes "b" ∷ codes "c" ∷ codes "d" ∷ codes "e" ∷ codes "f" ∷ codes "g" ∷ codes "h" ∷ []) ≡ None
+  pub check_has_no_limit : command_of (with_files (codes "check") (codes "--limit" ∷ codes "3" ∷ [])) ≡ None
+  pub dashes : command_of (codes "check" ∷ codes "--" ∷ codes "-f" ∷ codes "--a" ∷ []) ≡ Some (Checks (files (codes "-f") (codes "--a" ∷ [])))
+  pub empty_names : command_of (codes "check" ∷ [] ∷ [] ∷ []) ≡ Some (Checks (files [] ([] ∷ [])))
+  pub demo : command_of (codes "demo" ∷ codes "12" ∷ []) ≡ Some (Demos 12)
+  pub demo_of_none : command_of (codes "demo" ∷ codes "0" ∷ []) ≡ None
+  pub demo_too_large : command_of (codes "demo" ∷ codes "13" ∷ []) ≡ None
+  pub test : command_of (codes "test" ∷ codes "f" ∷ codes "m" ∷ codes "a" ∷ []) ≡ None
+  pub help : command_of (codes "--help" ∷ []) ≡ None
+  pub help_word : command_of (codes "help" ∷ []) ≡ None

@@ -1,0 +1,130 @@
+// What clap makes of the words, read as a command.
+ghost use Rattle.std.specs.Prelude.{◌≡◌, ◌≢◌, Some, None, MatchResult, string_bytes};
+ghost use Rattle.clap.specs.Words.{kind_of, subcommand_rows_of, found_of, rows_of, first_of, all_of};
+ghost use Rattle.clap.specs.declared.error.ErrorKind.TheVariants.{OutOfMemory};
+ghost use Rattle.kr_args.specs.Reading.{text_in, texts_in, files_in, list_in, check_in, demo_in, demo_with, named_in, task_in, task_of, files_of, command_of};
+
+use crate::definition::whole_definition;
+use crate::forms::{ArgRefusal, Ask, Command};
+use crate::values::{read_files, read_from, read_limit, read_number, read_to};
+use clap::error::ErrorKind;
+use clap::{ArgMatches, Error};
+use kr_base::Words;
+use std::alloc::Global;
+
+/// The first value of an argument.
+fn text_of<'a>(matches: &ArgMatches<'a>, id: &str) -> Option<&'a str>
+    ensures { text_in result ≡ first_of id.now (rows_of (found_of matches.now)) }
+{
+    matches.get_str(id)
+}
+
+/// The values of an argument.
+fn texts_of<'m, 'a>(matches: &'m ArgMatches<'a>, id: &str) -> Option<&'m [&'a str]>
+    ensures { texts_in result ≡ all_of id.now (rows_of (found_of matches.now)) }
+{
+    matches.get_strs(id)
+}
+
+fn read_sources(alloc: Global, matches: &ArgMatches<'_>) -> Result<(String, Words), ArgRefusal>
+    ensures { let wanted = files_in (rows_of (found_of matches.now)) in
+        MatchResult result (λ files. wanted ≡ Some (files_of (string_bytes files.0) files.1)) (λ e. e ≡ ArgRefusal.Usage → wanted ≡ None) }
+{
+    read_files(alloc, text_of(matches, "fin"), texts_of(matches, "source"))
+}
+
+fn read_list(alloc: Global, matches: &ArgMatches<'_>) -> Result<Command, ArgRefusal>
+    ensures { let wanted = list_in (rows_of (found_of matches.now)) in
+        MatchResult result (λ command. wanted ≡ Some (task_of command)) (λ e. e ≡ ArgRefusal.Usage → wanted ≡ None) }
+{
+    let (fin, sources) = read_sources(alloc, matches)?;
+    let from = read_from(alloc, text_of(matches, "from"))?;
+    let to = read_to(alloc, text_of(matches, "to"))?;
+    let limit = read_limit(text_of(matches, "limit"))?;
+    Ok(Command::List(Ask {
+        fin,
+        sources,
+        from,
+        to,
+        limit,
+    }))
+}
+
+fn read_check(alloc: Global, matches: &ArgMatches<'_>) -> Result<Command, ArgRefusal>
+    ensures { let wanted = check_in (rows_of (found_of matches.now)) in
+        MatchResult result (λ command. wanted ≡ Some (task_of command)) (λ e. e ≡ ArgRefusal.Usage → wanted ≡ None) }
+{
+    let (fin, sources) = read_sources(alloc, matches)?;
+    Ok(Command::Check { fin, sources })
+}
+
+fn demo_from(nodes: Option<&str>) -> Result<Command, ArgRefusal>
+    ensures { let wanted = demo_with (text_in nodes.entry) in
+        MatchResult result (λ command. wanted ≡ Some (task_of command)) (λ e. wanted ≡ None) }
+{
+    let Some(nodes) = nodes else {
+        return Err(ArgRefusal::Usage);
+    };
+    match read_number(1, 12, nodes) {
+        Some(n) => Ok(Command::Demo { n }),
+        None => Err(ArgRefusal::Usage),
+    }
+}
+
+fn read_demo(matches: &ArgMatches<'_>) -> Result<Command, ArgRefusal>
+    ensures { let wanted = demo_in (rows_of (found_of matches.now)) in
+        MatchResult result (λ command. wanted ≡ Some (task_of command)) (λ e. wanted ≡ None) }
+{
+    demo_from(text_of(matches, "nodes"))
+}
+
+/// The command of a name with these matches.
+fn read_named(alloc: Global, name: &str, matches: &ArgMatches<'_>) -> Result<Command, ArgRefusal>
+    ensures { let wanted = named_in name.now (rows_of (found_of matches.now)) in
+        MatchResult result (λ command. wanted ≡ Some (task_of command)) (λ e. e ≡ ArgRefusal.Usage → wanted ≡ None) }
+{
+    if name == "list" {
+        read_list(alloc, matches)
+    } else if name == "check" {
+        read_check(alloc, matches)
+    } else if name == "demo" {
+        read_demo(matches)
+    } else {
+        Err(ArgRefusal::Usage)
+    }
+}
+
+fn read_task(alloc: Global, matches: &ArgMatches<'_>) -> Result<Command, ArgRefusal>
+    ensures { let wanted = task_in (subcommand_rows_of matches.now) in
+        MatchResult result (λ command. wanted ≡ Some (task_of command)) (λ e. e ≡ ArgRefusal.Usage → wanted ≡ None) }
+{
+    match matches.subcommand() {
+        Some((name, inner)) => read_named(alloc, name, inner),
+        None => Err(ArgRefusal::Usage),
+    }
+}
+
+fn refusal_of(error: &Error) -> ArgRefusal
+    ensures { result ≡ ArgRefusal.Usage → kind_of error.now ≢ OutOfMemory }
+{
+    match error.kind() {
+        ErrorKind::OutOfMemory => ArgRefusal::NoMemory,
+        _ => ArgRefusal::Usage,
+    }
+}
+
+/// The command that the words of a call give, by clap's own meaning of the definition. The words don't begin with the
+/// program's name.
+pub fn command(alloc: Global, words: &Words) -> Result<Command, ArgRefusal>
+    ensures { let wanted = command_of words.now in
+        MatchResult result (λ command. wanted ≡ Some (task_of command)) (λ e. e ≡ ArgRefusal.Usage → wanted ≡ None) }
+{
+    let definition = match whole_definition(alloc) {
+        Ok(definition) => definition,
+        Err(_) => return Err(ArgRefusal::NoMemory),
+    };
+    match definition.try_get_matches_from(words.texts()) {
+        Ok(matches) => read_task(alloc, &matches),
+        Err(error) => Err(refusal_of(&error)),
+    }
+}

@@ -1,0 +1,100 @@
+// The definition of the command line, as clap is given it.
+ghost use Rattle.std.specs.Prelude.{◌≡◌, false, IfOk};
+ghost use Rattle.clap.specs.declared.builder.command.Command.TheViews.{out-Command as fields_of};
+ghost use Rattle.clap.specs.Words.{rule_of, app_of, with_rule, with_subcommand};
+ghost use Rattle.kr_args.specs.Definition.{sources_rule, option_rule, bare_app, list_app, check_app, demo_app, korat_app};
+
+use clap::{Arg, Command as Definition};
+use std::alloc::{AllocError, Global};
+
+/// The sources: 1 to 16 words.
+fn sources_argument<'a>(alloc: Global) -> Arg<'a>
+    ensures rule { rule_of result ≡ sources_rule }
+    ensures local { result.global ≡ false }
+{
+    Arg::new(alloc, "source").required(true).num_args(1..=16)
+}
+
+/// `--name VALUE`, for a command without a global argument.
+fn with_option<'a>(
+    alloc: Global,
+    command: Definition<'a>,
+    name: &'a str,
+) -> Result<Definition<'a>, AllocError>
+    requires { (fields_of command).has_globals ≡ false }
+    ensures app { IfOk result (λ c. app_of c ≡ with_rule (app_of command.entry) (option_rule name.entry.now)) }
+    ensures local { IfOk result (λ c. (fields_of c).has_globals ≡ false) }
+{
+    command.arg(Arg::new(alloc, name).long(name))
+}
+
+/// `list FIN SOURCE..` with its options.
+fn list_definition<'a>(alloc: Global) -> Result<Definition<'a>, AllocError>
+    ensures app { IfOk result (λ c. app_of c ≡ list_app) }
+    ensures local { IfOk result (λ c. (fields_of c).has_globals ≡ false) }
+{
+    let fin = Arg::new(alloc, "fin").required(true);
+    let command = Definition::new(alloc, "list")
+        .arg(fin)?
+        .arg(sources_argument(alloc))?;
+    let command = with_option(alloc, command, "from")?;
+    let command = with_option(alloc, command, "to")?;
+    with_option(alloc, command, "limit")
+}
+
+/// `check FIN SOURCE..`.
+fn check_definition<'a>(alloc: Global) -> Result<Definition<'a>, AllocError>
+    ensures app { IfOk result (λ c. app_of c ≡ check_app) }
+    ensures local { IfOk result (λ c. (fields_of c).has_globals ≡ false) }
+{
+    let fin = Arg::new(alloc, "fin").required(true);
+    Definition::new(alloc, "check")
+        .arg(fin)?
+        .arg(sources_argument(alloc))
+}
+
+/// `demo N`.
+fn demo_definition<'a>(alloc: Global) -> Result<Definition<'a>, AllocError>
+    ensures app { IfOk result (λ c. app_of c ≡ demo_app) }
+    ensures local { IfOk result (λ c. (fields_of c).has_globals ≡ false) }
+{
+    let count = Arg::new(alloc, "nodes").required(true);
+    Definition::new(alloc, "demo").arg(count)
+}
+
+/// The tool, still without its commands.
+fn bare_definition<'a>(alloc: Global) -> Definition<'a>
+    ensures app { app_of result ≡ bare_app }
+    ensures local { (fields_of result).has_globals ≡ false }
+{
+    Definition::new(alloc, "korat")
+        .no_binary_name(true)
+        .disable_help_flag(true)
+        .disable_version_flag(true)
+        .disable_help_subcommand(true)
+        .subcommand_required(true)
+}
+
+/// The tool with one more command.
+fn with_command<'a>(
+    above: Definition<'a>,
+    command: Definition<'a>,
+) -> Result<Definition<'a>, AllocError>
+    requires { (fields_of command).has_globals ≡ false }
+    ensures { IfOk result (λ c. app_of c ≡ with_subcommand (app_of above.entry) (app_of command.entry).top) }
+{
+    above.subcommand(command)
+}
+
+/// The tool with all its commands.
+pub(crate) fn whole_definition<'a>(alloc: Global) -> Result<Definition<'a>, AllocError>
+    ensures { IfOk result (λ c. app_of c ≡ korat_app) }
+{
+    let list = list_definition(alloc)?;
+    let check = check_definition(alloc)?;
+    let demo = demo_definition(alloc)?;
+    let korat = bare_definition(alloc);
+    let korat = with_command(korat, list)?;
+    let korat = with_command(korat, check)?;
+    with_command(korat, demo)
+}

@@ -1,0 +1,119 @@
+// The values of arguments, read from their words.
+ghost use Rattle.std.specs.Prelude.{◌≡◌, ◌^◌, ◌<◌, Some, None, map, option_map, string_bytes, MatchResult};
+ghost use Rattle.kr_base.specs.Parsing.{cut_of};
+ghost use Rattle.kr_args.specs.Reading.{number_in, text_in, texts_in, from_in, to_in, limit_in, files_with, Files, files_of};
+
+use crate::forms::ArgRefusal;
+use itoa::Buffer;
+use kr_base::{Bound, Cut, CutRefusal, Words, reading_law};
+use std::alloc::Global;
+
+/// The number that a text is, from `low` to `high`.
+pub(crate) fn read_number(low: u32, high: u32, text: &str) -> Option<u32>
+    ensures { result ≡ number_in low high text.now }
+{
+    let Ok(number) = text.parse::<u32>() else {
+        return None;
+    };
+    let mut buffer = Buffer::new();
+    if buffer.format(number) != text {
+        return None;
+    }
+    if number < low {
+        return None;
+    }
+    if high < number {
+        return None;
+    }
+    Some(number)
+}
+
+/// The cut that a text is.
+fn read_cut(alloc: Global, text: &str) -> Result<Cut, ArgRefusal>
+    ensures { MatchResult result (λ cut. cut_of text.now ≡ Some cut) (λ e. e ≡ ArgRefusal.Usage → cut_of text.now ≡ None) }
+{
+    reading_law();
+    match Cut::parse(alloc, text) {
+        Ok(cut) => Ok(cut),
+        Err(CutRefusal::NoMemory) => Err(ArgRefusal::NoMemory),
+        Err(CutRefusal::Malformed(_)) => Err(ArgRefusal::Usage),
+        Err(CutRefusal::TooLong(_)) => Err(ArgRefusal::Usage),
+    }
+}
+
+/// Where a span begins.
+pub(crate) fn read_from(alloc: Global, text: Option<&str>) -> Result<Cut, ArgRefusal>
+    ensures { let wanted = from_in (text_in text.entry) in MatchResult result (λ cut. wanted ≡ Some cut) (λ e. e ≡ ArgRefusal.Usage → wanted ≡ None) }
+{
+    match text {
+        None => Ok(Cut::empty(alloc)),
+        Some(text) => read_cut(alloc, text),
+    }
+}
+
+/// Where a span ends.
+pub(crate) fn read_to(alloc: Global, text: Option<&str>) -> Result<Bound, ArgRefusal>
+    ensures { let wanted = to_in (text_in text.entry) in MatchResult result (λ bound. wanted ≡ Some bound) (λ e. e ≡ ArgRefusal.Usage → wanted ≡ None) }
+{
+    match text {
+        None => Ok(Bound::End),
+        Some(text) => match read_cut(alloc, text) {
+            Ok(cut) => Ok(Bound::At(cut)),
+            Err(refusal) => Err(refusal),
+        },
+    }
+}
+
+/// How many valid entries are written at most.
+pub(crate) fn read_limit(text: Option<&str>) -> Result<u32, ArgRefusal>
+    ensures { let wanted = limit_in (text_in text.entry) in MatchResult result (λ limit. wanted ≡ Some limit) (λ _. wanted ≡ None) }
+{
+    match text {
+        None => Ok(u32::MAX),
+        Some(text) => match read_number(1, u32::MAX, text) {
+            Some(limit) => Ok(limit),
+            None => Err(ArgRefusal::Usage),
+        },
+    }
+}
+
+fn copy_text(alloc: Global, text: &str) -> Result<String, ArgRefusal>
+    ensures { MatchResult result (λ copy. string_bytes copy ≡ text.now) (λ e. e ≡ ArgRefusal.NoMemory) }
+{
+    match String::from_str(alloc, text) {
+        Ok(copy) => Ok(copy),
+        Err(_) => Err(ArgRefusal::NoMemory),
+    }
+}
+
+fn copy_texts(alloc: Global, texts: &[&str]) -> Result<Words, ArgRefusal>
+    ensures { MatchResult result (λ copies. copies ≡ map (λ text. text.now) texts.now) (λ e. e ≡ ArgRefusal.NoMemory) }
+{
+    let mut copies = Words::new(alloc);
+    for text in texts {
+        match copies.push(text) {
+            Ok(()) => {}
+            Err(_) => return Err(ArgRefusal::NoMemory),
+        }
+    }
+    Ok(copies)
+}
+
+/// The files that a command reads: the finitization, and the sources.
+pub(crate) fn read_files(
+    alloc: Global,
+    fin: Option<&str>,
+    sources: Option<&[&str]>,
+) -> Result<(String, Words), ArgRefusal>
+    ensures { let wanted = files_with (text_in fin.entry) (texts_in sources.entry) in
+        MatchResult result (λ files. wanted ≡ Some (files_of (string_bytes files.0) files.1)) (λ e. e ≡ ArgRefusal.Usage → wanted ≡ None) }
+{
+    match (fin, sources) {
+        (Some(fin), Some(sources)) => {
+            let fin = copy_text(alloc, fin)?;
+            let sources = copy_texts(alloc, sources)?;
+            Ok((fin, sources))
+        }
+        _ => Err(ArgRefusal::Usage),
+    }
+}

@@ -1,0 +1,6 @@
+mod Growing
+mod Moved
+mod Heads
+mod Methods
+mod Tagged
+mod Chains

@@ -1,0 +1,21 @@
+//! Reads a finitization: answers the document that its bytes are, or names the rule that they break first.
+#![tactic(auto)]
+
+mod document;
+mod judge;
+mod laws;
+mod least;
+mod list;
+mod reading;
+mod refusal;
+mod shapes;
+#[cfg(test)]
+mod tests;
+mod text;
+
+pub use document::{ArrayBound, Count, Domain, FinDoc, Item, NamedDomain};
+pub use laws::{item_law, least_law};
+pub use list::Listed;
+pub use reading::{MAX_FIN_BYTES, is_too_long, read_fin};
+pub use refusal::{Fault, FinRefusal, FinRule};
+pub use text::Text;

@@ -1,0 +1,66 @@
+// Why bytes are no finitization.
+ghost use Rattle.std.specs.Prelude.{◌≡◌};
+ghost use Rattle.kr_fin.specs.Order.{rank_of, rule_code};
+
+use crate::text::Text;
+
+/// A rule of finitizations, by what breaks it.
+#[derive(Clone, Copy, Debug, PartialEq, Eq)]
+pub enum FinRule {
+    /// F6: longer than 1 MiB.
+    TooLong,
+    /// F1: no TOML document.
+    NotToml,
+    /// F2: a key that isn't known.
+    UnknownKey,
+    /// F3: a value of the wrong kind.
+    WrongKind,
+    /// F4: a number out of its limit.
+    OutOfLimit,
+    /// F5: a key that has to be there, and isn't.
+    MissingKey,
+}
+
+impl FinRule {
+    /// The rule's code, as `F1`.
+    pub fn code(self) -> &'static str
+        ensures { result.now ≡ rule_code self }
+    {
+        match self {
+            FinRule::TooLong => "F6",
+            FinRule::NotToml => "F1",
+            FinRule::UnknownKey => "F2",
+            FinRule::WrongKind => "F3",
+            FinRule::OutOfLimit => "F4",
+            FinRule::MissingKey => "F5",
+        }
+    }
+
+    /// The rule's number in the order in which broken rules are named.
+    pub(crate) fn rank(self) -> u32
+        ensures { result ≡ rank_of self }
+    {
+        match self {
+            FinRule::TooLong => 0,
+            FinRule::NotToml => 1,
+            FinRule::UnknownKey => 2,
+            FinRule::WrongKind => 3,
+            FinRule::OutOfLimit => 4,
+            FinRule::MissingKey => 5,
+        }
+    }
+}
+
+/// A rule that is broken, and the item that breaks it.
+#[derive(Debug, Drop)]
+pub struct Fault {
+    pub rule: FinRule,
+    pub item: Text,
+}
+
+/// The bytes were refused: they break a rule, or memory was refused.
+#[derive(Debug, Drop)]
+pub enum FinRefusal {
+    Broken(Fault),
+    NoMemory,
+}
