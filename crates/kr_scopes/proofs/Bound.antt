@@ -1,19 +1,18 @@
 -- One local more.
-use Rattle.std.proofs.Common.{◌≡◌, ℕ, ◌+◌, ◌-◌, ◌<◌, ◌≤◌, List, [], ◌∷◌, ◌++◌, length, Option, Some, refl, sym, ap, subst, ◌∙◌, arith, length-append, get_or}
+use Rattle.std.proofs.Common.{◌≡◌, ℕ, ◌+◌, ◌-◌, ◌<◌, ◌≤◌, inl, inr, List, [], ◌∷◌, ◌++◌, length, Option, Some, refl, sym, ap, subst, ◌∙◌, arith, length-append, get_or}
 use Rattle.std.specs.Prelude.{slice_get}
 use Rattle.std.proofs.lemmas.Option.{slice_get_read}
 use Rattle.kr_ast.specs.declared.node.Name.{Name}
-use Rattle.kr_ast.specs.Arena.{Arena, name_in}
+use Rattle.kr_ast.specs.Arena.{Arena, name_in, AreNamesIn}
 use Rattle.kr_table.specs.Types.{JavaType}
-use Rattle.kr_table.specs.Table.{Table}
-use Rattle.kr_table.specs.Constants.{Known}
 use Rattle.kr_typing.specs.Scopes.{Scope, Local, bind, bind_as}
 use Rattle.kr_scopes.specs.declared.within.Declaring.{Declaring}
 use Rattle.kr_scopes.specs.declared.within.Declaring.TheVariants as declarings
 use Rattle.kr_scopes.specs.declared.within.Binding.{Binding}
 use Rattle.kr_scopes.specs.declared.within.Within.{Within}
-use Rattle.kr_scopes.specs.Settings.{Setting, setting, local_of, locals_at, scope_in, class_there, type_there, part_of, role_of, declaring_of, IsLink, IsChain, Keeps}
+use Rattle.kr_scopes.specs.Settings.{Setting, setting, local_of, locals_at, scope_in, class_there, type_there, part_of, role_of, declaring_of, IsLink, IsChain, AreNamed}
 use Rattle.kr_scopes.specs.Tasks.{IsBound, IsStep}
+use Rattle.kr_scopes.proofs.Grown.{slice_get_push}
 use Rattle.kr_scopes.proofs.Chains.{keeps_push, locals_push, chain_push}
 
 abbrev local_named : List ℕ → JavaType → Local
@@ -45,15 +44,22 @@ bound_scope g old b from name declared n d below =
     locals_push g old b ∙ (ap (λ l. l ∷ locals_at g old b.below) first ∙ ap (λ k. local_named (name_in g.tree.text name) (type_there g declared) ∷ locals_at g old k) below) in
     ap (λ ls. with g from ls) locals
 
-pub bound_step : (tree : Arena) (name : Name) (declared : Option ℕ) (from made : Within) (old new : List Binding) → IsChain old → IsBound name declared from old new made
+named_push : (tree : Arena) (bs : List Binding) (b : Binding) → AreNamesIn tree.text (b.name ∷ []) → AreNamed tree bs → AreNamed tree (bs ++ b ∷ [])
+named_push tree bs b n h k c is = elim (slice_get_push bs b k c is) [
+  | inl l ↦ h k c l
+  | inr r ↦ subst (λ (x : Binding). AreNamesIn tree.text (x.name ∷ [])) r.1 n
+]
+
+pub bound_step : (tree : Arena) (name : Name) (declared : Option ℕ) (from made : Within) (old new : List Binding) → IsChain old → AreNamesIn tree.text (name ∷ []) → IsBound name declared from old new made
     → IsStep tree old new made (λ g. bind (name_in g.tree.text name) (type_there g declared) (scope_in g old from))
-bound_step tree name declared from made old new chain h =
+bound_step tree name declared from made old new chain in_text h =
     let b = h.binding in
     let step : IsStep tree old (old ++ b ∷ []) (record from { top = length old + 1 }) (λ g. bind (name_in g.tree.text name) (type_there g declared) (scope_in g old from)) = record {
       top = omega (arith, length-append old (b ∷ []));
       scope_is = λ t v. bound_scope (setting t v tree) old b from name declared h.name_is h.declared_is h.below_is;
       keeps = λ t v. keeps_push (setting t v tree) old b;
       chain = chain_push old b chain h.link;
+      named = named_push tree old b (subst (λ (n : Name). AreNamesIn tree.text (n ∷ [])) (sym h.name_is) in_text);
     } in
     subst (λ (x : List Binding). IsStep tree old x made (λ g. bind (name_in g.tree.text name) (type_there g declared) (scope_in g old from))) (sym h.items)
     (subst (λ (w : Within). IsStep tree old (old ++ b ∷ []) w (λ g. bind (name_in g.tree.text name) (type_there g declared) (scope_in g old from))) (sym h.made_is) step)

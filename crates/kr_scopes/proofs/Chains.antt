@@ -1,5 +1,5 @@
 -- Bindings that stand upon earlier ones.
-use Rattle.std.proofs.Common.{◌≡◌, ℕ, ◌+◌, ◌-◌, ◌<◌, ◌≤◌, ◌⊎◌, inl, inr, List, [], ◌∷◌, ◌++◌, length, Some, refl, sym, ap, subst, ◌∙◌, arith, length-append}
+use Rattle.std.proofs.Common.{◌≡◌, ℕ, ◌+◌, ◌-◌, ◌≤◌, ◌⊎◌, inl, inr, List, [], ◌∷◌, ◌++◌, length, Some, refl, sym, ap, subst, ◌∙◌, arith, length-append}
 use Rattle.std.specs.Prelude.{slice_get}
 use Rattle.std.proofs.lemmas.Option.{slice_get_within}
 use Rattle.kr_table.specs.Table.{Table}
@@ -80,8 +80,8 @@ scope_kept g old new w k le = ap (with_locals g w) (k.stay w.top le)
 -- steps without a binding, and to the same scopes
 pub step_same : (tree : Arena) (bs : List Binding) (w : Within) (f : Setting → Scope) → IsChain bs → w.top ≤ length bs
     → ((t : Table) (v : List Known) → scope_in (setting t v tree) bs w ≡ f (setting t v tree)) → IsStep tree bs bs w f
-step_same tree bs w f chain top e = record { top = top; scope_is = e; keeps = λ t v. keeps_same (setting t v tree) bs; chain = chain }
+step_same tree bs w f chain top e = record { top = top; scope_is = e; keeps = λ t v. keeps_same (setting t v tree) bs; chain = chain; named = λ h. h }
 
 pub step_as : (tree : Arena) (old new : List Binding) (w : Within) (f g : Setting → Scope) → IsStep tree old new w f
     → ((t : Table) (v : List Known) → f (setting t v tree) ≡ g (setting t v tree)) → IsStep tree old new w g
-step_as tree old new w f g h e = record { top = h.top; scope_is = λ t v. h.scope_is t v ∙ e t v; keeps = h.keeps; chain = h.chain }
+step_as tree old new w f g h e = record { top = h.top; scope_is = λ t v. h.scope_is t v ∙ e t v; keeps = h.keeps; chain = h.chain; named = h.named }

@@ -31,6 +31,22 @@ grow_made f d xs ns n k e =
     ∙ ap (λ k. get_or (grow f xs ns ++ f (grow f xs ns) n ∷ []) k d) (e ∙ sym (length-grow f xs ns))
     ∙ get_or-append_seam (grow f xs ns) (f (grow f xs ns) n) [] d
 
+-- each item is what the rule makes of the whole list, where the rule looks only at what stands before
+module _ {A N : Type 0} (f : List A → N → A) (d : A) (P : ℕ → N → Type 0) (near : (i : ℕ) (n : N) (xs ys : List A) → ((k : ℕ) → k < i → get_or xs k d ≡ get_or ys k d) → P i n → f xs n ≡ f ys n) where
+  pub grow_stands : (xs : List A) (ns : List N) (i j : ℕ) (n : N) → slice_get ns i ≡ Some n → j ≡ length xs + i → P j n → get_or (grow f xs ns) j d ≡ f (grow f xs ns) n
+  unfolding grow
+  grow_stands xs [] i j n e is p = cc
+  grow_stands xs (x ∷ ns) zero j n e is p =
+      let here : x ≡ n = cc in
+      let at : j ≡ length xs = omega arith in
+      grow_keeps f d (xs ++ f xs x ∷ []) ns j (omega (arith, length-append xs (f xs x ∷ [])))
+      ∙ ap (λ k. get_or (xs ++ f xs x ∷ []) k d) at
+      ∙ get_or-append_seam xs (f xs x) [] d
+      ∙ ap (λ m. f xs m) here
+      ∙ near j n xs (grow f xs (x ∷ ns)) (λ k lt. sym (grow_keeps f d xs (x ∷ ns) k (omega arith))) p
+  grow_stands xs (x ∷ ns) (suc i) j n e is p =
+      grow_stands (xs ++ f xs x ∷ []) ns i j n e (omega (arith, length-append xs (f xs x ∷ []))) p
+
 pub slice_get_push : {A : Type 0} (xs : List A) (y : A) (k : ℕ) (x : A) → slice_get (xs ++ y ∷ []) k ≡ Some x → (slice_get xs k ≡ Some x) ⊎ ((k ≡ length xs) × (y ≡ x))
 slice_get_push [] y zero x e = inr (refl, (cc))
 slice_get_push [] y (suc k) x e = absurd (cc)

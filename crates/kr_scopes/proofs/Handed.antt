@@ -1,5 +1,5 @@
 -- Scopes handed from each node to its parts.
-use Rattle.std.proofs.Common.{◌≡◌, ℕ, zero, suc, ◌+◌, ◌<◌, ◌≤◌, ◌≢◌, ◌⊎◌, inl, inr, List, [], ◌∷◌, length, get_or, Some, refl, sym, ap, ◌∙◌, arith, subst, get_or-set_other, get_or-set_same, replicate}
+use Rattle.std.proofs.Common.{◌≡◌, ℕ, zero, suc, ◌+◌, ◌<◌, ◌≤◌, ◌⊎◌, inl, inr, List, [], ◌∷◌, length, get_or, Some, refl, sym, ap, ◌∙◌, arith, subst, get_or-set_other, get_or-set_same, replicate}
 use Rattle.std.proofs.lemmas.List.{length-replicate}
 use Rattle.std.proofs.lemmas.Bool.{cases_eq}
 use Rattle.std.specs.Prelude.{slice_get}
@@ -12,9 +12,9 @@ use Rattle.kr_table.specs.Constants.{Known}
 use Rattle.kr_typing.specs.Scopes.{Scope, scope_of}
 use Rattle.kr_scopes.specs.declared.within.Binding.{Binding}
 use Rattle.kr_scopes.specs.declared.within.Within.{Within}
-use Rattle.kr_scopes.specs.Settings.{Setting, setting, scope_in, IsChain, Keeps}
+use Rattle.kr_scopes.specs.Settings.{Setting, setting, scope_in, IsChain, AreNamed}
 use Rattle.kr_scopes.specs.Handing.{handed}
-use Rattle.kr_scopes.specs.Scoped.{nowhere, scope_at, IsScoped, AreScopes, IsHanded}
+use Rattle.kr_scopes.specs.Scoped.{nowhere, scope_at, AreScopes, IsHanded}
 use Rattle.kr_scopes.specs.Tasks.{IsStep}
 use Rattle.kr_scopes.proofs.Chains.{scope_kept, locals_zero}
 
@@ -27,6 +27,7 @@ pub record AreDone (tree : Arena) (bs : List Binding) (ws : List Within) (i : �
   pub long : length ws ≡ length tree.entries
   pub tops : (k : ℕ) → (get_or ws k nowhere).top ≤ length bs
   pub chain : IsChain bs
+  pub named : AreNamed tree bs
   pub each : (t : Table) (v : List Known) → Done (setting t v tree) bs ws i
 
 -- all of them
@@ -35,6 +36,7 @@ scoped_of tree a bs ws h t v = record {
   long = h.long;
   tops = h.tops;
   chain = h.chain;
+  named = h.named;
   root = (h.each t v).root;
   hands = hands;
 }
@@ -66,6 +68,7 @@ done_step tree a old new ws i n here h ni lt made = record {
   long = length-set ws i here ∙ h.long;
   tops = λ k. tops_at k (cases_eq k i);
   chain = step.chain;
+  named = step.named h.named;
   each = λ t v. record {
     root = λ k le. other t v k (λ e. omega (arith, le, ni, lt, e)) ∙ (h.each t v).root k le;
     done = λ k x le l s. at t v k x le l s (cases_eq k i);
@@ -129,6 +132,7 @@ done_start tree ws n chain e ne =
       long = length-replicate (length tree.entries) nowhere;
       tops = λ k. rw (none_at (length tree.entries) k) (omega arith);
       chain = chain;
+      named = λ k b is. absurd (omega (arith, slice_get_within [] k b is));
       each = λ t v. record {
         root = λ k lt. ap (scope_in (setting t v tree) []) (none_at (length tree.entries) k) ∙ outside t v;
         done = λ k x le l s. absurd (omega (arith, le, l, ne));

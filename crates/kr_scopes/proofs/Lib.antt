@@ -6,3 +6,6 @@ pub mod Plain
 pub mod Handed
 pub mod Order
 pub mod Noted
+pub mod Trees
+pub mod Notes
+pub mod Looking

@@ -1,5 +1,6 @@
 -- What is kept of a node follows from what is kept of its parts.
-use Rattle.std.proofs.Common.{◌≡◌, ℕ, ◌⊎◌, inl, inr, Bool, true, false, Option, List, [], ◌∷◌, ◌++◌, Some, None, refl, sym, ap, ◌∙◌, arith, if◌then◌else◌}
+use Rattle.std.proofs.Common.{◌≡◌, ℕ, ◌⊎◌, inl, inr, Bool, true, false, Option, List, [], ◌∷◌, ◌++◌, Some, None, refl, sym, ap, ◌∙◌, if◌then◌else◌}
+use Rattle.std.specs.Prelude.{slice_get}
 use Rattle.std.proofs.lemmas.Bool.{both_ways, cases_Bool}
 use Rattle.kr_base.specs.declared.place.Place.{Place}
 use Rattle.kr_ast.specs.Tree as trees
@@ -11,7 +12,7 @@ use Rattle.kr_typing.specs.Scopes.{Scope, written, class_before, method_meant}
 use Rattle.kr_typing.specs.Rules.{Typed, Untyped, Verdict, Fits, Breaks, type_rule, array_rule, unary_rule, operator_rule, choice_rule, cast_rule, instance_rule, assignment_rule, compound_rule, step_rule, access_rule, element_rule, call_rule, static_rule, super_rule, object_call_rule, creation_rule, array_creation_rule, old_rule, contract_rule, condition_rule, return_rule, declaration_rule, super_constructor_rule, implied_rule}
 use Rattle.kr_typing.specs.Typing as typing
 use Rattle.kr_typing.specs.Typing.{Judged, judge, judged, on_one, on_two, on_list, on_maybe}
-use Rattle.kr_scopes.specs.Noting.{Note, note, kept, concluded, leaf, one, two, three, one_and_list, list, maybe, plain, test, both, field_of, method_of, noted, part, AreNoted}
+use Rattle.kr_scopes.specs.Noting.{Note, note, kept, concluded, one, two, three, one_and_list, list, maybe, plain, test, both, field_of, method_of, noted, parts_of, AreNoted}
 use Rattle.kr_scopes.specs.Handing.{handed}
 use Rattle.kr_scopes.proofs.Order.{asymmetric, onwards}
 
@@ -112,7 +113,7 @@ method_is s p n (Some c) e g = list_is p (static_rule s (method_named s.table c 
 method_is s p n None e g = one_and_list_is p (object_call_rule s n) e g
 
 module _ (s : Scope) (look : ℕ → Note) where
-  known : (t : Tree) → AreNoted s t look → (j : ℕ) (u : Tree) → part t j ≡ Some u → Kept (judged (handed s t j) u) (look j)
+  known : (t : Tree) → AreNoted s t look → (j : ℕ) (u : Tree) → slice_get (parts_of t) j ≡ Some u → Kept (judged (handed s t j) u) (look j)
   known t h j u e = record { is = h j u e }
 
   pub noted_is : (t : Tree) → AreNoted s t look → kept (judged s t) ≡ noted s t look

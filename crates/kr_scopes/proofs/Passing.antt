@@ -1,8 +1,8 @@
 -- Tasks, one after another.
-use Rattle.std.proofs.Common.{◌≡◌, ℕ, ◌+◌, ◌*◌, ◌<◌, ◌≤◌, List, [], ◌∷◌, ◌++◌, length, Some, refl, sym, ap, subst, ◌∙◌, arith}
+use Rattle.std.proofs.Common.{◌≡◌, ℕ, ◌+◌, ◌<◌, ◌≤◌, List, [], ◌∷◌, ◌++◌, length, Some, refl, sym, ap, subst, ◌∙◌, arith}
 use Rattle.kr_table.specs.Table.{Table}
 use Rattle.kr_table.specs.Constants.{Known}
-use Rattle.kr_ast.specs.Tree.{Tree, size}
+use Rattle.kr_ast.specs.Tree.{size}
 use Rattle.kr_ast.specs.Arena.{Arena, tree_in, tree_of, name_in, parts, ArePartsFrom}
 use Rattle.kr_typing.specs.Scopes.{Scope, after}
 use Rattle.kr_scopes.specs.declared.within.Binding.{Binding}
@@ -16,7 +16,7 @@ use Rattle.kr_ast.specs.declared.node.Node.TheVariants as nodes
 use Rattle.kr_typing.specs.Scopes.{bind, bind_as}
 use Rattle.kr_scopes.specs.declared.within.Declaring.TheVariants as declarings
 use Rattle.kr_scopes.specs.Settings.{Setting, setting, type_there, scope_in, IsChain}
-use Rattle.kr_scopes.specs.Tasks.{behind, behind_all, weight, weights, AreWithin, IsStep, IsPassed}
+use Rattle.kr_scopes.specs.Tasks.{behind, behind_all, weights, AreWithin, IsStep, IsPassed}
 use Rattle.kr_scopes.proofs.Chains.{step_same, step_as, keeps_on}
 use Rattle.kr_scopes.proofs.Plain.{after_stays, size_some}
 
@@ -111,7 +111,7 @@ module _ (tree : Arena) (i : ℕ) (e : Entry) (h : IsEntryThere tree i e) (bs : 
     tasks_are = refl;
     within = tt;
     light = omega (arith, size_some (tree_in tree i));
-    step = record { top = s.top; scope_is = λ t v. refl; keeps = s.keeps; chain = s.chain };
+    step = record { top = s.top; scope_is = λ t v. refl; keeps = s.keeps; chain = s.chain; named = s.named };
     same = λ t v. s.scope_is t v ∙ is t v;
   }
 
@@ -157,6 +157,7 @@ way_on tree old bs new scope made from node task rest now u p = record {
     scope_is = λ t v. refl;
     keeps = λ t v. keeps_on (setting t v tree) old bs new (u.step.keeps t v) (p.step.keeps t v);
     chain = p.step.chain;
+    named = λ h. p.step.named (u.step.named h);
   };
   same = λ t v.
       let g = setting t v tree in

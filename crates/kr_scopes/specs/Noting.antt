@@ -1,6 +1,6 @@
 -- What is kept of a judgement: the type, and the first broken node with its least rule. What is kept of a node follows
 -- from what is kept of its parts.
-use Rattle.std.specs.Prelude.{ℕ, zero, suc, ◌≡◌, Bool, List, [], Option, Some, None}
+use Rattle.std.specs.Prelude.{ℕ, ◌≡◌, ◌<◌, List, [], ◌∷◌, length, slice_get, slice_index_or, Option, Some, None}
 use Rattle.kr_base.specs.declared.place.Place.{Place}
 use Rattle.kr_ast.specs.Tree as trees
 use Rattle.kr_ast.specs.Tree.{Tree}
@@ -10,6 +10,13 @@ use Rattle.kr_table.specs.Rules.{Fault, least, sooner}
 use Rattle.kr_typing.specs.Scopes.{Scope, written, in_class, meant, class_before, method_meant}
 use Rattle.kr_typing.specs.Rules.{Typed, Untyped, Value, Values, Verdict, Fits, Breaks, type_rule, diamond_rule, array_rule, number_rule, this_rule, name_rule, unary_rule, operator_rule, choice_rule, cast_rule, instance_rule, assignment_rule, compound_rule, step_rule, access_rule, constant_rule, element_rule, call_rule, static_rule, super_rule, object_call_rule, creation_rule, array_creation_rule, result_value_rule, old_rule, contract_rule, condition_rule, return_rule, jump_rule, declaration_rule, parameter_rule, super_constructor_rule, implied_rule}
 use Rattle.kr_typing.specs.Typing.{Judged, judged, on_one, on_two, on_list, on_maybe, joined, has_constructor, class_rule}
+use Rattle.kr_ast.specs.declared.node.Node.{Node}
+use Rattle.kr_ast.specs.declared.node.Entry.{Entry}
+use Rattle.kr_ast.specs.Arena.{IsArena, parts, tree_in}
+use Rattle.kr_scopes.specs.declared.within.Within.{Within}
+use Rattle.kr_scopes.specs.declared.within.Binding.{Binding}
+use Rattle.kr_scopes.specs.Settings.{Setting}
+use Rattle.kr_scopes.specs.Scoped.{scope_at, IsScoped}
 use Rattle.kr_scopes.specs.Handing.{handed}
 
 pub record Note : Type 0 where
@@ -119,69 +126,70 @@ noted s (trees.Constructor p ps call b) look = concluded p (on_maybe (λ t. impl
 noted s (trees.Requires p e) look = one p (contract_rule s) (look 0)
 noted s (trees.Ensures p e) look = one p (contract_rule s) (look 0)
 
-abbrev pub one_part : ℕ → Tree → Option Tree
-one_part zero a = Some a
-one_part (suc j) a = None
-
-abbrev pub two_parts : ℕ → Tree → Tree → Option Tree
-two_parts zero a b = Some a
-two_parts (suc j) a b = one_part j b
-
-abbrev pub three_parts : ℕ → Tree → Tree → Tree → Option Tree
-three_parts zero a b c = Some a
-three_parts (suc j) a b c = two_parts j b c
-
-abbrev pub four_parts : ℕ → Tree → Tree → Tree → Tree → Option Tree
-four_parts zero a b c d = Some a
-four_parts (suc j) a b c d = three_parts j b c d
-
 -- the parts of a node, in order
-abbrev pub part : Tree → ℕ → Option Tree
-part (trees.Cons a b) j = two_parts j a b
-part (trees.GenericType p a b) j = two_parts j a b
-part (trees.DiamondType p a) j = one_part j a
-part (trees.ArrayType p a) j = one_part j a
-part (trees.FieldAccess p a n) j = one_part j a
-part (trees.ArrayAccess p a b) j = two_parts j a b
-part (trees.Call p n a) j = one_part j a
-part (trees.MethodCall p a n b) j = two_parts j a b
-part (trees.SuperCall p n a) j = one_part j a
-part (trees.ObjectCreation p a b) j = two_parts j a b
-part (trees.ArrayCreation p a b) j = two_parts j a b
-part (trees.Unary p o a) j = one_part j a
-part (trees.Step p o a) j = one_part j a
-part (trees.Binary p o a b) j = two_parts j a b
-part (trees.InstanceOf p a b) j = two_parts j a b
-part (trees.Conditional p a b c) j = three_parts j a b c
-part (trees.Cast p a b) j = two_parts j a b
-part (trees.Assignment p a b) j = two_parts j a b
-part (trees.CompoundAssignment p o a b) j = two_parts j a b
-part (trees.Old p a) j = one_part j a
-part (trees.Block p a) j = one_part j a
-part (trees.Local p a b) j = two_parts j a b
-part (trees.Declarator p n a) j = one_part j a
-part (trees.ExpressionStatement p a) j = one_part j a
-part (trees.Return p a) j = one_part j a
-part (trees.IfThen p a b) j = two_parts j a b
-part (trees.IfElse p a b c) j = three_parts j a b c
-part (trees.While p a b) j = two_parts j a b
-part (trees.Do p a b) j = two_parts j a b
-part (trees.For p a b c d) j = four_parts j a b c d
-part (trees.ConstructorCall p a) j = one_part j a
-part (trees.Class p n a b) j = two_parts j a b
-part (trees.Field p st fi a b) j = two_parts j a b
-part (trees.Method p st n a b) j = two_parts j a b
-part (trees.Signature p a b c) j = three_parts j a b c
-part (trees.Parameter p a n) j = one_part j a
-part (trees.Constructor p a b c) j = three_parts j a b c
-part (trees.Requires p a) j = one_part j a
-part (trees.Ensures p a) j = one_part j a
-part _ j = None
+abbrev pub parts_of : Tree → List Tree
+parts_of (trees.Cons a b) = a ∷ b ∷ []
+parts_of (trees.GenericType p a b) = a ∷ b ∷ []
+parts_of (trees.DiamondType p a) = a ∷ []
+parts_of (trees.ArrayType p a) = a ∷ []
+parts_of (trees.FieldAccess p a n) = a ∷ []
+parts_of (trees.ArrayAccess p a b) = a ∷ b ∷ []
+parts_of (trees.Call p n a) = a ∷ []
+parts_of (trees.MethodCall p a n b) = a ∷ b ∷ []
+parts_of (trees.SuperCall p n a) = a ∷ []
+parts_of (trees.ObjectCreation p a b) = a ∷ b ∷ []
+parts_of (trees.ArrayCreation p a b) = a ∷ b ∷ []
+parts_of (trees.Unary p o a) = a ∷ []
+parts_of (trees.Step p o a) = a ∷ []
+parts_of (trees.Binary p o a b) = a ∷ b ∷ []
+parts_of (trees.InstanceOf p a b) = a ∷ b ∷ []
+parts_of (trees.Conditional p a b c) = a ∷ b ∷ c ∷ []
+parts_of (trees.Cast p a b) = a ∷ b ∷ []
+parts_of (trees.Assignment p a b) = a ∷ b ∷ []
+parts_of (trees.CompoundAssignment p o a b) = a ∷ b ∷ []
+parts_of (trees.Old p a) = a ∷ []
+parts_of (trees.Block p a) = a ∷ []
+parts_of (trees.Local p a b) = a ∷ b ∷ []
+parts_of (trees.Declarator p n a) = a ∷ []
+parts_of (trees.ExpressionStatement p a) = a ∷ []
+parts_of (trees.Return p a) = a ∷ []
+parts_of (trees.IfThen p a b) = a ∷ b ∷ []
+parts_of (trees.IfElse p a b c) = a ∷ b ∷ c ∷ []
+parts_of (trees.While p a b) = a ∷ b ∷ []
+parts_of (trees.Do p a b) = a ∷ b ∷ []
+parts_of (trees.For p a b c d) = a ∷ b ∷ c ∷ d ∷ []
+parts_of (trees.ConstructorCall p a) = a ∷ []
+parts_of (trees.Class p n a b) = a ∷ b ∷ []
+parts_of (trees.Field p st fi a b) = a ∷ b ∷ []
+parts_of (trees.Method p st n a b) = a ∷ b ∷ []
+parts_of (trees.Signature p a b c) = a ∷ b ∷ c ∷ []
+parts_of (trees.Parameter p a n) = a ∷ []
+parts_of (trees.Constructor p a b c) = a ∷ b ∷ c ∷ []
+parts_of (trees.Requires p a) = a ∷ []
+parts_of (trees.Ensures p a) = a ∷ []
+parts_of _ = []
 
 -- each part's note is what is kept of it, in the scope that the node hands to it
 abbrev pub AreNoted : Scope → Tree → (ℕ → Note) → Type 0
-AreNoted s t look = (j : ℕ) (u : Tree) → part t j ≡ Some u → look j ≡ kept (judged (handed s t j) u)
+AreNoted s t look = (j : ℕ) (u : Tree) → slice_get (parts_of t) j ≡ Some u → look j ≡ kept (judged (handed s t j) u)
 
 -- What is kept of a node follows from what is kept of its parts.
 abbrev pub LocalLaw : Type 0
 LocalLaw = (s : Scope) (t : Tree) (look : ℕ → Note) → AreNoted s t look → kept (judged s t) ≡ noted s t look
+
+-- the note at an index, and that of a part of a node
+abbrev pub note_at : List Note → ℕ → Note
+note_at ns i = slice_index_or ns i (note Untyped None)
+
+abbrev pub part_note : List Note → Node → ℕ → Note
+part_note ns n j = note_at ns (slice_index_or (parts n) j 0)
+
+-- each node's note follows from those of its parts
+abbrev pub AreNotes : Setting → List Binding → List Within → List Note → Type 0
+AreNotes g bs ws ns = (i : ℕ) (e : Entry) → slice_get g.tree.entries i ≡ Some e → note_at ns i ≡ noted (scope_at g bs ws i) (tree_in g.tree i) (part_note ns e.node)
+
+-- Where each node's scope is the one that is handed to it, and its note follows from those of its parts, the note is what is
+-- kept of the node's judgement.
+abbrev pub JudgedLaw : Type 0
+JudgedLaw = (g : Setting) (bs : List Binding) (ws : List Within) (ns : List Note) → IsArena g.tree.text g.tree.entries → IsScoped g bs ws → AreNotes g bs ws ns
+    → (i : ℕ) → i < length g.tree.entries → note_at ns i ≡ kept (judged (scope_at g bs ws i) (tree_in g.tree i))

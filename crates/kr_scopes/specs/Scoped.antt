@@ -10,7 +10,7 @@ use Rattle.kr_scopes.specs.declared.within.Role.TheVariants as roles
 use Rattle.kr_scopes.specs.declared.within.Declaring.TheVariants as declarings
 use Rattle.kr_scopes.specs.declared.within.Within.{Within}
 use Rattle.kr_scopes.specs.declared.within.Binding.{Binding}
-use Rattle.kr_scopes.specs.Settings.{Setting, setting, scope_in, IsChain}
+use Rattle.kr_scopes.specs.Settings.{Setting, setting, scope_in, IsChain, AreNamed}
 use Rattle.kr_scopes.specs.Handing.{handed}
 use Rattle.kr_scopes.specs.Tasks.{IsStep}
 
@@ -37,6 +37,7 @@ pub record IsScoped (g : Setting) (bs : List Binding) (ws : List Within) : Type 
   pub long : length ws ≡ length g.tree.entries
   pub tops : (i : ℕ) → (slice_index_or ws i nowhere).top ≤ length bs
   pub chain : IsChain bs
+  pub named : AreNamed g.tree bs
   pub root : (i : ℕ) → i + 1 ≡ length g.tree.entries → scope_at g bs ws i ≡ scope_of g.table g.values 0
   pub hands : (i j c : ℕ) → i < length g.tree.entries → IsPart g.tree.entries i j c → scope_at g bs ws c ≡ handed (scope_at g bs ws i) (tree_in g.tree i) j
 

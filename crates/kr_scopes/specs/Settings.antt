@@ -1,8 +1,8 @@
 -- What is kept of scopes, and the scopes that it stands for in a tree.
-use Rattle.std.specs.Prelude.{ℕ, ◌+◌, ◌-◌, ◌≤◌, ◌<◌, ◌≡◌, Bool, List, [], ◌∷◌, length, Option, Some, None, unwrap_or, slice_get, slice_index_or}
+use Rattle.std.specs.Prelude.{ℕ, ◌+◌, ◌-◌, ◌≤◌, ◌<◌, ◌≡◌, List, [], ◌∷◌, length, Option, Some, None, unwrap_or, slice_get, slice_index_or}
 use Rattle.kr_ast.specs.Tree as trees
 use Rattle.kr_ast.specs.Tree.{Tree}
-use Rattle.kr_ast.specs.Arena.{Arena, tree_in, name_in}
+use Rattle.kr_ast.specs.Arena.{Arena, tree_in, name_in, AreNamesIn}
 use Rattle.kr_ast.specs.Grow.{grow}
 use Rattle.kr_table.specs.Types.{JavaType, VoidType}
 use Rattle.kr_table.specs.Table.{Table, type_named, number_of}
@@ -93,6 +93,10 @@ pub record IsLink (bs : List Binding) (k : ℕ) (b : Binding) : Type 0 where
 
 abbrev pub IsChain : List Binding → Type 0
 IsChain bs = (k : ℕ) (b : Binding) → slice_get bs k ≡ Some b → IsLink bs k b
+
+-- the names of the bindings stand in the tree's text
+abbrev pub AreNamed : Arena → List Binding → Type 0
+AreNamed tree bs = (k : ℕ) (b : Binding) → slice_get bs k ≡ Some b → AreNamesIn tree.text (b.name ∷ [])
 
 -- more bindings: the locals that were stay
 pub record Keeps (g : Setting) (old new : List Binding) : Type 0 where

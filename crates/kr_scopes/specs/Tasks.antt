@@ -1,6 +1,6 @@
 -- The scope behind a node, with what is still to be passed on the way.
 use Rattle.std.specs.Prelude.{ℕ, ◌+◌, ◌*◌, ◌≤◌, ◌<◌, ◌≡◌, List, [], ◌∷◌, ◌++◌, length, Option, Some}
-use Rattle.kr_ast.specs.Tree.{Tree, size}
+use Rattle.kr_ast.specs.Tree.{size}
 use Rattle.kr_base.specs.declared.place.Place.{Place}
 use Rattle.kr_ast.specs.declared.node.Node.{Node}
 use Rattle.kr_ast.specs.declared.node.Node.TheVariants as nodes
@@ -14,7 +14,7 @@ use Rattle.kr_scopes.specs.declared.tasks.Task.{Task}
 use Rattle.kr_scopes.specs.declared.tasks.Task.TheVariants as tasks
 use Rattle.kr_ast.specs.declared.node.Name.{Name}
 use Rattle.kr_scopes.specs.Handing.{handed}
-use Rattle.kr_scopes.specs.Settings.{Setting, setting, type_there, scope_in, IsLink, IsChain, Keeps}
+use Rattle.kr_scopes.specs.Settings.{Setting, setting, type_there, scope_in, IsLink, IsChain, AreNamed, Keeps}
 
 -- the scope behind a task: that behind a node, or one with a result type
 abbrev pub behind : Setting → Scope → Task → Scope
@@ -60,6 +60,7 @@ pub record IsStep (tree : Arena) (old new : List Binding) (made : Within) (scope
   pub scope_is : (t : Table) (v : List Known) → scope_in (setting t v tree) new made ≡ scope (setting t v tree)
   pub keeps : (t : Table) (v : List Known) → Keeps (setting t v tree) old new
   pub chain : IsChain new
+  pub named : AreNamed tree old → AreNamed tree new
 
 -- each task's node is one of the tree
 abbrev pub node_of : Task → ℕ

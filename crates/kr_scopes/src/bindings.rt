@@ -1,6 +1,6 @@
 // Locals and parameters as they come into scope.
-ghost use Rattle.std.specs.Prelude.{◌≤◌, length, IfOk};
-ghost use Rattle.kr_ast.specs.Arena.{name_in};
+ghost use Rattle.std.specs.Prelude.{◌≤◌, ◌∷◌, [], length, IfOk};
+ghost use Rattle.kr_ast.specs.Arena.{name_in, AreNamesIn};
 ghost use Rattle.kr_typing.specs.Scopes.{bind, bind_as};
 ghost use Rattle.kr_scopes.specs.Settings.{IsChain, type_there, scope_in};
 ghost use Rattle.kr_scopes.specs.Tasks.{IsBound, IsStep};
@@ -47,6 +47,7 @@ pub fn bind(
 ) -> Result<Within, NoMemory>
     requires top { from.top ≤ length bindings.old.items }
     requires chain { IsChain bindings.old.items }
+    requires named { AreNamesIn _tree.now.text (name ∷ []) }
     ensures { IfOk result (λ w. IsStep _tree.now bindings.old.items bindings.new.items w (λ g. bind (name_in g.tree.text name) (type_there g declared) (scope_in g bindings.old.items from))) }
 {
     push_local(bindings, from, name, declared)
@@ -61,6 +62,7 @@ pub fn bind_declared(
 ) -> Result<Within, NoMemory>
     requires top { from.top ≤ length bindings.old.items }
     requires chain { IsChain bindings.old.items }
+    requires named { AreNamesIn tree.now.text (name ∷ []) }
     ensures { IfOk result (λ w. IsStep tree.now bindings.old.items bindings.new.items w (λ g. bind_as (scope_in g bindings.old.items from).declaring (name_in g.tree.text name) (scope_in g bindings.old.items from))) }
 {
     match from.declaring {

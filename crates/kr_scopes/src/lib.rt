@@ -7,10 +7,12 @@ mod bindings;
 mod change;
 mod hand;
 mod laws;
+mod lookup;
 mod scopes;
 mod tasks;
 mod within;
 
-pub use laws::local_law;
+pub use laws::{judged_law, local_law};
+pub use lookup::{LocalFound, find_local};
 pub use scopes::Scopes;
 pub use within::{Binding, Declaring, Part, Role, Within};

@@ -1,8 +1,7 @@
-use Rattle.std.proofs.Common.{◌<◌, List, subst, ap, sym}
+use Rattle.std.proofs.Common.{◌<◌, List, subst, sym}
 use Rattle.kr_scopes.specs.declared.tasks.Task.{Task}
-use Rattle.kr_scopes.specs.declared.tasks.Task.TheVariants as tasks
 use Rattle.kr_scopes.specs.Tasks.{weights}
-use Rattle.kr_scopes.proofs.Passing.{IsUnderWay, way_start, way_on, way_light, way_end}
+use Rattle.kr_scopes.proofs.Passing.{way_start, way_on, way_light, way_end}
 use Rattle.kr_scopes.proofs.after.after.Goals as goal
 
 pub loop-task-init : goal.loop-task-init

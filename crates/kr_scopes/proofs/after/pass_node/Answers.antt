@@ -61,3 +61,9 @@ returns-in-Declarator c =
     (λ g. bind_as (scope_in g old from).declaring (name_in g.tree.text c.in-Declarator.name) (scope_in g old from)) s
     (declarator_is tree c.args.node c.entry.result h old from c.args.tasks.now c.requires.chain c.requires.top c.in-Declarator.name c.in-Declarator.initial c.in-Declarator.is))
     c.bind_declared.ensures
+
+pub bind-requires-clause-named : goal.bind-requires-clause-named
+bind-requires-clause-named c = rw c.in-Parameter.is at c.entry.ensures.names
+
+pub bind_declared-requires-clause-named : goal.bind_declared-requires-clause-named
+bind_declared-requires-clause-named c = rw c.in-Declarator.is at c.entry.ensures.names

@@ -11,4 +11,4 @@ returns c =
     IfOk-weaker c.push_local.result (IsBound c.args.name c.args.declared c.args.from c.args.bindings.now.items c.push_local.new.bindings.items)
     (λ w. IsStep c.args._tree.now c.args.bindings.now.items c.push_local.new.bindings.items w
     (λ g. bind (name_in g.tree.text c.args.name) (type_there g c.args.declared) (scope_in g c.args.bindings.now.items c.args.from)))
-    (λ w h. bound_step c.args._tree.now c.args.name c.args.declared c.args.from w c.args.bindings.now.items c.push_local.new.bindings.items c.requires.chain h) c.push_local.ensures
+    (λ w h. bound_step c.args._tree.now c.args.name c.args.declared c.args.from w c.args.bindings.now.items c.push_local.new.bindings.items c.requires.chain c.requires.named h) c.push_local.ensures

@@ -1,4 +1,4 @@
-use Rattle.std.proofs.Common.{◌≡◌, ℕ, ◌+◌, ◌-◌, ◌≤◌, length, get_or, refl, ap, sym, ◌∙◌, arith}
+use Rattle.std.proofs.Common.{◌≡◌, ◌+◌, length, refl, ap, arith}
 use Rattle.kr_scopes.specs.declared.within.Binding.{Binding}
 use Rattle.kr_scopes.specs.declared.within.Within.{Within}
 use Rattle.kr_scopes.specs.Settings.{IsLink}

@@ -1,8 +1,7 @@
-use Rattle.std.proofs.Common.{Some, ap, arith, ◌∙◌}
-use Rattle.kr_ast.specs.Arena.{tree_in}
+use Rattle.std.proofs.Common.{Some, ap, ◌∙◌}
 use Rattle.kr_typing.specs.Scopes as typing
 use Rattle.kr_scopes.specs.declared.within.Within.{Within}
-use Rattle.kr_scopes.specs.Settings.{setting, scope_in, declaring_of, type_there}
+use Rattle.kr_scopes.specs.Settings.{setting, scope_in, type_there}
 use Rattle.kr_scopes.proofs.change.of_field.Goals as goal
 
 pub returns-clause-top : goal.returns-clause-top

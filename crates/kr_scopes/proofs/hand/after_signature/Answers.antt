@@ -1,4 +1,4 @@
-use Rattle.std.proofs.Common.{sym, ap, ◌∙◌}
+use Rattle.std.proofs.Common.{sym}
 use Rattle.std.proofs.lemmas.Result.{IfOk-weaker}
 use Rattle.kr_ast.specs.Arena.{tree_in}
 use Rattle.kr_typing.specs.Scopes.{Scope, after}

@@ -1,8 +1,7 @@
 use Rattle.std.proofs.Common.{ap, sym, ◌∙◌, arith}
 use Rattle.kr_ast.specs.Arena.{tree_in, tree_of}
-use Rattle.kr_typing.specs.Scopes.{after}
 use Rattle.kr_scopes.specs.Settings.{setting, scope_in}
-use Rattle.kr_scopes.specs.Handing.{handed, second, for_part}
+use Rattle.kr_scopes.specs.Handing.{handed, for_part}
 use Rattle.kr_scopes.proofs.Chains.{step_same}
 use Rattle.kr_scopes.proofs.Plain.{plain_of}
 use Rattle.kr_scopes.proofs.hand.hand_on.Goals as goal
@@ -22,7 +21,11 @@ returns-in_ok-made-in-For-clause-made c =
           ∙ sym (ap (λ x. handed (scope_in g old c.args.up) x c.args.position) (c.entry-entry.ensures.tree ∙ ap (λ n. tree_of tree.text (tree_in tree) c.entry-entry.result.place n) c.in-For.is)));
       keeps = s.keeps;
       chain = s.chain;
+      named = s.named;
     }
+
+pub bind_declared-requires-clause-named : goal.bind_declared-requires-clause-named
+bind_declared-requires-clause-named c = rw c.in-Declarator.is at c.entry-entry.ensures.names
 
 pub returns-in_default : goal.returns-in_default
 returns-in_default c =

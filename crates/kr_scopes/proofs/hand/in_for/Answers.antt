@@ -1,5 +1,4 @@
-use Rattle.std.proofs.Common.{ap, arith, ◌∙◌}
-use Rattle.kr_scopes.specs.declared.within.Within.{Within}
+use Rattle.std.proofs.Common.{ap, ◌∙◌}
 use Rattle.kr_scopes.specs.Settings.{scope_in}
 use Rattle.kr_scopes.proofs.Plain.{for_first, for_updates, for_body}
 use Rattle.kr_scopes.proofs.hand.in_for.Goals as goal

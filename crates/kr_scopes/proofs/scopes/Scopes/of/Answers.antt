@@ -1,4 +1,4 @@
-use Rattle.std.proofs.Common.{◌≡◌, ◌+◌, ◌-◌, ◌∙◌, ℕ, length, ap, sym, subst, arith, replicate}
+use Rattle.std.proofs.Common.{◌≡◌, ◌-◌, ◌∙◌, ℕ, length, ap, subst, arith, replicate}
 use Rattle.kr_scopes.specs.Scoped.{nowhere}
 use Rattle.kr_scopes.proofs.Chains.{chain_none}
 use Rattle.kr_scopes.proofs.Handed.{AreDone, scoped_of, done_step, done_start}
