@@ -5,8 +5,10 @@ use Rattle.kr_table.specs.Table.{Table, Field}
 use Rattle.kr_table.specs.Constants.{Known}
 use Rattle.kr_typing.specs.Scopes.{Meant, LocalName, meant_by, field_or_none}
 use Rattle.kr_scopes.specs.declared.within.Binding.{Binding}
+use Rattle.kr_scopes.specs.declared.within.Within.{Within}
 use Rattle.kr_scopes.specs.declared.lookup.LocalFound.{LocalFound}
 use Rattle.kr_scopes.specs.Settings.{setting, type_there, locals_at}
+use Rattle.kr_scopes.specs.Scoped.{scope_at}
 
 -- what the name means there, where it means no local the given field
 abbrev pub meant_there : Table → List Known → Arena → List Binding → ℕ → Option Field → List ℕ → Meant
@@ -19,3 +21,10 @@ IsLocalThere tree bs top n l = (t : Table) (v : List Known) (f : Option Field) �
 -- it means no local
 abbrev pub IsNoLocal : Arena → List Binding → ℕ → List ℕ → Type 0
 IsNoLocal tree bs top n = (t : Table) (v : List Known) (f : Option Field) → meant_there t v tree bs top f n ≡ field_or_none f
+
+-- where a node stands
+abbrev pub IsLocalAt : Arena → List Binding → List Within → ℕ → List ℕ → LocalFound → Type 0
+IsLocalAt tree bs ws i n l = (t : Table) (v : List Known) (f : Option Field) → meant_by (scope_at (setting t v tree) bs ws i).locals f n ≡ LocalName l.number (type_there (setting t v tree) l.declared)
+
+abbrev pub IsNoLocalAt : Arena → List Binding → List Within → ℕ → List ℕ → Type 0
+IsNoLocalAt tree bs ws i n = (t : Table) (v : List Known) (f : Option Field) → meant_by (scope_at (setting t v tree) bs ws i).locals f n ≡ field_or_none f

@@ -1,11 +1,13 @@
 // The scopes of all nodes of a tree, from the last to the first: each from that of the node that it is a part of.
-ghost use Rattle.std.specs.Prelude.{◌≡◌, ℕ, ◌+◌, ◌≤◌, ◌<◌, [], length, slice_get, slice_index_or, Some, IfOk};
+ghost use Rattle.std.specs.Prelude.{◌≡◌, ℕ, ◌+◌, ◌≤◌, ◌<◌, [], length, slice_get, slice_index_or, Some, IfOk, IfSome, IfNone};
 ghost use Rattle.kr_ast.specs.Arena.{IsArena};
 ghost use Rattle.kr_scopes.specs.Settings.{IsChain};
 ghost use Rattle.kr_scopes.specs.Scoped.{nowhere, AreScopes, IsHanded};
 ghost use Rattle.kr_scopes.specs.Tasks.{IsStep};
+ghost use Rattle.kr_scopes.specs.Lookups.{IsLocalAt, IsNoLocalAt};
 
 use crate::hand::hand_on;
+use crate::lookup::{LocalFound, find_local};
 use crate::tasks::Tasks;
 use crate::{Binding, Within};
 use kr_ast::Tree;
@@ -57,5 +59,24 @@ impl Scopes {
             within[at as usize] = here;
         }
         Ok(Scopes { bindings, within })
+    }
+
+    /// The scope of a node.
+    pub fn at(&self, node: u32) -> Within
+        requires { node < length self.now.within.items }
+        ensures { result ≡ slice_index_or self.now.within.items node nowhere }
+    {
+        self.within[node as usize]
+    }
+
+    /// The local or parameter that a name means where a node of the tree stands.
+    pub fn local(&self, tree: &Tree, node: u32, name: &[u8]) -> Option<LocalFound>
+        requires scopes { AreScopes tree.now self.now.bindings.items self.now.within.items }
+        requires within { node < length tree.now.entries }
+        ensures found { IfSome result (IsLocalAt tree.now self.now.bindings.items self.now.within.items node name.now) }
+        ensures none { IfNone result (IsNoLocalAt tree.now self.now.bindings.items self.now.within.items node name.now) }
+    {
+        let here = self.at(node);
+        find_local(tree, &self.bindings, here.top, name)
     }
 }
