@@ -200,6 +200,33 @@ impl Builder {
         Ok(())
     }
 
+    /// A method with contracts, above its signature.
+    #[inline(never)]
+    fn contracted_method(&mut self) -> Result<(), NoMemory>
+        requires built { IsBuilt self.old }
+        requires values { are (sorts Make.ContractedMethod) self.old.values ≡ true }
+        ensures built { IfOk result (λ none. IsBuilt self.new) }
+        ensures shown { IfOk result (λ none. values_of self.new ≡ made Make.ContractedMethod (values_of self.old)) }
+    {
+        let place = self.values.place(2);
+        let name = self.values.name(2);
+        let is_static = self.values.modifiers(4).is_static;
+        let signature = Node::Signature {
+            result: self.values.node(3),
+            parameters: self.values.node(1),
+            contracts: self.values.node(5),
+        };
+        self.put_below(tree(6, place, Form::Other, signature), 0)?;
+        let method = Node::Method {
+            is_static,
+            name,
+            signature: self.values.node(1),
+            body: self.values.node(0),
+        };
+        self.put(tree(2, place, Form::Other, method))?;
+        Ok(())
+    }
+
     /// A list below a value that stays on top.
     #[inline(never)]
     fn build_list(&mut self, make: Make) -> Result<(), NoMemory>
@@ -285,6 +312,7 @@ impl Builder {
             }
             Way::Values => self.build_values(make),
             Way::Method => self.method(),
+            Way::ContractedMethod => self.contracted_method(),
             Way::Compare => self.build_comparisons(make),
         }
     }

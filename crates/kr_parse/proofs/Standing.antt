@@ -11,7 +11,7 @@ use Rattle.kr_grammar.specs.declared.terminal.Terminal.TheVariants.{Outside}
 use Rattle.kr_grammar.specs.Terminals.{terminal_of}
 use Rattle.kr_grammar.specs.Machine.{ahead}
 use Rattle.kr_grammar.specs.State.{is_inside}
-use Rattle.kr_parse.specs.Refusals.{IsViable, IsTooNested, IsLeastDead, IsFirstTooNested, is_opening, open_behind, token_at}
+use Rattle.kr_parse.specs.Refusals.{IsTooNested, IsLeastDead, is_opening, open_behind, token_at}
 use Rattle.kr_parse.proofs.Ahead.{behind_all, no_token}
 use Rattle.kr_parse.specs.Steps.{depth_behind, IsStanding, IsLeast}
 

@@ -84,6 +84,7 @@ fn literal(tokens: &Tokens, at: usize) -> Node
         Kind::True => Node::Truth { value: true },
         Kind::False => Node::Truth { value: false },
         Kind::Null => Node::Null,
+        Kind::Result => Node::Result,
         _ => Node::This,
     }
 }

@@ -337,7 +337,7 @@ const STATEMENTS: [(&'static str, &'static str); 6] = [
     ),
     (
         "for (int i = 0, j; i < 3; i++, ++j) { }",
-        "(For 1 (Local 6 (Int 6) (Declarator 10 i (0 14)) (Declarator 17 j .) .) (Less 20 (Variable 20 i) (3 24)) (ExpressionStatement 27 (IncrementBehind 27 (Variable 27 i))) (ExpressionStatement 32 (IncrementBefore 32 (Variable 34 j))) . (Block 37 .)) .",
+        "(For 1 (Local 6 (Int 6) (Declarator 10 i (0 14)) (Declarator 17 j .) .) . (Less 20 (Variable 20 i) (3 24)) (IncrementBehind 27 (Variable 27 i)) (IncrementBefore 32 (Variable 34 j)) . (Block 37 .)) .",
     ),
     (
         "for (a = 1, m(); ; ) ;",
@@ -350,7 +350,7 @@ const STATEMENTS: [(&'static str, &'static str); 6] = [
     ("{ A b; a < b; }", "no tree"),
 ];
 
-const SOURCES: [(&'static str, &'static str); 5] = [
+const SOURCES: [(&'static str, &'static str); 8] = [
     (
         "package a.b; import java.util.*; ; class A { } class B extends A.C { }",
         "(Class 42 A . .) (Class 54 B (QualifiedType 64 A C) .) .",
@@ -365,11 +365,23 @@ const SOURCES: [(&'static str, &'static str); 5] = [
     ),
     (
         "class A { @Override public static boolean m(int a) { return true; } void n() { } }",
-        "(Class 7 A . (static Method 43 m (Signature 43 (Boolean 35) (Parameter 49 a (Int 45)) . .) (Block 52 (Return 54 (true 61)) .)) (Method 74 n (Signature 74 (Void 69) . .) (Block 78 .)) .) .",
+        "(Class 7 A . (static Method 43 m (Signature 43 (Boolean 35) (Parameter 49 a (Int 45)) . .) (Return 54 (true 61)) .) (Method 74 n (Signature 74 (Void 69) . .) .) .) .",
     ),
     (
         "class A { static class B extends A { B() { } int x; } B y; }",
         "(Class 7 A . (Class 24 B (NamedType 34 A) (Constructor 38 . . .) (Field 46 (Int 46) (Declarator 50 x .) .) .) (Field 55 (NamedType 55 B) (Declarator 57 y .) .) .) .",
+    ),
+    (
+        "class A {\n//@ requires a > 0;\n//@ ensures \\result == \\old(x) + a;\nint m(int a) { return a; } }",
+        "(Class 7 A . (Method 5 m (Signature 5 (Int 1) (Parameter 11 a (Int 7)) . (Requires 1 (Greater 14 (Variable 14 a) (0 18))) (Ensures 1 (Equal 13 (Result 13) (Add 24 (Old 24 (Variable 29 x)) (Variable 34 a)))) .) (Return 16 (Variable 23 a)) .) .) .",
+    ),
+    (
+        "class A { int x; //@ ensures x == 0; //@ requires this.x > \\old(x).y;\n@Override public static void m() { } }",
+        "(Class 7 A . (Field 11 (Int 11) (Declarator 15 x .) .) (static Method 30 m (Signature 30 (Void 25) . (Ensures 18 (Equal 30 (Variable 30 x) (0 35))) (Requires 38 (Greater 51 (FieldAccess 51 x (This 51)) (FieldAccess 60 y (Old 60 (Variable 65 x))))) .) .) .) .",
+    ),
+    (
+        "class A {\n//@ ensures ((A) \\result).b() == -\\old(a < b ? c : d);\nA m() { } int y; }",
+        "(Class 7 A . (Method 3 m (Signature 3 (NamedType 1 A) . (Ensures 1 (Equal 13 (MethodCall 13 b (Cast 14 (NamedType 15 A) (Result 18)) .) (Minus 34 (Old 35 (Conditional 40 (Less 40 (Variable 40 a) (Variable 44 b)) (Variable 48 c) (Variable 52 d)))))) .) .) (Field 11 (Int 11) (Declarator 15 y .) .) .) .",
     ),
 ];
 

@@ -119,6 +119,15 @@ of_step_before a vs e = on_part (sort.Mark ∷ []) (λ (ws : List Kept). Claim m
 of_unary : (a : Arena) (vs : List Kept) → are (sorts makes.Unary) vs ≡ true → Claim makes.Unary a vs
 of_unary a vs e = on_part (sort.Mark ∷ []) (λ (ws : List Kept). Claim makes.Unary a ws) vs e (λ p0 f0 i0 v0 e0. on_mark [] (λ (ws : List Kept). Claim makes.Unary a (Part p0 f0 i0 ∷ ws)) v0 e0 (λ k1 p1 v1 e1. λ h. (record { within = omega arith; same = perm_refl (i0 ∷ []); named = tt }, refl)))
 
+of_old : (a : Arena) (vs : List Kept) → are (sorts makes.Old) vs ≡ true → Claim makes.Old a vs
+of_old a vs e = on_part (sort.Mark ∷ []) (λ (ws : List Kept). Claim makes.Old a ws) vs e (λ p0 f0 i0 v0 e0. on_mark [] (λ (ws : List Kept). Claim makes.Old a (Part p0 f0 i0 ∷ ws)) v0 e0 (λ k1 p1 v1 e1. λ h. (record { within = omega arith; same = perm_refl (i0 ∷ []); named = tt }, refl)))
+
+of_requires : (a : Arena) (vs : List Kept) → are (sorts makes.Requires) vs ≡ true → Claim makes.Requires a vs
+of_requires a vs e = on_part (sort.Mark ∷ []) (λ (ws : List Kept). Claim makes.Requires a ws) vs e (λ p0 f0 i0 v0 e0. on_mark [] (λ (ws : List Kept). Claim makes.Requires a (Part p0 f0 i0 ∷ ws)) v0 e0 (λ k1 p1 v1 e1. λ h. (record { within = omega arith; same = perm_refl (i0 ∷ []); named = tt }, refl)))
+
+of_ensures : (a : Arena) (vs : List Kept) → are (sorts makes.Ensures) vs ≡ true → Claim makes.Ensures a vs
+of_ensures a vs e = on_part (sort.Mark ∷ []) (λ (ws : List Kept). Claim makes.Ensures a ws) vs e (λ p0 f0 i0 v0 e0. on_mark [] (λ (ws : List Kept). Claim makes.Ensures a (Part p0 f0 i0 ∷ ws)) v0 e0 (λ k1 p1 v1 e1. λ h. (record { within = omega arith; same = perm_refl (i0 ∷ []); named = tt }, refl)))
+
 of_cast : (a : Arena) (vs : List Kept) → are (sorts makes.Cast) vs ≡ true → Claim makes.Cast a vs
 of_cast a vs e = on_part (sort.Part ∷ sort.Mark ∷ []) (λ (ws : List Kept). Claim makes.Cast a ws) vs e (λ p0 f0 i0 v0 e0. on_part (sort.Mark ∷ []) (λ (ws : List Kept). Claim makes.Cast a (Part p0 f0 i0 ∷ ws)) v0 e0 (λ p1 f1 i1 v1 e1. on_mark [] (λ (ws : List Kept). Claim makes.Cast a (Part p0 f0 i0 ∷ Part p1 f1 i1 ∷ ws)) v1 e1 (λ k2 p2 v2 e2. λ h. (record { within = omega arith; same = reverse_two i1 i0; named = tt }, refl))))
 
@@ -211,6 +220,9 @@ plan_makes makes.ArrayAccess a vs w e = of_array_access a vs e
 plan_makes makes.StepBehind a vs w e = of_step_behind a vs e
 plan_makes makes.StepBefore a vs w e = of_step_before a vs e
 plan_makes makes.Unary a vs w e = of_unary a vs e
+plan_makes makes.Old a vs w e = of_old a vs e
+plan_makes makes.Requires a vs w e = of_requires a vs e
+plan_makes makes.Ensures a vs w e = of_ensures a vs e
 plan_makes makes.Cast a vs w e = of_cast a vs e
 plan_makes makes.Binary a vs w e = of_binary a vs e
 plan_makes makes.Less a vs w e = of_less a vs e

@@ -78,6 +78,18 @@ stay_unary : (a : Arena) (vs : List Kept) → are (sorts makes.Unary) vs ≡ fal
 stay_unary a (Part p0 f0 i0 ∷ Mark k1 p1 ∷ vs) e = absurd (false≢true (sym e))
 stay_unary a _ e = refl
 
+stay_old : (a : Arena) (vs : List Kept) → are (sorts makes.Old) vs ≡ false → made makes.Old (shown a vs) ≡ shown a vs
+stay_old a (Part p0 f0 i0 ∷ Mark k1 p1 ∷ vs) e = absurd (false≢true (sym e))
+stay_old a _ e = refl
+
+stay_requires : (a : Arena) (vs : List Kept) → are (sorts makes.Requires) vs ≡ false → made makes.Requires (shown a vs) ≡ shown a vs
+stay_requires a (Part p0 f0 i0 ∷ Mark k1 p1 ∷ vs) e = absurd (false≢true (sym e))
+stay_requires a _ e = refl
+
+stay_ensures : (a : Arena) (vs : List Kept) → are (sorts makes.Ensures) vs ≡ false → made makes.Ensures (shown a vs) ≡ shown a vs
+stay_ensures a (Part p0 f0 i0 ∷ Mark k1 p1 ∷ vs) e = absurd (false≢true (sym e))
+stay_ensures a _ e = refl
+
 stay_block : (a : Arena) (vs : List Kept) → are (sorts makes.Block) vs ≡ false → made makes.Block (shown a vs) ≡ shown a vs
 stay_block a (Part p0 f0 i0 ∷ Mark k1 p1 ∷ vs) e = absurd (false≢true (sym e))
 stay_block a _ e = refl
@@ -174,6 +186,10 @@ stay_method : (a : Arena) (vs : List Kept) → are (sorts makes.Method) vs ≡ f
 stay_method a (Part p0 f0 i0 ∷ Part p1 f1 i1 ∷ Word p2 n2 ∷ Part p3 f3 i3 ∷ Member b4 m4 ∷ vs) e = absurd (false≢true (sym e))
 stay_method a _ e = refl
 
+stay_contracted_method : (a : Arena) (vs : List Kept) → are (sorts makes.ContractedMethod) vs ≡ false → made makes.ContractedMethod (shown a vs) ≡ shown a vs
+stay_contracted_method a (Part p0 f0 i0 ∷ Part p1 f1 i1 ∷ Word p2 n2 ∷ Part p3 f3 i3 ∷ Member b4 m4 ∷ Part p5 f5 i5 ∷ vs) e = absurd (false≢true (sym e))
+stay_contracted_method a _ e = refl
+
 stay_constructor : (a : Arena) (vs : List Kept) → are (sorts makes.Constructor) vs ≡ false → made makes.Constructor (shown a vs) ≡ shown a vs
 stay_constructor a (Part p0 f0 i0 ∷ Part p1 f1 i1 ∷ Part p2 f2 i2 ∷ Word p3 n3 ∷ Member b4 m4 ∷ vs) e = absurd (false≢true (sym e))
 stay_constructor a _ e = refl
@@ -259,6 +275,9 @@ stays makes.InstanceOf = stay_instance_of
 stays makes.Local = stay_local
 stays makes.StepBefore = stay_step_before
 stays makes.Unary = stay_unary
+stays makes.Old = stay_old
+stays makes.Requires = stay_requires
+stays makes.Ensures = stay_ensures
 stays makes.Block = stay_block
 stays makes.Return = stay_return
 stays makes.ConstructorCall = stay_constructor_call
@@ -284,6 +303,7 @@ stays makes.IfElse = stay_if_else
 stays makes.For = stay_for
 stays makes.Method = stay_method
 stays makes.Constructor = stay_constructor
+stays makes.ContractedMethod = stay_contracted_method
 stays makes.CompareAll = stay_compare_all
 stays makes.Nil = stay_nil
 stays makes.CompareBelow = stay_compare_below

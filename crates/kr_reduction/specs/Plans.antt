@@ -54,6 +54,9 @@ sorts makes.Local = sort.Part ∷ sort.Part ∷ []
 sorts makes.Enclosed = sort.Part ∷ sort.Mark ∷ []
 sorts makes.StepBefore = sort.Part ∷ sort.Mark ∷ []
 sorts makes.Unary = sort.Part ∷ sort.Mark ∷ []
+sorts makes.Old = sort.Part ∷ sort.Mark ∷ []
+sorts makes.Requires = sort.Part ∷ sort.Mark ∷ []
+sorts makes.Ensures = sort.Part ∷ sort.Mark ∷ []
 sorts makes.Block = sort.Part ∷ sort.Mark ∷ []
 sorts makes.Return = sort.Part ∷ sort.Mark ∷ []
 sorts makes.ConstructorCall = sort.Part ∷ sort.Mark ∷ []
@@ -81,6 +84,7 @@ sorts makes.Class = sort.Owner ∷ sort.Part ∷ sort.Part ∷ []
 sorts makes.IfElse = sort.Part ∷ sort.Part ∷ sort.Part ∷ sort.Mark ∷ []
 sorts makes.For = sort.Part ∷ sort.Part ∷ sort.Part ∷ sort.Part ∷ sort.Mark ∷ []
 sorts makes.Method = sort.Part ∷ sort.Part ∷ sort.Word ∷ sort.Part ∷ sort.Member ∷ []
+sorts makes.ContractedMethod = sort.Part ∷ sort.Part ∷ sort.Word ∷ sort.Part ∷ sort.Member ∷ sort.Part ∷ []
 sorts makes.Constructor = sort.Part ∷ sort.Part ∷ sort.Part ∷ sort.Word ∷ sort.Member ∷ []
 
 -- how something is made of them
@@ -102,6 +106,7 @@ way makes.Owner = ways.Values
 way makes.NestedOwner = ways.Values
 way makes.Nested = ways.Values
 way makes.Method = ways.Method
+way makes.ContractedMethod = ways.ContractedMethod
 way makes.CompareBelow = ways.Compare
 way makes.CompareAll = ways.Compare
 way _ = ways.Node
@@ -199,6 +204,12 @@ declarations makes.Constructor vs = plain 5 (place_at vs 3) (nodes.Constructor (
 declarations makes.Class vs = plain 3 (place_at vs 0) (nodes.Class (name_at vs 0) (node_at vs 2) (node_at vs 1))
 declarations _ vs = nothing
 
+abbrev pub contracts : Make → List Kept → Plan
+contracts makes.Old vs = plain 2 (place_at vs 1) (nodes.Old (node_at vs 0))
+contracts makes.Requires vs = plain 2 (place_at vs 1) (nodes.Requires (node_at vs 0))
+contracts makes.Ensures vs = plain 2 (place_at vs 1) (nodes.Ensures (node_at vs 0))
+contracts _ vs = nothing
+
 abbrev pub lists : Make → List Kept → Plan
 lists makes.Cons vs = plain 2 (place_at vs 1) (nodes.Cons (node_at vs 1) (node_at vs 0))
 lists makes.Nil vs = nothing
@@ -241,6 +252,9 @@ plan makes.Parameter vs = declarations makes.Parameter vs
 plan makes.Field vs = declarations makes.Field vs
 plan makes.Constructor vs = declarations makes.Constructor vs
 plan makes.Class vs = declarations makes.Class vs
+plan makes.Old vs = contracts makes.Old vs
+plan makes.Requires vs = contracts makes.Requires vs
+plan makes.Ensures vs = contracts makes.Ensures vs
 plan makes.Cons vs = lists makes.Cons vs
 plan makes.Nil vs = lists makes.Nil vs
 plan _ vs = nothing

@@ -1,6 +1,6 @@
 // The node that is put above some values.
 ghost use Rattle.std.specs.Prelude.{◌≡◌, Some, None};
-ghost use Rattle.kr_reduction.specs.Plans.{tree, plain, nothing, type_node, jump_node, assignment, types, lists, declarations, loops, branches, statements, locals, comparisons, infixes, prefixes, creations, selections, plan, variable, call, single, lower, upper, below, staying};
+ghost use Rattle.kr_reduction.specs.Plans.{tree, plain, nothing, type_node, jump_node, assignment, types, lists, declarations, loops, branches, contracts, statements, locals, comparisons, infixes, prefixes, creations, selections, plan, variable, call, single, lower, upper, below, staying};
 
 use crate::operators::{
     binary_of, compound_of, primitive_of, step_before_of, step_behind_of, unary_of,
@@ -456,6 +456,36 @@ fn declarations(make: Make, values: &ValueStack) -> Plan
     }
 }
 
+/// Contracts, and what stands in them alone.
+fn contracts(make: Make, values: &ValueStack) -> Plan
+    ensures { result ≡ contracts make values.now }
+{
+    match make {
+        Make::Old => plain(
+            2,
+            values.place(1),
+            Node::Old {
+                operand: values.node(0),
+            },
+        ),
+        Make::Requires => plain(
+            2,
+            values.place(1),
+            Node::Requires {
+                condition: values.node(0),
+            },
+        ),
+        Make::Ensures => plain(
+            2,
+            values.place(1),
+            Node::Ensures {
+                condition: values.node(0),
+            },
+        ),
+        _ => nothing(),
+    }
+}
+
 /// Lists, and what is absent.
 fn lists(make: Make, values: &ValueStack) -> Plan
     ensures { result ≡ lists make values.now }
@@ -494,6 +524,7 @@ pub fn plan_of(make: Make, values: &ValueStack) -> Plan
         Make::Parameter | Make::Field | Make::Constructor | Make::Class => declarations(
             make, values,
         ),
+        Make::Old | Make::Requires | Make::Ensures => contracts(make, values),
         Make::Cons | Make::Nil => lists(make, values),
         _ => nothing(),
     }

@@ -19,6 +19,8 @@ pub enum Way {
     /// values again
     Values,
     Method,
+    /// a method with contracts
+    ContractedMethod,
     /// of names that stood with `<` between them
     Compare,
 }
@@ -40,6 +42,7 @@ pub fn way_of(make: Make) -> Way
         | Make::NestedOwner
         | Make::Nested => Way::Values,
         Make::Method => Way::Method,
+        Make::ContractedMethod => Way::ContractedMethod,
         Make::CompareBelow | Make::CompareAll => Way::Compare,
         _ => Way::Node,
     }
@@ -61,6 +64,9 @@ pub fn sorts_of(make: Make) -> &'static [Sort]
         | Make::Local => &[Sort::Part, Sort::Part],
         Make::StepBefore
         | Make::Unary
+        | Make::Old
+        | Make::Requires
+        | Make::Ensures
         | Make::Block
         | Make::Return
         | Make::ConstructorCall
@@ -83,6 +89,14 @@ pub fn sorts_of(make: Make) -> &'static [Sort]
         Make::IfElse => &[Sort::Part, Sort::Part, Sort::Part, Sort::Mark],
         Make::For => &[Sort::Part, Sort::Part, Sort::Part, Sort::Part, Sort::Mark],
         Make::Method => &[Sort::Part, Sort::Part, Sort::Word, Sort::Part, Sort::Member],
+        Make::ContractedMethod => &[
+            Sort::Part,
+            Sort::Part,
+            Sort::Word,
+            Sort::Part,
+            Sort::Member,
+            Sort::Part,
+        ],
         Make::Constructor => &[Sort::Part, Sort::Part, Sort::Part, Sort::Word, Sort::Member],
         Make::CompareAll | Make::Nil => &[],
         Make::CompareBelow => &[Sort::Any],

@@ -6,6 +6,7 @@ use Rattle.kr_reduction.specs.Plans.{sorts}
 use Rattle.kr_builder.specs.Built.{values_of}
 use Rattle.kr_reduction.proofs.Planned.{one_node}
 use Rattle.kr_builder.proofs.Methods.{is_method, is_swap}
+use Rattle.kr_builder.proofs.Contracted.{is_contracted}
 use Rattle.kr_reduction.proofs.Stays.{stays}
 use Rattle.kr_builder.proofs.builder.Builder.build.Goals as goal
 
@@ -24,6 +25,11 @@ pub method-requires-clause-values : goal.method-requires-clause-values
 method-requires-clause-values c =
     let e : are (sorts c.args.make) c.args.self.now.values ≡ true = ap (λ ss. are ss c.args.self.now.values) (sym c.sorts_of.ensures) ∙ sym c.are.ensures ∙ c.if-not-are.false in
     subst (λ (m : Make). are (sorts m) c.args.self.now.values ≡ true) (is_method c.args.make (sym c.way_of.ensures ∙ c.in-Method.is)) e
+
+pub contracted_method-requires-clause-values : goal.contracted_method-requires-clause-values
+contracted_method-requires-clause-values c =
+    let e : are (sorts c.args.make) c.args.self.now.values ≡ true = ap (λ ss. are ss c.args.self.now.values) (sym c.sorts_of.ensures) ∙ sym c.are.ensures ∙ c.if-not-are.false in
+    subst (λ (m : Make). are (sorts m) c.args.self.now.values ≡ true) (is_contracted c.args.make (sym c.way_of.ensures ∙ c.in-ContractedMethod.is)) e
 
 pub returns-then-not-are-clause-shown : goal.returns-then-not-are-clause-shown
 returns-then-not-are-clause-shown c =
