@@ -1,17 +1,16 @@
 -- Small sources with finitizations, their problems, and the rules that others break, worked by hand.
-use Rattle.std.specs.Prelude.{◌≡◌, ◌++◌, ℕ, pos, negsuc, Bool, true, false, List, [], ◌∷◌, Option, Some, None, codes}
+use Rattle.std.specs.Prelude.{◌≡◌, ◌++◌, ℕ, pos, negsuc, Bool, true, false, List, [], ◌∷◌, Option, Some, None, codes, map}
+use Rattle.kr_base.specs.declared.place.Place.{Place}
+use Rattle.kr_ast.specs.declared.node.BinaryOperator.TheVariants.{Equal}
 use Rattle.kr_ast.specs.Tree as trees
-use Rattle.kr_ast.specs.Tree.{Tree, Nil}
+use Rattle.kr_ast.specs.Tree.{Tree, Nil, Cons}
 use Rattle.kr_ast.specs.declared.node.Primitive.TheVariants.{Int as IntName, Boolean as BooleanName}
 use Rattle.kr_value.specs.declared.value.Value.TheVariants.{Int, Bool as TruthValue, Null}
 use Rattle.kr_value.specs.declared.object.Class.TheVariants.{Object, Array}
-use Rattle.kr_value.specs.declared.object.Spot.TheVariants.{Length, Element}
+use Rattle.kr_value.specs.declared.object.Spot.TheVariants.{Field, Length, Element}
 use Rattle.kr_mean.specs.declared.mode.Mode.{Mode}
 use Rattle.kr_mean.specs.declared.mode.Mode.TheVariants.{List as Listing, Method as Testing}
 use Rattle.kr_mean.specs.Problem.{ClassDomain, Domain, Spotted, Plain, Objects}
-use Rattle.kr_mean.specs.Runs.{nowhere}
-use Rattle.kr_mean.specs.OneField.{one}
-use Rattle.kr_mean.specs.Examples.{rep_ok_of, always, int_field, class_field, field_of, class_named, list_of, at_field, int_items}
 use Rattle.kr_fin.specs.declared.document.FinDoc.{FinDoc}
 use Rattle.kr_fin.specs.declared.document.Count.{Count}
 use Rattle.kr_fin.specs.declared.document.ArrayBound.{ArrayBound}
@@ -27,6 +26,36 @@ abbrev Text : Type 0
 Text = List ℕ
 
 -- ---- sources
+
+abbrev pub nowhere : Place
+nowhere = record { file = 0; line = 0; col = 0 }
+
+abbrev pub list_of : List Tree → Tree
+list_of [] = Nil
+list_of (t ∷ ts) = Cons t (list_of ts)
+
+abbrev pub one : Tree → Tree
+one t = list_of (t ∷ [])
+
+-- `0 == 0`
+abbrev pub always : Tree
+always = trees.Binary nowhere Equal (trees.Number nowhere 0) (trees.Number nowhere 0)
+
+-- `boolean repOk() { return TEST; }`
+abbrev pub rep_ok_of : Tree → Tree
+rep_ok_of test = trees.Method nowhere false (codes "repOk") (trees.Signature nowhere (trees.PrimitiveType nowhere BooleanName) Nil Nil) (one (trees.Return nowhere test))
+
+abbrev pub field_of : Tree → Text → Tree
+field_of type name = trees.Field nowhere false false type (one (trees.Declarator nowhere name Nil))
+
+abbrev pub int_field : Text → Tree
+int_field name = field_of (trees.PrimitiveType nowhere IntName) name
+
+abbrev pub class_field : Text → Text → Tree
+class_field class name = field_of (trees.NamedType nowhere class) name
+
+abbrev pub class_named : Text → List Tree → Tree
+class_named name members = trees.Class nowhere name Nil (list_of members)
 
 abbrev pub named : Text → Tree
 named n = trees.NamedType nowhere n
@@ -186,7 +215,10 @@ with_parameter document key items = record document { params = given key items �
 -- ---- the rows
 
 abbrev pub at : ℕ → Domain → Spotted
-at f domain = at_field f domain
+at f domain = record { spot = Field f; domain = domain }
+
+abbrev pub int_items : List ℕ → Domain
+int_items numbers = map (λ n. Plain (Int (pos n))) numbers
 
 pub record Problems : Type 0 where
   pub of_nodes : domains (node ∷ []) two_nodes ≡ record { name = codes "N"; class = Object 0; count = 2; spots = at 0 (Plain Null ∷ Objects 0 ∷ []) ∷ [] } ∷ []
