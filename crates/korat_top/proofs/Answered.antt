@@ -4,6 +4,7 @@ use Rattle.std.specs.Prelude.{Some, Ok, Err, length}
 use Rattle.kr_base.specs.declared.span.Bound.TheVariants.{At, End}
 use Rattle.kr_base.specs.Entries.{entries_in}
 use Rattle.kr_ast.specs.Tree.{Tree, Nil}
+use Rattle.kr_table.specs.Table.{table_of}
 use Rattle.kr_mean.specs.Entries.{all_entries}
 use Rattle.kr_mean.specs.Problem.{Problem, slots}
 use Rattle.kr_pruning.specs.OneField.{OneFieldLaw, Places}
@@ -38,9 +39,10 @@ list_report inputs trees class range tree law e is within =
 
 -- what is counted of a problem
 abbrev counted : Problem → Answer
-counted problem = line_answer 0 (checked_text (length problem.program.classes) (length (slots problem)))
+counted problem = line_answer 0 (checked_text (length problem.program.table.classes) (length (slots problem)))
 
 counted_tree : (at : Places) (class : OneField) (range : Finitization) → counted (problem_at (tree_at at class) range) ≡ line_answer 0 (checked_text 1 2)
+unfolding table_of
 counted_tree at class range = refl
 
 check_report : (inputs : Inputs) (trees : List Tree) (class : OneField) (range : Finitization) (tree : Tree) → trees ≡ tree ∷ [] → IsOneField tree class

@@ -154,7 +154,7 @@ refusal_answer inputs refusal = line_answer (status_of_file refusal.file) (line_
 -- what a command reports of files of which none is refused
 abbrev pub report_of : Command → Checked → Answer
 report_of (ListFiles inputs) checked = listing_answer (problem_of checked) NO_LIMIT (entries_in (At []) End (all_entries (problem_of checked)))
-report_of (CheckFiles inputs) checked = line_answer 0 (checked_text (length (problem_of checked).program.classes) (length (slots (problem_of checked))))
+report_of (CheckFiles inputs) checked = line_answer 0 (checked_text (length (problem_of checked).program.table.classes) (length (slots (problem_of checked))))
 
 -- The answer to a command, or to words that give none, over what the files hold: the first refusal, in the order of the
 -- steps; else the report.
