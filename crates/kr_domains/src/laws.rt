@@ -4,7 +4,6 @@ ghost use Rattle.kr_domains.specs.Examples.{Problems, Refusals, CloseRefusals, S
 
 /// The problem of a document that breaks no rule is well formed: the root has a class domain, no slot's domain is empty,
 /// no plain value is a reference, and each object has its fields, or its length and its elements.
-#[tactic(auto, using(crate::proofs::WellFormed::well_formed))]
 pub fn well_formed_law()
     ensures { WellFormedLaw }
 {}
