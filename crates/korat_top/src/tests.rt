@@ -176,7 +176,7 @@ fn listings(rt: HostRuntime) -> Result<(), Fail> {
 #[test]
 fn words(rt: HostRuntime) -> Result<(), Fail> {
     let alloc = rt.alloc();
-    let table: [(&[&str], u8, &str); 23] = [
+    let table: [(&[&str], u8, &str); 24] = [
         (&["list", "fin.toml", "Cell.java"], 0, LISTED),
         (
             &["list", "five.toml", "Cell.java"],

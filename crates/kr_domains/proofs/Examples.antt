@@ -46,4 +46,6 @@ refusals = record {
   no_field = refl;
   inherited_field = refl;
   no_parameter = refl;
+  many_slots = refl;
+  too_many_slots = refl;
 }

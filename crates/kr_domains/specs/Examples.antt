@@ -1,5 +1,5 @@
 -- Small sources with finitizations, their problems, and the rules that others break, worked by hand.
-use Rattle.std.specs.Prelude.{◌≡◌, ℕ, pos, negsuc, true, false, List, [], ◌∷◌, Option, Some, None, codes}
+use Rattle.std.specs.Prelude.{◌≡◌, ◌++◌, ℕ, pos, negsuc, true, false, List, [], ◌∷◌, Option, Some, None, codes}
 use Rattle.kr_ast.specs.Tree as trees
 use Rattle.kr_ast.specs.Tree.{Tree, Nil}
 use Rattle.kr_ast.specs.declared.node.Primitive.TheVariants.{Int as IntName, Boolean as BooleanName}
@@ -135,6 +135,20 @@ with_params params = record {
   params = params;
 }
 
+-- 63 arrays of 64 numbers, which have 4,095 slots
+abbrev pub long_arrays : List NamedDomain → FinDoc
+long_arrays fields = record {
+  root = codes "R";
+  fuel = 9;
+  objects = objects (codes "R") 1 ∷ [];
+  arrays = arrays (codes "int[]") 63 (Number (pos 64) ∷ []) ∷ [];
+  fields = fields ++ given (codes "int[].*") (Number (pos 0) ∷ []) ∷ [];
+  params = [];
+}
+
+abbrev pub plain_root : List Tree → List Tree
+plain_root fields = class_named (codes "R") (fields ++ rep_ok_of always ∷ []) ∷ []
+
 -- ---- the rows
 
 abbrev pub at : ℕ → Domain → Spotted
@@ -182,3 +196,6 @@ pub record Refusals : Type 0 where
   pub no_field : refused (node ∷ []) (plain_document (codes "N") (objects (codes "N") 1 ∷ []) (given (codes "N.1x") (Number (pos 0) ∷ []) ∷ given (codes "N.next") (name (codes "N") ∷ []) ∷ [])) Listing ≡ broken (codes "S9") (codes "fields.N.1x")
   pub inherited_field : refused with_heir (plain_document (codes "R") (objects (codes "R") 1 ∷ []) (given (codes "Base.a") (Number (pos 0) ∷ []) ∷ given (codes "R.a") (Number (pos 0) ∷ []) ∷ given (codes "R.b") (name (codes "R") ∷ []) ∷ [])) Listing ≡ broken (codes "S9") (codes "fields.R.a")
   pub no_parameter : refused with_heir (with_params (given (codes "put.y") (Truth true ∷ []) ∷ [])) Listing ≡ broken (codes "S9") (codes "params.put.y")
+  -- with `this` and one field more
+  pub many_slots : refused (plain_root []) (long_arrays []) Listing ≡ None
+  pub too_many_slots : refused (plain_root (int_field (codes "a") ∷ [])) (long_arrays (given (codes "R.a") (Number (pos 0) ∷ []) ∷ [])) Listing ≡ broken (codes "S6") (codes "slots")
