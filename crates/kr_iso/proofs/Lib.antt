@@ -1,0 +1,4 @@
+pub mod Swaps
+pub mod Least
+pub mod Drops
+pub mod Unused

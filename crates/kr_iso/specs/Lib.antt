@@ -1,0 +1,5 @@
+pub mod Choices
+pub mod Objects
+pub mod Laws
+pub mod Unused
+pub mod Swap

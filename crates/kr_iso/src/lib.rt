@@ -1,0 +1,13 @@
+//! Which choices of a search lead to the least candidate of each class: of each class domain only objects that stand on
+//! the path already, and the next unused one.
+#![tactic(auto)]
+
+mod choice;
+mod laws;
+mod object;
+mod slots;
+
+pub use choice::next_choice;
+pub use laws::choice_law;
+pub use object::Object;
+pub use slots::Slots;
