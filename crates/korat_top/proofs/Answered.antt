@@ -1,46 +1,89 @@
 -- The answer to a command, from what was found of its files.
-use Rattle.std.proofs.Common.{◌≡◌, ℕ, ◌⊎◌, List, refl, sym, ap, subst, inl, inr}
-use Rattle.std.specs.Prelude.{Option, Some, None, IfSome}
-use Rattle.kr_mean.specs.OneField.{OneFieldLaw}
-use Rattle.korat_top.specs.Source.{source_of}
-use Rattle.korat_top.specs.Finitization.{finitization_of}
-use Rattle.korat_top.specs.Answer.{Answer, ListFiles, Held, IsAnswer, too_long, no_tokens, no_tree, no_source, no_finitization, listed, TellsBoth, IsTold, Reads, too_long_answer, no_tokens_answer, no_tree_answer, no_source_answer, no_finitization_answer}
-use Rattle.korat_top.specs.Cells.{cells_answer}
-use Rattle.korat_top.specs.Found.{Judges, word}
-use Rattle.korat_top.specs.declared.find.Found.{Found}
-use Rattle.korat_top.specs.declared.find.Found.TheVariants.{TooLong, Broken, Unparsed, NoSource, NoFinitization, Cells}
-use Rattle.korat_top.proofs.Listings.{summarized}
+use Rattle.std.proofs.Common.{◌≡◌, ◌∙◌, ℕ, ◌<◌, List, [], ◌∷◌, refl, sym, ap, subst, arith, get_or}
+use Rattle.std.specs.Prelude.{Some, Ok, Err, length}
+use Rattle.kr_base.specs.declared.span.Bound.TheVariants.{At, End}
+use Rattle.kr_base.specs.Entries.{entries_in}
+use Rattle.kr_ast.specs.Tree.{Tree, Nil}
+use Rattle.kr_mean.specs.Entries.{all_entries}
+use Rattle.kr_mean.specs.Problem.{Problem, slots}
+use Rattle.kr_mean.specs.OneField.{OneFieldLaw, Places}
+use Rattle.korat_top.specs.OneField.{OneField, IsOneField}
+use Rattle.korat_top.specs.Finitization.{Finitization, IsWithinLimits}
+use Rattle.korat_top.specs.declared.refusal.InputFile.{InputFile}
+use Rattle.korat_top.specs.declared.refusal.InputFile.TheVariants as input
+use Rattle.korat_top.specs.declared.command.Purpose.{Purpose}
+use Rattle.korat_top.specs.declared.command.Purpose.TheVariants as purposes
+use Rattle.korat_top.specs.Texts.{checked_text}
+use Rattle.korat_top.specs.Refusals.{Inputs, Refusal, status_of_file}
+use Rattle.korat_top.specs.Orders.{command_for, report_for}
+use Rattle.korat_top.specs.Steps.{Held, Checked, checking, Reads, AllTold}
+use Rattle.korat_top.specs.Answer.{Answer, ListFiles, CheckFiles, NO_LIMIT, IsAnswer, IsTold, refused, served, inputs_of, line_answer, listing_answer, refusal_answer, report_of}
+use Rattle.korat_top.specs.OneFieldListing.{one_field_answer}
+use Rattle.korat_top.proofs.Listings.{problem_at, tree_at, summarized}
 
--- what was found of told files is the answer
-abbrev pub AnswerFor : Held → List ℕ → List ℕ → Found → Type 0
-AnswerFor held fin source TooLong = IsAnswer held (Some (ListFiles fin source)) (too_long_answer source)
-AnswerFor held fin source (Broken place rule) = IsAnswer held (Some (ListFiles fin source)) (no_tokens_answer source place rule)
-AnswerFor held fin source (Unparsed place rule) = IsAnswer held (Some (ListFiles fin source)) (no_tree_answer source place rule)
-AnswerFor held fin source NoSource = IsAnswer held (Some (ListFiles fin source)) (no_source_answer source)
-AnswerFor held fin source NoFinitization = IsAnswer held (Some (ListFiles fin source)) (no_finitization_answer fin)
-AnswerFor held fin source (Cells s r) = IsAnswer held (Some (ListFiles fin source)) (cells_answer (source_of s) (finitization_of r))
+-- a refusal ends with 3 or 4
+pub refused_low : (file : InputFile) → status_of_file file < 6
+refused_low input.Finitization = omega arith
+refused_low (input.Source n) = omega arith
 
-for_bytes : (held : Held) (fin source f s : List ℕ) (found : Found) → OneFieldLaw → held fin ≡ Some f → held source ≡ Some s → Judges f s found → AnswerFor held fin source found
-for_bytes held fin source f s TooLong law hf hs j = too_long hf hs j
-for_bytes held fin source f s (Broken place rule) law hf hs j = no_tokens place rule hf hs j.0 j.1
-for_bytes held fin source f s (Unparsed place rule) law hf hs j = no_tree place rule hf hs j.0 j.1
-for_bytes held fin source f s NoSource law hf hs j = no_source hf hs j.0 j.1
-for_bytes held fin source f s NoFinitization law hf hs j = no_finitization j.1 hf hs j.0 j.2 j.3
-for_bytes held fin source f s (Cells x r) law hf hs j =
-    subst (λ (a : Answer). IsAnswer held (Some (ListFiles fin source)) a) (summarized j.0.tree j.1.is_shaped.0 (source_of x) (finitization_of r) law j.1.is_shaped.1 j.1.compares j.2.is_within)
-    (listed (source_of x) (finitization_of r) hf hs j.0 j.1 j.2)
+pub refused_no_usage : (file : InputFile) → status_of_file file ≡ 2 → ⊥
+refused_no_usage input.Finitization e = omega (arith, e)
+refused_no_usage (input.Source n) e = omega (arith, e)
 
-for_told : (held : Held) (fin source : List ℕ) (found : Found) (fins sources : Option (List ℕ)) → OneFieldLaw → held fin ≡ fins → held source ≡ sources
-    → IfSome fins (λ f. IfSome sources (λ s. Judges f s found)) → TellsBoth fins sources → AnswerFor held fin source found
-for_told held fin source found None sources law hf hs j t = absurd t
-for_told held fin source found (Some f) None law hf hs j t = absurd t
-for_told held fin source found (Some f) (Some s) law hf hs j t = for_bytes held fin source f s found law hf hs j
+list_report : (inputs : Inputs) (trees : List Tree) (class : OneField) (range : Finitization) (tree : Tree) → OneFieldLaw → trees ≡ tree ∷ [] → IsOneField tree class → IsWithinLimits range
+    → report_of (ListFiles inputs) (record { trees = trees; class = class; range = range }) ≡ one_field_answer class range
+list_report inputs trees class range tree law e is within =
+    ap (λ (ts : List Tree). listing_answer (problem_at (get_or ts 0 Nil) range) NO_LIMIT (entries_in (At []) End (all_entries (problem_at (get_or ts 0 Nil) range)))) e
+    ∙ summarized tree is.is_shaped.0 class range law is.is_shaped.1 is.compares within
 
-pub answered : (held : Held) (fin source : List ℕ) (found : Found) → OneFieldLaw → IfSome (held fin) (λ f. IfSome (held source) (λ s. Judges f s found))
-    → IsTold held (Some (ListFiles fin source)) → AnswerFor held fin source found
-answered held fin source found law j t = for_told held fin source found (held fin) (held source) law refl refl j t
+-- what is counted of a problem
+abbrev counted : Problem → Answer
+counted problem = line_answer 0 (checked_text (length problem.program.classes) (length (slots problem)))
 
--- the file whose read failed is one that the command reads
-pub reads_file : (held : Held) (words : List (List ℕ)) (at : ℕ) → (at ≡ 1) ⊎ (at ≡ 2) → Reads held (ListFiles (word words 1) (word words 2)) (word words at)
-reads_file held words at (inl e) = inl (ap (word words) (sym e))
-reads_file held words at (inr e) = inr (ap (word words) (sym e))
+counted_tree : (at : Places) (class : OneField) (range : Finitization) → counted (problem_at (tree_at at class) range) ≡ line_answer 0 (checked_text 1 2)
+counted_tree at class range = refl
+
+check_report : (inputs : Inputs) (trees : List Tree) (class : OneField) (range : Finitization) (tree : Tree) → trees ≡ tree ∷ [] → IsOneField tree class
+    → report_of (CheckFiles inputs) (record { trees = trees; class = class; range = range }) ≡ line_answer 0 (checked_text 1 2)
+check_report inputs trees class range tree e is =
+    ap (λ (ts : List Tree). counted (problem_at (get_or ts 0 Nil) range)) e
+    ∙ (ap (λ (t : Tree). counted (problem_at t range)) is.is_shaped.1 ∙ counted_tree is.is_shaped.0 class range)
+
+reported : (purpose : Purpose) (inputs : Inputs) (trees : List Tree) (class : OneField) (range : Finitization) (tree : Tree) → OneFieldLaw → trees ≡ tree ∷ [] → IsOneField tree class → IsWithinLimits range
+    → report_of (command_for purpose inputs) (record { trees = trees; class = class; range = range }) ≡ report_for purpose class range
+reported purposes.List inputs trees class range tree law e is within = list_report inputs trees class range tree law e is within
+reported purposes.Check inputs trees class range tree law e is within = check_report inputs trees class range tree e is
+
+pub inputs_are : (purpose : Purpose) (inputs : Inputs) → inputs_of (command_for purpose inputs) ≡ inputs
+inputs_are purposes.List inputs = refl
+inputs_are purposes.Check inputs = refl
+
+-- a report is no usage fault, and its status is 0
+pub report_status : (purpose : Purpose) (class : OneField) (range : Finitization) → (report_for purpose class range).status ≡ 0
+report_status purposes.List class range = refl
+report_status purposes.Check class range = refl
+
+-- the report of a class of one field
+pub listed : (held : Held) (purpose : Purpose) (inputs : Inputs) (checked : Checked) (class : OneField) (range : Finitization) → OneFieldLaw → checking held inputs (Ok checked) → checked.class ≡ class → checked.range ≡ range
+    → IsAnswer held (Some (command_for purpose inputs)) (report_for purpose class range)
+listed held purpose inputs checked class range law h c r =
+    let formed = h.2.2.2.2 in
+    let bounded = formed.2 in
+    let this = reported purpose inputs h.2.2.0 formed.0 bounded.0 formed.1.0 law formed.1.1 formed.1.2 bounded.1.is_within in
+    let that : report_of (command_for purpose inputs) checked ≡ report_for purpose checked.class checked.range = subst (λ (x : Checked). report_of (command_for purpose inputs) x ≡ report_for purpose x.class x.range) bounded.2 this in
+    let all = that ∙ (ap (λ (x : OneField). report_for purpose x checked.range) c ∙ ap (λ (x : Finitization). report_for purpose class x) r) in
+    subst (λ (a : Answer). IsAnswer held (Some (command_for purpose inputs)) a) all (served checked (subst (λ (i : Inputs). checking held i (Ok checked)) (sym (inputs_are purpose inputs)) h))
+
+-- a refusal
+pub refused_for : (held : Held) (purpose : Purpose) (inputs : Inputs) (refusal : Refusal) → checking held inputs (Err refusal) → IsAnswer held (Some (command_for purpose inputs)) (refusal_answer inputs refusal)
+refused_for held purposes.List inputs refusal h = refused refusal h
+refused_for held purposes.Check inputs refusal h = refused refusal h
+
+-- the files of a command
+pub told_for : (held : Held) (purpose : Purpose) (inputs : Inputs) → IsTold held (Some (command_for purpose inputs)) → AllTold held inputs
+told_for held purposes.List inputs told = told
+told_for held purposes.Check inputs told = told
+
+pub reads_for : (held : Held) (purpose : Purpose) (inputs : Inputs) (file : List ℕ) → Reads held inputs file → Reads held (inputs_of (command_for purpose inputs)) file
+reads_for held purposes.List inputs file r = r
+reads_for held purposes.Check inputs file r = r

@@ -1,10 +1,11 @@
 pub mod Shapes
 pub mod Texts
-pub mod WholeFiles
 pub mod Rows
 pub mod Listings
 pub mod Endings
 pub mod Calls
+pub mod Outcomes
+pub mod Told
 pub mod Answered
 pub mod OneAnswer
 pub mod Examples

@@ -15,29 +15,29 @@ use Rattle.kr_ast.specs.Tree.{Tree}
 use Rattle.kr_mean.specs.Problem.{Problem}
 use Rattle.kr_mean.specs.Meaning.{is_comparison, holds_of}
 use Rattle.kr_mean.specs.Entries.{all_entries}
-use Rattle.kr_mean.specs.OneField.{OneFieldLaw, Places, one_field, one_field_tree, one_field_row, one_field_entry, one_field_entries}
+use Rattle.kr_mean.specs.OneField.{OneFieldLaw, Places, one_object, one_field, one_field_tree, one_field_row, one_field_entry, one_field_entries}
 use Rattle.kr_mean.specs.declared.mode.Mode.TheVariants.{List as Listing}
 use Rattle.kr_mean.specs.declared.row.Row.{Row}
 use Rattle.kr_value.specs.declared.value.Value.TheVariants.{Int}
-use Rattle.korat_top.specs.Source.{Source}
+use Rattle.korat_top.specs.OneField.{OneField}
 use Rattle.korat_top.specs.Finitization.{Finitization, IsWithinLimits, values_between, values_of, count_of}
 use Rattle.korat_top.specs.Texts.{row_text, structure_text, listed_text}
-use Rattle.korat_top.specs.Answer.{Answer, rows_in, rows_of_mark, spent_key, spent_key_of, failing_in, status_of, summary_text, cut_report, whole_report, listing_answer, problem_of, NO_LIMIT}
-use Rattle.korat_top.specs.Cells.{cell_text, cell_lines, range_lines, range_count, cells_answer}
+use Rattle.korat_top.specs.Answer.{Answer, rows_in, rows_of_mark, spent_key, spent_key_of, failing_in, status_of, summary_text, cut_report, whole_report, listing_answer, NO_LIMIT}
+use Rattle.korat_top.specs.OneFieldListing.{one_field_text, one_field_lines, range_lines, range_count, one_field_answer}
 
--- the tree of a source
-abbrev tree_at : Places → Source → Tree
-tree_at at source = one_field_tree at source.class_name source.field_name source.test source.number
+-- the tree of a class
+abbrev pub tree_at : Places → OneField → Tree
+tree_at at class = one_field_tree at class.class_name class.field_name class.test class.number
 
 -- the line of a row
 zero_text : decimal 0 ≡ codes "0"
 zero_text = decimal_digit 0 (omega arith)
 
-structure_is : (at : Places) (source : Source) (values : List ℤ) (fuel i : ℕ) (z : ℤ)
-    → structure_text (one_field at source.class_name source.field_name source.test source.number values fuel) (one_field_row i z).structure
-    ≡ ((source.class_name ++ codes "#" ++ decimal 0) ++ (codes "{" ++ ((source.field_name ++ codes "=" ++ signed_decimal z) ++ []) ++ codes "}")) ++ []
+structure_is : (at : Places) (class : OneField) (values : List ℤ) (fuel i : ℕ) (z : ℤ)
+    → structure_text (one_field at class.class_name class.field_name class.test class.number values fuel) (one_field_row i z).structure
+    ≡ ((class.class_name ++ codes "#" ++ decimal 0) ++ (codes "{" ++ ((class.field_name ++ codes "=" ++ signed_decimal z) ++ []) ++ codes "}")) ++ []
 unfolding structure_text
-structure_is at source values fuel i z = refl
+structure_is at class values fuel i z = refl
 
 regrouped : (o d i sp c h b f e z cb nl : List ℕ)
     → ((((o ++ ((d ++ i) ++ [])) ++ sp) ++ []) ++ (((c ++ h ++ o) ++ (b ++ ((f ++ e ++ z) ++ []) ++ cb)) ++ [])) ++ nl
@@ -47,32 +47,32 @@ regrouped o d i sp c h b f e z cb nl = simp (append_assoc, append-nil)
 grouped : (a i sp c h f e z cb : List ℕ) → a ++ i ++ sp ++ c ++ h ++ f ++ e ++ z ++ cb ≡ a ++ (i ++ (sp ++ (c ++ (h ++ (f ++ (e ++ (z ++ cb)))))))
 grouped a i sp c h f e z cb = simp append_assoc
 
-line_of_row : (at : Places) (source : Source) (values : List ℤ) (fuel i : ℕ) (z : ℤ)
-    → row_text (one_field at source.class_name source.field_name source.test source.number values fuel) (one_field_row i z) ≡ cell_text source i z
-line_of_row at source values fuel i z =
-    ap (λ t. ((((decimal 0 ++ ((codes "." ++ decimal i) ++ [])) ++ codes " ") ++ []) ++ t) ++ codes "\n") (structure_is at source values fuel i z)
-    ∙ (ap (λ o. ((((o ++ ((codes "." ++ decimal i) ++ [])) ++ codes " ") ++ []) ++ (((source.class_name ++ codes "#" ++ o) ++ (codes "{" ++ ((source.field_name ++ codes "=" ++ signed_decimal z) ++ []) ++ codes "}")) ++ [])) ++ codes "\n") zero_text
-    ∙ (regrouped (codes "0") (codes ".") (decimal i) (codes " ") source.class_name (codes "#") (codes "{") source.field_name (codes "=") (signed_decimal z) (codes "}") (codes "\n")
-    ∙ sym (grouped (codes "0.") (decimal i) (codes " ") source.class_name (codes "#0{") source.field_name (codes "=") (signed_decimal z) (codes "}\n"))))
+line_of_row : (at : Places) (class : OneField) (values : List ℤ) (fuel i : ℕ) (z : ℤ)
+    → row_text (one_field at class.class_name class.field_name class.test class.number values fuel) (one_field_row i z) ≡ one_field_text class i z
+line_of_row at class values fuel i z =
+    ap (λ t. ((((decimal 0 ++ ((codes "." ++ decimal i) ++ [])) ++ codes " ") ++ []) ++ t) ++ codes "\n") (structure_is at class values fuel i z)
+    ∙ (ap (λ o. ((((o ++ ((codes "." ++ decimal i) ++ [])) ++ codes " ") ++ []) ++ (((class.class_name ++ codes "#" ++ o) ++ (codes "{" ++ ((class.field_name ++ codes "=" ++ signed_decimal z) ++ []) ++ codes "}")) ++ [])) ++ codes "\n") zero_text
+    ∙ (regrouped (codes "0") (codes ".") (decimal i) (codes " ") class.class_name (codes "#") (codes "{") class.field_name (codes "=") (signed_decimal z) (codes "}") (codes "\n")
+    ∙ sym (grouped (codes "0.") (decimal i) (codes " ") class.class_name (codes "#0{") class.field_name (codes "=") (signed_decimal z) (codes "}\n"))))
 
 -- the lines of the rows
-value_rows : (at : Places) (source : Source) (values : List ℤ) (fuel i : ℕ) (z : ℤ) (holds : Bool) (rest : List Row) (others : List (List ℕ))
-    → map (row_text (one_field at source.class_name source.field_name source.test source.number values fuel)) rest ≡ others
-    → map (row_text (one_field at source.class_name source.field_name source.test source.number values fuel)) (rows_of_mark (if holds then Valid (one_field_row i z) else Invalid) ++ rest)
-    ≡ (if holds then cell_text source i z ∷ [] else []) ++ others
-value_rows at source values fuel i z true rest others e =
-    ap (λ line. line ∷ map (row_text (one_field at source.class_name source.field_name source.test source.number values fuel)) rest) (line_of_row at source values fuel i z)
-    ∙ ap (λ (l : List (List ℕ)). cell_text source i z ∷ l) e
-value_rows at source values fuel i z false rest others e = e
+value_rows : (at : Places) (class : OneField) (values : List ℤ) (fuel i : ℕ) (z : ℤ) (holds : Bool) (rest : List Row) (others : List (List ℕ))
+    → map (row_text (one_field at class.class_name class.field_name class.test class.number values fuel)) rest ≡ others
+    → map (row_text (one_field at class.class_name class.field_name class.test class.number values fuel)) (rows_of_mark (if holds then Valid (one_field_row i z) else Invalid) ++ rest)
+    ≡ (if holds then one_field_text class i z ∷ [] else []) ++ others
+value_rows at class values fuel i z true rest others e =
+    ap (λ line. line ∷ map (row_text (one_field at class.class_name class.field_name class.test class.number values fuel)) rest) (line_of_row at class values fuel i z)
+    ∙ ap (λ (l : List (List ℕ)). one_field_text class i z ∷ l) e
+value_rows at class values fuel i z false rest others e = e
 
-lines_of_rows : (at : Places) (source : Source) (values : List ℤ) (fuel i : ℕ) (z : ℤ) (m : ℕ)
-    → map (row_text (one_field at source.class_name source.field_name source.test source.number values fuel)) (rows_in (one_field_entries source.test source.number i (values_between z m)))
-    ≡ cell_lines source i z m
-lines_of_rows at source values fuel i z zero = refl
-lines_of_rows at source values fuel i z (suc m) =
-    value_rows at source values fuel i z (holds_of source.test (Int z) (Int (pos source.number)))
-    (rows_in (one_field_entries source.test source.number (i + 1) (values_between (z +ℤ pos 1) m))) (cell_lines source (i + 1) (z +ℤ pos 1) m)
-    (lines_of_rows at source values fuel (i + 1) (z +ℤ pos 1) m)
+lines_of_rows : (at : Places) (class : OneField) (values : List ℤ) (fuel i : ℕ) (z : ℤ) (m : ℕ)
+    → map (row_text (one_field at class.class_name class.field_name class.test class.number values fuel)) (rows_in (one_field_entries class.test class.number i (values_between z m)))
+    ≡ one_field_lines class i z m
+lines_of_rows at class values fuel i z zero = refl
+lines_of_rows at class values fuel i z (suc m) =
+    value_rows at class values fuel i z (holds_of class.test (Int z) (Int (pos class.number)))
+    (rows_in (one_field_entries class.test class.number (i + 1) (values_between (z +ℤ pos 1) m))) (one_field_lines class (i + 1) (z +ℤ pos 1) m)
+    (lines_of_rows at class values fuel (i + 1) (z +ℤ pos 1) m)
 
 -- ---- the span of all
 
@@ -164,23 +164,27 @@ counted (negsuc n) a b = absurd (omega (arith, ints))
 few_values : (range : Finitization) → IsWithinLimits range → (1 ≤ range_count range) × (range_count range ≤ 65536)
 few_values range h = counted ((range.to -ℤ range.from) +ℤ pos 1) (omega (arith, ints, h.in_order)) (omega (arith, ints, h.few))
 
+-- the problem of a tree and a range
+abbrev pub problem_at : Tree → Finitization → Problem
+problem_at tree range = one_object tree (values_of range) range.fuel
+
 -- the report of a class of one field
-summary_for : (at : Places) (source : Source) (range : Finitization) → OneFieldLaw → is_comparison source.test ≡ true → IsWithinLimits range
-    → listing_answer (problem_of (tree_at at source) range) NO_LIMIT (entries_in (At []) End (all_entries (problem_of (tree_at at source) range))) ≡ cells_answer source range
-summary_for at source range law compares h =
+summary_for : (at : Places) (class : OneField) (range : Finitization) → OneFieldLaw → is_comparison class.test ≡ true → IsWithinLimits range
+    → listing_answer (problem_at (tree_at at class) range) NO_LIMIT (entries_in (At []) End (all_entries (problem_at (tree_at at class) range))) ≡ one_field_answer class range
+summary_for at class range law compares h =
     let values = values_of range in
-    let n = source.number in
-    let problem = problem_of (tree_at at source) range in
+    let n = class.number in
+    let problem = problem_at (tree_at at class) range in
     let few = few_values range h in
     let long : length values ≡ range_count range = length_values range.from (range_count range) in
-    let form = law at source.class_name source.field_name source.test n values range.fuel compares h.enough (omega (arith, long, few.0)) in
+    let form = law at class.class_name class.field_name class.test n values range.fuel compares h.enough (omega (arith, long, few.0)) in
     ap (λ (es : List (Entry Row)). listing_answer problem NO_LIMIT (entries_in (At []) End es)) form.listed
-    ∙ (ap (λ (es : List (Entry Row)). listing_answer problem NO_LIMIT es) (all_in_span source.test n values)
-    ∙ reported problem (one_field_entries source.test n 0 values) (range_lines source range) (range_count range) refl
-    (omega (arith, few_rows source.test n 0 values, long, few.1)) (no_spent_key source.test n 0 values) (no_failing source.test n 0 values)
-    (lines_of_rows at source values range.fuel 0 range.from (range_count range)) (length_entries source.test n 0 values ∙ long))
+    ∙ (ap (λ (es : List (Entry Row)). listing_answer problem NO_LIMIT es) (all_in_span class.test n values)
+    ∙ reported problem (one_field_entries class.test n 0 values) (range_lines class range) (range_count range) refl
+    (omega (arith, few_rows class.test n 0 values, long, few.1)) (no_spent_key class.test n 0 values) (no_failing class.test n 0 values)
+    (lines_of_rows at class values range.fuel 0 range.from (range_count range)) (length_entries class.test n 0 values ∙ long))
 
-pub summarized : (tree : Tree) (at : Places) (source : Source) (range : Finitization) → OneFieldLaw → tree ≡ tree_at at source → is_comparison source.test ≡ true → IsWithinLimits range
-    → listing_answer (problem_of tree range) NO_LIMIT (entries_in (At []) End (all_entries (problem_of tree range))) ≡ cells_answer source range
-summarized tree at source range law e compares h =
-    ap (λ (t : Tree). listing_answer (problem_of t range) NO_LIMIT (entries_in (At []) End (all_entries (problem_of t range)))) e ∙ summary_for at source range law compares h
+pub summarized : (tree : Tree) (at : Places) (class : OneField) (range : Finitization) → OneFieldLaw → tree ≡ tree_at at class → is_comparison class.test ≡ true → IsWithinLimits range
+    → listing_answer (problem_at tree range) NO_LIMIT (entries_in (At []) End (all_entries (problem_at tree range))) ≡ one_field_answer class range
+summarized tree at class range law e compares h =
+    ap (λ (t : Tree). listing_answer (problem_at t range) NO_LIMIT (entries_in (At []) End (all_entries (problem_at t range)))) e ∙ summary_for at class range law compares h

@@ -1,52 +1,49 @@
 -- Words and files have at most one answer.
-use Rattle.std.proofs.Common.{◌≡◌, ℕ, ◌<◌, ◌≤◌, ◌⊎◌, List, [], length, refl, sym, ap, ◌∙◌, subst, inl, inr, arith}
-use Rattle.std.specs.Prelude.{Option, Some, None, ◌==◌, if◌then◌else◌}
-use Rattle.kr_base.specs.declared.span.Bound.TheVariants.{At, End}
-use Rattle.kr_base.specs.Entries.{entries_in}
+use Rattle.std.proofs.Common.{◌≡◌, ℕ, ◌<◌, ◌≤◌, ◌⊎◌, List, [], ◌∷◌, length, refl, sym, ap, ◌∙◌, subst, inl, inr, arith}
+use Rattle.std.specs.Prelude.{Option, Some, None, Result, Ok, Err, ◌==◌, if◌then◌else◌}
 use Rattle.kr_base.specs.declared.place.Place.{Place}
 use Rattle.kr_lex.specs.declared.refusal.LexRule.{LexRule}
 use Rattle.kr_lex.specs.declared.refusal.LexRule.TheVariants as rules
 use Rattle.kr_lex.specs.Places.{place_after}
 use Rattle.kr_lex.specs.Lexemes.{Lexemes}
+use Rattle.kr_lex.specs.Rules.{rule_code as lex_code}
 use Rattle.kr_lex.specs.Spells.{AreTokens, OneListLaw}
 use Rattle.kr_lex.specs.Broken.{IsFirstBroken, rank, UnbrokenLaw}
 use Rattle.kr_ast.specs.Tree.{Tree}
 use Rattle.kr_parse.specs.declared.refusal.ParseRule.{ParseRule}
+use Rattle.kr_parse.specs.Rules.{rule_code as parse_code}
 use Rattle.kr_parse.specs.Refusals.{IsParsed, IsUnparsed, OneRefusal, ParsedUnbroken}
 use Rattle.kr_laws.specs.Laws.{OneTree}
+use Rattle.kr_fin.specs.declared.refusal.Fault.{Fault}
+use Rattle.kr_fin.specs.Order.{rule_code as fin_code}
 use Rattle.kr_mean.specs.OneField.{one_field_tree}
-use Rattle.kr_mean.specs.Entries.{all_entries}
-use Rattle.korat_top.specs.Source.{Source, IsSource}
+use Rattle.korat_top.specs.OneField.{OneField, IsOneField}
 use Rattle.korat_top.specs.Finitization.{Finitization, IsFinitization}
 use Rattle.korat_top.specs.Texts.{usage_text}
-use Rattle.korat_top.specs.Answer.{Answer, Command, ListFiles, Held, IsAnswer, IsLexed, usage, too_long, no_tokens, no_tree, no_source, no_finitization, listed, line_answer, too_long_answer, no_tokens_answer, no_tree_answer, no_source_answer, no_finitization_answer, listing_answer, problem_of, NO_LIMIT}
+use Rattle.korat_top.specs.declared.refusal.InputFile.{InputFile}
+use Rattle.korat_top.specs.declared.refusal.InputFile.TheVariants as input
+use Rattle.korat_top.specs.Refusals.{Inputs, Refusal, at_place, of_finitization}
+use Rattle.korat_top.specs.Steps.{Held, Checked, and_then, each, made, reading, lexing, parsing, growing, stating, forming, bounding, from_class, from_document, from_trees, from_texts, checking}
+use Rattle.korat_top.specs.Answer.{Answer, Command, IsAnswer, usage, refused, served, line_answer, inputs_of, refusal_answer, report_of}
 use Rattle.korat_top.specs.Ends.{OneAnswer}
+use Rattle.korat_top.proofs.Outcomes.{HasOne, one_then, one_each}
 
--- ---- one source
+-- ---- each step has one outcome
 
-one_source : (bytes : List ℕ) (tokens : Lexemes) (tree : Tree) (s t : Source) → IsSource bytes tokens tree s → IsSource bytes tokens tree t → s ≡ t
-one_source bytes tokens tree s t x y =
-    let same : one_field_tree x.is_shaped.0 s.class_name s.field_name s.test s.number ≡ one_field_tree y.is_shaped.0 t.class_name t.field_name t.test t.number = sym x.is_shaped.1 ∙ y.is_shaped.1 in
-    let class_names : s.class_name ≡ t.class_name = cc (same) in
-    let field_names : s.field_name ≡ t.field_name = cc (same) in
-    let tests : s.test ≡ t.test = cc (same) in
-    let numbers : s.number ≡ t.number = cc (same) in
-    ap (λ n. let r : Source = record { class_name = n; field_name = s.field_name; test = s.test; number = s.number } in r) class_names
-    ∙ (ap (λ n. let r : Source = record { class_name = t.class_name; field_name = n; test = s.test; number = s.number } in r) field_names
-    ∙ (ap (λ o. let r : Source = record { class_name = t.class_name; field_name = t.field_name; test = o; number = s.number } in r) tests
-    ∙ ap (λ n. let r : Source = record { class_name = t.class_name; field_name = t.field_name; test = t.test; number = n } in r) numbers))
-
-one_range : (bytes : List ℕ) (form : Source) (f g : Finitization) → IsFinitization bytes form f → IsFinitization bytes form g → f ≡ g
-one_range bytes form f g x y =
-    let same : Some _ ≡ Some _ = sym x.is_parsed ∙ y.is_parsed in
-    let fuels : f.fuel ≡ g.fuel = cc (same) in
-    let froms : f.from ≡ g.from = cc (same) in
-    let tos : f.to ≡ g.to = cc (same) in
-    ap (λ n. let r : Finitization = record { fuel = n; from = f.from; to = f.to } in r) fuels
-    ∙ (ap (λ z. let r : Finitization = record { fuel = g.fuel; from = z; to = f.to } in r) froms
-    ∙ ap (λ z. let r : Finitization = record { fuel = g.fuel; from = g.from; to = z } in r) tos)
-
--- ---- one broken rule
+one_reading : (held : Held) (file : InputFile) (name : List ℕ) → HasOne (reading held file name)
+one_reading held file name (Ok b) (Ok c) x y =
+    let same : Some b ≡ Some c = sym x.0 ∙ y.0 in
+    let texts : b ≡ c = cc (same) in
+    ap Ok texts
+one_reading held file name (Ok b) (Err t) x y =
+    let same : Some b ≡ Some y.0 = sym x.0 ∙ y.1 in
+    let texts : b ≡ y.0 = cc (same) in
+    absurd (omega (arith, x.1, y.2, ap length texts))
+one_reading held file name (Err r) (Ok c) x y =
+    let same : Some x.0 ≡ Some c = sym x.1 ∙ y.0 in
+    let texts : x.0 ≡ c = cc (same) in
+    absurd (omega (arith, x.2, y.1, ap length texts))
+one_reading held file name (Err r) (Err t) x y = ap Err (x.3 ∙ sym y.3)
 
 same_rank : (a b : LexRule) → rank a ≡ rank b → a ≡ b
 same_rank a b e = from_rank a ∙ (ap rule_at e ∙ sym (from_rank b))
@@ -73,55 +70,10 @@ one_broken file bytes p q r t x y =
     let same = both_least x.front y.front (rank r) (rank t) (x.least y.front t y.breaks) (y.least x.front r x.breaks) in
     (x.at ∙ (ap (place_after file) same.0 ∙ sym y.at), same_rank r t same.1)
 
--- ---- one answer
-
--- the answer over these bytes, of which the source has these tokens and this tree
-abbrev Formed : List ℕ → List ℕ → List ℕ → List ℕ → Lexemes → Tree → Answer → Type 0
-Formed fin source f s tokens tree a =
-    (((form : Source) → IsSource s tokens tree form → ⊥) × (a ≡ no_source_answer source))
-    ⊎ ((form : Source) × IsSource s tokens tree form × ((range : Finitization) → IsFinitization f form range → ⊥) × (a ≡ no_finitization_answer fin))
-    ⊎ ((form : Source) × (range : Finitization) × IsSource s tokens tree form × IsFinitization f form range
-    × (a ≡ listing_answer (problem_of tree range) NO_LIMIT (entries_in (At []) End (all_entries (problem_of tree range)))))
-
--- the answer over these bytes, of which the source is spelled by these tokens
-abbrev Treed : List ℕ → List ℕ → List ℕ → (s : List ℕ) → IsLexed s → Answer → Type 0
-Treed fin source f s lexed a =
-    ((place : Place) × (rule : ParseRule) × IsUnparsed lexed.tokens place rule × (a ≡ no_tree_answer source place rule))
-    ⊎ ((tree : Tree) × IsParsed lexed.tokens tree × Formed fin source f s lexed.tokens tree a)
-
--- the answer over these bytes
-abbrev Judged : List ℕ → List ℕ → List ℕ → List ℕ → Answer → Type 0
-Judged fin source f s a =
-    ((1048576 < length s) × (a ≡ too_long_answer source))
-    ⊎ ((length s ≤ 1048576) × (place : Place) × (rule : LexRule) × IsFirstBroken 0 s place rule × (a ≡ no_tokens_answer source place rule))
-    ⊎ ((lexed : IsLexed s) × Treed fin source f s lexed a)
-
-abbrev Seen : Held → Option Command → Answer → Type 0
-Seen held None a = a ≡ line_answer 2 usage_text
-Seen held (Some (ListFiles fin source)) a = (f s : List ℕ) × (held fin ≡ Some f) × (held source ≡ Some s) × Judged fin source f s a
-
-seen : (held : Held) (asked : Option Command) (a : Answer) → IsAnswer held asked a → Seen held asked a
-seen held asked a usage = refl
-seen held asked a (too_long {f = f} {s = s} hf hs long) = (f, s, hf, hs, inl (long, refl))
-seen held asked a (no_tokens {f = f} {s = s} place rule hf hs short broken) = (f, s, hf, hs, inr (inl (short, place, rule, broken, refl)))
-seen held asked a (no_tree {f = f} {s = s} place rule hf hs lexed refused) = (f, s, hf, hs, inr (inr (lexed, inl (place, rule, refused, refl))))
-seen held asked a (no_source {f = f} {s = s} hf hs has none) = (f, s, hf, hs, inr (inr (has.lexed, inr (has.tree, has.parsed, inl (none, refl)))))
-seen held asked a (no_finitization {f = f} {s = s} form hf hs has is none) = (f, s, hf, hs, inr (inr (has.lexed, inr (has.tree, has.parsed, inr (inl (form, is, none, refl))))))
-seen held asked a (listed {f = f} {s = s} form range hf hs has is ranges) = (f, s, hf, hs, inr (inr (has.lexed, inr (has.tree, has.parsed, inr (inr (form, range, is, ranges, refl))))))
-
-one_formed : (fin source f s : List ℕ) (tokens : Lexemes) (tree : Tree) (a b : Answer) → Formed fin source f s tokens tree a → Formed fin source f s tokens tree b → a ≡ b
-one_formed fin source f s tokens tree a b (inl x) (inl y) = x.1 ∙ sym y.1
-one_formed fin source f s tokens tree a b (inl x) (inr (inl y)) = absurd (x.0 y.0 y.1)
-one_formed fin source f s tokens tree a b (inl x) (inr (inr y)) = absurd (x.0 y.0 y.2)
-one_formed fin source f s tokens tree a b (inr (inl x)) (inl y) = absurd (y.0 x.0 x.1)
-one_formed fin source f s tokens tree a b (inr (inl x)) (inr (inl y)) = x.3 ∙ sym y.3
-one_formed fin source f s tokens tree a b (inr (inl x)) (inr (inr y)) = absurd (x.2 y.1 (subst (λ (form : Source). IsFinitization f form y.1) (one_source s tokens tree y.0 x.0 y.2 x.1) y.3))
-one_formed fin source f s tokens tree a b (inr (inr x)) (inl y) = absurd (y.0 x.0 x.2)
-one_formed fin source f s tokens tree a b (inr (inr x)) (inr (inl y)) = absurd (y.2 x.1 (subst (λ (form : Source). IsFinitization f form x.1) (one_source s tokens tree x.0 y.0 x.2 y.1) x.3))
-one_formed fin source f s tokens tree a b (inr (inr x)) (inr (inr y)) =
-    let forms : x.0 ≡ y.0 = one_source s tokens tree x.0 y.0 x.2 y.2 in
-    let ranges : x.1 ≡ y.1 = one_range f y.0 x.1 y.1 (subst (λ (form : Source). IsFinitization f form x.1) forms x.3) y.3 in
-    x.4 ∙ (ap (λ (range : Finitization). listing_answer (problem_of tree range) NO_LIMIT (entries_in (At []) End (all_entries (problem_of tree range)))) ranges ∙ sym y.4)
+one_tokens : (n : ℕ) (s : List ℕ) (a b : Lexemes) → OneListLaw → AreTokens n s a → AreTokens n s b → a ≡ b
+one_tokens n s a b law x y =
+    ap (λ l. let r : Lexemes = record { list = l; end = a.end } in r) (law n s a.list b.list x.spelled y.spelled)
+    ∙ ap (λ e. let r : Lexemes = record { list = b.list; end = e } in r) (x.end ∙ sym y.end)
 
 -- what the laws of the steps say
 record Laws : Type 0 where
@@ -131,47 +83,114 @@ record Laws : Type 0 where
   parsed : ParsedUnbroken
   trees : OneTree
 
-one_tokens : (s : List ℕ) (a b : Lexemes) → OneListLaw → AreTokens 0 s a → AreTokens 0 s b → a ≡ b
-one_tokens s a b law x y =
-    ap (λ l. let r : Lexemes = record { list = l; end = a.end } in r) (law 0 s a.list b.list x.spelled y.spelled)
-    ∙ ap (λ e. let r : Lexemes = record { list = b.list; end = e } in r) (x.end ∙ sym y.end)
+one_lexing : Laws → (n : ℕ) (bytes : List ℕ) → HasOne (lexing n bytes)
+one_lexing laws n bytes (Ok a) (Ok b) x y = ap Ok (one_tokens n bytes a b laws.lists x y)
+one_lexing laws n bytes (Ok a) (Err t) x y = absurd (laws.unbroken n bytes y.2.front a y.1 x y.2.breaks)
+one_lexing laws n bytes (Err r) (Ok b) x y = absurd (laws.unbroken n bytes x.2.front b x.1 y x.2.breaks)
+one_lexing laws n bytes (Err r) (Err t) x y =
+    let same = one_broken n bytes x.0 y.0 x.1 y.1 x.2 y.2 in
+    ap Err (x.3 ∙ (ap (λ p. at_place p (lex_code x.1)) same.0 ∙ (ap (λ u. at_place y.0 (lex_code u)) same.1 ∙ sym y.3)))
 
-one_treed : (fin source f s : List ℕ) (a b : Answer) (l m : IsLexed s) → l.tokens ≡ m.tokens → Laws → Treed fin source f s l a → Treed fin source f s m b → a ≡ b
-one_treed fin source f s a b l m e laws (inl x) (inl y) =
-    let h = subst (λ ts. IsUnparsed ts x.0 x.1) e x.2 in
-    let same = laws.refusals m.tokens x.0 y.0 x.1 y.1 h y.2 in
-    x.3 ∙ (ap (λ p. no_tree_answer source p x.1) same.0 ∙ (ap (λ r. no_tree_answer source y.0 r) same.1 ∙ sym y.3))
-one_treed fin source f s a b l m e laws (inl x) (inr y) = absurd (laws.parsed m.tokens y.0 x.0 x.1 y.1 (subst (λ ts. IsUnparsed ts x.0 x.1) e x.2))
-one_treed fin source f s a b l m e laws (inr x) (inl y) = absurd (laws.parsed m.tokens x.0 y.0 y.1 (subst (λ ts. IsParsed ts x.0) e x.1) y.2)
-one_treed fin source f s a b l m e laws (inr x) (inr y) =
-    let h = subst (λ ts. IsParsed ts x.0) e x.1 in
-    let same : x.0 ≡ y.0 = laws.trees m.tokens.list x.0 y.0 h.derived y.1.derived in
-    let formed = subst (λ t. Formed fin source f s m.tokens t a) same (subst (λ ts. Formed fin source f s ts x.0 a) e x.2) in
-    one_formed fin source f s m.tokens y.0 a b formed y.2
+one_parsing : Laws → (tokens : Lexemes) → HasOne (parsing tokens)
+one_parsing laws tokens (Ok a) (Ok b) x y = ap Ok (laws.trees tokens.list a b x.derived y.derived)
+one_parsing laws tokens (Ok a) (Err t) x y = absurd (laws.parsed tokens a y.0 y.1 x y.2)
+one_parsing laws tokens (Err r) (Ok b) x y = absurd (laws.parsed tokens b x.0 x.1 y x.2)
+one_parsing laws tokens (Err r) (Err t) x y =
+    let same = laws.refusals tokens x.0 y.0 x.1 y.1 x.2 y.2 in
+    ap Err (x.3 ∙ (ap (λ p. at_place p (parse_code x.1)) same.0 ∙ (ap (λ u. at_place y.0 (parse_code u)) same.1 ∙ sym y.3)))
 
-one_judged : (fin source f s : List ℕ) (a b : Answer) → Laws → Judged fin source f s a → Judged fin source f s b → a ≡ b
-one_judged fin source f s a b law (inl x) (inl y) = x.1 ∙ sym y.1
-one_judged fin source f s a b law (inl x) (inr (inl y)) = absurd (omega (arith, x.0, y.0))
-one_judged fin source f s a b law (inl x) (inr (inr y)) = absurd (omega (arith, x.0, y.0.short))
-one_judged fin source f s a b law (inr (inl x)) (inl y) = absurd (omega (arith, x.0, y.0))
-one_judged fin source f s a b law (inr (inl x)) (inr (inl y)) =
-    let same = one_broken 0 s x.1 y.1 x.2 y.2 x.3 y.3 in
-    x.4 ∙ (ap (λ p. no_tokens_answer source p x.2) same.0 ∙ (ap (λ r. no_tokens_answer source y.1 r) same.1 ∙ sym y.4))
-one_judged fin source f s a b law (inr (inl x)) (inr (inr y)) = absurd (law.unbroken 0 s x.3.front y.0.tokens x.2 y.0.spelled x.3.breaks)
-one_judged fin source f s a b law (inr (inr x)) (inl y) = absurd (omega (arith, x.0.short, y.0))
-one_judged fin source f s a b law (inr (inr x)) (inr (inl y)) = absurd (law.unbroken 0 s y.3.front x.0.tokens y.2 x.0.spelled y.3.breaks)
-one_judged fin source f s a b law (inr (inr x)) (inr (inr y)) =
-    one_treed fin source f s a b x.0 y.0 (one_tokens s x.0.tokens y.0.tokens law.lists x.0.spelled y.0.spelled) law x.1 y.1
+one_growing : Laws → (n : ℕ) (bytes : List ℕ) → HasOne (growing n bytes)
+one_growing laws n bytes = one_then (lexing n bytes) parsing (one_lexing laws n bytes) (one_parsing laws)
 
-one_seen : (held : Held) (asked : Option Command) (a b : Answer) → Laws → Seen held asked a → Seen held asked b → a ≡ b
-one_seen held None a b law x y = x ∙ sym y
-one_seen held (Some (ListFiles fin source)) a b law x y =
-    let fs : Some x.0 ≡ Some y.0 = sym x.2 ∙ y.2 in
-    let ss : Some x.1 ≡ Some y.1 = sym x.3 ∙ y.3 in
-    let f : x.0 ≡ y.0 = cc (fs) in
-    let s : x.1 ≡ y.1 = cc (ss) in
-    one_judged fin source y.0 y.1 a b law (subst (λ u. Judged fin source y.0 u a) s (subst (λ u. Judged fin source u x.1 a) f x.4)) y.4
+one_stating : (fin : List ℕ) → HasOne (stating fin)
+one_stating fin (Ok a) (Ok b) x y = let same = sym x ∙ y in cc (same)
+one_stating fin (Ok a) (Err t) x y = let differ = sym x ∙ y.1 in absurd (cc (differ))
+one_stating fin (Err r) (Ok b) x y = let differ = sym x.1 ∙ y in absurd (cc (differ))
+one_stating fin (Err r) (Err t) x y =
+    let same = sym x.1 ∙ y.1 in
+    let faults : x.0 ≡ y.0 = cc (same) in
+    ap Err (x.2 ∙ (ap (λ (f : Fault). of_finitization (fin_code f.rule) f.item) faults ∙ sym y.2))
+
+one_class : (tree : Tree) (c d : OneField) → IsOneField tree c → IsOneField tree d → c ≡ d
+one_class tree c d x y =
+    let same : one_field_tree x.is_shaped.0 c.class_name c.field_name c.test c.number ≡ one_field_tree y.is_shaped.0 d.class_name d.field_name d.test d.number = sym x.is_shaped.1 ∙ y.is_shaped.1 in
+    let class_names : c.class_name ≡ d.class_name = cc (same) in
+    let field_names : c.field_name ≡ d.field_name = cc (same) in
+    let tests : c.test ≡ d.test = cc (same) in
+    let numbers : c.number ≡ d.number = cc (same) in
+    ap (λ n. let r : OneField = record { class_name = n; field_name = c.field_name; test = c.test; number = c.number } in r) class_names
+    ∙ (ap (λ n. let r : OneField = record { class_name = d.class_name; field_name = n; test = c.test; number = c.number } in r) field_names
+    ∙ (ap (λ o. let r : OneField = record { class_name = d.class_name; field_name = d.field_name; test = o; number = c.number } in r) tests
+    ∙ ap (λ n. let r : OneField = record { class_name = d.class_name; field_name = d.field_name; test = d.test; number = n } in r) numbers))
+
+one_forming : (trees : List Tree) → HasOne (forming trees)
+one_forming trees (Ok c) (Ok d) x y =
+    let same : (x.0 ∷ []) ≡ y.0 ∷ [] = sym x.1 ∙ y.1 in
+    let tree : x.0 ≡ y.0 = cc (same) in
+    ap Ok (one_class y.0 c d (subst (λ (t : Tree). IsOneField t c) tree x.2) y.2)
+one_forming trees (Ok c) (Err t) x y = absurd (y.0 x.0 c x.1 x.2)
+one_forming trees (Err r) (Ok d) x y = absurd (x.0 y.0 d y.1 y.2)
+one_forming trees (Err r) (Err t) x y = ap Err (x.1 ∙ sym y.1)
+
+one_range : (bytes : List ℕ) (form : OneField) (f g : Finitization) → IsFinitization bytes form f → IsFinitization bytes form g → f ≡ g
+one_range bytes form f g x y =
+    let same : Some _ ≡ Some _ = sym x.is_parsed ∙ y.is_parsed in
+    let fuels : f.fuel ≡ g.fuel = cc (same) in
+    let froms : f.from ≡ g.from = cc (same) in
+    let tos : f.to ≡ g.to = cc (same) in
+    ap (λ n. let r : Finitization = record { fuel = n; from = f.from; to = f.to } in r) fuels
+    ∙ (ap (λ z. let r : Finitization = record { fuel = g.fuel; from = z; to = f.to } in r) froms
+    ∙ ap (λ z. let r : Finitization = record { fuel = g.fuel; from = g.from; to = z } in r) tos)
+
+one_bounding : (fin : List ℕ) (class : OneField) → HasOne (bounding fin class)
+one_bounding fin class (Ok f) (Ok g) x y = ap Ok (one_range fin class f g x y)
+one_bounding fin class (Ok f) (Err t) x y = absurd (y.0 f x)
+one_bounding fin class (Err r) (Ok g) x y = absurd (x.0 g y)
+one_bounding fin class (Err r) (Err t) x y = ap Err (x.1 ∙ sym y.1)
+
+one_made : {A : Type 0} (a : A) → HasOne (made a)
+one_made a (Ok b) (Ok c) x y = ap Ok (sym x ∙ y)
+one_made a (Ok b) (Err t) x y = absurd y
+one_made a (Err r) z x y = absurd x
+
+one_from_class : (fin : List ℕ) (trees : List Tree) (class : OneField) → HasOne (from_class fin trees class)
+one_from_class fin trees class = one_then (bounding fin class) (λ range. made (record { trees = trees; class = class; range = range })) (one_bounding fin class) (λ range. one_made (record { trees = trees; class = class; range = range }))
+
+one_from_document : (fin : List ℕ) (trees : List Tree) → HasOne (from_document fin trees)
+one_from_document fin trees = one_then (forming trees) (λ class. from_class fin trees class) (one_forming trees) (λ class. one_from_class fin trees class)
+
+one_from_trees : (fin : List ℕ) (trees : List Tree) → HasOne (from_trees fin trees)
+one_from_trees fin trees = one_then (stating fin) (λ document. from_document fin trees) (one_stating fin) (λ document. one_from_document fin trees)
+
+one_from_texts : Laws → (fin : List ℕ) (sources : List (List ℕ)) → HasOne (from_texts fin sources)
+one_from_texts laws fin sources = one_then (each growing 0 sources) (λ trees. from_trees fin trees) (one_each growing (one_growing laws) 0 sources) (λ trees. one_from_trees fin trees)
+
+one_checking : Laws → (held : Held) (inputs : Inputs) → HasOne (checking held inputs)
+one_checking laws held inputs =
+    one_then _ _ (one_reading held input.Finitization inputs.fin) (λ fin.
+    one_then _ _ (one_each (λ n name. reading held (input.Source n) name) (λ n name. one_reading held (input.Source n) name) 0 inputs.sources) (λ sources.
+    one_from_texts laws fin sources))
+
+-- ---- one answer
+
+-- what a command answers, by what comes of the steps
+abbrev AnswerBy : Command → Result Checked Refusal → Answer
+AnswerBy command (Ok checked) = report_of command checked
+AnswerBy command (Err refusal) = refusal_answer (inputs_of command) refusal
+
+abbrev Seen : Held → Option Command → Answer → Type 0
+Seen held None a = a ≡ line_answer 2 usage_text
+Seen held (Some command) a = (x : Result Checked Refusal) × checking held (inputs_of command) x × (a ≡ AnswerBy command x)
+
+seen : (held : Held) (asked : Option Command) (a : Answer) → IsAnswer held asked a → Seen held asked a
+seen held asked a usage = refl
+seen held asked a (refused refusal h) = (Err refusal, h, refl)
+seen held asked a (served checked h) = (Ok checked, h, refl)
+
+one_seen : Laws → (held : Held) (asked : Option Command) (a b : Answer) → Seen held asked a → Seen held asked b → a ≡ b
+one_seen laws held None a b x y = x ∙ sym y
+one_seen laws held (Some command) a b x y = x.2 ∙ (ap (AnswerBy command) (one_checking laws held (inputs_of command) x.0 y.0 x.1 y.1) ∙ sym y.2)
 
 pub one_answer : OneListLaw → UnbrokenLaw → OneRefusal → ParsedUnbroken → OneTree → OneAnswer
 one_answer lists unbroken refusals parsed trees held asked a b x y =
-    one_seen held asked a b (record { lists = lists; unbroken = unbroken; refusals = refusals; parsed = parsed; trees = trees }) (seen held asked a x) (seen held asked b y)
+    one_seen (record { lists = lists; unbroken = unbroken; refusals = refusals; parsed = parsed; trees = trees }) held asked a b (seen held asked a x) (seen held asked b y)

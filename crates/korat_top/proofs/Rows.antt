@@ -6,9 +6,9 @@ use Rattle.std.proofs.lemmas.Int.{ints}
 use Rattle.std.proofs.lemmas.List.{take-append-le}
 use Rattle.kr_base.specs.Told.{Added}
 use Rattle.kr_base.specs.Writing.{stopped_then, stopped_early, added_then}
-use Rattle.korat_top.specs.Source.{Source}
+use Rattle.korat_top.specs.OneField.{OneField}
 use Rattle.korat_top.specs.Answer.{lines}
-use Rattle.korat_top.specs.Cells.{PutsRows, value_lines, cell_lines}
+use Rattle.korat_top.specs.OneFieldListing.{PutsRows, value_lines, one_field_lines}
 use Rattle.korat_top.specs.declared.listing.Halt.{Halt}
 use Rattle.korat_top.specs.declared.listing.Halt.TheVariants.{Sink, Memory}
 
@@ -20,12 +20,12 @@ next_value : (z : ℤ) (i : ℕ) → (z +ℤ pos i) +ℤ pos 1 ≡ z +ℤ pos (i
 next_value z i = omega (arith, ints)
 
 -- the lines that are left at an index are those of its value and those that are left behind it
-pub lines_left : (source : Source) (z : ℤ) (i n : ℕ) → i < n
-    → cell_lines source i (z +ℤ pos i) (n - i) ≡ value_lines source i (z +ℤ pos i) ++ cell_lines source (i + 1) (z +ℤ pos (i + 1)) (n - (i + 1))
-lines_left source z i n h =
+pub lines_left : (class : OneField) (z : ℤ) (i n : ℕ) → i < n
+    → one_field_lines class i (z +ℤ pos i) (n - i) ≡ value_lines class i (z +ℤ pos i) ++ one_field_lines class (i + 1) (z +ℤ pos (i + 1)) (n - (i + 1))
+lines_left class z i n h =
     let e : n - i ≡ suc (n - (i + 1)) = omega arith in
-    ap (λ m. cell_lines source i (z +ℤ pos i) m) e
-    ∙ ap (λ y. value_lines source i (z +ℤ pos i) ++ cell_lines source (i + 1) y (n - (i + 1))) (next_value z i)
+    ap (λ m. one_field_lines class i (z +ℤ pos i) m) e
+    ∙ ap (λ y. value_lines class i (z +ℤ pos i) ++ one_field_lines class (i + 1) y (n - (i + 1))) (next_value z i)
 
 front_of_rows : (n : ℕ) (rows : List (List ℕ)) → take n rows ≡ take (min n (length rows)) rows
 front_of_rows n rows = grind (arith, common_steps)

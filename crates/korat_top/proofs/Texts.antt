@@ -1,5 +1,5 @@
 -- Texts of ASCII, and texts that differ.
-use Rattle.std.proofs.Common.{◌≡◌, ◌<◌, ◌≤◌, ◌⊎◌, inl, inr, ℕ, Bool, true, false, List, length, get_or, refl, sym, ◌∙◌, arith, All, IsTrue, not}
+use Rattle.std.proofs.Common.{◌≡◌, ◌<◌, ◌≤◌, ◌⊎◌, inl, inr, ℕ, Bool, true, false, List, [], ◌++◌, length, get_or, refl, sym, ap, ◌∙◌, append_assoc, append-nil, arith, All, IsTrue, not}
 use Rattle.std.proofs.lemmas.Bool.{cases_lt}
 use Rattle.std.proofs.lemmas.Bool.Decides.{nat_tests}
 use Rattle.std.proofs.lemmas.List.{get_or_past}
@@ -26,3 +26,10 @@ unlike_not left right answer is wrong =
     from_not : (b : Bool) → not b ≡ false → b ≡ true
     from_not true e = refl
     from_not false e = absurd (cc)
+
+-- five texts, one after another
+grouped : (a b c d e : List ℕ) → a ++ (b ++ (c ++ (d ++ (e ++ [])))) ≡ a ++ b ++ c ++ d ++ e
+grouped a b c d e = simp (append_assoc, append-nil)
+
+pub five_pieces : (a b c d e x y : List ℕ) → x ≡ b → y ≡ d → a ++ (x ++ (c ++ (y ++ (e ++ [])))) ≡ a ++ b ++ c ++ d ++ e
+five_pieces a b c d e x y p q = ap (λ t. a ++ (t ++ (c ++ (y ++ (e ++ []))))) p ∙ (ap (λ t. a ++ (b ++ (c ++ (t ++ (e ++ []))))) q ∙ grouped a b c d e)

@@ -1,24 +1,15 @@
 -- What a call answers over what its files hold: a status, the lines of rows, and the last line.
-use Rattle.std.specs.Prelude.{◌≡◌, ℕ, ◌<◌, ◌≤◌, Bool, true, false, ◌&&◌, not, ◌⊎◌, List, [], ◌∷◌, ◌++◌, length, take, map, filter, flat_map, Option, Some, None, codes, nat_lt, if◌then◌else◌}
-use Rattle.std.specs.Str.{bytes_eq}
-use Rattle.kr_base.specs.declared.place.Place.{Place}
+use Rattle.std.specs.Prelude.{◌≡◌, ℕ, Bool, true, false, ◌&&◌, List, [], ◌∷◌, ◌++◌, length, take, map, filter, flat_map, Option, Some, None, Ok, Err, nat_lt, nat_le, nat_eq, if◌then◌else◌}
+use Rattle.std.proofs.Common.{get_or}
 use Rattle.kr_base.specs.declared.span.Bound.{Bound}
 use Rattle.kr_base.specs.declared.span.Bound.TheVariants.{At, End}
 use Rattle.kr_base.specs.declared.entry.Mark.{Mark}
 use Rattle.kr_base.specs.declared.entry.Mark.TheVariants.{Valid, Invalid, Spent}
 use Rattle.kr_base.specs.declared.entry.Entry.{Entry}
 use Rattle.kr_base.specs.Entries.{entries_in}
-use Rattle.kr_text.specs.Texts.{refusal_text}
-use Rattle.kr_lex.specs.declared.refusal.LexRule.{LexRule}
-use Rattle.kr_lex.specs.Lexemes.{Lexemes}
-use Rattle.kr_lex.specs.Rules.{rule_code}
-use Rattle.kr_lex.specs.Spells.{AreTokens}
-use Rattle.kr_lex.specs.Broken.{IsFirstBroken}
-use Rattle.kr_ast.specs.Tree.{Tree}
-use Rattle.kr_parse.specs.declared.refusal.ParseRule.{ParseRule}
-use Rattle.kr_parse.specs.Rules.{rule_code as parse_code}
-use Rattle.kr_parse.specs.Refusals.{IsParsed, IsUnparsed}
-use Rattle.kr_mean.specs.Problem.{Problem}
+use Rattle.kr_ast.specs.Tree.{Nil}
+use Rattle.kr_args.specs.Reading.{Task, Lists, Checks, Demos, Range, command_of}
+use Rattle.kr_mean.specs.Problem.{Problem, slots}
 use Rattle.kr_mean.specs.Entries.{all_entries}
 use Rattle.kr_mean.specs.OneField.{one_object}
 use Rattle.kr_mean.specs.declared.kind.Verdict.{Verdict}
@@ -26,9 +17,10 @@ use Rattle.kr_mean.specs.declared.kind.Verdict.TheVariants.{Pass, Ensures, RepOk
 use Rattle.kr_mean.specs.declared.mode.Mode.{Mode}
 use Rattle.kr_mean.specs.declared.mode.Mode.TheVariants.{List as Listing, Method as Testing}
 use Rattle.kr_mean.specs.declared.row.Row.{Row}
-use Rattle.korat_top.specs.Source.{Source, IsSource}
-use Rattle.korat_top.specs.Finitization.{Finitization, IsFinitization, values_of}
-use Rattle.korat_top.specs.Texts.{row_text, listed_text, tested_text, more_text, spent_text, usage_text}
+use Rattle.korat_top.specs.Finitization.{values_of}
+use Rattle.korat_top.specs.Texts.{row_text, listed_text, tested_text, more_text, spent_text, usage_text, checked_text}
+use Rattle.korat_top.specs.Refusals.{Inputs, Refusal, status_of_file, line_of}
+use Rattle.korat_top.specs.Steps.{Held, Checked, checking, AllTold}
 
 pub record Answer : Type 0 where
   pub status : ℕ
@@ -109,105 +101,69 @@ unfoldable pub listing_answer : Problem → ℕ → List (Entry Row) → Answer
 listing_answer problem limit es =
     if nat_lt limit (length (rows_in es)) then cut_report problem (take limit (rows_in es)) else whole_report problem es (spent_key es)
 
--- ---- the answer
+-- ---- commands
 
+-- a command that is served
 pub data Command : Type 0 where
-  -- the finitization and the source
-  ListFiles : List ℕ → List ℕ → Command
+  -- `list FIN SOURCE..`
+  ListFiles : Inputs → Command
+  -- `check FIN SOURCE..`
+  CheckFiles : Inputs → Command
 
--- begins with `-`
-abbrev pub is_option : List ℕ → Bool
-is_option [] = false
-is_option (c ∷ cs) = if nat_lt c 45 then false else (if nat_lt 45 c then false else true)
+-- the files that a command names
+abbrev pub inputs_of : Command → Inputs
+inputs_of (ListFiles inputs) = inputs
+inputs_of (CheckFiles inputs) = inputs
 
--- `list FIN SOURCE`
-abbrev pub command_of : List (List ℕ) → Option Command
-command_of (word ∷ fin ∷ source ∷ []) = if bytes_eq word (codes "list") && (not (is_option fin) && not (is_option source)) then Some (ListFiles fin source) else None
-command_of words = None
-
--- the program that the source's tree is, with the finitization's values
-abbrev pub problem_of : Tree → Finitization → Problem
-problem_of tree range = one_object tree (values_of range) range.fuel
+-- at most 16 sources
+abbrev pub is_few : Inputs → Bool
+is_few inputs = nat_le (length inputs.sources) 16
 
 -- the limit on rows where none is asked for
 abbrev pub NO_LIMIT : ℕ
 NO_LIMIT = 4294967295
 
-abbrev pub first_place : Place
-first_place = record { file = 0; line = 1; col = 1 }
+abbrev pub is_end : Bound → Bool
+is_end (At cut) = false
+is_end End = true
 
--- the span of keys that a command asks for, and how many rows: all, where it says nothing
-abbrev pub after_of : Command → List ℕ
-after_of (ListFiles fin source) = []
+-- all keys, and no limit
+abbrev pub is_whole : Range → Bool
+is_whole range = nat_eq (length range.from) 0 && (is_end range.to && nat_eq range.limit NO_LIMIT)
 
-abbrev pub upto_of : Command → Bound
-upto_of (ListFiles fin source) = End
+-- what is served of the commands that there are: parts of a listing and `demo` are not yet
+abbrev pub served_of : Option Task → Option Command
+served_of None = None
+served_of (Some (Lists inputs range)) = if is_few inputs && is_whole range then Some (ListFiles inputs) else None
+served_of (Some (Checks inputs)) = if is_few inputs then Some (CheckFiles inputs) else None
+served_of (Some (Demos n)) = None
 
-abbrev pub limit_of : Command → ℕ
-limit_of (ListFiles fin source) = NO_LIMIT
+-- the command that words give
+abbrev pub asked_of : List (List ℕ) → Option Command
+asked_of words = served_of (command_of words)
 
--- the longest file that is taken, in bytes
-abbrev pub LIMIT : ℕ
-LIMIT = 1048576
+-- ---- the answer
 
-abbrev pub too_long_answer : List ℕ → Answer
-too_long_answer name = line_answer 3 (refusal_text name (Some first_place) (codes "B1") [])
+-- the program that the source's tree is, with the finitization's values
+abbrev pub problem_of : Checked → Problem
+problem_of checked = one_object (get_or checked.trees 0 Nil) (values_of checked.range) checked.range.fuel
 
-abbrev pub no_tokens_answer : List ℕ → Place → LexRule → Answer
-no_tokens_answer name place rule = line_answer 3 (refusal_text name (Some place) (rule_code rule) [])
+abbrev pub refusal_answer : Inputs → Refusal → Answer
+refusal_answer inputs refusal = line_answer (status_of_file refusal.file) (line_of inputs refusal)
 
--- a source of such a length that tokens spell
-pub record IsLexed (s : List ℕ) : Type 0 where
-  pub short : length s ≤ LIMIT
-  pub tokens : Lexemes
-  pub spelled : AreTokens 0 s tokens
+-- what a command reports of files of which none is refused
+abbrev pub report_of : Command → Checked → Answer
+report_of (ListFiles inputs) checked = listing_answer (problem_of checked) NO_LIMIT (entries_in (At []) End (all_entries (problem_of checked)))
+report_of (CheckFiles inputs) checked = line_answer 0 (checked_text (length (problem_of checked).program.classes) (length (slots (problem_of checked))))
 
-abbrev pub no_tree_answer : List ℕ → Place → ParseRule → Answer
-no_tree_answer name place rule = line_answer 3 (refusal_text name (Some place) (parse_code rule) [])
-
--- a source whose tokens have a tree
-pub record HasTree (s : List ℕ) : Type 0 where
-  pub lexed : IsLexed s
-  pub tree : Tree
-  pub parsed : IsParsed lexed.tokens tree
-
-abbrev pub no_source_answer : List ℕ → Answer
-no_source_answer name = line_answer 3 (refusal_text name (Some first_place) (codes "N0") [])
-
-abbrev pub no_finitization_answer : List ℕ → Answer
-no_finitization_answer name = line_answer 4 (refusal_text name None (codes "N0") (codes "form"))
-
-abbrev pub Held : Type 0
-Held = List ℕ → Option (List ℕ)
-
--- The answer to a command, or to words that give none, over what the files hold: the first step that is broken, in the
--- order of the source's length, its tokens, its grammar, its form and the finitization's form; else the report.
+-- The answer to a command, or to words that give none, over what the files hold: the first refusal, in the order of the
+-- steps; else the report.
 pub data IsAnswer (held : Held) : Option Command → Answer → Type 0 where
   usage : IsAnswer held None (line_answer 2 usage_text)
-  too_long : {fin source f s : List ℕ} → held fin ≡ Some f → held source ≡ Some s
-      → LIMIT < length s → IsAnswer held (Some (ListFiles fin source)) (too_long_answer source)
-  no_tokens : {fin source f s : List ℕ} (place : Place) (rule : LexRule) → held fin ≡ Some f → held source ≡ Some s
-      → length s ≤ LIMIT → IsFirstBroken 0 s place rule → IsAnswer held (Some (ListFiles fin source)) (no_tokens_answer source place rule)
-  no_tree : {fin source f s : List ℕ} (place : Place) (rule : ParseRule) → held fin ≡ Some f → held source ≡ Some s
-      → (lexed : IsLexed s) → IsUnparsed lexed.tokens place rule → IsAnswer held (Some (ListFiles fin source)) (no_tree_answer source place rule)
-  no_source : {fin source f s : List ℕ} → held fin ≡ Some f → held source ≡ Some s
-      → (read : HasTree s) → ((form : Source) → IsSource s read.lexed.tokens read.tree form → ⊥) → IsAnswer held (Some (ListFiles fin source)) (no_source_answer source)
-  no_finitization : {fin source f s : List ℕ} (form : Source) → held fin ≡ Some f → held source ≡ Some s
-      → (read : HasTree s) → IsSource s read.lexed.tokens read.tree form → ((range : Finitization) → IsFinitization f form range → ⊥) → IsAnswer held (Some (ListFiles fin source)) (no_finitization_answer fin)
-  listed : {fin source f s : List ℕ} (form : Source) (range : Finitization) → held fin ≡ Some f → held source ≡ Some s
-      → (read : HasTree s) → IsSource s read.lexed.tokens read.tree form → IsFinitization f form range
-      → IsAnswer held (Some (ListFiles fin source)) (listing_answer (problem_of read.tree range) (limit_of (ListFiles fin source)) (entries_in (At (after_of (ListFiles fin source))) (upto_of (ListFiles fin source)) (all_entries (problem_of read.tree range))))
+  refused : {command : Command} (refusal : Refusal) → checking held (inputs_of command) (Err refusal) → IsAnswer held (Some command) (refusal_answer (inputs_of command) refusal)
+  served : {command : Command} (checked : Checked) → checking held (inputs_of command) (Ok checked) → IsAnswer held (Some command) (report_of command checked)
 
-abbrev pub TellsBoth : Option (List ℕ) → Option (List ℕ) → Type 0
-TellsBoth (Some f) (Some s) = Unit {0}
-TellsBoth (Some f) None = ⊥
-TellsBoth None s = ⊥
-
--- the bytes of all files that the command names are told
+-- the bytes of all files that the command reads are told
 abbrev pub IsTold : Held → Option Command → Type 0
 IsTold held None = Unit {0}
-IsTold held (Some (ListFiles fin source)) = TellsBoth (held fin) (held source)
-
--- the file is one that the command reads; both are read before anything is judged, so no step before it can be broken
-abbrev pub Reads : Held → Command → List ℕ → Type 0
-Reads held (ListFiles fin source) file = (fin ≡ file) ⊎ (source ≡ file)
+IsTold held (Some command) = AllTold held (inputs_of command)

@@ -3,7 +3,8 @@ use Rattle.std.specs.Prelude.{◌≡◌, ℕ, ◌<◌, ◌≤◌, ◌⊎◌, Lis
 use Rattle.kr_base.specs.Causes.{Rose}
 use Rattle.kr_base.specs.Told.{Added, Stopped}
 use Rattle.korat_top.specs.Texts.{read_fault_text, memory_text}
-use Rattle.korat_top.specs.Answer.{Answer, Command, Held, IsAnswer, IsTold, Reads, bytes_of, lines}
+use Rattle.korat_top.specs.Steps.{Held, Reads}
+use Rattle.korat_top.specs.Answer.{Answer, Command, IsAnswer, IsTold, inputs_of, bytes_of, lines}
 
 -- The words' answer was given: its status, and exactly its bytes.
 pub record Gives {K : Type 0} (held : Held) (taken : K → Option (List ℕ)) (faults : K → ℕ) (asked : Option Command) (out out' : K) (status : ℕ) : Type 0 where
@@ -12,12 +13,13 @@ pub record Gives {K : Type 0} (held : Held) (taken : K → Option (List ℕ)) (f
   pub status_is : status ≡ answer.status
   pub written : Added taken faults out out' (bytes_of answer)
 
--- A read was counted in this call as failed, of a file that the command reads, and that is all that is written.
+-- A read was counted in this call as failed, of a file that the command reads: no step before that read is broken, as far
+-- as bytes are told. That is all that is written.
 pub record TellsReadFault {F K : Type 0} (held : F → Held) (read_faults : F → ℕ) (last : F → Option (List ℕ)) (taken : K → Option (List ℕ)) (faults : K → ℕ) (asked : Option Command) (files files' : F) (out out' : K) : Type 0 where
   pub command : Command
   pub name : List ℕ
   pub asked_for : asked ≡ Some command
-  pub read : Reads (held files) command name
+  pub read : Reads (held files) (inputs_of command) name
   pub named : last files' ≡ Some name
   pub cause : Rose (read_faults files) (read_faults files')
   pub written : Added taken faults out out' (read_fault_text name)
@@ -33,7 +35,7 @@ IsFront held asked rows = (rows ≡ []) ⊎ ((answer : Answer) × IsAnswer held 
 -- a text that a call may have begun: its answer's, or that of a read fault, or that of want of memory after some rows
 abbrev pub MayTell : Held → Option Command → List ℕ → Type 0
 MayTell held asked text = ((answer : Answer) × IsAnswer held asked answer × (text ≡ bytes_of answer))
-    ⊎ ((command : Command) × (name : List ℕ) × (asked ≡ Some command) × Reads held command name × (text ≡ read_fault_text name))
+    ⊎ ((command : Command) × (name : List ℕ) × (asked ≡ Some command) × Reads held (inputs_of command) name × (text ≡ read_fault_text name))
     ⊎ ((rows : List ℕ) × IsFront held asked rows × (text ≡ rows ++ memory_text))
 
 -- A fault of the sink ended the call within such a text.

@@ -1,12 +1,13 @@
--- The lines and reports of small problems, worked by hand.
-use Rattle.std.specs.Prelude.{◌≡◌, ℕ, List, [], ◌∷◌, map, codes}
+-- The lines and reports of small problems, and what is served of some words, worked by hand.
+use Rattle.std.specs.Prelude.{◌≡◌, ℕ, List, [], ◌∷◌, map, codes, Some, None}
 use Rattle.kr_base.specs.declared.span.Bound.TheVariants.{At, End}
 use Rattle.kr_base.specs.Entries.{entries_in}
 use Rattle.kr_mean.specs.Problem.{Problem}
 use Rattle.kr_mean.specs.Entries.{all_entries}
 use Rattle.kr_mean.specs.Examples.{cell, two_ints, two_nodes, two_subclasses, arrays}
 use Rattle.korat_top.specs.Texts.{row_text}
-use Rattle.korat_top.specs.Answer.{Answer, bytes_of, rows_in, listing_answer}
+use Rattle.kr_args.specs.Worked.{files, with_files}
+use Rattle.korat_top.specs.Answer.{Answer, ListFiles, CheckFiles, asked_of, bytes_of, rows_in, listing_answer}
 
 -- the lines of all rows of a problem
 abbrev pub lines_of : Problem → List (List ℕ)
@@ -32,3 +33,13 @@ pub record WorkedLines : Type 0 where
   pub cell_at_the_limit : report_of (cell 0 1000) [] 2 ≡ told 0 (codes "0.1 Cell#0{v=1}\n0.2 Cell#0{v=2}\nvalid 2 tried 3\n")
   pub cell_resumed : report_of (cell 0 1000) (0 ∷ 1 ∷ []) 9 ≡ told 0 (codes "0.2 Cell#0{v=2}\nvalid 1 tried 1\n")
   pub cell_without_fuel : report_of (cell 0 5) [] 9 ≡ told 5 (codes "spent 0.0\n")
+
+-- words with the command that is served for them: none where they give none, or one that is not served
+pub record WorkedCommands : Type 0 where
+  pub no_words : asked_of [] ≡ None
+  pub listing : asked_of (with_files (codes "list") []) ≡ Some (ListFiles (files (codes "f") (codes "a" ∷ [])))
+  pub greatest : asked_of (with_files (codes "list") (codes "--limit" ∷ codes "4294967295" ∷ [])) ≡ Some (ListFiles (files (codes "f") (codes "a" ∷ [])))
+  pub limited : asked_of (with_files (codes "list") (codes "--limit=3" ∷ [])) ≡ None
+  pub parted : asked_of (codes "list" ∷ codes "--from" ∷ codes "0.2" ∷ codes "f" ∷ codes "a" ∷ codes "--to" ∷ codes "1" ∷ []) ≡ None
+  pub checking : asked_of (codes "check" ∷ codes "f" ∷ codes "a" ∷ codes "b" ∷ []) ≡ Some (CheckFiles (files (codes "f") (codes "a" ∷ codes "b" ∷ [])))
+  pub demo : asked_of (codes "demo" ∷ codes "12" ∷ []) ≡ None

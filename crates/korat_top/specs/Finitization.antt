@@ -3,7 +3,7 @@ use Rattle.std.specs.Prelude.{◌≡◌, ◌≤◌, ◌≤ℤ◌, ◌<ℤ◌, �
 use Rattle.std.specs.Str.{IsUtf8}
 use Rattle.toml.specs.Data.{Data, string, integer, array, table, no_items, item, Members, no_members, member}
 use Rattle.toml.specs.Parse.{parse_document}
-use Rattle.korat_top.specs.Source.{Source}
+use Rattle.korat_top.specs.OneField.{OneField}
 use Rattle.korat_top.specs.declared.finitization.Finitization.{Finitization as OwnFinitization}
 use Rattle.korat_top.specs.declared.finitization.document.Numbers.{Numbers}
 
@@ -18,7 +18,7 @@ abbrev pub range_table : ℤ → ℤ → Members
 range_table from to = member (codes "from") (integer from) (member (codes "to") (integer to) no_members)
 
 -- the field's key, `C.f`
-abbrev pub field_key : Source → List ℕ
+abbrev pub field_key : OneField → List ℕ
 field_key s = s.class_name ++ codes "." ++ s.field_name
 
 -- the one field of the key, with its one range
@@ -37,7 +37,7 @@ table_of class_name key fuel from to =
     (member (codes "objects") (objects_table class_name)
     (member (codes "root") (string class_name) no_members)))
 
-abbrev pub document_of : Source → Finitization → Members
+abbrev pub document_of : OneField → Finitization → Members
 document_of s fin = table_of s.class_name (field_key s) (pos fin.fuel) fin.from fin.to
 
 -- fuel from 6 to 2,000, and a range of 32-bit integers that isn't empty and has at most 65,536 values
@@ -50,7 +50,7 @@ pub record IsWithinLimits (fin : Finitization) : Type 0 where
   pub few : (fin.to -ℤ fin.from) <ℤ pos 65536
 
 -- the bytes are that finitization of the source
-pub record IsFinitization (bytes : List ℕ) (s : Source) (fin : Finitization) : Type 0 where
+pub record IsFinitization (bytes : List ℕ) (s : OneField) (fin : Finitization) : Type 0 where
   pub is_short : length bytes ≤ 1048576
   pub is_text : IsUtf8 bytes
   pub is_parsed : parse_document bytes ≡ Some (document_of s fin)

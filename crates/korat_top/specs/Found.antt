@@ -1,39 +1,18 @@
 -- What the work for a command finds, before anything is written.
-use Rattle.std.specs.Prelude.{◌≡◌, ℕ, ◌<◌, ◌≤◌, ◌⊎◌, List, [], length, Option, Some, IfSome, take, Result, Ok, Err, Vec, slice_index_or}
+use Rattle.std.specs.Prelude.{◌≡◌, ℕ, ◌<◌, ◌≤◌, List, [], length, Option, Some, IfSome, Result, Ok, Err, Vec, slice_index_or}
 use Rattle.std.specs.declared.alloc.Global.{Global}
 use Rattle.kr_base.specs.Causes.{Rose}
-use Rattle.korat_top.specs.Source.{IsSource, Source}
-use Rattle.korat_top.specs.Finitization.{IsFinitization, IsWithinLimits, Finitization}
-use Rattle.korat_top.specs.Source.{source_of}
-use Rattle.korat_top.specs.Finitization.{finitization_of}
-use Rattle.kr_lex.specs.Broken.{IsFirstBroken}
-use Rattle.kr_parse.specs.Refusals.{IsUnparsed}
-use Rattle.korat_top.specs.Answer.{Held, LIMIT, IsLexed, HasTree}
-use Rattle.korat_top.specs.declared.find.Stop.{Stop}
-use Rattle.korat_top.specs.declared.find.Stop.TheVariants.{Read, Memory}
+use Rattle.korat_top.specs.OneField.{one_field_of}
+use Rattle.korat_top.specs.Finitization.{finitization_of, IsWithinLimits}
+use Rattle.korat_top.specs.Refusals.{Inputs, Refusal, too_long, name_of, refusal_of}
+use Rattle.korat_top.specs.Steps.{Held, LIMIT, Checked, each, checking, ReadsIn, Reads, AllTold}
+use Rattle.korat_top.specs.declared.refusal.InputFile.{InputFile}
+use Rattle.korat_top.specs.declared.refusal.InputFile.TheVariants as input
+use Rattle.korat_top.specs.declared.refusal.Stop.{Stop}
+use Rattle.korat_top.specs.declared.refusal.Stop.TheVariants.{Read, Refused, Memory}
 use Rattle.korat_top.specs.declared.find.Found.{Found}
-use Rattle.korat_top.specs.declared.find.Found.TheVariants.{TooLong, Broken, Unparsed, NoSource, NoFinitization, Cells}
 
-abbrev pub word : List (List ℕ) → ℕ → List ℕ
-word words at = slice_index_or words at []
-
--- what the steps say of the bytes of a finitization and of a source
-abbrev pub Judges : List ℕ → List ℕ → Found → Type 0
-Judges f s TooLong = LIMIT < length s
-Judges f s (Broken place rule) = (length s ≤ LIMIT) × IsFirstBroken 0 s place rule
-Judges f s (Unparsed place rule) = (lexed : IsLexed s) × IsUnparsed lexed.tokens place rule
-Judges f s NoSource = (read : HasTree s) × ((form : Source) → IsSource s read.lexed.tokens read.tree form → ⊥)
-Judges f s NoFinitization = (read : HasTree s) × (form : Source) × IsSource s read.lexed.tokens read.tree form × ((range : Finitization) → IsFinitization f form range → ⊥)
-Judges f s (Cells source range) = (read : HasTree s) × IsSource s read.lexed.tokens read.tree (source_of source) × IsFinitization f (source_of source) (finitization_of range)
-
--- a range that was found is within the form's limits
-abbrev pub IsLimited : Found → Type 0
-IsLimited TooLong = Unit {0}
-IsLimited (Broken place rule) = Unit {0}
-IsLimited (Unparsed place rule) = Unit {0}
-IsLimited NoSource = Unit {0}
-IsLimited NoFinitization = Unit {0}
-IsLimited (Cells source range) = IsWithinLimits (finitization_of range)
+-- ---- What is read
 
 -- Files after some reads: they hold what they held, and their count has not fallen.
 pub record IsLater {F : Type 0} (held : F → Held) (faults : F → ℕ) (files files' : F) : Type 0 where
@@ -43,23 +22,76 @@ pub record IsLater {F : Type 0} (held : F → Held) (faults : F → ℕ) (files 
 -- a count stays, unless a read failed
 abbrev pub CountStays : {X : Type 0} → ℕ → ℕ → Result X Stop → Type 0
 CountStays before now (Ok x) = now ≡ before
+CountStays before now (Err (Refused r)) = now ≡ before
 CountStays before now (Err Memory) = now ≡ before
-CountStays before now (Err (Read at)) = Unit {0}
+CountStays before now (Err (Read file)) = Unit {0}
 
--- A read failed and was counted: that of the finitization or that of the source.
-pub record ReadFails {F : Type 0} (faults : F → ℕ) (last : F → Option (List ℕ)) (words : List (List ℕ)) (files files' : F) (at : ℕ) : Type 0 where
-  pub file : (at ≡ 1) ⊎ (at ≡ 2)
-  pub named : last files' ≡ Some (word words at)
+-- what is read of a file, as far as its bytes are told
+abbrev pub telling : Held → InputFile → List ℕ → Result (List ℕ) Refusal → Type 0
+telling held file name (Ok bytes) = (length bytes ≤ LIMIT) × IfSome (held name) (λ all. all ≡ bytes)
+telling held file name (Err r) = IfSome (held name) (λ all. LIMIT < length all) × (r ≡ too_long file)
+
+abbrev pub telling_source : Held → ℕ → List ℕ → Result (List ℕ) Refusal → Type 0
+telling_source held n name = telling held (input.Source n) name
+
+-- one read of a file
+abbrev pub HasRead : {F : Type 0} → (F → Held) → (F → ℕ) → (F → Option (List ℕ)) → InputFile → List ℕ → F → F → Result (Vec ℕ Global) Stop → Type 0
+HasRead held faults last file name files files' (Ok v) = telling (held files) file name (Ok v.items)
+HasRead held faults last file name files files' (Err (Refused r)) = telling (held files) file name (Err (refusal_of r))
+HasRead held faults last file name files files' (Err (Read failed)) = (failed ≡ file) × (last files' ≡ Some name) × Rose (faults files) (faults files')
+HasRead held faults last file name files files' (Err Memory) = Unit {0}
+
+-- the source of a number was not read, and no file before it is too long
+pub record ReadFails {F : Type 0} (held : F → Held) (faults : F → ℕ) (last : F → Option (List ℕ)) (names : List (List ℕ)) (files files' : F) (failed : InputFile) : Type 0 where
+  pub number : ℕ
+  pub file : failed ≡ input.Source number
+  pub read : ReadsIn (held files) names (slice_index_or names number [])
+  pub named : last files' ≡ Some (slice_index_or names number [])
   pub cause : Rose (faults files) (faults files')
 
--- one read of the file that a word names
-abbrev pub HasRead : {F : Type 0} → (F → Held) → (F → ℕ) → (F → Option (List ℕ)) → List (List ℕ) → ℕ → F → F → Result (Vec ℕ Global) Stop → Type 0
-HasRead held faults last words at files files' (Ok v) = IfSome (held files (word words at)) (λ all. v.items ≡ take 1048577 all)
-HasRead held faults last words at files files' (Err (Read failed)) = (failed ≡ at) × (last files' ≡ Some (word words at)) × Rose (faults files) (faults files')
-HasRead held faults last words at files files' (Err Memory) = Unit {0}
+-- the reads of the sources
+abbrev pub HasReadAll : {F : Type 0} → (F → Held) → (F → ℕ) → (F → Option (List ℕ)) → List (List ℕ) → F → F → Result (List (List ℕ)) Stop → Type 0
+HasReadAll held faults last names files files' (Ok texts) = each (telling_source (held files)) 0 names (Ok texts)
+HasReadAll held faults last names files files' (Err (Refused r)) = each (telling_source (held files)) 0 names (Err (refusal_of r))
+HasReadAll held faults last names files files' (Err (Read failed)) = ReadFails held faults last names files files' failed
+HasReadAll held faults last names files files' (Err Memory) = Unit {0}
 
--- what the forms say of what the files hold, where it is told; or a read fault; or want of memory, which is free
-abbrev pub Finds : {F : Type 0} → (F → Held) → (F → ℕ) → (F → Option (List ℕ)) → List (List ℕ) → F → F → Result Found Stop → Type 0
-Finds held faults last words files files' (Ok found) = IsLimited found × IfSome (held files (word words 1)) (λ f. IfSome (held files (word words 2)) (λ s. Judges f s found))
-Finds held faults last words files files' (Err (Read at)) = ReadFails faults last words files files' at
-Finds held faults last words files files' (Err Memory) = Unit {0}
+-- ---- What is judged
+
+-- Work that stops has a refusal that may come of it, or is refused memory, which is free. It reads nothing.
+abbrev pub StopsBy : {A : Type 0} → (Result A Refusal → Type 0) → Stop → Type 0
+StopsBy outcome (Refused r) = outcome (Err (refusal_of r))
+StopsBy outcome Memory = Unit {0}
+StopsBy outcome (Read file) = ⊥
+
+-- what is made, seen as a value of the steps, may come of it
+abbrev pub Meets : {V A : Type 0} → (Result A Refusal → Type 0) → (V → A) → Result V Stop → Type 0
+Meets outcome seen (Ok v) = outcome (Ok (seen v))
+Meets outcome seen (Err stop) = StopsBy outcome stop
+
+-- what is found stands for the files of which none is refused
+abbrev pub IsFound : Checked → Found → Type 0
+IsFound checked found = (checked.class ≡ one_field_of found.class) × (checked.range ≡ finitization_of found.range)
+
+-- a range that was found is within the form's limits
+abbrev pub IsLimited : Found → Type 0
+IsLimited found = IsWithinLimits (finitization_of found.range)
+
+abbrev pub Judges : (Result Checked Refusal → Type 0) → Result Found Stop → Type 0
+Judges outcome (Ok f) = IsLimited f × ((checked : Checked) × outcome (Ok checked) × IsFound checked f)
+Judges outcome (Err stop) = StopsBy outcome stop
+
+-- ---- What is found
+
+-- A read failed and was counted.
+pub record FailsToRead {F : Type 0} (held : F → Held) (faults : F → ℕ) (last : F → Option (List ℕ)) (inputs : Inputs) (files files' : F) (failed : InputFile) : Type 0 where
+  pub read : Reads (held files) inputs (name_of inputs failed)
+  pub named : last files' ≡ Some (name_of inputs failed)
+  pub cause : Rose (faults files) (faults files')
+
+-- what the steps say of what the files hold, where it is told; or a read fault; or want of memory, which is free
+abbrev pub Finds : {F : Type 0} → (F → Held) → (F → ℕ) → (F → Option (List ℕ)) → Inputs → F → F → Result Found Stop → Type 0
+Finds held faults last inputs files files' (Ok f) = IsLimited f × (AllTold (held files) inputs → (checked : Checked) × checking (held files) inputs (Ok checked) × IsFound checked f)
+Finds held faults last inputs files files' (Err (Refused r)) = AllTold (held files) inputs → checking (held files) inputs (Err (refusal_of r))
+Finds held faults last inputs files files' (Err (Read failed)) = FailsToRead held faults last inputs files files' failed
+Finds held faults last inputs files files' (Err Memory) = Unit {0}

@@ -142,6 +142,9 @@ more_text key = codes "more " ++ cut_text key ++ codes "\n"
 abbrev pub spent_text : List ℕ → List ℕ
 spent_text key = codes "spent " ++ cut_text key ++ codes "\n"
 
+abbrev pub checked_text : ℕ → ℕ → List ℕ
+checked_text classes slots = codes "ok classes " ++ decimal classes ++ codes " slots " ++ decimal slots ++ codes "\n"
+
 abbrev pub usage_text : List ℕ
 usage_text = codes "usage fault\n"
 

@@ -1,122 +1,236 @@
-// The work for a command, before anything is written: both files are read, and then judged.
-ghost use Rattle.std.specs.Prelude.{◌≡◌, ◌<◌, ◌≤◌, IfOk, length};
-ghost use Rattle.kr_lex.specs.Spells.{AreTokens};
+// The work for a command, before anything is written: its files are read, and then judged.
+ghost use Rattle.std.specs.Prelude.{◌≡◌, ◌<◌, ◌≤◌, All, IfOk, length, map};
 ghost use Rattle.kr_ast.specs.Arena.{root};
-ghost use Rattle.korat_top.specs.Answer.{LIMIT};
-ghost use Rattle.kr_parse.specs.Refusals.{IsParsed};
-ghost use Rattle.korat_top.specs.Found.{HasRead, IsLater, Judges, Finds, IsLimited, CountStays};
+ghost use Rattle.korat_top.specs.OneField.{one_field_of};
+ghost use Rattle.korat_top.specs.Finitization.{finitization_of};
+ghost use Rattle.korat_top.specs.Refusals.{refusal_of, too_long as too_long_of, source_start as start_of};
+ghost use Rattle.korat_top.specs.Steps.{LIMIT, lexing, parsing, growing, stating, forming, bounding, from_texts, from_trees, from_document, each};
+ghost use Rattle.korat_top.specs.Found.{HasRead, HasReadAll, IsLater, Meets, Judges, Finds, CountStays};
 
 use crate::MAX_FILE_BYTES;
 use crate::finitization::{Finitization, read_finitization};
-use crate::source::{Source, read_source};
-use crate::words::{FINITIZATION, SOURCE};
+use crate::one_field::{OneField, read_one_field};
+use crate::refusal::{InputFile, Refusal, Stop};
+use crate::sources::Texts;
 use kr_ast::Tree;
 use kr_base::{NoMemory, Place, Words};
+use kr_fin::{FinDoc, FinRefusal, read_fin};
 use kr_io::{Files, ReadRefusal};
-use kr_lex::{LexRefusal, LexRule, Tokens, lex};
-use kr_parse::{ParseRefusal, ParseRule, parse};
+use kr_lex::{LexRefusal, Tokens, lex};
+use kr_parse::{ParseRefusal, parse};
 use std::alloc::Global;
 
-/// Why the work stopped.
-#[derive(Clone, Copy, Debug, PartialEq, Eq)]
-pub(crate) enum Stop {
-    /// The read of the file that the word at this place names.
-    Read(usize),
-    Memory,
-}
-
-/// What the two files are.
+/// What there is to report.
 #[derive(Drop)]
-pub(crate) enum Found {
-    /// The source has more bytes than are taken.
-    TooLong,
-    /// The source breaks a rule of tokens at a place.
-    Broken(Place, LexRule),
-    /// The source's tokens break a rule of the grammar at a place.
-    Unparsed(Place, ParseRule),
-    /// The source isn't of its form.
-    NoSource,
-    /// The finitization isn't of its form.
-    NoFinitization,
-    Cells(Source, Finitization),
+pub(crate) struct Found {
+    pub(crate) class: OneField,
+    pub(crate) range: Finitization,
 }
 
-/// Reads the file that a word names, at most one byte more than is taken.
-fn read<F: Files>(words: &Words, at: usize, files: &mut F) -> Result<Vec<u8>, Stop>
-    requires { at < length words.now }
-    ensures read { HasRead F.held F.faults F.last words.now at files.old files.new result }
+/// Where a source begins.
+fn source_start(number: u32) -> Place
+    ensures { result ≡ start_of number }
+{
+    Place {
+        file: number,
+        line: 1,
+        col: 1,
+    }
+}
+
+/// More bytes than are taken.
+fn too_long(alloc: Global, file: InputFile) -> Result<Refusal, NoMemory>
+    ensures { IfOk result (λ refusal. refusal_of refusal ≡ too_long_of file) }
+{
+    match file {
+        InputFile::Finitization => Ok(Refusal::of_finitization(
+            "F6",
+            String::from_str(alloc, "size")?,
+        )),
+        InputFile::Source(number) => Ok(Refusal::at(alloc, source_start(number), "B1")),
+    }
+}
+
+/// Reads a file of a name, which is not to be too long.
+fn read<F: Files>(
+    alloc: Global,
+    file: InputFile,
+    name: &str,
+    files: &mut F,
+) -> Result<Vec<u8>, Stop>
+    ensures read { HasRead F.held F.faults F.last file name.now files.old files.new result }
     ensures later { IsLater F.held F.faults files.old files.new }
     ensures count { CountStays (F.faults files.old) (F.faults files.new) result }
 {
-    match files.read(words.get(at), MAX_FILE_BYTES + 1) {
-        Ok(bytes) => Ok(bytes),
-        Err(ReadRefusal::Failed) => Err(Stop::Read(at)),
+    match files.read(name, MAX_FILE_BYTES + 1) {
+        Ok(bytes) => {
+            if bytes.len() <= MAX_FILE_BYTES {
+                Ok(bytes)
+            } else {
+                Err(Stop::Refused(too_long(alloc, file)?))
+            }
+        }
+        Err(ReadRefusal::Failed) => Err(Stop::Read(file)),
         Err(ReadRefusal::NoMemory) => Err(Stop::Memory),
     }
 }
 
-/// Judges the form of a source that has these tokens and this tree, and then that of the finitization.
-fn judge_forms(
-    alloc: Global,
-    fin: &[u8],
-    source: &[u8],
-    tokens: &Tokens,
-    tree: &Tree,
-) -> Result<Found, NoMemory>
-    requires short { length source.now ≤ LIMIT }
-    requires spelled { AreTokens 0 source.now tokens.now }
-    requires parsed { IsParsed tokens.now (root tree.now) }
-    ensures judged { IfOk result (Judges fin.now source.now) }
-    ensures limited { IfOk result IsLimited }
-{
-    let Some(source) = read_source(alloc, source, tokens, tree)? else {
-        return Ok(Found::NoSource);
-    };
-    match read_finitization(alloc, fin, &source)? {
-        Some(range) => Ok(Found::Cells(source, range)),
-        None => Ok(Found::NoFinitization),
-    }
-}
-
-/// Judges whether the source's tokens have a tree, and then the forms.
-fn judge_tree(alloc: Global, fin: &[u8], source: &[u8], tokens: &Tokens) -> Result<Found, NoMemory>
-    requires short { length source.now ≤ LIMIT }
-    requires spelled { AreTokens 0 source.now tokens.now }
-    ensures judged { IfOk result (Judges fin.now source.now) }
-    ensures limited { IfOk result IsLimited }
-{
-    match parse(alloc, tokens) {
-        Ok(tree) => judge_forms(alloc, fin, source, tokens, &tree),
-        Err(ParseRefusal::Broken { place, rule }) => Ok(Found::Unparsed(place, rule)),
-        Err(ParseRefusal::NoMemory) => Err(NoMemory),
-    }
-}
-
-/// Judges the source's length, its tokens, their tree and then the forms.
-fn judge(alloc: Global, fin: &[u8], source: &[u8]) -> Result<Found, NoMemory>
-    ensures judged { IfOk result (Judges fin.now source.now) }
-    ensures limited { IfOk result IsLimited }
-{
-    if source.len() > MAX_FILE_BYTES {
-        return Ok(Found::TooLong);
-    }
-    match lex(alloc, 0, source) {
-        Ok(tokens) => judge_tree(alloc, fin, source, &tokens),
-        Err(LexRefusal::Broken { place, rule }) => Ok(Found::Broken(place, rule)),
-        Err(LexRefusal::NoMemory) => Err(NoMemory),
-    }
-}
-
-/// Reads both files, the finitization first, and judges them.
-pub(crate) fn find<F: Files>(alloc: Global, words: &Words, files: &mut F) -> Result<Found, Stop>
-    requires { length words.now ≡ 3 }
-    ensures found { Finds F.held F.faults F.last words.now files.old files.new result }
+/// Reads the sources, in order.
+fn read_sources<F: Files>(alloc: Global, sources: &Words, files: &mut F) -> Result<Texts, Stop>
+    requires few { length sources.now ≤ 16 }
+    ensures read { HasReadAll F.held F.faults F.last sources.now files.old files.new result }
+    ensures later { IsLater F.held F.faults files.old files.new }
     ensures count { CountStays (F.faults files.old) (F.faults files.new) result }
 {
-    let fin = read(words, FINITIZATION, files)?;
-    let source = read(words, SOURCE, files)?;
-    match judge(alloc, &fin, &source) {
-        Ok(found) => Ok(found),
-        Err(NoMemory) => Err(Stop::Memory),
+    let mut texts = Texts::new(alloc);
+    for number in 0..sources.len() {
+        let file = InputFile::Source(number as u32);
+        match read(alloc, file, sources.get(number), files) {
+            Ok(bytes) => texts.push(bytes)?,
+            Err(stop) => return Err(stop),
+        }
+    }
+    Ok(texts)
+}
+
+/// The tokens of a source.
+fn tokens_of(alloc: Global, number: u32, bytes: &[u8]) -> Result<Tokens, Stop>
+    requires few { number < 64 }
+    requires short { length bytes.now ≤ LIMIT }
+    ensures { Meets (lexing number bytes.now) (λ tokens. tokens) result }
+{
+    match lex(alloc, number, bytes) {
+        Ok(tokens) => Ok(tokens),
+        Err(LexRefusal::Broken { place, rule }) => {
+            Err(Stop::Refused(Refusal::at(alloc, place, rule.code())))
+        }
+        Err(LexRefusal::NoMemory) => Err(Stop::Memory),
+    }
+}
+
+/// The tree of tokens.
+fn parsed(alloc: Global, tokens: &Tokens) -> Result<Tree, Stop>
+    ensures { Meets (parsing tokens.now) root result }
+{
+    match parse(alloc, tokens) {
+        Ok(tree) => Ok(tree),
+        Err(ParseRefusal::Broken { place, rule }) => {
+            Err(Stop::Refused(Refusal::at(alloc, place, rule.code())))
+        }
+        Err(ParseRefusal::NoMemory) => Err(Stop::Memory),
+    }
+}
+
+/// The tree of a source.
+fn tree_of(alloc: Global, number: u32, bytes: &[u8]) -> Result<Tree, Stop>
+    requires few { number < 64 }
+    requires short { length bytes.now ≤ LIMIT }
+    ensures { Meets (growing number bytes.now) root result }
+{
+    let tokens = tokens_of(alloc, number, bytes)?;
+    parsed(alloc, &tokens)
+}
+
+/// The trees of the sources.
+fn trees_of(alloc: Global, texts: &Texts) -> Result<Vec<Tree>, Stop>
+    requires few { length texts.now ≤ 16 }
+    requires short { All (λ text. length text ≤ LIMIT) texts.now }
+    ensures { Meets (each growing 0 texts.now) (λ trees. map root trees.items) result }
+{
+    let mut trees = Vec::new(alloc);
+    for number in 0..texts.len() {
+        match tree_of(alloc, number as u32, texts.get(number)) {
+            Ok(tree) => trees.push(tree)?,
+            Err(stop) => return Err(stop),
+        }
+    }
+    Ok(trees)
+}
+
+/// The class of one field that the sources are.
+fn class_of(alloc: Global, trees: &[Tree]) -> Result<OneField, Stop>
+    ensures { Meets (forming (map root trees.now)) one_field_of result }
+{
+    let class = match trees {
+        [tree] => read_one_field(alloc, tree)?,
+        _ => None,
+    };
+    match class {
+        Some(class) => Ok(class),
+        None => Err(Stop::Refused(Refusal::at(alloc, source_start(0), "N0"))),
+    }
+}
+
+/// The finitization of a class of one field.
+fn range_of(alloc: Global, fin: &[u8], class: &OneField) -> Result<Finitization, Stop>
+    ensures { Meets (bounding fin.now (one_field_of class.now)) finitization_of result }
+{
+    match read_finitization(alloc, fin, class)? {
+        Some(range) => Ok(range),
+        None => {
+            let item = String::from_str(alloc, "form")?;
+            Err(Stop::Refused(Refusal::of_finitization("N0", item)))
+        }
+    }
+}
+
+/// The document that the finitization is.
+fn document_of(alloc: Global, fin: &[u8]) -> Result<FinDoc, Stop>
+    ensures { Meets (stating fin.now) (λ document. document) result }
+{
+    match read_fin(alloc, fin) {
+        Ok(document) => Ok(document),
+        Err(FinRefusal::Broken(fault)) => {
+            let item = String::from_str(alloc, fault.item.as_str())?;
+            Err(Stop::Refused(Refusal::of_finitization(fault.rule.code(), item)))
+        }
+        Err(FinRefusal::NoMemory) => Err(Stop::Memory),
+    }
+}
+
+// The steps behind each other: what is judged from one of them on.
+
+fn judge_document(alloc: Global, fin: &[u8], trees: &[Tree]) -> Result<Found, Stop>
+    ensures { Judges (from_document fin.now (map root trees.now)) result }
+{
+    let class = class_of(alloc, trees)?;
+    match range_of(alloc, fin, &class) {
+        Ok(range) => Ok(Found { class, range }),
+        Err(stop) => Err(stop),
+    }
+}
+
+fn judge_trees(alloc: Global, fin: &[u8], trees: &[Tree]) -> Result<Found, Stop>
+    ensures { Judges (from_trees fin.now (map root trees.now)) result }
+{
+    let _document = document_of(alloc, fin)?;
+    judge_document(alloc, fin, trees)
+}
+
+/// Judges what was read.
+fn judge(alloc: Global, fin: &[u8], texts: &Texts) -> Result<Found, Stop>
+    requires few { length texts.now ≤ 16 }
+    requires short { All (λ text. length text ≤ LIMIT) texts.now }
+    ensures { Judges (from_texts fin.now texts.now) result }
+{
+    let trees = trees_of(alloc, texts)?;
+    judge_trees(alloc, fin, &trees)
+}
+
+/// Reads the files of a command, the finitization first, and judges them.
+pub(crate) fn find<F: Files>(
+    alloc: Global,
+    fin: &str,
+    sources: &Words,
+    files: &mut F,
+) -> Result<Found, Stop>
+    requires few { length sources.now ≤ 16 }
+    ensures found { Finds F.held F.faults F.last (record { fin = fin.now; sources = sources.now }) files.old files.new result }
+    ensures count { CountStays (F.faults files.old) (F.faults files.new) result }
+{
+    let bytes = read(alloc, InputFile::Finitization, fin, files)?;
+    match read_sources(alloc, sources, files) {
+        Ok(texts) => judge(alloc, &bytes, &texts),
+        Err(stop) => Err(stop),
     }
 }

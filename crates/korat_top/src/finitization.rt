@@ -1,6 +1,6 @@
-// The finitization form: the fuel, the one object and the range that the bytes of a finitization give a source.
+// The finitization form: the fuel, the one object and the range that the bytes of a finitization give a class.
 ghost use Rattle.std.specs.Prelude.{◌≡◌, IfOk, IfSome, IfNone, string_bytes};
-ghost use Rattle.korat_top.specs.Source.{source_of};
+ghost use Rattle.korat_top.specs.OneField.{one_field_of};
 ghost use Rattle.korat_top.specs.Finitization.{IsFinitization, field_key as key_of, finitization_of};
 ghost use Rattle.korat_top.specs.Finitization as spec;
 
@@ -8,7 +8,7 @@ mod document;
 mod limits;
 
 use crate::MAX_FILE_BYTES;
-use crate::source::Source;
+use crate::one_field::OneField;
 use kr_base::NoMemory;
 use std::alloc::Global;
 
@@ -21,23 +21,23 @@ pub(crate) struct Finitization {
 }
 
 // The field's key, `C.f`.
-fn field_key(alloc: Global, source: &Source) -> Result<String, NoMemory>
-    ensures { IfOk result (λ key. string_bytes key ≡ key_of (source_of source.now)) }
+fn field_key(alloc: Global, class: &OneField) -> Result<String, NoMemory>
+    ensures { IfOk result (λ key. string_bytes key ≡ key_of (one_field_of class.now)) }
 {
-    let mut key = String::from_str(alloc, source.class_name.as_str())?;
+    let mut key = String::from_str(alloc, class.class_name.as_str())?;
     key.push_str(".")?;
-    key.push_str(source.field_name.as_str())?;
+    key.push_str(class.field_name.as_str())?;
     Ok(key)
 }
 
-/// The finitization that the bytes are of the source, if they are one.
+/// The finitization that the bytes are of the class, if they are one.
 pub(crate) fn read_finitization(
     alloc: Global,
     bytes: &[u8],
-    source: &Source,
+    class: &OneField,
 ) -> Result<Option<Finitization>, NoMemory>
-    ensures found { IfOk result (λ read. IfSome read (λ fin. IsFinitization bytes.now (source_of source.now) (finitization_of fin))) }
-    ensures none { IfOk result (λ read. IfNone read ((fin : spec.Finitization) → IsFinitization bytes.now (source_of source.now) fin → ⊥)) }
+    ensures found { IfOk result (λ read. IfSome read (λ fin. IsFinitization bytes.now (one_field_of class.now) (finitization_of fin))) }
+    ensures none { IfOk result (λ read. IfNone read ((fin : spec.Finitization) → IsFinitization bytes.now (one_field_of class.now) fin → ⊥)) }
 {
     if bytes.len() > MAX_FILE_BYTES {
         return Ok(None);
@@ -52,8 +52,8 @@ pub(crate) fn read_finitization(
             };
         }
     };
-    let key = field_key(alloc, source)?;
-    match document::numbers_of(&table, source.class_name.as_str(), key.as_str()) {
+    let key = field_key(alloc, class)?;
+    match document::numbers_of(&table, class.class_name.as_str(), key.as_str()) {
         Some(numbers) => Ok(limits::within(numbers)),
         None => Ok(None),
     }

@@ -1,16 +1,20 @@
 //! The whole tool as one call.
 #![tactic(auto)]
 
+mod command;
 mod find;
 mod finitization;
+mod given;
 mod laws;
 mod listing;
+mod one_field;
+mod refusal;
 mod report;
-mod source;
+mod sources;
 mod top;
-mod words;
 
-pub use laws::{one_answer, worked_lines};
+pub use given::{NoWords, start, words_of};
+pub use laws::{one_answer, worked_commands, worked_lines};
 pub use top::run;
 
 /// The longest file that is taken, in bytes.

@@ -3,12 +3,12 @@ ghost use Rattle.std.specs.Prelude.{◌≡◌, ◌<◌, ◌≤◌, ◌≤ℤ◌,
 ghost use Rattle.kr_base.specs.Told.{Writes};
 ghost use Rattle.kr_mean.specs.Meaning.{holds_of};
 ghost use Rattle.kr_value.specs.declared.value.Value.TheVariants.{Int};
-ghost use Rattle.korat_top.specs.Cells.{PutsRows, cell_text, value_lines, range_count, range_lines};
-ghost use Rattle.korat_top.specs.Source.{source_of};
+ghost use Rattle.korat_top.specs.OneFieldListing.{PutsRows, one_field_text, value_lines, range_count, range_lines};
+ghost use Rattle.korat_top.specs.OneField.{one_field_of};
 ghost use Rattle.korat_top.specs.Finitization.{finitization_of};
 
 use crate::finitization::Finitization;
-use crate::source::Source;
+use crate::one_field::OneField;
 use itoa::Buffer;
 use kr_ast::BinaryOperator;
 use kr_base::{Failed, Sink, put_all};
@@ -51,15 +51,15 @@ fn holds(test: BinaryOperator, value: i32, number: u32) -> bool
 }
 
 /// Puts the line of a value: `0.i C#0{f=z}`.
-fn put_cell<K: Sink>(source: &Source, index: u32, value: i32, out: &mut K) -> Result<(), Failed>
-    ensures { Writes K.taken K.faults out.old out.new (cell_text (source_of source.now) index value) result }
+fn put_cell<K: Sink>(class: &OneField, index: u32, value: i32, out: &mut K) -> Result<(), Failed>
+    ensures { Writes K.taken K.faults out.old out.new (one_field_text (one_field_of class.now) index value) result }
 {
     let mut first = Buffer::new();
     let mut second = Buffer::new();
     let index = first.format(index).as_bytes();
     let value = second.format(value).as_bytes();
-    let class_name = source.class_name.as_bytes();
-    let field_name = source.field_name.as_bytes();
+    let class_name = class.class_name.as_bytes();
+    let field_name = class.field_name.as_bytes();
     put_pieces(
         out,
         &[
@@ -88,7 +88,7 @@ fn value_at(range: Finitization, index: u32) -> i32
 
 /// Puts the line of the value at an index of a range, if the test holds, by one put. Says how many lines.
 fn put_value<K: Sink>(
-    source: &Source,
+    class: &OneField,
     range: Finitization,
     index: u32,
     line: &mut Line,
@@ -96,15 +96,15 @@ fn put_value<K: Sink>(
 ) -> Result<u64, Halt>
     requires order { range.from ≤ℤ range.to }
     requires within { index < range_count (finitization_of range) }
-    ensures rows { PutsRows K.taken K.faults out.old out.new (value_lines (source_of source.now) index (range.from +ℤ pos index)) result }
+    ensures rows { PutsRows K.taken K.faults out.old out.new (value_lines (one_field_of class.now) index (range.from +ℤ pos index)) result }
     ensures few { IfOk result (λ n. n ≤ 1) }
 {
     let value = value_at(range, index);
-    if !holds(source.test, value, source.number) {
+    if !holds(class.test, value, class.number) {
         return Ok(0);
     }
     line.clear();
-    if put_cell(source, index, value, line).is_err() {
+    if put_cell(class, index, value, line).is_err() {
         return Err(Halt::Memory);
     }
     put_all(out, line.bytes())?;
@@ -114,18 +114,18 @@ fn put_value<K: Sink>(
 /// Puts the lines of a range, in order. Says how many.
 pub(crate) fn put_range<K: Sink>(
     alloc: Global,
-    source: &Source,
+    class: &OneField,
     range: Finitization,
     out: &mut K,
 ) -> Result<u64, Halt>
     requires order { range.from ≤ℤ range.to }
     requires few { (range.to -ℤ range.from) <ℤ pos 65536 }
-    ensures { PutsRows K.taken K.faults out.old out.new (range_lines (source_of source.now) (finitization_of range)) result }
+    ensures { PutsRows K.taken K.faults out.old out.new (range_lines (one_field_of class.now) (finitization_of range)) result }
 {
     let mut line = Line::new(alloc);
     let mut valid = 0;
     for index in 0..count(range) {
-        match put_value(source, range, index, &mut line, out) {
+        match put_value(class, range, index, &mut line, out) {
             Ok(put) => valid += put,
             Err(halt) => return Err(halt),
         }

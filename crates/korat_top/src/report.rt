@@ -1,13 +1,12 @@
 // The lines of a call, but for rows.
 ghost use Rattle.std.specs.Prelude.{◌≡◌};
 ghost use Rattle.kr_base.specs.Told.{Writes};
-ghost use Rattle.korat_top.specs.Texts.{listed_text, read_fault_text, memory_text, usage_text};
-ghost use Rattle.korat_top.specs.Answer.{first_place as source_start, too_long_answer, no_tokens_answer, no_tree_answer, no_source_answer, no_finitization_answer, bytes_of};
+ghost use Rattle.korat_top.specs.Texts.{listed_text, checked_text, read_fault_text, memory_text, usage_text};
+ghost use Rattle.korat_top.specs.Refusals.{name_of as name_in, line_of, status_of_file, refusal_of};
 
+use crate::refusal::{InputFile, Refusal};
 use itoa::Buffer;
-use kr_base::{Failed, Place, Sink, put_all};
-use kr_lex::LexRule;
-use kr_parse::ParseRule;
+use kr_base::{Failed, Sink, Words, put_all};
 use kr_text::{put_pieces, put_refusal};
 
 /// `valid V tried T`
@@ -21,60 +20,60 @@ pub(crate) fn put_listed<K: Sink>(valid: u64, tried: u64, out: &mut K) -> Result
     put_pieces(out, &[b"valid ", valid, b" tried ", tried, b"\n"])
 }
 
-/// Where a source begins.
-fn first_place() -> Place
-    ensures { result ≡ source_start }
+/// `ok classes C slots S`
+pub(crate) fn put_checked<K: Sink>(classes: u64, slots: u64, out: &mut K) -> Result<(), Failed>
+    ensures { Writes K.taken K.faults out.old out.new (checked_text classes slots) result }
 {
-    Place {
-        file: 0,
-        line: 1,
-        col: 1,
+    let mut first = Buffer::new();
+    let mut second = Buffer::new();
+    let classes = first.format(classes).as_bytes();
+    let slots = second.format(slots).as_bytes();
+    put_pieces(out, &[b"ok classes ", classes, b" slots ", slots, b"\n"])
+}
+
+/// A file's name, as the words give it.
+pub(crate) fn name_of<'w>(fin: &'w str, sources: &'w Words, file: InputFile) -> &'w str
+    ensures { result.now ≡ name_in (record { fin = fin.entry.now; sources = sources.entry.now }) file }
+{
+    match file {
+        InputFile::Finitization => fin,
+        InputFile::Source(number) => {
+            if (number as usize) < sources.len() {
+                sources.get(number as usize)
+            } else {
+                ""
+            }
+        }
     }
 }
 
-/// `SOURCE:1:1: B1`
-pub(crate) fn put_too_long<K: Sink>(name: &str, out: &mut K) -> Result<(), Failed>
-    ensures { Writes K.taken K.faults out.old out.new (bytes_of (too_long_answer name.now)) result }
+/// The status of a call that a file's refusal ends.
+pub(crate) fn status_of(file: InputFile) -> u8
+    ensures { result ≡ status_of_file file }
 {
-    put_refusal(out, name, Some(first_place()), "B1", "")
+    match file {
+        InputFile::Finitization => 4,
+        InputFile::Source(_) => 3,
+    }
 }
 
-/// `SOURCE:LINE:COL: RULE`
-pub(crate) fn put_broken<K: Sink>(
-    name: &str,
-    place: Place,
-    rule: LexRule,
+/// `NAME:LINE:COL: RULE ITEM`
+pub(crate) fn put_refused<K: Sink>(
+    fin: &str,
+    sources: &Words,
+    refusal: &Refusal,
     out: &mut K,
 ) -> Result<(), Failed>
-    ensures { Writes K.taken K.faults out.old out.new (bytes_of (no_tokens_answer name.now place rule)) result }
+    ensures { Writes K.taken K.faults out.old out.new (line_of (record { fin = fin.now; sources = sources.now }) (refusal_of refusal.now)) result }
 {
-    put_refusal(out, name, Some(place), rule.code(), "")
-}
-
-/// `SOURCE:LINE:COL: RULE`
-pub(crate) fn put_unparsed<K: Sink>(
-    name: &str,
-    place: Place,
-    rule: ParseRule,
-    out: &mut K,
-) -> Result<(), Failed>
-    ensures { Writes K.taken K.faults out.old out.new (bytes_of (no_tree_answer name.now place rule)) result }
-{
-    put_refusal(out, name, Some(place), rule.code(), "")
-}
-
-/// `SOURCE:1:1: N0`
-pub(crate) fn put_no_source<K: Sink>(name: &str, out: &mut K) -> Result<(), Failed>
-    ensures { Writes K.taken K.faults out.old out.new (bytes_of (no_source_answer name.now)) result }
-{
-    put_refusal(out, name, Some(first_place()), "N0", "")
-}
-
-/// `FIN: N0 form`
-pub(crate) fn put_no_finitization<K: Sink>(name: &str, out: &mut K) -> Result<(), Failed>
-    ensures { Writes K.taken K.faults out.old out.new (bytes_of (no_finitization_answer name.now)) result }
-{
-    put_refusal(out, name, None, "N0", "form")
+    let name = name_of(fin, sources, refusal.file);
+    put_refusal(
+        out,
+        name,
+        refusal.place,
+        refusal.rule,
+        refusal.item.as_str(),
+    )
 }
 
 /// `read fault NAME`

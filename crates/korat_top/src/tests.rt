@@ -1,7 +1,7 @@
 // What a call answers and writes over files and sinks in memory, worked by hand from the files.
 ghost use Rattle.std.specs.Prelude.{◌<◌};
 
-use crate::run;
+use crate::{NoWords, run, start};
 use kr_base::{NoMemory, Words};
 use kr_io::{MemFile, MemFiles, MemSink, OpenGate};
 use std::alloc::Global;
@@ -20,6 +20,8 @@ const FUEL_OF_FIVE: &str =
 const LIST: [&str; 3] = ["list", "fin.toml", "Cell.java"];
 
 const LISTED: &str = "0.1 Cell#0{v=1}\n0.2 Cell#0{v=2}\nvalid 2 tried 3\n";
+
+const CHECKED: &str = "ok classes 1 slots 2\n";
 
 const USAGE_FAULT: &str = "usage fault\n";
 
@@ -60,7 +62,7 @@ fn padded(alloc: Global, text: &str, length: usize) -> Result<String, NoMemory> 
 }
 
 /// `class Cell` whose field is compared with a number.
-fn source_of(alloc: Global, test: &str) -> Result<String, NoMemory> {
+fn one_field_of(alloc: Global, test: &str) -> Result<String, NoMemory> {
     let mut text = String::from_str(alloc, "class Cell { int v; boolean repOk() { return v ")?;
     text.push_str(test)?;
     text.push_str("; } }")?;
@@ -161,7 +163,7 @@ fn listings(rt: HostRuntime) -> Result<(), Fail> {
             "0.9 Cell#0{v=9}\n0.10 Cell#0{v=10}\nvalid 2 tried 11\n",
         ),
     ] {
-        let source = source_of(alloc, test)?;
+        let source = one_field_of(alloc, test)?;
         let fin = finitization_of(alloc, range)?;
         let files = files_of(alloc, &[("fin.toml", &fin), ("Cell.java", &source)], &[])?;
         let mut out = output(alloc, 1024)?;
@@ -174,7 +176,7 @@ fn listings(rt: HostRuntime) -> Result<(), Fail> {
 #[test]
 fn words(rt: HostRuntime) -> Result<(), Fail> {
     let alloc = rt.alloc();
-    let table: [(&[&str], u8, &str); 17] = [
+    let table: [(&[&str], u8, &str); 24] = [
         (&["list", "fin.toml", "Cell.java"], 0, LISTED),
         (
             &["list", "five.toml", "Cell.java"],
@@ -199,15 +201,34 @@ fn words(rt: HostRuntime) -> Result<(), Fail> {
         (&[], 2, USAGE_FAULT),
         (&["list"], 2, USAGE_FAULT),
         (&["list", "fin.toml"], 2, USAGE_FAULT),
+        (&["check", "fin.toml", "Cell.java"], 0, CHECKED),
+        (&["check", "fin.toml", "P.java"], 3, "P.java:1:1: N0\n"),
+        (&["check", "fin.toml"], 2, USAGE_FAULT),
         (
-            &["list", "fin.toml", "Cell.java", "Cell.java"],
+            &["check", "fin.toml", "Cell.java", "--limit", "1"],
+            2,
+            USAGE_FAULT,
+        ),
+        (
+            &["list", "--limit", "4294967295", "fin.toml", "Cell.java"],
+            0,
+            LISTED,
+        ),
+        (
+            &["list", "fin.toml", "Cell.java", "--limit", "0"],
+            2,
+            USAGE_FAULT,
+        ),
+        (
+            &["list", "fin.toml", "Cell.java", "--from", "0.1"],
             2,
             USAGE_FAULT,
         ),
         (&["test", "fin.toml", "Cell.java"], 2, USAGE_FAULT),
+        (&["demo", "3"], 2, USAGE_FAULT),
         (&["list", "-x", "Cell.java"], 2, USAGE_FAULT),
         (&["list", "fin.toml", "-x"], 2, USAGE_FAULT),
-        (&["list", "fin.toml", "-"], 2, USAGE_FAULT),
+        (&["list", "fin.toml", "-"], 6, "read fault -\n"),
     ];
     for (words, status, text) in table {
         let files = files_of(
@@ -233,12 +254,12 @@ fn broken_tokens(rt: HostRuntime) -> Result<(), Fail> {
     for (source, text) in [
         ("/* x", "X.java:1:1: L3\n"),
         ("class X { #", "X.java:1:11: L2\n"),
-        ("class X {\n  //@ requires x;\n", "X.java:2:3: L6\n"),
+        ("class X {\n  //@ requires x\n", "X.java:2:3: L6\n"),
         ("class X {\r\n\\u0041", "X.java:2:1: L5\n"),
         ("class X { int v = 08; }", "X.java:1:19: L4\n"),
         // Tokens that are well spelled, in a source of another form.
         ("class X { int v = 2147483648; }", "X.java:1:1: N0\n"),
-        ("\tclass X { }", "X.java:1:1: N0\n"),
+        ("\tclass X { } // class", "X.java:1:1: N0\n"),
         ("// class X", "X.java:1:1: N0\n"),
         ("", "X.java:1:1: N0\n"),
     ] {
@@ -290,10 +311,113 @@ fn broken_trees(rt: HostRuntime) -> Result<(), Fail> {
     Ok(())
 }
 
+/// What a call with these sources writes, in order, and its status.
+fn called(
+    alloc: Global,
+    sources: &[&str],
+    files: &[(&str, &str)],
+) -> Result<(u8, MemSink), NoMemory> {
+    let mut words = Words::new(alloc);
+    words.push("list")?;
+    words.push("fin.toml")?;
+    for source in sources {
+        words.push(source)?;
+    }
+    let mut files = files_of(alloc, files, &[])?;
+    let mut out = output(alloc, 1024)?;
+    let status = run(&(), alloc, &words, &mut files, &mut out, &OpenGate);
+    Ok((status, out))
+}
+
+#[test]
+fn several_sources(rt: HostRuntime) -> Result<(), Fail> {
+    let alloc = rt.alloc();
+    let long = padded(alloc, CELL, LIMIT + 1)?;
+    let files = [
+        ("fin.toml", FIN),
+        ("A.java", "class A { }"),
+        ("L.java", "class L {\n #"),
+        ("P.java", "class P { int int v; }"),
+        ("Long.java", &long),
+    ];
+    let table: [(&[&str], u8, &str); 8] = [
+        (&["A.java", "L.java"], 3, "L.java:2:2: L2\n"),
+        (&["A.java", "A.java", "P.java"], 3, "P.java:1:15: P1\n"),
+        // Each file's tokens and tree, before the next file's tokens.
+        (&["P.java", "L.java"], 3, "P.java:1:15: P1\n"),
+        // Each file's length where it is read, before anything else.
+        (&["L.java", "Long.java", "P.java"], 3, "Long.java:1:1: B1\n"),
+        (&["Long.java", "none.java"], 3, "Long.java:1:1: B1\n"),
+        (&["L.java", "none.java"], 6, "read fault none.java\n"),
+        (&["none.java", "Long.java"], 6, "read fault none.java\n"),
+        (&["A.java", "A.java"], 3, "A.java:1:1: N0\n"),
+    ];
+    for (sources, status, text) in table {
+        let (ended, out) = called(alloc, sources, &files)?;
+        assert_eq!(rt; ended, status, "{text}");
+        assert_eq!(rt; out.bytes(), text.as_bytes());
+    }
+    Ok(())
+}
+
+#[test]
+fn broken_finitizations(rt: HostRuntime) -> Result<(), Fail> {
+    let alloc = rt.alloc();
+    for (fin, text) in [
+        ("root =", "fin.toml: F1 toml\n"),
+        ("root = 'Cell'\nfuel = 6\nmode = 1\n", "fin.toml: F2 mode\n"),
+        ("root = 'Cell'\nfuel = '6'\n", "fin.toml: F3 fuel\n"),
+        ("root = 'Cell'\nfuel = 0\n", "fin.toml: F4 fuel\n"),
+        ("root = 'Cell'\n", "fin.toml: F5 fuel\n"),
+    ] {
+        // Behind all rules of the source, and before its form.
+        for source in [CELL, TWO_FIELDS] {
+            let files = [("fin.toml", fin), ("X.java", source)];
+            let (ended, out) = called(alloc, &["X.java"], &files)?;
+            assert_eq!(rt; ended, 4, "{text}");
+            assert_eq!(rt; out.bytes(), text.as_bytes());
+        }
+        let files = [("fin.toml", fin), ("X.java", "class X { #")];
+        let (ended, _) = called(alloc, &["X.java"], &files)?;
+        assert_eq!(rt; ended, 3, "{text}");
+    }
+    Ok(())
+}
+
+#[test]
+fn what_makes_no_node(rt: HostRuntime) -> Result<(), Fail> {
+    let alloc = rt.alloc();
+    let source =
+        "/* a */ public class Cell {\tint v;\r\n boolean repOk() { return (v > 0); } } // b";
+    let files = files_of(alloc, &[("fin.toml", FIN), ("Cell.java", source)], &[])?;
+    let mut out = output(alloc, 1024)?;
+    assert_eq!(rt; call(alloc, &LIST, files, &mut out)?, 0);
+    assert_eq!(rt; out.bytes(), LISTED.as_bytes());
+    Ok(())
+}
+
+#[test]
+fn given_words(rt: HostRuntime) -> Result<(), Fail> {
+    let alloc = rt.alloc();
+    for (words, status, text) in [
+        (Ok(words_of(alloc, &LIST)?), 0, LISTED),
+        (Ok(words_of(alloc, &["", "list"])?), 2, USAGE_FAULT),
+        (Err(NoWords::NotText), 2, USAGE_FAULT),
+        (Err(NoWords::Memory), 8, ""),
+    ] {
+        let mut files = cell(alloc)?;
+        let mut out = output(alloc, 1024)?;
+        let ended = start(&(), alloc, words, &mut files, &mut out, &OpenGate);
+        assert_eq!(rt; ended, status, "{text}");
+        assert_eq!(rt; out.bytes(), text.as_bytes());
+    }
+    Ok(())
+}
+
 #[test]
 fn failing_reads(rt: HostRuntime) -> Result<(), Fail> {
     let alloc = rt.alloc();
-    // Nothing is judged before both files are read.
+    // Nothing but a file's length is judged before both are read.
     for (failing, source, text) in [
         (1, CELL, "read fault fin.toml\n"),
         (2, CELL, "read fault Cell.java\n"),
@@ -363,9 +487,9 @@ fn long_files(rt: HostRuntime) -> Result<(), Fail> {
     let alloc = rt.alloc();
     for (fin, source, status, text) in [
         (LIMIT, LIMIT, 0, LISTED),
-        (LIMIT + 1, LIMIT, 4, "fin.toml: N0 form\n"),
+        (LIMIT + 1, LIMIT, 4, "fin.toml: F6 size\n"),
         (LIMIT, LIMIT + 1, 3, "Cell.java:1:1: B1\n"),
-        (LIMIT + 1, LIMIT + 1, 3, "Cell.java:1:1: B1\n"),
+        (LIMIT + 1, LIMIT + 1, 4, "fin.toml: F6 size\n"),
     ] {
         let fin = padded(alloc, FIN, fin)?;
         let source = padded(alloc, CELL, source)?;

@@ -1,23 +1,24 @@
 // The call.
-ghost use Rattle.std.specs.Prelude.{◌≡◌, ◌≤ℤ◌, ◌-ℤ◌, ◌<ℤ◌, pos, None, Some, is_ok, if◌then◌else◌, length};
-ghost use Rattle.korat_top.specs.Answer.{ListFiles, command_of};
-ghost use Rattle.korat_top.specs.Cells.{cells_answer};
+ghost use Rattle.std.specs.Prelude.{◌≡◌, ◌≤◌, ◌≤ℤ◌, ◌-ℤ◌, ◌<ℤ◌, pos, Some, is_ok, if◌then◌else◌, length};
+ghost use Rattle.korat_top.specs.Answer.{asked_of};
+ghost use Rattle.korat_top.specs.OneFieldListing.{one_field_answer};
+ghost use Rattle.korat_top.specs.Orders.{command_for, command_in, report_for};
 ghost use Rattle.korat_top.specs.Ends.{EndsFor, IsComplete};
-ghost use Rattle.korat_top.specs.Source.{source_of};
+ghost use Rattle.korat_top.specs.OneField.{one_field_of};
 ghost use Rattle.korat_top.specs.Finitization.{finitization_of};
-ghost use Rattle.korat_top.specs.Found.{word};
 ghost use Rattle.korat_top.specs.Listed.{EndsListing};
 
-use crate::find::{Found, Stop, find};
+use crate::command::{Order, Purpose, order_of};
+use crate::find::{Found, find};
 use crate::finitization::Finitization;
 use crate::listing::{Halt, count, put_range};
+use crate::one_field::OneField;
+use crate::refusal::Stop;
 use crate::report::{
-    put_broken, put_listed, put_no_finitization, put_no_source, put_out_of_memory, put_read_fault,
-    put_too_long, put_unparsed, put_usage_fault,
+    name_of, put_checked, put_listed, put_out_of_memory, put_read_fault, put_refused,
+    put_usage_fault, status_of,
 };
-use crate::source::Source;
-use crate::words::{FINITIZATION, SOURCE, is_listing};
-use kr_base::{Failed, Sink, Words};
+use kr_base::{Failed, NoMemory, Sink, Words};
 use kr_io::{Files, Gate};
 use kr_mean::one_field_law;
 use std::alloc::Global;
@@ -30,40 +31,69 @@ fn once_written(written: Result<(), Failed>, status: u8) -> u8
 }
 
 /// Lists a range.
-fn list_range<K: Sink>(alloc: Global, source: &Source, range: Finitization, out: &mut K) -> u8
+fn list_range<K: Sink>(alloc: Global, class: &OneField, range: Finitization, out: &mut K) -> u8
     requires order { range.from ≤ℤ range.to }
     requires few { (range.to -ℤ range.from) <ℤ pos 65536 }
-    ensures { EndsListing K.taken K.faults (cells_answer (source_of source.now) (finitization_of range)) out.old out.new result }
+    ensures { EndsListing K.taken K.faults (one_field_answer (one_field_of class.now) (finitization_of range)) out.old out.new result }
 {
-    match put_range(alloc, source, range, out) {
+    match put_range(alloc, class, range, out) {
         Ok(valid) => once_written(put_listed(valid, count(range) as u64, out), 0),
         Err(Halt::Sink) => 7,
         Err(Halt::Memory) => once_written(put_out_of_memory(out), 8),
     }
 }
 
-/// Serves `list FIN SOURCE`.
-fn serve<F: Files, K: Sink>(alloc: Global, words: &Words, files: &mut F, out: &mut K) -> u8
-    requires { length words.now ≡ 3 }
-    ensures { EndsFor F.held F.faults F.last K.taken K.faults (Some (ListFiles (word words.now 1) (word words.now 2))) files.old files.new out.old out.new result }
+/// Reports of a class of one field.
+fn report<K: Sink>(alloc: Global, purpose: Purpose, found: &Found, out: &mut K) -> u8
+    requires order { found.now.range.from ≤ℤ found.now.range.to }
+    requires few { (found.now.range.to -ℤ found.now.range.from) <ℤ pos 65536 }
+    ensures { EndsListing K.taken K.faults (report_for purpose (one_field_of found.now.class) (finitization_of found.now.range)) out.old out.new result }
+{
+    match purpose {
+        Purpose::List => list_range(alloc, &found.class, found.range, out),
+        Purpose::Check => once_written(put_checked(1, 2, out), 0),
+    }
+}
+
+/// Serves a command over the files that it names.
+fn serve<F: Files, K: Sink>(
+    alloc: Global,
+    purpose: Purpose,
+    fin: &str,
+    sources: &Words,
+    files: &mut F,
+    out: &mut K,
+) -> u8
+    requires { length sources.now ≤ 16 }
+    ensures { EndsFor F.held F.faults F.last K.taken K.faults (Some (command_for purpose (record { fin = fin.now; sources = sources.now }))) files.old files.new out.old out.new result }
 {
     one_field_law();
-    match find(alloc, words, files) {
-        Ok(Found::TooLong) => once_written(put_too_long(words.get(SOURCE), out), 3),
-        Ok(Found::Broken(place, rule)) => {
-            once_written(put_broken(words.get(SOURCE), place, rule, out), 3)
+    match find(alloc, fin, sources, files) {
+        Ok(found) => report(alloc, purpose, &found, out),
+        Err(Stop::Refused(refusal)) => once_written(
+            put_refused(fin, sources, &refusal, out),
+            status_of(refusal.file),
+        ),
+        Err(Stop::Read(file)) => {
+            once_written(put_read_fault(name_of(fin, sources, file), out), 6)
         }
-        Ok(Found::Unparsed(place, rule)) => {
-            once_written(put_unparsed(words.get(SOURCE), place, rule, out), 3)
-        }
-        Ok(Found::NoSource) => once_written(put_no_source(words.get(SOURCE), out), 3),
-        Ok(Found::NoFinitization) => {
-            once_written(put_no_finitization(words.get(FINITIZATION), out), 4)
-        }
-        Ok(Found::Cells(source, range)) => list_range(alloc, &source, range, out),
-        Err(Stop::Read(at)) => once_written(put_read_fault(words.get(at), out), 6),
         Err(Stop::Memory) => once_written(put_out_of_memory(out), 8),
     }
+}
+
+/// Serves an order.
+fn serve_order<F: Files, K: Sink>(alloc: Global, order: &Order, files: &mut F, out: &mut K) -> u8
+    requires { length order.now.sources ≤ 16 }
+    ensures { EndsFor F.held F.faults F.last K.taken K.faults (Some (command_in order.now)) files.old files.new out.old out.new result }
+{
+    serve(
+        alloc,
+        order.purpose,
+        order.fin.as_str(),
+        &order.sources,
+        files,
+        out,
+    )
 }
 
 /// All that the program does: it serves the words, which are without the program's own name, and answers the status to
@@ -76,12 +106,12 @@ pub fn run<R, F: Files, K: Sink, G: Gate + Sync>(
     out: &mut K,
     _gate: &G,
 ) -> u8
-    ensures headline { EndsFor F.held F.faults F.last K.taken K.faults (command_of words.now) files.old files.new out.old out.new result }
-    ensures complete { IsComplete F.held F.faults K.taken K.faults (command_of words.now) files.old files.new out.old out.new result }
+    ensures headline { EndsFor F.held F.faults F.last K.taken K.faults (asked_of words.now) files.old files.new out.old out.new result }
+    ensures complete { IsComplete F.held F.faults K.taken K.faults (asked_of words.now) files.old files.new out.old out.new result }
 {
-    if is_listing(words) {
-        serve(alloc, words, files, out)
-    } else {
-        once_written(put_usage_fault(out), 2)
+    match order_of(alloc, words) {
+        Ok(Some(order)) => serve_order(alloc, &order, files, out),
+        Ok(None) => once_written(put_usage_fault(out), 2),
+        Err(NoMemory) => once_written(put_out_of_memory(out), 8),
     }
 }

@@ -6,7 +6,7 @@ use Rattle.std.proofs.lemmas.Option.{slice_get-get_or, same_Some}
 use Rattle.std.proofs.lemmas.List.{get_or_append_left}
 use Rattle.kr_ast.specs.declared.node.Entry.{Entry}
 use Rattle.kr_ast.specs.Arena.{trees, entry_tree}
-use Rattle.kr_ast.specs.Forest.{IsApart, AreFree, owned, adopted}
+use Rattle.kr_ast.specs.Forest.{IsApart, AreFree, IsIn, owned, adopted}
 use Rattle.kr_ast.proofs.Grown.{grow-set}
 
 set_other : (es : List Entry) (c k : ℕ) (x : Entry) → (k ≡ c → ⊥) → slice_get (slice_set es c x) k ≡ slice_get es k
@@ -97,11 +97,11 @@ adopts d es at j (b ∷ bs) f (suc m) c is =
     subst (λ n. Adopted (adopted d (slice_set es b x) at (j + 1) bs) at n c) (omega arith) i
 
 -- an entry before it was adopted, or not
-pub record Before (es : List Entry) (at i : ℕ) (e : Entry) : Type 0 where
+pub record Before (es : List Entry) (at i : ℕ) (cs : List ℕ) (e : Entry) : Type 0 where
   pub old : Entry
   pub there : slice_get es i ≡ Some old
   pub node : old.node ≡ e.node
-  pub parent : (old.parent ≡ e.parent) ⊎ (e.parent ≡ at)
+  pub parent : ((old.parent ≡ e.parent) × (old.position ≡ e.position)) ⊎ (IsIn i cs × (e.parent ≡ at))
 
 cases : (a b : ℕ) → (a ≡ b) ⊎ (a ≡ b → ⊥)
 cases zero zero = inl refl
@@ -109,8 +109,8 @@ cases zero (suc b) = inr (λ q. omega arith)
 cases (suc a) zero = inr (λ q. omega arith)
 cases (suc a) (suc b) = elim (cases a b) [ inl q ↦ inl (ap suc q) | inr n ↦ inr (λ q. n (omega arith)) ]
 
-before_set : (d : Entry) (es : List Entry) (at j c i : ℕ) (e : Entry) → c < length es → Before (slice_set es c (owned at j (get_or es c d))) at i e → Before es at i e
-before_set d es at j c i e lt b = elim (cases i c) [
+before_set : (d : Entry) (es : List Entry) (at j c i : ℕ) (e : Entry) (cs : List ℕ) → c < length es → Before (slice_set es c (owned at j (get_or es c d))) at i cs e → Before es at i (c ∷ cs) e
+before_set d es at j c i e cs lt b = elim (cases i c) [
   | inl eq ↦
       let x = owned at j (get_or es c d) in
       let here : x ≡ b.old = same_Some x b.old (sym (set_same es c x lt) ∙ ap (slice_get (slice_set es c x)) (sym eq) ∙ b.there) in
@@ -118,12 +118,23 @@ before_set d es at j c i e lt b = elim (cases i c) [
         old = get_or es c d;
         there = ap (slice_get es) eq ∙ slice_get-get_or es c d lt;
         node = ap (λ (e : Entry). e.node) here ∙ b.node;
-        parent = inr (elim b.parent [ inl q ↦ sym q ∙ sym (ap (λ (e : Entry). e.parent) here) | inr q ↦ q ]);
+        parent = inr (inl eq, elim b.parent [ inl q ↦ sym q.0 ∙ sym (ap (λ (e : Entry). e.parent) here) | inr q ↦ q.1 ]);
       }
-  | inr ne ↦ record { old = b.old; there = sym (set_other es c i (owned at j (get_or es c d)) ne) ∙ b.there; node = b.node; parent = b.parent }
+  | inr ne ↦ record {
+    old = b.old;
+    there = sym (set_other es c i (owned at j (get_or es c d)) ne) ∙ b.there;
+    node = b.node;
+    parent = elim b.parent [ inl q ↦ inl q | inr q ↦ inr (inr q.0, q.1) ];
+  }
 ]
 
-pub before : (d : Entry) (es : List Entry) (at j i : ℕ) (e : Entry) (cs : List ℕ) → AreFree es cs → slice_get (adopted d es at j cs) i ≡ Some e → Before es at i e
-before d es at j i e [] f is = record { old = e; there = is; node = refl; parent = inl refl }
+pub before : (d : Entry) (es : List Entry) (at j i : ℕ) (e : Entry) (cs : List ℕ) → AreFree es cs → slice_get (adopted d es at j cs) i ≡ Some e → Before es at i cs e
+before d es at j i e [] f is = record { old = e; there = is; node = refl; parent = inl (refl, refl) }
 before d es at j i e (c ∷ cs) f is =
-    before_set d es at j c i e f.0 (before d (slice_set es c (owned at j (get_or es c d))) at (j + 1) i e cs (free_kept es c (owned at j (get_or es c d)) cs f.2 f.3) is)
+    before_set d es at j c i e cs f.0 (before d (slice_set es c (owned at j (get_or es c d))) at (j + 1) i e cs (free_kept es c (owned at j (get_or es c d)) cs f.2 f.3) is)
+
+-- what is free is a node
+pub each_within : (es : List Entry) (cs : List ℕ) (j c : ℕ) → AreFree es cs → slice_get cs j ≡ Some c → c < length es
+each_within es [] j c f is = cc
+each_within es (b ∷ bs) zero c f is = let q : b ≡ c = same_Some b c is in omega (arith, q, f.0)
+each_within es (b ∷ bs) (suc j) c f is = each_within es bs j c f.3 is

@@ -1,6 +1,6 @@
 pub mod Grown
-pub mod Texts
 pub mod Trees
+pub mod Texts
 pub mod Adopted
 pub mod Roots
 pub mod Put

@@ -1,14 +1,14 @@
 -- A node more in a forest.
-use Rattle.std.proofs.Common.{◌≡◌, ℕ, zero, suc, ◌+◌, ◌<◌, ◌≤◌, inl, inr, List, [], ◌∷◌, ◌++◌, length, get_or, Some, refl, sym, ap, ◌∙◌, arith, subst, length-append}
+use Rattle.std.proofs.Common.{◌≡◌, ℕ, suc, ◌+◌, ◌<◌, ◌≤◌, inl, inr, List, [], ◌∷◌, ◌++◌, length, get_or, Some, refl, sym, ap, ◌∙◌, arith, subst, length-append}
 use Rattle.std.specs.Prelude.{slice_get}
 use Rattle.std.proofs.lemmas.Option.{slice_get_within, slice_get-get_or}
 use Rattle.kr_base.specs.declared.place.Place.{Place}
 use Rattle.kr_ast.specs.declared.node.Node.{Node}
 use Rattle.kr_ast.specs.declared.node.Entry.{Entry}
-use Rattle.kr_ast.specs.Arena.{trees, tree_of, tree_at, entry_tree, parts, names, IsPart, ArePartsFrom, AreNamesIn, IsForest}
+use Rattle.kr_ast.specs.Arena.{trees, tree_of, tree_at, entry_tree, parts, names, IsPart, ArePartsFrom, AreNamesIn, IsPartOfParent, IsForest}
 use Rattle.kr_ast.specs.Forest.{IsFree, IsApart, AreFree, IsIn, AreRoots, adopted}
 use Rattle.kr_ast.proofs.Grown.{grow-append}
-use Rattle.kr_ast.proofs.Adopted.{push_cases, length-adopted, trees-adopted, apart_other, adopted-append, adopts, before}
+use Rattle.kr_ast.proofs.Adopted.{push_cases, length-adopted, trees-adopted, apart_other, adopted-append, adopts, before, each_within}
 use Rattle.kr_ast.proofs.Roots.{in_append, apart_behind, free_front, free_behind}
 
 parts_map : (es es' : List Entry) (i : ℕ) → ((j c : ℕ) → IsPart es i j c → IsPart es' i j c) → (j : ℕ) (cs : List ℕ) → ArePartsFrom es i j cs → ArePartsFrom es' i j cs
@@ -35,11 +35,6 @@ not_free es d i j c b lt p f q =
 old_apart : (es : List Entry) (d : Entry) (i j c : ℕ) → i < length es → IsPart es i j c → (cs : List ℕ) → AreFree es cs → IsApart c cs
 old_apart es d i j c lt p [] f = tt
 old_apart es d i j c lt p (b ∷ bs) f = (not_free es d i j c b lt p f.1, old_apart es d i j c lt p bs f.3)
-
-part_less : (cs : List ℕ) (es : List Entry) (j c : ℕ) → AreFree es cs → slice_get cs j ≡ Some c → c < length es
-part_less [] es j c f is = absurd (cc)
-part_less (b ∷ bs) es zero c f is = let q : b ≡ c = cc in omega (arith, q, f.0)
-part_less (b ∷ bs) es (suc j) c f is = part_less bs es j c f.3 is
 
 -- where one of these stands among them
 placed : (c : ℕ) (cs : List ℕ) → IsIn c cs → (m : ℕ) × (slice_get cs m ≡ Some c)
@@ -115,7 +110,7 @@ module _ (d : Entry) (es : List Entry) (n : Node) (p : Place) (q : ℕ) where
     stands_here : (i : ℕ) (e : Entry) → i ≡ length es' → new ≡ e → ArePartsFrom all i 0 (parts e.node)
     stands_here i e at is =
         subst (λ (e : Entry). ArePartsFrom all i 0 (parts e.node)) is (parts_new all i 0 (parts n) (λ j c in_parts.
-        let lt = part_less (parts n) es j c free in_parts in
+        let lt = each_within es (parts n) j c free in_parts in
         record {
           below = omega (arith, lt, at, long);
           up = λ e is. let a = (adopts d es (length es) 0 (parts n) free j c in_parts).has e (inner c e lt is) in (omega (arith, a.0, at, long), omega (arith, a.1));
@@ -126,10 +121,32 @@ module _ (d : Entry) (es : List Entry) (n : Node) (p : Place) (q : ℕ) where
         let b = before d es (length es) 0 i e (parts n) free l in
         let u = f.up i b.old b.there in
         let lt = slice_get_within es i b.old b.there in
-        elim b.parent [ inl q ↦ (omega (arith, u.0, q), omega (arith, u.1, q, longer)) | inr q ↦ (omega (arith, q, lt), omega (arith, q, longer)) ]
+        elim b.parent [ inl q ↦ (omega (arith, u.0, q.0), omega (arith, u.1, q.0, longer)) | inr q ↦ (omega (arith, q.1, lt), omega (arith, q.1, longer)) ]
 
     up_here : (i : ℕ) (e : Entry) → i ≡ length es' → new ≡ e → (i ≤ e.parent) × (e.parent < length all)
     up_here i e at is = let q : length es ≡ e.parent = ap (λ (e : Entry). e.parent) is in (omega (arith, q, at, long), omega (arith, q, longer))
+
+    held_old : (i : ℕ) (e : Entry) → slice_get es' i ≡ Some e → i < e.parent → IsPartOfParent all i e
+    held_old i e l lt p is =
+        let b = before d es (length es) 0 i e (parts n) free l in
+        elim b.parent [
+          | inl q ↦
+              let u = f.up i b.old b.there in
+              let o = before d es (length es) 0 e.parent p (parts n) free (inner e.parent p (omega (arith, u.1, q.0)) is) in
+              let h = f.held i b.old b.there (omega (arith, lt, q.0)) o.old (ap (slice_get es) q.0 ∙ o.there) in
+              ap (slice_get (parts p.node)) (sym q.1) ∙ ap (λ (n : Node). slice_get (parts n) b.old.position) (sym o.node) ∙ h
+          | inr q ↦
+              let m = placed i (parts n) q.0 in
+              let a = (adopts d es (length es) 0 (parts n) free m.0 i m.1).has e l in
+              let at : e.position ≡ m.0 = omega (arith, a.1) in
+              elim (push_cases es' new e.parent p is) [
+                | inl r ↦ absurd (omega (arith, slice_get_within es' e.parent p r, a.0, long))
+                | inr r ↦ ap (λ (p : Entry). slice_get (parts p.node) e.position) (sym r.1) ∙ ap (slice_get (parts n)) at ∙ m.1
+              ]
+        ]
+
+    held_here : (i : ℕ) (e : Entry) → i ≡ length es' → new ≡ e → i < e.parent → IsPartOfParent all i e
+    held_here i e at is lt p there = let q : length es ≡ e.parent = ap (λ (e : Entry). e.parent) is in absurd (omega (arith, q, at, long, lt))
 
     named_old : (i : ℕ) (e : Entry) → slice_get es' i ≡ Some e → AreNamesIn text (names e.node)
     named_old i e l =
@@ -140,6 +157,7 @@ module _ (d : Entry) (es : List Entry) (n : Node) (p : Place) (q : ℕ) where
     forest = record {
       stands = λ i e is. elim (push_cases es' new i e is) [ inl l ↦ stands_old i e l | inr r ↦ stands_here i e r.0 r.1 ];
       up = λ i e is. elim (push_cases es' new i e is) [ inl l ↦ up_old i e l | inr r ↦ up_here i e r.0 r.1 ];
+      held = λ i e is. elim (push_cases es' new i e is) [ inl l ↦ held_old i e l | inr r ↦ held_here i e r.0 r.1 ];
       named = λ i e is. elim (push_cases es' new i e is) [ inl l ↦ named_old i e l | inr r ↦ subst (λ (e : Entry). AreNamesIn text (names e.node)) r.1 named ];
     }
 
@@ -172,11 +190,11 @@ module _ (d : Entry) (es : List Entry) (n : Node) (p : Place) (q : ℕ) where
         let b = before d es (length es) 0 i e (parts n) free l in
         let lt = slice_get_within es i b.old b.there in
         elim b.parent [
-          | inl q ↦ elim (in_append i (parts n) rest (r.only i b.old b.there (q ∙ own))) [
+          | inl q ↦ elim (in_append i (parts n) rest (r.only i b.old b.there (q.0 ∙ own))) [
             | inl h ↦ let m = placed i (parts n) h in absurd (omega (arith, lt, own, ((adopts d es (length es) 0 (parts n) free m.0 i m.1).has e l).0))
             | inr h ↦ inr h
           ]
-          | inr q ↦ absurd (omega (arith, q, lt, own))
+          | inr q ↦ absurd (omega (arith, q.1, lt, own))
         ]
 
     roots : AreRoots all (length es ∷ rest)

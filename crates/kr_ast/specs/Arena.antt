@@ -151,14 +151,19 @@ abbrev pub AreNamesIn : List ℕ → List Name → Type 0
 AreNamesIn text [] = Unit {0}
 AreNamesIn text (n ∷ ns) = (n.start ≤ n.end) × (n.end ≤ length text) × AreNamesIn text ns
 
--- Each node's parts stand before it and know it, and its names stand in the text. A node that is no part is its own
--- parent.
+-- the node i, with this entry, is the part of its parent that it says it is
+abbrev pub IsPartOfParent : List Entry → ℕ → Entry → Type 0
+IsPartOfParent es i e = (p : Entry) → slice_get es e.parent ≡ Some p → slice_get (parts p.node) e.position ≡ Some i
+
+-- Each node's parts stand before it and know it, a node's parent has it as that part, and its names stand in the text. A
+-- node that is no part is its own parent.
 pub record IsForest (text : List ℕ) (es : List Entry) : Type 0 where
   pub stands : (i : ℕ) (e : Entry) → slice_get es i ≡ Some e → ArePartsFrom es i 0 (parts e.node)
   pub up : (i : ℕ) (e : Entry) → slice_get es i ≡ Some e → (i ≤ e.parent) × (e.parent < length es)
+  pub held : (i : ℕ) (e : Entry) → slice_get es i ≡ Some e → i < e.parent → IsPartOfParent es i e
   pub named : (i : ℕ) (e : Entry) → slice_get es i ≡ Some e → AreNamesIn text (names e.node)
 
--- a forest of one tree: all nodes but the last are parts
+-- a forest of one tree: all nodes but the last are parts, each of its parent
 pub record IsArena (text : List ℕ) (es : List Entry) : Type 0 where
   pub forest : IsForest text es
   pub some : 0 < length es

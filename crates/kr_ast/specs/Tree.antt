@@ -1,5 +1,7 @@
--- Syntax trees. Each but those of lists has the place of its first token, a declaration that of its name. Names are bytes.
-use Rattle.std.specs.Prelude.{ℕ, ◌+◌, Bool, List}
+-- Syntax trees. Names are bytes. Each tree but those of lists has the place of its first token; a class, a method with its
+-- signature, a constructor, a parameter and a declarator have that of their name. Modifiers are no part of a tree: a local
+-- and a field stand at the first token of their type, behind `final`, `static` and what else stands before it.
+use Rattle.std.specs.Prelude.{ℕ, ◌+◌, Bool, List, [], ◌∷◌, sum}
 use Rattle.kr_base.specs.declared.place.Place.{Place}
 use Rattle.kr_ast.specs.declared.node.Primitive.{Primitive}
 use Rattle.kr_ast.specs.declared.node.UnaryOperator.{UnaryOperator}
@@ -87,57 +89,62 @@ pub data Tree : Type 0 where
   Requires : Place → Tree → Tree
   Ensures : Place → Tree → Tree
 
+-- What a rule gives for a tree, from what it gives for its parts in their order. This is the one list of what the parts of
+-- each kind are: what is said of every tree is the fold of its rule.
+abbrev pub fold_tree : {A : Type 0} → (Tree → List A → A) → Tree → A
+fold_tree rule Nil = rule Nil []
+fold_tree rule (Cons a b) = rule (Cons a b) (fold_tree rule a ∷ fold_tree rule b ∷ [])
+fold_tree rule (PrimitiveType p k) = rule (PrimitiveType p k) []
+fold_tree rule (NamedType p n) = rule (NamedType p n) []
+fold_tree rule (QualifiedType p o n) = rule (QualifiedType p o n) []
+fold_tree rule (GenericType p a b) = rule (GenericType p a b) (fold_tree rule a ∷ fold_tree rule b ∷ [])
+fold_tree rule (DiamondType p a) = rule (DiamondType p a) (fold_tree rule a ∷ [])
+fold_tree rule (ArrayType p a) = rule (ArrayType p a) (fold_tree rule a ∷ [])
+fold_tree rule (Number p v) = rule (Number p v) []
+fold_tree rule (Truth p v) = rule (Truth p v) []
+fold_tree rule (Null p) = rule (Null p) []
+fold_tree rule (This p) = rule (This p) []
+fold_tree rule (Variable p n) = rule (Variable p n) []
+fold_tree rule (FieldAccess p a n) = rule (FieldAccess p a n) (fold_tree rule a ∷ [])
+fold_tree rule (ArrayAccess p a b) = rule (ArrayAccess p a b) (fold_tree rule a ∷ fold_tree rule b ∷ [])
+fold_tree rule (Call p n a) = rule (Call p n a) (fold_tree rule a ∷ [])
+fold_tree rule (MethodCall p a n b) = rule (MethodCall p a n b) (fold_tree rule a ∷ fold_tree rule b ∷ [])
+fold_tree rule (SuperCall p n a) = rule (SuperCall p n a) (fold_tree rule a ∷ [])
+fold_tree rule (ObjectCreation p a b) = rule (ObjectCreation p a b) (fold_tree rule a ∷ fold_tree rule b ∷ [])
+fold_tree rule (ArrayCreation p a b) = rule (ArrayCreation p a b) (fold_tree rule a ∷ fold_tree rule b ∷ [])
+fold_tree rule (Unary p o a) = rule (Unary p o a) (fold_tree rule a ∷ [])
+fold_tree rule (Step p o a) = rule (Step p o a) (fold_tree rule a ∷ [])
+fold_tree rule (Binary p o a b) = rule (Binary p o a b) (fold_tree rule a ∷ fold_tree rule b ∷ [])
+fold_tree rule (InstanceOf p a b) = rule (InstanceOf p a b) (fold_tree rule a ∷ fold_tree rule b ∷ [])
+fold_tree rule (Conditional p a b c) = rule (Conditional p a b c) (fold_tree rule a ∷ fold_tree rule b ∷ fold_tree rule c ∷ [])
+fold_tree rule (Cast p a b) = rule (Cast p a b) (fold_tree rule a ∷ fold_tree rule b ∷ [])
+fold_tree rule (Assignment p a b) = rule (Assignment p a b) (fold_tree rule a ∷ fold_tree rule b ∷ [])
+fold_tree rule (CompoundAssignment p o a b) = rule (CompoundAssignment p o a b) (fold_tree rule a ∷ fold_tree rule b ∷ [])
+fold_tree rule (Result p) = rule (Result p) []
+fold_tree rule (Old p a) = rule (Old p a) (fold_tree rule a ∷ [])
+fold_tree rule (Empty p) = rule (Empty p) []
+fold_tree rule (Block p a) = rule (Block p a) (fold_tree rule a ∷ [])
+fold_tree rule (Local p a b) = rule (Local p a b) (fold_tree rule a ∷ fold_tree rule b ∷ [])
+fold_tree rule (Declarator p n a) = rule (Declarator p n a) (fold_tree rule a ∷ [])
+fold_tree rule (ExpressionStatement p a) = rule (ExpressionStatement p a) (fold_tree rule a ∷ [])
+fold_tree rule (Return p a) = rule (Return p a) (fold_tree rule a ∷ [])
+fold_tree rule (Break p) = rule (Break p) []
+fold_tree rule (Continue p) = rule (Continue p) []
+fold_tree rule (IfThen p a b) = rule (IfThen p a b) (fold_tree rule a ∷ fold_tree rule b ∷ [])
+fold_tree rule (IfElse p a b c) = rule (IfElse p a b c) (fold_tree rule a ∷ fold_tree rule b ∷ fold_tree rule c ∷ [])
+fold_tree rule (While p a b) = rule (While p a b) (fold_tree rule a ∷ fold_tree rule b ∷ [])
+fold_tree rule (Do p a b) = rule (Do p a b) (fold_tree rule a ∷ fold_tree rule b ∷ [])
+fold_tree rule (For p a b c d) = rule (For p a b c d) (fold_tree rule a ∷ fold_tree rule b ∷ fold_tree rule c ∷ fold_tree rule d ∷ [])
+fold_tree rule (ConstructorCall p a) = rule (ConstructorCall p a) (fold_tree rule a ∷ [])
+fold_tree rule (Class p n a b) = rule (Class p n a b) (fold_tree rule a ∷ fold_tree rule b ∷ [])
+fold_tree rule (Field p s f a b) = rule (Field p s f a b) (fold_tree rule a ∷ fold_tree rule b ∷ [])
+fold_tree rule (Method p s n a b) = rule (Method p s n a b) (fold_tree rule a ∷ fold_tree rule b ∷ [])
+fold_tree rule (Signature p a b c) = rule (Signature p a b c) (fold_tree rule a ∷ fold_tree rule b ∷ fold_tree rule c ∷ [])
+fold_tree rule (Parameter p a n) = rule (Parameter p a n) (fold_tree rule a ∷ [])
+fold_tree rule (Constructor p a b c) = rule (Constructor p a b c) (fold_tree rule a ∷ fold_tree rule b ∷ fold_tree rule c ∷ [])
+fold_tree rule (Requires p a) = rule (Requires p a) (fold_tree rule a ∷ [])
+fold_tree rule (Ensures p a) = rule (Ensures p a) (fold_tree rule a ∷ [])
+
 -- the number of nodes
 abbrev pub size : Tree → ℕ
-size Nil = 1
-size (Cons a b) = 1 + size a + size b
-size (PrimitiveType p k) = 1
-size (NamedType p n) = 1
-size (QualifiedType p o n) = 1
-size (GenericType p a b) = 1 + size a + size b
-size (DiamondType p a) = 1 + size a
-size (ArrayType p a) = 1 + size a
-size (Number p v) = 1
-size (Truth p v) = 1
-size (Null p) = 1
-size (This p) = 1
-size (Variable p n) = 1
-size (FieldAccess p a n) = 1 + size a
-size (ArrayAccess p a b) = 1 + size a + size b
-size (Call p n a) = 1 + size a
-size (MethodCall p a n b) = 1 + size a + size b
-size (SuperCall p n a) = 1 + size a
-size (ObjectCreation p a b) = 1 + size a + size b
-size (ArrayCreation p a b) = 1 + size a + size b
-size (Unary p o a) = 1 + size a
-size (Step p o a) = 1 + size a
-size (Binary p o a b) = 1 + size a + size b
-size (InstanceOf p a b) = 1 + size a + size b
-size (Conditional p a b c) = 1 + size a + size b + size c
-size (Cast p a b) = 1 + size a + size b
-size (Assignment p a b) = 1 + size a + size b
-size (CompoundAssignment p o a b) = 1 + size a + size b
-size (Result p) = 1
-size (Old p a) = 1 + size a
-size (Empty p) = 1
-size (Block p a) = 1 + size a
-size (Local p a b) = 1 + size a + size b
-size (Declarator p n a) = 1 + size a
-size (ExpressionStatement p a) = 1 + size a
-size (Return p a) = 1 + size a
-size (Break p) = 1
-size (Continue p) = 1
-size (IfThen p a b) = 1 + size a + size b
-size (IfElse p a b c) = 1 + size a + size b + size c
-size (While p a b) = 1 + size a + size b
-size (Do p a b) = 1 + size a + size b
-size (For p a b c d) = 1 + size a + size b + size c + size d
-size (ConstructorCall p a) = 1 + size a
-size (Class p n a b) = 1 + size a + size b
-size (Field p s f a b) = 1 + size a + size b
-size (Method p s n a b) = 1 + size a + size b
-size (Signature p a b c) = 1 + size a + size b + size c
-size (Parameter p a n) = 1 + size a
-size (Constructor p a b c) = 1 + size a + size b + size c
-size (Requires p a) = 1 + size a
-size (Ensures p a) = 1 + size a
+size t = fold_tree (λ part counts. 1 + sum counts) t

@@ -41,27 +41,6 @@ fn adopt(entries: &mut Vec<Entry>, part: usize, parent: u32, position: u8)
     };
 }
 
-/// Gives two nodes their parent.
-fn adopt_two(entries: &mut Vec<Entry>, first: u32, second: u32, parent: u32)
-    requires free { AreFree entries.old.items (first ∷ second ∷ []) }
-    ensures now { (d : Entry) → entries.new.items ≡ adopted d entries.old.items parent 0 (first ∷ second ∷ []) }
-    ensures long { length entries.new.items ≡ length entries.old.items }
-{
-    adopt(entries, first as usize, parent, 0);
-    adopt(entries, second as usize, parent, 1);
-}
-
-/// Gives three nodes their parent.
-fn adopt_three(entries: &mut Vec<Entry>, first: u32, second: u32, third: u32, parent: u32)
-    requires free { AreFree entries.old.items (first ∷ second ∷ third ∷ []) }
-    ensures now { (d : Entry) → entries.new.items ≡ adopted d entries.old.items parent 0 (first ∷ second ∷ third ∷ []) }
-    ensures long { length entries.new.items ≡ length entries.old.items }
-{
-    adopt(entries, first as usize, parent, 0);
-    adopt(entries, second as usize, parent, 1);
-    adopt(entries, third as usize, parent, 2);
-}
-
 /// Gives the parts of a node their parent.
 #[inline(always)]
 fn adopt_parts(entries: &mut Vec<Entry>, node: Node, parent: u32)
@@ -69,137 +48,12 @@ fn adopt_parts(entries: &mut Vec<Entry>, node: Node, parent: u32)
     ensures now { (d : Entry) → entries.new.items ≡ adopted d entries.old.items parent 0 (parts node) }
     ensures long { length entries.new.items ≡ length entries.old.items }
 {
-    match node {
-        Node::Nil
-        | Node::PrimitiveType { .. }
-        | Node::NamedType { .. }
-        | Node::QualifiedType { .. }
-        | Node::Number { .. }
-        | Node::Truth { .. }
-        | Node::Null
-        | Node::This
-        | Node::Variable { .. }
-        | Node::Result
-        | Node::Empty
-        | Node::Break
-        | Node::Continue => {}
-        Node::DiamondType { head: a }
-        | Node::ArrayType { element: a }
-        | Node::FieldAccess { object: a, .. }
-        | Node::Call { arguments: a, .. }
-        | Node::SuperCall { arguments: a, .. }
-        | Node::Unary { operand: a, .. }
-        | Node::Step { target: a, .. }
-        | Node::Old { operand: a }
-        | Node::Block { statements: a }
-        | Node::Declarator { initial: a, .. }
-        | Node::ExpressionStatement { expression: a }
-        | Node::Return { value: a }
-        | Node::ConstructorCall { arguments: a }
-        | Node::Parameter { declared: a, .. }
-        | Node::Requires { condition: a }
-        | Node::Ensures { condition: a } => adopt(entries, a as usize, parent, 0),
-        Node::Cons { first: a, rest: b }
-        | Node::GenericType {
-            head: a,
-            argument: b,
-        }
-        | Node::ArrayAccess { array: a, index: b }
-        | Node::MethodCall {
-            object: a,
-            arguments: b,
-            ..
-        }
-        | Node::ObjectCreation {
-            class: a,
-            arguments: b,
-        }
-        | Node::ArrayCreation {
-            element: a,
-            length: b,
-        }
-        | Node::Binary {
-            left: a,
-            right: b,
-            ..
-        }
-        | Node::InstanceOf {
-            operand: a,
-            tested: b,
-        }
-        | Node::Cast {
-            target: a,
-            operand: b,
-        }
-        | Node::Assignment {
-            target: a,
-            value: b,
-        }
-        | Node::CompoundAssignment {
-            target: a,
-            value: b,
-            ..
-        }
-        | Node::Local {
-            declared: a,
-            declarators: b,
-        }
-        | Node::IfThen {
-            condition: a,
-            holds: b,
-        }
-        | Node::While {
-            condition: a,
-            body: b,
-        }
-        | Node::Do {
-            body: a,
-            condition: b,
-        }
-        | Node::Class {
-            extended: a,
-            members: b,
-            ..
-        }
-        | Node::Field {
-            declared: a,
-            declarators: b,
-            ..
-        }
-        | Node::Method {
-            signature: a,
-            body: b,
-            ..
-        } => adopt_two(entries, a, b, parent),
-        Node::Conditional {
-            condition: a,
-            holds: b,
-            fails: c,
-        }
-        | Node::IfElse {
-            condition: a,
-            holds: b,
-            fails: c,
-        }
-        | Node::Signature {
-            result: a,
-            parameters: b,
-            contracts: c,
-        }
-        | Node::Constructor {
-            parameters: a,
-            super_call: b,
-            body: c,
-        } => adopt_three(entries, a, b, c, parent),
-        Node::For {
-            initial,
-            condition,
-            updates,
-            body,
-        } => {
-            adopt_three(entries, initial, condition, updates, parent);
-            adopt(entries, body as usize, parent, 3);
-        }
+    let listed = node.parts();
+    let parts = listed.as_slice();
+    let mut position = 0;
+    while position < parts.len() {
+        adopt(entries, parts[position] as usize, parent, position as u8);
+        position += 1;
     }
 }
 

@@ -4,10 +4,12 @@
 
 mod forest;
 mod node;
+mod parts;
 #[cfg(test)]
 mod tests;
 mod tree;
 
 pub use forest::Forest;
 pub use node::{BinaryOperator, Entry, Name, Node, Primitive, StepOperator, UnaryOperator};
+pub use parts::{Names, Parts};
 pub use tree::Tree;

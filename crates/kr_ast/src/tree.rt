@@ -1,6 +1,6 @@
 // A whole tree, as a list of nodes in which the parts of each node stand before it.
-ghost use Rattle.std.specs.Prelude.{◌≡◌, ◌<◌, ◌^◌, ◌∷◌, [], length, slice_get, Some};
-ghost use Rattle.kr_ast.specs.Arena.{IsArena, AreNamesIn, ArePartsFrom, name_in, names, parts, tree_in, tree_of};
+ghost use Rattle.std.specs.Prelude.{◌≡◌, ◌+◌, ◌<◌, ◌^◌, ◌∷◌, [], length, slice_get, Some};
+ghost use Rattle.kr_ast.specs.Arena.{IsArena, AreNamesIn, ArePartsFrom, IsPartOfParent, name_in, names, parts, tree_in, tree_of};
 
 use crate::{Entry, Name};
 use std::marker::Model;
@@ -41,12 +41,13 @@ impl Tree {
         self.entries.len() as u32
     }
 
-    /// A node, with its place and its parent.
+    /// A node, with its place and its parent. A node that has one is the part of it that the entry says.
     pub fn entry(&self, at: u32) -> Entry
         requires { at < length self.now.entries }
         ensures here { slice_get self.now.entries at ≡ Some result }
         ensures tree { tree_in self.now at ≡ tree_of self.now.text (tree_in self.now) result.place result.node }
         ensures parts { ArePartsFrom self.now.entries at 0 (parts result.node) }
+        ensures held { at + 1 < length self.now.entries → IsPartOfParent self.now.entries at result }
         ensures names { AreNamesIn self.now.text (names result.node) }
     {
         self.entries[at as usize]

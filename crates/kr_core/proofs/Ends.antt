@@ -15,8 +15,8 @@ use Rattle.kr_core.specs.declared.segment.Segment.{Segment}
 use Rattle.kr_core.specs.declared.event.Event.{Event}
 use Rattle.kr_core.specs.declared.event.Event.TheVariants.{Take, Steal, Report, GiveUp, Drain, StopAt, Look}
 use Rattle.kr_core.specs.States.{State, capped, has_remainder, is_owned, is_closed, Each}
-use Rattle.kr_core.specs.Openings.{end_of}
-use Rattle.kr_core.specs.Kept.{NumbersDiffer, Adjoin, beginning, IsLastClosed, IsKept, KeptLaw}
+use Rattle.kr_core.specs.Openings.{end_of, AreInside, opening}
+use Rattle.kr_core.specs.Kept.{Runs, NumbersDiffer, Adjoin, beginning, IsLastClosed, IsKept, KeptLaw}
 use Rattle.kr_core.specs.Counts.{IsSpentFlag, HonestRuns, counted, IsCounted, last_stop, AllClosed, IsListed, CountingLaw}
 use Rattle.kr_core.proofs.Spent.{within-append, within-none, flag-append, through_ends, through_all}
 use Rattle.kr_core.proofs.Chains.{IsLink, EndsAs, Chain}
@@ -56,7 +56,7 @@ some-segment : {R : Type 0} (P : Type 0) (es : List (Entry R)) (next : ℕ) (fla
 some-segment P es next flag a [] e h q = absurd (h.1)
 some-segment P es next flag a (s ∷ ss) e h q = absurd (cc (q))
 
-kept : {R : Type 0} (P : Type 0) (es : List (Entry R)) (from top : Bound) (s : State) → Holds P es from top s → IsKept s
+pub kept : {R : Type 0} (P : Type 0) (es : List (Entry R)) (from top : Bound) (s : State) → Holds P es from top s → IsKept s
 kept P es from top s k =
     let a = beginning s in
     record {
@@ -177,13 +177,32 @@ is-listed {R} P es span events s p asc k at closed =
     let count : length (counted es from s) ≡ length (entries_in from s.end es) = ap (λ (xs : List (Entry R)). length xs) (all ∙ sym here) in
     record {
       tried = omega (arith, count, k.past p, length-append (within from a es) (flat_map (up_to_mark es) s.segments), tried-sum P es s.next s.spent None a s.segments s.end p k.chain);
+      entries = all ∙ sym here;
+      spent = subst (λ (xs : List (Entry R)). IsSpentFlag s.spent s.end xs) (sym here) spent;
       whole = λ stop. whole-at es from span.upto s.end s.spent (less from span.upto) events asc refl (not_above from a s.end k.above up) k.below spent at stop;
     }
+
+-- no segment begins below where the first one may
+each-above : {R : Type 0} (P : Type 0) (es : List (Entry R)) (next : ℕ) (flag : Bool) (from : Bound) (last : Option Segment) (a : Bound) (segs : List Segment) (e : Bound) → less a from ≡ false
+    → Chain P es next flag last a segs e → Each (λ g. less g.after from ≡ false) segs
+each-above P es next flag from last a [] e up h = tt
+each-above P es next flag from last a (s ∷ ss) e up h =
+    let l = h.1.0 in
+    let here : less s.after from ≡ false = subst (λ (b : Bound). less b from ≡ false) (sym l.adjoins) up in
+    (here, each-above P es next flag from (Some s) s.upto ss e (not_above from s.mark s.upto (not_above from s.after s.mark here l.low) l.high) h.1.1.1)
 
 pub counting_law : {R : Type 0} → CountingLaw R
 counting_law {R} es span cuts events new asc inside runs =
     let k = kept-honest es (At span.after) (end_of span) _ events new asc runs (kept-opening (Unit {0}) es span cuts inside) in
     record {
+      begins = each-above (Unit {0}) es new.next new.spent (At span.after) None (beginning new) new.segments new.end k.above k.chain;
+      ends = k.below;
       counted = is-counted (Unit {0}) es (At span.after) (end_of span) new tt k;
       listed = λ closed. is-listed (Unit {0}) es span events new tt asc k (end-runs es (end_of span) _ events new runs (λ q. refl)) closed;
     }
+
+pub kept_bounds : (span : Span) (cuts : List (List ℕ)) (events : List Event) (new : State) → AreInside cuts span → Runs (opening span cuts) events new
+    → (less (beginning new) (At span.after) ≡ false) × (less (end_of span) new.end ≡ false)
+kept_bounds span cuts events new inside runs =
+    let k = kept-runs (At span.after) (end_of span) _ events new runs (kept-opening ⊥ no_entries span cuts inside) in
+    (k.above, k.below)

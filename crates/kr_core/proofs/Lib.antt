@@ -11,3 +11,7 @@ pub mod Runs
 pub mod Begins
 pub mod Ends
 pub mod Logs
+pub mod Example
+pub mod Keeping
+pub mod Beside
+pub mod Rowing

@@ -12,7 +12,7 @@ use Rattle.kr_core.specs.declared.event.Event.{Event}
 use Rattle.kr_core.specs.declared.event.Event.TheVariants.{Take, Steal, Report, GiveUp, Drain, StopAt, Look}
 use Rattle.kr_core.specs.declared.event.Reply.{Reply}
 use Rattle.kr_core.specs.States.{State, capped, is_closed, segment_of, Each}
-use Rattle.kr_core.specs.Openings.{AreInside, opening}
+use Rattle.kr_core.specs.Openings.{AreInside, opening, end_of}
 use Rattle.kr_core.specs.Steps.{Step}
 use Rattle.kr_core.specs.Kept.{beginning}
 
@@ -85,9 +85,14 @@ AllClosed s = Each (λ g. is_closed g ≡ true) s.segments
 -- What was tried in all are the entries up to the end, and these are all of the span, unless the last stop stands below it.
 pub record IsListed {R : Type 0} (es : List (Entry R)) (span : Span) (events : List Event) (s : State) : Type 0 where
   pub tried : capped (s.past + sum_by (λ g. g.tried) s.segments) ≡ capped (length (entries_in (At span.after) s.end es))
+  pub entries : counted es (At span.after) s ≡ entries_in (At span.after) s.end es
+  pub spent : IsSpentFlag s.spent s.end (entries_in (At span.after) s.end es)
   pub whole : less (last_stop span.upto events) span.upto ≡ false → entries_in (At span.after) s.end es ≡ entries_in (At span.after) span.upto es
 
+-- no segment begins below the span's beginning, and the end is not above the span's
 pub record Counts {R : Type 0} (es : List (Entry R)) (span : Span) (events : List Event) (s : State) : Type 0 where
+  pub begins : Each (λ g. less g.after (At span.after) ≡ false) s.segments
+  pub ends : less (end_of span) s.end ≡ false
   pub counted : IsCounted es (At span.after) s
   pub listed : AllClosed s → IsListed es span events s
 

@@ -5,3 +5,7 @@ pub mod Reaches
 pub mod Refusals
 pub mod Kept
 pub mod Counts
+pub mod Beside
+pub mod Rows
+pub mod Logs
+pub mod Examples

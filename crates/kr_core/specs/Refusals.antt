@@ -1,12 +1,12 @@
 -- When the machine refuses an event.
-use Rattle.std.specs.Prelude.{◌≡◌}
+use Rattle.std.specs.Prelude.{◌≡◌, true}
 use Rattle.kr_core.specs.declared.event.Event.{Event}
 use Rattle.kr_core.specs.declared.event.Event.TheVariants.{Take, Steal, Report, GiveUp, Drain, StopAt, Look}
 use Rattle.kr_core.specs.declared.event.Reply.{Reply}
 use Rattle.kr_core.specs.declared.machine.CoreRefusal.{CoreRefusal}
 use Rattle.kr_core.specs.declared.machine.CoreRefusal.TheVariants.{Illegal, NoMemory}
 use Rattle.kr_core.specs.States.{State}
-use Rattle.kr_core.specs.Steps.{Step}
+use Rattle.kr_core.specs.Steps.{Step, fits}
 
 -- no case of the step relation fits
 abbrev pub FitsNowhere : State → Event → Type 0
@@ -22,7 +22,7 @@ TakesMemory (Drain rows) = ⊥
 TakesMemory (StopAt mark) = Unit {0}
 TakesMemory (Look seat) = ⊥
 
--- the event fits nowhere and is handed back, or its step lacked memory
+-- the event fits nowhere and is handed back, or it fits and its step lacked memory
 abbrev pub IsRefused : State → Event → CoreRefusal → Type 0
 IsRefused old event (Illegal back) = (back ≡ event) × FitsNowhere old event
-IsRefused old event NoMemory = TakesMemory event
+IsRefused old event NoMemory = TakesMemory event × (fits old event ≡ true)

@@ -1,4 +1,4 @@
--- The step relation of the machine: of each event, where it fits, the new state and the reply.
+-- The steps of the machine: of each event, where it fits, the new state and the reply.
 use Rattle.std.specs.Prelude.{ℕ, ◌+◌, ◌-◌, ◌^◌, ◌≡◌, List, [], ◌∷◌, Bool, true, false, ◌&&◌, ◌||◌, not, ◌==◌, nat_lt, nat_le, if◌then◌else◌, Option, Some, None, length}
 use Rattle.std.specs.List.{sum_by}
 use Rattle.std.specs.Option.{option_map}
@@ -115,62 +115,72 @@ IsReported seat segment (Go lease) = IsLease seat segment lease × (keeps_owner 
 IsReported seat segment Done = keeps_owner segment ≡ false
 IsReported seat segment Noted = ⊥
 
--- The relation
+-- Events
 
--- A case of it: where the event fits, the new state, and the reply.
+-- whether an event fits
+abbrev pub fits : State → Event → Bool
+-- the segment has a remainder and no owner
+fits old (Take seat n) = may_take (segment_of n old.segments)
+-- the victim has an owner, the cut is above its mark and below its upto, and the number is the next one and below the
+-- last of 64 bits
+fits old (Steal seat victim cut n) = may_steal cut (segment_of victim old.segments) && ((n == old.next) && nat_lt n (2 ^ 64 - 1))
+-- the seat owns the segment, the reach is above its mark and not above its upto, there are no more rows than tried, and
+-- where a candidate was spent it is a cut and that one gave no row
+fits old (Report seat n reach rows tried spent) = may_report seat reach rows tried spent (segment_of n old.segments)
+-- the seat owns the segment
+fits old (GiveUp seat n) = may_give_up seat (segment_of n old.segments)
+-- the rows are those of the front
+fits old (Drain rows) = rows == capped (sum_by (λ s. s.rows) (front old.segments))
+-- the mark of the first segment is this cut
+fits old (StopAt mark) = may_stop mark old.segments
+-- always
+fits old (Look seat) = true
+
+-- the state after an event that fits
+abbrev pub after : State → Event → State
+-- the segment's owner is the seat
+after old (Take seat n) = record old { segments = change n (λ s ss. owned (Some seat) s ∷ ss) old.segments }
+-- the victim ends at the cut, and directly after it stands the rest
+after old (Steal seat victim cut n) = record old { segments = change victim (λ s ss. lowered cut s ∷ (stolen seat cut n s ∷ ss)) old.segments; next = old.next + 1 }
+-- the mark moves to the reach and the counts grow; the segment has no owner where that is its end; a spent candidate ends
+-- the listing there
+after old (Report seat n reach rows tried spent) = record old {
+  segments = change n (λ s ss. scanned reach rows tried spent s ∷ (if spent then [] else ss)) old.segments;
+  end = if spent then reach else old.end;
+  spent = spent || old.spent;
+}
+-- the segment has no owner
+after old (GiveUp seat n) = record old { segments = change n (λ s ss. owned None s ∷ ss) old.segments }
+-- the front's rows are taken out, and its closed segments go with what they tried, but the last stays
+after old (Drain rows) = record old { segments = left old.segments; past = capped (old.past + sum_by (λ s. s.tried) (gone old.segments)) }
+-- all ends there, and the segment has no owner; nothing is spent then, but the flag stays as it was where this is the only
+-- segment
+after old (StopAt mark) = record old { segments = stopped mark old.segments; end = At mark; spent = (length old.segments == 1) && old.spent }
+-- nothing changes
+after old (Look seat) = old
+
+-- what is answered, where the new state is this
+abbrev pub IsAnswer : State → Event → Reply → State → Type 0
+-- the lease of the segment as it then stands
+IsAnswer old (Take seat n) reply new = IsLeased seat (segment_of n new.segments) reply
+-- the lease of the rest
+IsAnswer old (Steal seat victim cut n) reply new = IsLeased seat (option_map (stolen seat cut n) (segment_of victim old.segments)) reply
+IsAnswer old (Report seat n reach rows tried spent) reply new = IsReported seat (segment_of n new.segments) reply
+IsAnswer old (GiveUp seat n) reply new = reply ≡ Noted
+IsAnswer old (Drain rows) reply new = reply ≡ Noted
+IsAnswer old (StopAt mark) reply new = reply ≡ Noted
+IsAnswer old (Look seat) reply new = reply ≡ Noted
+
+-- The relation: the event fits, the state is the one after it, and this is answered.
 pub record Case (fits : Bool) (new state : State) (replies : Type 0) : Type 0 where
   pub fit : fits ≡ true
   pub new_is : new ≡ state
   pub reply_is : replies
 
 abbrev pub Step : State → Event → Reply → State → Type 0
--- the segment has a remainder and no owner: its owner is the seat, and the reply is its lease as it then stands
-Step old (Take seat n) reply new = Case
-    (may_take (segment_of n old.segments))
-    new (record old { segments = change n (λ s ss. owned (Some seat) s ∷ ss) old.segments })
-    (IsLeased seat (segment_of n new.segments) reply)
--- the victim has an owner, the cut is above its mark and below its upto, and the number is the next one and below the
--- last of 64 bits: the victim ends at the cut, directly after it stands the rest, and the reply is the lease of that
-Step old (Steal seat victim cut n) reply new = Case
-    (may_steal cut (segment_of victim old.segments) && ((n == old.next) && nat_lt n (2 ^ 64 - 1)))
-    new (record old { segments = change victim (λ s ss. lowered cut s ∷ (stolen seat cut n s ∷ ss)) old.segments; next = old.next + 1 })
-    (IsLeased seat (option_map (stolen seat cut n) (segment_of victim old.segments)) reply)
--- the seat owns the segment, the reach is above its mark and not above its upto, there are no more rows than tried, and
--- where a candidate was spent it is a cut and that one gave no row: the mark moves to the reach and the counts grow; the
--- segment has no owner where that is its end; a spent candidate ends the listing there
-Step old (Report seat n reach rows tried spent) reply new = Case
-    (may_report seat reach rows tried spent (segment_of n old.segments))
-    new (record old {
-      segments = change n (λ s ss. scanned reach rows tried spent s ∷ (if spent then [] else ss)) old.segments;
-      end = if spent then reach else old.end;
-      spent = spent || old.spent;
-    })
-    (IsReported seat (segment_of n new.segments) reply)
--- the seat owns the segment: it has no owner
-Step old (GiveUp seat n) reply new = Case
-    (may_give_up seat (segment_of n old.segments))
-    new (record old { segments = change n (λ s ss. owned None s ∷ ss) old.segments })
-    (reply ≡ Noted)
--- the rows are those of the front: they are taken out, and its closed segments go with what they tried, but the last stays
-Step old (Drain rows) reply new = Case
-    (rows == capped (sum_by (λ s. s.rows) (front old.segments)))
-    new (record old { segments = left old.segments; past = capped (old.past + sum_by (λ s. s.tried) (gone old.segments)) })
-    (reply ≡ Noted)
--- the mark of the first segment is this cut: all ends there, and the segment has no owner; nothing is spent then, but the
--- flag stays as it was where this is the only segment
-Step old (StopAt mark) reply new = Case
-    (may_stop mark old.segments)
-    new (record old { segments = stopped mark old.segments; end = At mark; spent = (length old.segments == 1) && old.spent })
-    (reply ≡ Noted)
--- it always fits, and changes nothing
-Step old (Look seat) reply new = Case true new old (reply ≡ Noted)
+Step old event reply new = Case (fits old event) new (after old event) (IsAnswer old event reply new)
 
--- whether an event fits
-abbrev pub fits : State → Event → Bool
-fits old (Take seat n) = may_take (segment_of n old.segments)
-fits old (Steal seat victim cut n) = may_steal cut (segment_of victim old.segments) && ((n == old.next) && nat_lt n (2 ^ 64 - 1))
-fits old (Report seat n reach rows tried spent) = may_report seat reach rows tried spent (segment_of n old.segments)
-fits old (GiveUp seat n) = may_give_up seat (segment_of n old.segments)
-fits old (Drain rows) = rows == capped (sum_by (λ s. s.rows) (front old.segments))
-fits old (StopAt mark) = may_stop mark old.segments
-fits old (Look seat) = true
+-- the state to which events lead, one after another, where each fits
+abbrev pub replay : State → List Event → Option State
+replay s [] = Some s
+replay s (event ∷ events) = if fits s event then replay (after s event) events else None

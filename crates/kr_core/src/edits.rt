@@ -90,8 +90,8 @@ pub fn end_at(
     }
 }
 
-// How many closed segments stand at the front, the last of all not among them.
-fn gone_count(segments: &[Segment]) -> usize
+/// How many closed segments stand at the front, the last of all not among them.
+pub fn gone_count(segments: &[Segment]) -> usize
     ensures { result ≡ length (gone segments.now) }
 {
     let most = segments.len().saturating_sub(1);
@@ -102,7 +102,8 @@ fn gone_count(segments: &[Segment]) -> usize
     count
 }
 
-fn tried_of(segments: &[Segment]) -> u64
+/// What was tried in the segments.
+pub fn tried_of(segments: &[Segment]) -> u64
     ensures { result ≡ capped (sum_by (λ s. s.tried) segments.now) }
 {
     let mut tried: u64 = 0;

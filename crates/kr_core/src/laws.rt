@@ -1,6 +1,9 @@
 // What holds of every run of the machine.
 ghost use Rattle.kr_core.specs.Kept.{KeptLaw};
 ghost use Rattle.kr_core.specs.Counts.{CountingLaw};
+ghost use Rattle.kr_core.specs.Rows.{RowsLaw};
+ghost use Rattle.kr_core.specs.Logs.{ReplayLaw, GrowthLaw};
+ghost use Rattle.kr_core.specs.Examples.{WorkedRun};
 
 /// Whatever events step, in whatever order: segments adjoin from the first to the end, and their numbers differ.
 pub fn kept_law()
@@ -10,4 +13,24 @@ pub fn kept_law()
 /// However workers cut, steal and report: each entry is counted once.
 pub fn counting_law<R>()
     ensures { CountingLaw R }
+{}
+
+/// However workers cut, steal and report, and whenever rows are drained: the rows are those of the entries counted.
+pub fn rows_law<R>()
+    ensures { RowsLaw R }
+{}
+
+/// The state that steps lead to is what their events replay to.
+pub fn replay_law()
+    ensures { ReplayLaw }
+{}
+
+/// A log of honest events grows by an honest event at its end.
+pub fn growth_law<R>()
+    ensures { GrowthLaw R }
+{}
+
+/// A run of eleven events, worked by hand.
+pub fn worked_run()
+    ensures { WorkedRun }
 {}

@@ -1,11 +1,17 @@
 // The machine: its state, and one step for an event.
-ghost use Rattle.std.specs.Prelude.{◌≡◌, ◌↔◌, true, IsTrue, IfOk, OnErr, IfErr};
-ghost use Rattle.kr_core.specs.Steps.{Step, fits};
+ghost use Rattle.std.specs.Prelude.{◌≡◌, ◌+◌, ◌<◌, ◌↔◌, true, IsTrue, IfOk, OnErr, IfErr, IfSome, IfNone, length};
+ghost use Rattle.std.specs.List.{sum_by};
+ghost use Rattle.kr_core.specs.States.{capped, segment_of, place_of};
+ghost use Rattle.kr_core.specs.Steps.{Step, fits, front, gone};
 ghost use Rattle.kr_core.specs.Refusals.{IsRefused};
 ghost use Rattle.kr_core.specs.Openings.{opening, AreInside};
 
-use crate::edits::{cut_segment, drain_front, end_at, scan_to, set_owner, stop_first};
-use crate::fits::{front_rows, may_give_up, may_report, may_steal, may_stop, may_take};
+use crate::edits::{
+    cut_segment, drain_front, end_at, gone_count, scan_to, set_owner, stop_first, tried_of,
+};
+use crate::fits::{
+    front_rows, may_give_up, may_report, may_steal, may_stop, may_take, place, segment_of,
+};
 use crate::leases::{lease_behind, lease_from, lease_of};
 use crate::opens::{are_inside, end_of, segments_at};
 use crate::{Event, Reply, Segment};
@@ -237,6 +243,50 @@ impl Core {
         ensures { result.now ≡ self.now.segments }
     {
         self.segments.as_slice()
+    }
+
+    /// Where the segment of that number stands.
+    pub fn place(&self, number: u64) -> Option<usize>
+        ensures none { IfNone result (segment_of number self.now.segments ≡ None) }
+        ensures some { IfSome result (λ i. (i ≡ place_of number self.now.segments) × (i < length self.now.segments)) }
+    {
+        place(self.segments.as_slice(), number)
+    }
+
+    /// The segment of that number.
+    pub fn segment_of(&self, number: u64) -> Option<&Segment>
+        ensures none { IfNone result (segment_of number self.now.segments ≡ None) }
+        ensures some { IfSome result (λ s. segment_of number self.now.segments ≡ Some s.now) }
+    {
+        segment_of(self.segments.as_slice(), number)
+    }
+
+    /// The rows of the segments up to and with the first that isn't closed: those that a drain takes out.
+    pub fn front_rows(&self) -> u64
+        ensures { result ≡ capped (sum_by (λ s. s.rows) (front self.now.segments)) }
+    {
+        front_rows(self.segments.as_slice())
+    }
+
+    /// How many segments go in a drain.
+    pub fn gone_count(&self) -> usize
+        ensures { result ≡ length (gone self.now.segments) }
+    {
+        gone_count(self.segments.as_slice())
+    }
+
+    /// How many candidates were tried in all.
+    pub fn tried(&self) -> u64
+        ensures { result ≡ capped (self.now.past + sum_by (λ s. s.tried) self.now.segments) }
+    {
+        self.past.saturating_add(tried_of(self.segments.as_slice()))
+    }
+
+    /// Where the last segment ends, given back.
+    pub fn into_end(self) -> Bound
+        ensures { result ≡ self.end }
+    {
+        self.end
     }
 
     /// How many segments were made: the number of the next one.

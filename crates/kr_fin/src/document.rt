@@ -38,7 +38,7 @@ pub struct NamedDomain {
     pub domain: Domain,
 }
 
-/// A finitization. The keys of each list differ, and stand in the order of their bytes.
+/// A finitization. Each list is in the order in which the TOML table has its keys.
 #[derive(Debug, Drop)]
 pub struct FinDoc {
     pub root: Text,

@@ -16,7 +16,7 @@ use Rattle.kr_grammar.specs.declared.value.Form.{Form}
 use Rattle.kr_grammar.specs.declared.value.Form.TheVariants.{Target, Invocation, ArrayCreation, Other}
 use Rattle.kr_grammar.specs.declared.value.Modifiers.{Modifiers}
 use Rattle.kr_grammar.specs.Values.{no_modifiers}
-use Rattle.kr_grammar.specs.Words.{primitive_of, sign_of, step_before, step_behind, complement_of, binary_of, level, compound_of, is_access, java, util, override}
+use Rattle.kr_grammar.specs.TokenMeanings.{primitive_of, sign_of, step_before, step_behind, complement_of, binary_of, level, compound_of, is_access, java, util, override}
 
 pub data Class : Type 0 where
   -- types
@@ -44,6 +44,7 @@ pub data Class : Type 0 where
   Parameter : Class
   ResultType : Class
   ConstructorCall : Class
+  Contract : Class
   Extended : Class
   ClassDeclaration : Bool → Class
   Member : List ℕ → Bool → Class
@@ -102,6 +103,10 @@ pub data Der : Class → List Lexeme → Tree → List Lexeme → Type 0 where
   falsity : {i : List Lexeme} (a : Lexeme) → a.kind ≡ kinds.False → Der (Primary Other) (a ∷ i) (trees.Truth a.place false) i
   null : {i : List Lexeme} (a : Lexeme) → a.kind ≡ kinds.Null → Der (Primary Other) (a ∷ i) (trees.Null a.place) i
   this : {i : List Lexeme} (a : Lexeme) → a.kind ≡ kinds.This → Der (Primary Other) (a ∷ i) (trees.This a.place) i
+  -- `\result` and `\old(..)`, wherever there are such tokens
+  result_value : {i : List Lexeme} (a : Lexeme) → a.kind ≡ kinds.Result → Der (Primary Other) (a ∷ i) (trees.Result a.place) i
+  old_value : {i r : List Lexeme} {t : Tree} (a b c : Lexeme) → a.kind ≡ kinds.Old → b.kind ≡ kinds.LeftParenthesis → Der Expression i t (c ∷ r) → c.kind ≡ kinds.RightParenthesis
+      → Der (Primary Other) (a ∷ b ∷ i) (trees.Old a.place t) r
   -- parentheses make no node
   parentheses : {i r : List Lexeme} {t : Tree} (a b : Lexeme) → a.kind ≡ kinds.LeftParenthesis → Der Expression i t (b ∷ r) → b.kind ≡ kinds.RightParenthesis
       → Der (Primary Other) (a ∷ i) t r
@@ -204,9 +209,14 @@ pub data Der : Class → List Lexeme → Tree → List Lexeme → Type 0 where
   nested : {o : List ℕ} {i j r : List Lexeme} {f : Modifiers} {t : Tree} → Modified i f j → f.is_static ≡ true → f.overrides ≡ false → Der (ClassDeclaration true) j t r → Der (Member o false) i t r
   field : {o : List ℕ} {n : Bool} {i j m r : List Lexeme} {f : Modifiers} {t u : Tree} (a : Lexeme) → Modified i f j → f.overrides ≡ false → Der AnyType j t m → Der (Several Declarator) m u (a ∷ r) → a.kind ≡ kinds.Semicolon
       → Der (Member o n) i (trees.Field (at j) f.is_static f.is_final t u) r
-  method : {o : List ℕ} {n : Bool} {i j m k r : List Lexeme} {f : Modifiers} {t u s : Tree} (a b c d e : Lexeme) → Modified i f j → Der ResultType j t (a ∷ b ∷ m) → a.kind ≡ kinds.Identifier → b.kind ≡ kinds.LeftParenthesis
+  -- contracts stand before methods alone
+  precondition : {i r : List Lexeme} {t : Tree} (a b c : Lexeme) → a.kind ≡ kinds.Contract → b.kind ≡ kinds.Requires → Der Expression i t (c ∷ r) → c.kind ≡ kinds.Semicolon
+      → Der Contract (a ∷ b ∷ i) (trees.Requires a.place t) r
+  postcondition : {i r : List Lexeme} {t : Tree} (a b c : Lexeme) → a.kind ≡ kinds.Contract → b.kind ≡ kinds.Ensures → Der Expression i t (c ∷ r) → c.kind ≡ kinds.Semicolon
+      → Der Contract (a ∷ b ∷ i) (trees.Ensures a.place t) r
+  method : {o : List ℕ} {n : Bool} {h i j m k r : List Lexeme} {f : Modifiers} {v t u s : Tree} (a b c d e : Lexeme) → Der (Many Contract) h v i → Modified i f j → Der ResultType j t (a ∷ b ∷ m) → a.kind ≡ kinds.Identifier → b.kind ≡ kinds.LeftParenthesis
       → Der (Maybe (Several Parameter)) m u (c ∷ d ∷ k) → c.kind ≡ kinds.RightParenthesis → d.kind ≡ kinds.LeftBrace → Der (Many BlockStatement) k s (e ∷ r) → e.kind ≡ kinds.RightBrace
-      → Der (Member o n) i (trees.Method a.place f.is_static a.text (trees.Signature a.place t u Nil) s) r
+      → Der (Member o n) h (trees.Method a.place f.is_static a.text (trees.Signature a.place t u v) s) r
   -- a constructor has its class's name, and no modifiers but access
   constructor : {o : List ℕ} {n : Bool} {i m j k r : List Lexeme} {u s t : Tree} (a b c d e : Lexeme) → Modified i no_modifiers (a ∷ b ∷ m) → a.kind ≡ kinds.Identifier → a.text ≡ o → b.kind ≡ kinds.LeftParenthesis
       → Der (Maybe (Several Parameter)) m u (c ∷ d ∷ j) → c.kind ≡ kinds.RightParenthesis → d.kind ≡ kinds.LeftBrace → Der (Maybe ConstructorCall) j s k → Der (Many BlockStatement) k t (e ∷ r) → e.kind ≡ kinds.RightBrace

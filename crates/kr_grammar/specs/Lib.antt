@@ -1,8 +1,8 @@
-pub mod Words
+pub mod TokenMeanings
 pub mod Values
 pub mod Grammar
 pub mod Terminals
 pub mod Made
 pub mod Machine
-pub mod Rules
+pub mod RuleTable
 pub mod State

@@ -2,7 +2,7 @@
 use Rattle.std.specs.Prelude.{◌≡◌, ℕ, zero, suc, ◌+◌, Bool, true, false, if◌then◌else◌, nat_lt, List, [], ◌∷◌, ◌++◌, Option, Some, None}
 use Rattle.kr_lex.specs.Lexemes.{Lexeme}
 use Rattle.kr_grammar.specs.declared.terminal.Terminal.{Terminal}
-use Rattle.kr_grammar.specs.declared.terminal.Terminal.TheVariants.{End, Identifier, Literal, Primitive, Access, Static, Final, Package, Import, Class, Extends, Void, New, Super, Instanceof, Return, Break, Continue, If, Else, While, Do, For, LeftParenthesis, RightParenthesis, LeftBrace, RightBrace, LeftBracket, RightBracket, Semicolon, Comma, Dot, At, Question, Colon, Equal, Compound, Less, Greater, Star, Sign, Step, Complement, Or, And, BitOr, BitXor, BitAnd, Equality, Relation, Shift, Division}
+use Rattle.kr_grammar.specs.declared.terminal.Terminal.TheVariants.{End, Identifier, Literal, Primitive, Access, Static, Final, Package, Import, Class, Extends, Void, New, Super, Instanceof, Return, Break, Continue, If, Else, While, Do, For, LeftParenthesis, RightParenthesis, LeftBrace, RightBrace, LeftBracket, RightBracket, Semicolon, Comma, Dot, At, Question, Colon, Equal, Compound, Less, Greater, Star, Sign, Step, Complement, Or, And, BitOr, BitXor, BitAnd, Equality, Relation, Shift, Division, Contract, Requires, Ensures, Old}
 use Rattle.kr_grammar.specs.declared.value.Tag.{Tag}
 use Rattle.kr_grammar.specs.declared.value.Tag.TheVariants as tags
 use Rattle.kr_grammar.specs.declared.value.Form.TheVariants as forms
@@ -14,7 +14,7 @@ use Rattle.kr_grammar.specs.declared.goal.Make.{Make}
 use Rattle.kr_grammar.specs.declared.goal.Make.TheVariants as makes
 use Rattle.kr_grammar.specs.declared.goal.Symbol.{Symbol}
 use Rattle.kr_grammar.specs.declared.goal.Symbol.TheVariants.{Take, Keep, Word, Literal as Leaf, Spell, Want, Build}
-use Rattle.kr_grammar.specs.Words.{java, util, override}
+use Rattle.kr_grammar.specs.TokenMeanings.{java, util, override}
 use Rattle.kr_grammar.specs.Terminals.{terminal_of}
 use Rattle.kr_grammar.specs.Values.{Item, mark, word, part, tag}
 use Rattle.kr_grammar.specs.Made.{made, literal}
@@ -30,6 +30,7 @@ starts_unsigned Literal = true
 starts_unsigned LeftParenthesis = true
 starts_unsigned New = true
 starts_unsigned Super = true
+starts_unsigned Old = true
 starts_unsigned Complement = true
 starts_unsigned _ = false
 
@@ -100,6 +101,7 @@ rule goals.ClassTail Dot q = Some (Take Dot ∷ Word ∷ Build makes.Pair ∷ Bu
 rule goals.ClassTail k q = Some (Build makes.TypeOfName ∷ [])
 rule goals.Members RightBrace q = Some (Build makes.EndMembers ∷ [])
 rule goals.Members Semicolon q = Some (Take Semicolon ∷ Want goals.Members ∷ [])
+rule goals.Members Contract q = Some (Keep Contract ∷ Want goals.Contract ∷ Want goals.Contracts ∷ Build makes.Cons ∷ Build makes.Swap ∷ Want goals.MethodAhead ∷ Build makes.Swap ∷ Build makes.MemberAhead ∷ Want goals.Members ∷ Build makes.ConsBelow ∷ [])
 rule goals.Members k q = Some (Want goals.Member ∷ Build makes.Swap ∷ Build makes.MemberAhead ∷ Want goals.Members ∷ Build makes.ConsBelow ∷ [])
 rule goals.Member Access q = Some (Take Access ∷ Want goals.Member ∷ [])
 rule goals.Member Static q = Some (Take Static ∷ Build makes.SetStatic ∷ Want goals.Member ∷ [])
@@ -112,6 +114,20 @@ rule goals.Member Identifier tags.Overriding = Some (Want goals.Type ∷ Word �
 rule goals.Member Primitive q = Some (Want goals.Type ∷ Word ∷ Want goals.FieldOrMethod ∷ [])
 rule goals.Member Identifier q = Some (Word ∷ Want goals.MemberName ∷ [])
 rule goals.Member k q = None
+rule goals.Contracts Contract q = Some (Keep Contract ∷ Want goals.Contract ∷ Want goals.Contracts ∷ Build makes.Cons ∷ [])
+rule goals.Contracts k q = Some (Build makes.Nil ∷ [])
+rule goals.Contract Requires q = Some (Take Requires ∷ Want goals.Expression ∷ Take Semicolon ∷ Build makes.Requires ∷ [])
+rule goals.Contract Ensures q = Some (Take Ensures ∷ Want goals.Expression ∷ Take Semicolon ∷ Build makes.Ensures ∷ [])
+rule goals.Contract k q = None
+rule goals.MethodAhead Access q = Some (Take Access ∷ Want goals.MethodAhead ∷ [])
+rule goals.MethodAhead Static q = Some (Take Static ∷ Build makes.SetStatic ∷ Want goals.MethodAhead ∷ [])
+rule goals.MethodAhead Final q = Some (Take Final ∷ Build makes.SetFinal ∷ Want goals.MethodAhead ∷ [])
+rule goals.MethodAhead At q = Some (Take At ∷ Spell spelled.Override ∷ Build makes.SetOverrides ∷ Want goals.MethodAhead ∷ [])
+rule goals.MethodAhead Void q = Some (Keep Void ∷ Build makes.TypeOfMark ∷ Word ∷ Want goals.ContractedMethod ∷ [])
+rule goals.MethodAhead Primitive q = Some (Want goals.Type ∷ Word ∷ Want goals.ContractedMethod ∷ [])
+rule goals.MethodAhead Identifier q = Some (Want goals.Type ∷ Word ∷ Want goals.ContractedMethod ∷ [])
+rule goals.MethodAhead k q = None
+rule goals.ContractedMethod k q = Some (Take LeftParenthesis ∷ Want goals.Parameters ∷ Take RightParenthesis ∷ Take LeftBrace ∷ Want goals.Statements ∷ Take RightBrace ∷ Build makes.ContractedMethod ∷ [])
 rule goals.MemberName LeftParenthesis tags.Constructor = Some (Take LeftParenthesis ∷ Want goals.Parameters ∷ Take RightParenthesis ∷ Take LeftBrace ∷ Want goals.ConstructorBody ∷ Take RightBrace ∷ Build makes.Constructor ∷ [])
 rule goals.MemberName Dot q = Some (Take Dot ∷ Word ∷ Build makes.Pair ∷ Want goals.TypeTail ∷ Word ∷ Want goals.FieldOrMethod ∷ [])
 rule goals.MemberName Less q = Some (Want goals.TypeTail ∷ Word ∷ Want goals.FieldOrMethod ∷ [])
@@ -204,6 +220,7 @@ rule goals.Primary Literal q = Some (Leaf ∷ Want goals.Suffixes ∷ [])
 rule goals.Primary Identifier q = Some (Word ∷ Want goals.PrimaryName ∷ [])
 rule goals.Primary LeftParenthesis q = Some (Keep LeftParenthesis ∷ Want goals.Expression ∷ Take RightParenthesis ∷ Build makes.Enclosed ∷ Want goals.Suffixes ∷ [])
 rule goals.Primary Super q = Some (Keep Super ∷ Take Dot ∷ Word ∷ Take LeftParenthesis ∷ Want goals.Arguments ∷ Take RightParenthesis ∷ Build makes.SuperCall ∷ Want goals.Suffixes ∷ [])
+rule goals.Primary Old q = Some (Keep Old ∷ Take LeftParenthesis ∷ Want goals.Expression ∷ Take RightParenthesis ∷ Build makes.Old ∷ Want goals.Suffixes ∷ [])
 rule goals.Primary New q = Some (Keep New ∷ Want goals.Creator ∷ Want goals.Suffixes ∷ [])
 rule goals.Primary k q = None
 rule goals.PrimaryName LeftParenthesis q = Some (Take LeftParenthesis ∷ Want goals.Arguments ∷ Take RightParenthesis ∷ Build makes.CallOfName ∷ Want goals.Suffixes ∷ [])
@@ -228,6 +245,7 @@ rule goals.Suffixes Literal q = None
 rule goals.Suffixes LeftParenthesis q = None
 rule goals.Suffixes New q = None
 rule goals.Suffixes Super q = None
+rule goals.Suffixes Old q = None
 rule goals.Suffixes Complement q = None
 rule goals.Suffixes k q = Some []
 rule goals.Selected LeftParenthesis q = Some (Take LeftParenthesis ∷ Want goals.Arguments ∷ Take RightParenthesis ∷ Build makes.MethodCall ∷ Want goals.Suffixes ∷ [])
@@ -272,6 +290,7 @@ rule goals.AfterEnclosedName Literal q = Some (Build makes.TypeOfName ∷ Want g
 rule goals.AfterEnclosedName LeftParenthesis q = Some (Build makes.TypeOfName ∷ Want goals.Unsigned ∷ Build makes.Cast ∷ [])
 rule goals.AfterEnclosedName New q = Some (Build makes.TypeOfName ∷ Want goals.Unsigned ∷ Build makes.Cast ∷ [])
 rule goals.AfterEnclosedName Super q = Some (Build makes.TypeOfName ∷ Want goals.Unsigned ∷ Build makes.Cast ∷ [])
+rule goals.AfterEnclosedName Old q = Some (Build makes.TypeOfName ∷ Want goals.Unsigned ∷ Build makes.Cast ∷ [])
 rule goals.AfterEnclosedName Complement q = Some (Build makes.TypeOfName ∷ Want goals.Unsigned ∷ Build makes.Cast ∷ [])
 rule goals.AfterEnclosedName k q = Some (Build makes.Variable ∷ Build makes.Enclosed ∷ Want goals.Suffixes ∷ Want goals.Postfixes ∷ [])
 rule goals.AfterChain k tags.Type = Some (Take RightParenthesis ∷ Want goals.Unsigned ∷ Build makes.Cast ∷ [])
@@ -295,6 +314,7 @@ rule goals.ChainGreater Literal q = Some (Build makes.CompareAll ∷ Want goals.
 rule goals.ChainGreater LeftParenthesis q = Some (Build makes.CompareAll ∷ Want goals.Unary ∷ Want (goals.Operators 8 10) ∷ Build makes.Greater ∷ [])
 rule goals.ChainGreater New q = Some (Build makes.CompareAll ∷ Want goals.Unary ∷ Want (goals.Operators 8 10) ∷ Build makes.Greater ∷ [])
 rule goals.ChainGreater Super q = Some (Build makes.CompareAll ∷ Want goals.Unary ∷ Want (goals.Operators 8 10) ∷ Build makes.Greater ∷ [])
+rule goals.ChainGreater Old q = Some (Build makes.CompareAll ∷ Want goals.Unary ∷ Want (goals.Operators 8 10) ∷ Build makes.Greater ∷ [])
 rule goals.ChainGreater Complement q = Some (Build makes.CompareAll ∷ Want goals.Unary ∷ Want (goals.Operators 8 10) ∷ Build makes.Greater ∷ [])
 rule goals.ChainGreater k q = Some (Build makes.TypeOfName ∷ Build makes.Generic ∷ Want goals.ChainClosing ∷ [])
 rule goals.ChainClosing LeftBracket q = Some (Take LeftBracket ∷ Take RightBracket ∷ Build makes.Array ∷ Want goals.ChainClosing ∷ [])

@@ -91,6 +91,7 @@ literal_of kinds.Number p n = trees.Number p (number_value n)
 literal_of kinds.True p n = trees.Truth p true
 literal_of kinds.False p n = trees.Truth p false
 literal_of kinds.Null p n = trees.Null p
+literal_of kinds.Result p n = trees.Result p
 literal_of _ p n = trees.This p
 
 abbrev pub literal : Lexeme → Tree
@@ -137,6 +138,7 @@ made makes.StepBehind (mark k r ∷ part p f t ∷ vs) = part p forms.Other (tre
 made makes.StepBefore (part q g t ∷ mark k p ∷ vs) = part p forms.Other (trees.Step p (the_step_before k) t) ∷ vs
 made makes.Unary (part q g t ∷ mark k p ∷ vs) = part p forms.Other (trees.Unary p (the_unary k) t) ∷ vs
 made makes.Cast (part q g u ∷ part r f t ∷ mark k p ∷ vs) = part p forms.Other (trees.Cast p t u) ∷ vs
+made makes.Old (part q g t ∷ mark k p ∷ vs) = part p forms.Other (trees.Old p t) ∷ vs
 made makes.Binary (part q g u ∷ mark k r ∷ part p f t ∷ vs) = part p forms.Other (trees.Binary p (the_binary k) t u) ∷ vs
 made makes.Less (part q g u ∷ part p f t ∷ vs) = part p forms.Other (trees.Binary p binaries.Less t u) ∷ vs
 made makes.Greater (part q g u ∷ part p f t ∷ vs) = part p forms.Other (trees.Binary p binaries.Greater t u) ∷ vs
@@ -164,6 +166,9 @@ made makes.SetOverrides (member b m ∷ vs) = member b (record m { overrides = t
 made makes.Parameter (word p n ∷ part q g t ∷ vs) = part p forms.Other (trees.Parameter p t n) ∷ vs
 made makes.Field (part q g u ∷ part p f t ∷ member b m ∷ vs) = part p forms.Other (trees.Field p m.is_static m.is_final t u) ∷ vs
 made makes.Method (part a c s ∷ part q g u ∷ word p n ∷ part r f t ∷ member b m ∷ vs) = part p forms.Other (trees.Method p m.is_static n (trees.Signature p t u trees.Nil) s) ∷ vs
+made makes.Requires (part q g t ∷ mark k p ∷ vs) = part p forms.Other (trees.Requires p t) ∷ vs
+made makes.Ensures (part q g t ∷ mark k p ∷ vs) = part p forms.Other (trees.Ensures p t) ∷ vs
+made makes.ContractedMethod (part a c s ∷ part q g u ∷ word p n ∷ part r f t ∷ member b m ∷ part d e k ∷ vs) = part p forms.Other (trees.Method p m.is_static n (trees.Signature p t u k) s) ∷ vs
 made makes.ConstructorCall (part q g t ∷ mark k p ∷ vs) = part p forms.Other (trees.ConstructorCall p t) ∷ vs
 made makes.Constructor (part a c t ∷ part q g s ∷ part r f u ∷ word p n ∷ member b m ∷ vs) = part p forms.Other (trees.Constructor p u s t) ∷ vs
 made makes.Owner (part q g t ∷ word p n ∷ vs) = owner false p n ∷ part q g t ∷ vs

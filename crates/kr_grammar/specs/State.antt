@@ -2,7 +2,7 @@
 use Rattle.std.specs.Prelude.{◌≡◌, ℕ, ◌+◌, ◌≤◌, Bool, true, false, List, [], ◌∷◌, ◌++◌, Option, Some, None, length, take, drop}
 use Rattle.kr_lex.specs.Lexemes.{Lexeme}
 use Rattle.kr_grammar.specs.declared.terminal.Terminal.{Terminal}
-use Rattle.kr_grammar.specs.declared.terminal.Terminal.TheVariants.{End, Identifier, Literal, Primitive, Class, Void, Else, LeftParenthesis, RightParenthesis, LeftBrace, RightBrace, LeftBracket, RightBracket, Semicolon, Comma, Colon, Greater, Step, Outside}
+use Rattle.kr_grammar.specs.declared.terminal.Terminal.TheVariants.{End, Identifier, Literal, Primitive, Class, Void, Else, LeftParenthesis, RightParenthesis, LeftBrace, RightBrace, LeftBracket, RightBracket, Semicolon, Comma, Colon, Greater, Step, Requires, Outside}
 use Rattle.kr_grammar.specs.declared.goal.Goal.{Goal}
 use Rattle.kr_grammar.specs.declared.goal.Goal.TheVariants as goals
 use Rattle.kr_grammar.specs.declared.goal.Symbol.{Symbol}
@@ -17,6 +17,10 @@ is_end _ = false
 abbrev pub is_semicolon : Terminal → Bool
 is_semicolon Semicolon = true
 is_semicolon _ = false
+
+abbrev pub is_void : Terminal → Bool
+is_void Void = true
+is_void _ = false
 
 abbrev pub is_left_brace : Terminal → Bool
 is_left_brace LeftBrace = true
@@ -71,6 +75,10 @@ follows goals.ClassTail k = is_left_brace k
 follows goals.Members k = is_right_brace k
 follows goals.Member k = is_inside k
 follows goals.MemberName k = is_inside k
+follows goals.Contracts k = is_void k
+follows goals.Contract k = is_inside k
+follows goals.MethodAhead k = is_inside k
+follows goals.ContractedMethod k = is_inside k
 follows goals.Method k = is_inside k
 follows goals.FieldOrMethod k = is_inside k
 follows goals.Parameters k = is_right_parenthesis k
@@ -116,6 +124,9 @@ first_of goals.Imported f = Identifier
 first_of goals.ClassAhead f = Class
 first_of goals.Member f = Void
 first_of goals.MemberName f = Identifier
+first_of goals.Contract f = Requires
+first_of goals.MethodAhead f = Void
+first_of goals.ContractedMethod f = LeftParenthesis
 first_of goals.Method f = LeftParenthesis
 first_of goals.FieldOrMethod f = Semicolon
 first_of goals.Parameter f = Primitive
@@ -162,6 +173,7 @@ weight_of goals.ClassTail = 2
 weight_of goals.Members = 2
 weight_of goals.Member = 12
 weight_of goals.MemberName = 14
+weight_of goals.Contracts = 2
 weight_of goals.FieldOrMethod = 9
 weight_of goals.Parameters = 2
 weight_of goals.Parameter = 4

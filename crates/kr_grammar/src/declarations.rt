@@ -3,7 +3,7 @@ ghost use Rattle.std.specs.Prelude.{◌≡◌};
 ghost use Rattle.kr_grammar.specs.declared.terminal.Terminal.{Terminal};
 ghost use Rattle.kr_grammar.specs.declared.value.Tag.{Tag};
 ghost use Rattle.kr_grammar.specs.Machine.{rule};
-ghost use Rattle.kr_grammar.specs.Rules.{IsRule};
+ghost use Rattle.kr_grammar.specs.RuleTable.{IsRule};
 
 use crate::goal::{Goal, Make, Spelled, Symbol};
 use crate::terminal::Terminal;
@@ -149,6 +149,18 @@ pub(crate) fn members(next: Terminal) -> Option<&'static [Symbol]>
             Symbol::Take(Terminal::Semicolon),
             Symbol::Want(Goal::Members),
         ]),
+        Terminal::Contract => Some(&[
+            Symbol::Keep(Terminal::Contract),
+            Symbol::Want(Goal::Contract),
+            Symbol::Want(Goal::Contracts),
+            Symbol::Build(Make::Cons),
+            Symbol::Build(Make::Swap),
+            Symbol::Want(Goal::MethodAhead),
+            Symbol::Build(Make::Swap),
+            Symbol::Build(Make::MemberAhead),
+            Symbol::Want(Goal::Members),
+            Symbol::Build(Make::ConsBelow),
+        ]),
         _ => Some(&[
             Symbol::Want(Goal::Member),
             Symbol::Build(Make::Swap),
@@ -256,6 +268,93 @@ pub(crate) fn member_name(next: Terminal, tag: Tag) -> Option<&'static [Symbol]>
         ]),
         _ => None,
     }
+}
+
+pub(crate) fn contracts(next: Terminal) -> Option<&'static [Symbol]>
+    ensures { (tag : Tag) → IsRule result (rule Goal.Contracts next tag) }
+{
+    match next {
+        Terminal::Contract => Some(&[
+            Symbol::Keep(Terminal::Contract),
+            Symbol::Want(Goal::Contract),
+            Symbol::Want(Goal::Contracts),
+            Symbol::Build(Make::Cons),
+        ]),
+        _ => Some(&[Symbol::Build(Make::Nil)]),
+    }
+}
+
+pub(crate) fn contract(next: Terminal) -> Option<&'static [Symbol]>
+    ensures { (tag : Tag) → IsRule result (rule Goal.Contract next tag) }
+{
+    match next {
+        Terminal::Requires => Some(&[
+            Symbol::Take(Terminal::Requires),
+            Symbol::Want(Goal::Expression),
+            Symbol::Take(Terminal::Semicolon),
+            Symbol::Build(Make::Requires),
+        ]),
+        Terminal::Ensures => Some(&[
+            Symbol::Take(Terminal::Ensures),
+            Symbol::Want(Goal::Expression),
+            Symbol::Take(Terminal::Semicolon),
+            Symbol::Build(Make::Ensures),
+        ]),
+        _ => None,
+    }
+}
+
+pub(crate) fn method_ahead(next: Terminal) -> Option<&'static [Symbol]>
+    ensures { (tag : Tag) → IsRule result (rule Goal.MethodAhead next tag) }
+{
+    match next {
+        Terminal::Access => Some(&[
+            Symbol::Take(Terminal::Access),
+            Symbol::Want(Goal::MethodAhead),
+        ]),
+        Terminal::Static => Some(&[
+            Symbol::Take(Terminal::Static),
+            Symbol::Build(Make::SetStatic),
+            Symbol::Want(Goal::MethodAhead),
+        ]),
+        Terminal::Final => Some(&[
+            Symbol::Take(Terminal::Final),
+            Symbol::Build(Make::SetFinal),
+            Symbol::Want(Goal::MethodAhead),
+        ]),
+        Terminal::At => Some(&[
+            Symbol::Take(Terminal::At),
+            Symbol::Spell(Spelled::Override),
+            Symbol::Build(Make::SetOverrides),
+            Symbol::Want(Goal::MethodAhead),
+        ]),
+        Terminal::Void => Some(&[
+            Symbol::Keep(Terminal::Void),
+            Symbol::Build(Make::TypeOfMark),
+            Symbol::Word,
+            Symbol::Want(Goal::ContractedMethod),
+        ]),
+        Terminal::Primitive | Terminal::Identifier => Some(&[
+            Symbol::Want(Goal::Type),
+            Symbol::Word,
+            Symbol::Want(Goal::ContractedMethod),
+        ]),
+        _ => None,
+    }
+}
+
+pub(crate) fn contracted_method() -> Option<&'static [Symbol]>
+    ensures { (next : Terminal) → (tag : Tag) → IsRule result (rule Goal.ContractedMethod next tag) }
+{
+    Some(&[
+        Symbol::Take(Terminal::LeftParenthesis),
+        Symbol::Want(Goal::Parameters),
+        Symbol::Take(Terminal::RightParenthesis),
+        Symbol::Take(Terminal::LeftBrace),
+        Symbol::Want(Goal::Statements),
+        Symbol::Take(Terminal::RightBrace),
+        Symbol::Build(Make::ContractedMethod),
+    ])
 }
 
 pub(crate) fn method(next: Terminal) -> Option<&'static [Symbol]>

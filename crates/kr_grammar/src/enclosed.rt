@@ -3,7 +3,7 @@ ghost use Rattle.std.specs.Prelude.{◌≡◌};
 ghost use Rattle.kr_grammar.specs.declared.terminal.Terminal.{Terminal};
 ghost use Rattle.kr_grammar.specs.declared.value.Tag.{Tag};
 ghost use Rattle.kr_grammar.specs.Machine.{rule};
-ghost use Rattle.kr_grammar.specs.Rules.{IsRule};
+ghost use Rattle.kr_grammar.specs.RuleTable.{IsRule};
 
 use crate::goal::{Goal, Make, Symbol};
 use crate::terminal::Terminal;
@@ -142,6 +142,7 @@ pub(crate) fn after_enclosed_name(next: Terminal) -> Option<&'static [Symbol]>
         | Terminal::LeftParenthesis
         | Terminal::New
         | Terminal::Super
+        | Terminal::Old
         | Terminal::Complement => Some(&[
             Symbol::Build(Make::TypeOfName),
             Symbol::Want(Goal::Unsigned),
@@ -280,6 +281,7 @@ pub(crate) fn chain_greater(next: Terminal) -> Option<&'static [Symbol]>
         | Terminal::LeftParenthesis
         | Terminal::New
         | Terminal::Super
+        | Terminal::Old
         | Terminal::Complement => Some(&[
             Symbol::Build(Make::CompareAll),
             Symbol::Want(Goal::Unary),

@@ -3,7 +3,7 @@ ghost use Rattle.std.specs.Prelude.{◌≡◌};
 ghost use Rattle.kr_grammar.specs.declared.terminal.Terminal.{Terminal};
 ghost use Rattle.kr_grammar.specs.declared.value.Tag.{Tag};
 ghost use Rattle.kr_grammar.specs.Machine.{rule};
-ghost use Rattle.kr_grammar.specs.Rules.{IsRule};
+ghost use Rattle.kr_grammar.specs.RuleTable.{IsRule};
 
 use crate::goal::{Goal, Make, Symbol};
 use crate::terminal::Terminal;
@@ -30,6 +30,14 @@ pub(crate) fn primary(next: Terminal) -> Option<&'static [Symbol]>
             Symbol::Want(Goal::Arguments),
             Symbol::Take(Terminal::RightParenthesis),
             Symbol::Build(Make::SuperCall),
+            Symbol::Want(Goal::Suffixes),
+        ]),
+        Terminal::Old => Some(&[
+            Symbol::Keep(Terminal::Old),
+            Symbol::Take(Terminal::LeftParenthesis),
+            Symbol::Want(Goal::Expression),
+            Symbol::Take(Terminal::RightParenthesis),
+            Symbol::Build(Make::Old),
             Symbol::Want(Goal::Suffixes),
         ]),
         Terminal::New => Some(&[
@@ -163,6 +171,7 @@ pub(crate) fn suffixes(next: Terminal, tag: Tag) -> Option<&'static [Symbol]>
         | Terminal::LeftParenthesis
         | Terminal::New
         | Terminal::Super
+        | Terminal::Old
         | Terminal::Complement => None,
         _ => Some(&[]),
     }

@@ -2,7 +2,7 @@
 ghost use Rattle.std.specs.Prelude.{◌≡◌, ◌<◌};
 ghost use Rattle.kr_grammar.specs.declared.value.Tag.{Tag};
 ghost use Rattle.kr_grammar.specs.Machine.{level_of, ends_expression, infix_body, rule};
-ghost use Rattle.kr_grammar.specs.Rules.{IsInfix};
+ghost use Rattle.kr_grammar.specs.RuleTable.{IsInfix};
 
 use crate::goal::{Goal, Make, Symbol};
 use crate::terminal::Terminal;

@@ -1,6 +1,6 @@
 // Which symbols stand for a goal.
 ghost use Rattle.kr_grammar.specs.Machine.{rule};
-ghost use Rattle.kr_grammar.specs.Rules.{IsRule, IsFixed};
+ghost use Rattle.kr_grammar.specs.RuleTable.{IsRule, IsFixed};
 
 use crate::goal::{Goal, Symbol};
 use crate::terminal::Terminal;
@@ -25,6 +25,10 @@ pub fn rule(goal: Goal, next: Terminal, tag: Tag) -> Option<&'static [Symbol]>
         Goal::Members => declarations::members(next),
         Goal::Member => declarations::member(next, tag),
         Goal::MemberName => declarations::member_name(next, tag),
+        Goal::Contracts => declarations::contracts(next),
+        Goal::Contract => declarations::contract(next),
+        Goal::MethodAhead => declarations::method_ahead(next),
+        Goal::ContractedMethod => declarations::contracted_method(),
         Goal::Method => declarations::method(next),
         Goal::FieldOrMethod => declarations::field_or_method(next),
         Goal::Parameters => declarations::parameters(next),

@@ -3,7 +3,7 @@ ghost use Rattle.std.specs.Prelude.{◌≡◌};
 ghost use Rattle.kr_grammar.specs.declared.terminal.Terminal.{Terminal};
 ghost use Rattle.kr_grammar.specs.declared.value.Tag.{Tag};
 ghost use Rattle.kr_grammar.specs.Machine.{rule};
-ghost use Rattle.kr_grammar.specs.Rules.{IsRule};
+ghost use Rattle.kr_grammar.specs.RuleTable.{IsRule};
 
 use crate::goal::{Goal, Make, Symbol};
 use crate::terminal::Terminal;

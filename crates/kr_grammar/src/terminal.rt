@@ -9,7 +9,7 @@ use kr_lex::Kind;
 pub enum Terminal {
     End,
     Identifier,
-    /// numbers, `true`, `false`, `null` and `this`
+    /// numbers, `true`, `false`, `null`, `this` and `\result`
     Literal,
     /// `int` and `boolean`
     Primitive,
@@ -70,8 +70,12 @@ pub enum Terminal {
     Shift,
     /// `/` and `%`
     Division,
-    /// what stands in contract lines alone
+    /// `//@`, before `requires` or `ensures`
     Contract,
+    Requires,
+    Ensures,
+    /// `\old`
+    Old,
     /// keywords that the language doesn't use
     Outside,
 }
@@ -82,7 +86,8 @@ pub fn terminal_of(kind: Kind) -> Terminal
 {
     match kind {
         Kind::Identifier => Terminal::Identifier,
-        Kind::Number | Kind::True | Kind::False | Kind::Null | Kind::This => Terminal::Literal,
+        Kind::Number | Kind::True | Kind::False | Kind::Null | Kind::This | Kind::Result =>
+            Terminal::Literal,
         Kind::Boolean | Kind::Int => Terminal::Primitive,
         Kind::Break => Terminal::Break,
         Kind::Class => Terminal::Class,
@@ -129,9 +134,10 @@ pub fn terminal_of(kind: Kind) -> Terminal
         | Kind::Transient
         | Kind::Try
         | Kind::Volatile => Terminal::Outside,
-        Kind::Contract | Kind::Requires | Kind::Ensures | Kind::Result | Kind::Old => {
-            Terminal::Contract
-        }
+        Kind::Contract => Terminal::Contract,
+        Kind::Requires => Terminal::Requires,
+        Kind::Ensures => Terminal::Ensures,
+        Kind::Old => Terminal::Old,
         Kind::LeftParenthesis => Terminal::LeftParenthesis,
         Kind::RightParenthesis => Terminal::RightParenthesis,
         Kind::LeftBrace => Terminal::LeftBrace,

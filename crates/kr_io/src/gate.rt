@@ -1,7 +1,7 @@
 // A gate that workers pass.
 
-/// Means nothing to any result. A worker calls `pass` once after each lease that it was given, before it scans; `turn`
-/// counts its leases from 0.
+/// Means nothing to any result. A worker calls `pass` once after each `take` that gave it a lease, before it scans, and
+/// not where a report's answer lets it go on with the lease that it has. `turn` counts its calls from 0.
 pub trait Gate {
     fn pass(&self, worker: u32, turn: u64);
 }

@@ -1,10 +1,11 @@
 // A sink over a writer of std, as standard output.
-ghost use Rattle.std.specs.Prelude.{◌≡◌, None};
+ghost use Rattle.std.specs.Prelude.{◌≡◌};
 
 use kr_base::{Failed, Sink};
 use std::io::Write;
 
-/// A writer that tells no bytes. Each write that fails, or takes nothing of a piece that isn't empty, is counted.
+/// A writer, of which it tells the bytes that the writer tells to hold: standard output tells none. Each write that
+/// fails, or takes nothing of a piece that isn't empty, is counted.
 #[derive(Drop)]
 pub struct StdSink<W: Write + Drop> {
     inner: W,
@@ -23,7 +24,7 @@ impl<W: Write + Drop> StdSink<W> {
 }
 
 impl<W: Write + Drop> Sink for StdSink<W> {
-    ghost taken = { λ _. None };
+    ghost taken = { λ s. W.contents s.inner };
 
     ghost faults = { λ s. s.faults };
 

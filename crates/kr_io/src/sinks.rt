@@ -9,11 +9,17 @@ use std::alloc::Global;
 pub struct SafeSink;
 
 impl Sink for SafeSink {
+    ghost use Rattle.std.specs.Prelude.{length, Ok};
+    ghost use Rattle.kr_base.specs.Told.{Puts};
+
     ghost taken = { λ _. None };
 
     ghost faults = { λ _. 0 };
 
-    fn put(&mut self, piece: &[u8]) -> Result<usize, Failed> {
+    fn put(&mut self, piece: &[u8]) -> Result<usize, Failed>
+        ensures puts { Puts (λ _. None) (λ _. 0) self.old self.new piece.now result }
+        ensures whole { result ≡ Ok (length piece.now) }
+    {
         Ok(piece.len())
     }
 }

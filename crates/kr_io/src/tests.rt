@@ -95,6 +95,31 @@ fn files_on_disk(rt: HostRuntime) -> Result<(), Fail> {
     Ok(())
 }
 
+/// Bytes of which no two stretches of a file's chunk are the same.
+fn pattern(alloc: Global, length: u32) -> Result<Vec<u8>, Fail> {
+    let mut bytes = Vec::new(alloc);
+    for at in 0..length {
+        bytes.push((at % 251) as u8)?;
+    }
+    Ok(bytes)
+}
+
+#[test]
+fn long_file_on_disk(rt: HostRuntime) -> Result<(), Fail> {
+    let bytes = pattern(rt.alloc(), 150_000)?;
+    fs::write(&rt, "long.bin", bytes.as_slice())?;
+    let mut files = DiskFiles::new(&rt, rt.alloc());
+    for most in [
+        1_000_000, 150_001, 150_000, 149_999, 131_073, 100_000, 65_536,
+    ] {
+        let count = bytes.len().min(most);
+        let read = files.read("long.bin", most)?;
+        assert_eq!(rt; read.len(), count);
+        assert_eq!(rt; read.as_slice(), &bytes[..count], "{most}");
+    }
+    Ok(())
+}
+
 #[test]
 fn output(rt: HostRuntime) -> Result<(), Fail> {
     let mut out = StdSink::new(io::writer(&rt));

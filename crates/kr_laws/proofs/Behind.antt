@@ -1,8 +1,8 @@
 -- What may stand behind goals, by cases.
 use Rattle.std.proofs.Common.{◌≡◌, ◌≢◌, true, refl}
 use Rattle.kr_grammar.specs.declared.terminal.Terminal.{Terminal}
-use Rattle.kr_grammar.specs.declared.terminal.Terminal.TheVariants.{End, Identifier, RightParenthesis, LeftBrace, RightBrace, RightBracket, Semicolon, Comma, Colon, Greater, Step, Outside}
-use Rattle.kr_grammar.specs.State.{is_end, is_semicolon, is_left_brace, is_right_brace, is_right_parenthesis, is_inside, closes, ends_primary, ends_type, ends_statement}
+use Rattle.kr_grammar.specs.declared.terminal.Terminal.TheVariants.{End, Identifier, Void, RightParenthesis, LeftBrace, RightBrace, RightBracket, Semicolon, Comma, Colon, Greater, Step, Outside}
+use Rattle.kr_grammar.specs.State.{is_end, is_semicolon, is_void, is_left_brace, is_right_brace, is_right_parenthesis, is_inside, closes, ends_primary, ends_type, ends_statement}
 
 pub of_end : (P : Terminal → Type 0) → P End → (f : Terminal) → is_end f ≡ true → P f
 of_end P a End e = a
@@ -39,6 +39,10 @@ of_type P a b c f e = c f e
 
 pub end_inside : (f : Terminal) → is_end f ≡ true → is_inside f ≡ true
 end_inside = of_end (λ f. is_inside f ≡ true) refl
+
+pub void_inside : (f : Terminal) → is_void f ≡ true → is_inside f ≡ true
+void_inside Void e = refl
+void_inside _ e = cc
 
 pub right_brace_inside : (f : Terminal) → is_right_brace f ≡ true → is_inside f ≡ true
 right_brace_inside = of_right_brace (λ f. is_inside f ≡ true) refl
@@ -83,6 +87,10 @@ end_is = of_end (λ f. f ≡ End) refl
 
 pub semicolon_is : (f : Terminal) → is_semicolon f ≡ true → f ≡ Semicolon
 semicolon_is = of_semicolon (λ f. f ≡ Semicolon) refl
+
+pub void_is : (f : Terminal) → is_void f ≡ true → f ≡ Void
+void_is Void e = refl
+void_is _ e = cc
 
 pub left_brace_is : (f : Terminal) → is_left_brace f ≡ true → f ≡ LeftBrace
 left_brace_is LeftBrace e = refl

@@ -17,12 +17,12 @@ use Rattle.kr_grammar.specs.Grammar.{at, Class, Der, Derives, Heading}
 use Rattle.kr_grammar.specs.Machine.{Runs, done, start}
 use Rattle.kr_laws.specs.Laws.{Completeness, OneTree}
 use Rattle.kr_laws.proofs.CompleteSteps.{same}
-use Rattle.kr_laws.proofs.CompleteClaims.{Optional, absent, present, Listed, end, next, Parted, last, comma, ends_operand, ends_suffixes, is_assigning, NameClaim, ReferenceClaim, AnyTypeClaim, PrimaryClaim, OperandClaim, OperationClaim, ConditionalClaim, AssignmentClaim, ExpressionClaim, DeclaratorClaim, LocalClaim, StatementExpressionClaim, EvaluatedClaim, StatementClaim, BlockStatementClaim, ForInitialClaim, ParameterClaim, ResultClaim, ConstructorCallClaim, ExtendedClaim, ClassClaim, MemberClaim, MembersClaim, ClassesClaim}
+use Rattle.kr_laws.proofs.CompleteClaims.{Optional, absent, present, Listed, end, next, Parted, last, comma, ends_operand, ends_suffixes, is_assigning, NameClaim, ReferenceClaim, AnyTypeClaim, PrimaryClaim, OperandClaim, OperationClaim, ConditionalClaim, AssignmentClaim, ExpressionClaim, DeclaratorClaim, LocalClaim, StatementExpressionClaim, EvaluatedClaim, StatementClaim, BlockStatementClaim, ForInitialClaim, ParameterClaim, ResultClaim, ContractClaim, ConstructorCallClaim, ExtendedClaim, ClassClaim, MemberClaim, MembersClaim, ClassesClaim}
 use Rattle.kr_laws.proofs.CompleteTypes as types
 use Rattle.kr_laws.proofs.CompleteTypes.{simple_name_claim, qualified_name_claim, primitive_claim}
 use Rattle.kr_laws.proofs.CompleteGenerics.{generic_claim, array_claim, reference_claim}
 use Rattle.kr_laws.proofs.CompletePrimary as primaries
-use Rattle.kr_laws.proofs.CompletePrimary.{leaf_claim, parentheses_claim, variable_claim, call_claim, super_claim, index_claim}
+use Rattle.kr_laws.proofs.CompletePrimary.{old_claim, leaf_claim, parentheses_claim, variable_claim, call_claim, super_claim, index_claim}
 use Rattle.kr_laws.proofs.CompleteCreations.{creation_claim, generic_creation_claim, diamond_creation_claim, primitive_array_claim, class_array_claim}
 use Rattle.kr_laws.proofs.CompleteOperands.{postfix_of_primary, step_postfix, unsigned_of_postfix, complement_claim, primitive_cast_claim, reference_cast_claim, unary_of_unsigned, sign_claim, before_claim, compound_means}
 use Rattle.kr_laws.proofs.CompleteChains.{operand_claim, binary_claim, test_claim}
@@ -30,7 +30,7 @@ use Rattle.kr_laws.proofs.CompleteExpressions.{operation_claim, choice_claim, as
 use Rattle.kr_laws.proofs.CompleteItems.{declarator_claim, initialised_claim, local_claim, final_local_claim, assigns_claim, steps_claim, is_stepped_claim, invokes_claim, evaluated_claim}
 use Rattle.kr_laws.proofs.CompleteStatements.{local_statement_claim, statement_claim, block_claim, empty_claim, evaluate_claim, return_claim, break_claim, continue_claim, if_then_claim, if_else_claim, while_claim, do_claim, for_claim, for_local_claim, for_expressions_claim}
 use Rattle.kr_laws.proofs.CompleteMembers as members
-use Rattle.kr_laws.proofs.CompleteMembers.{parameter_claim, final_parameter_claim, void_claim, result_claim, calls_super_claim, nested_claim, constructor_claim}
+use Rattle.kr_laws.proofs.CompleteMembers.{parameter_claim, final_parameter_claim, void_claim, result_claim, calls_super_claim, plain_claim, precondition_claim, postcondition_claim, nested_claim, constructor_claim}
 use Rattle.kr_laws.proofs.CompleteClasses as classes
 use Rattle.kr_laws.proofs.CompleteClasses.{no_member_claim, skip_member_claim, members_claim, not_extended_claim, extended_claim, no_class_claim, skip_class_claim, classes_claim, heading}
 
@@ -56,6 +56,7 @@ Claim grammar.ForInitial = ForInitialClaim
 Claim grammar.Parameter = ParameterClaim
 Claim grammar.ResultType = ResultClaim
 Claim grammar.ConstructorCall = ConstructorCallClaim
+Claim grammar.Contract = ContractClaim
 Claim grammar.Extended = ExtendedClaim
 Claim (grammar.ClassDeclaration n) = ClassClaim n
 Claim (grammar.Member o n) = MemberClaim o n
@@ -84,6 +85,8 @@ complete (grammar.truth {i = i} a p) = leaf_claim i a (trees.Truth a.place true)
 complete (grammar.falsity {i = i} a p) = leaf_claim i a (trees.Truth a.place false) (ap terminal_of p) (ap (λ k. literal_of k a.place a.text) p)
 complete (grammar.null {i = i} a p) = leaf_claim i a (trees.Null a.place) (ap terminal_of p) (ap (λ k. literal_of k a.place a.text) p)
 complete (grammar.this {i = i} a p) = leaf_claim i a (trees.This a.place) (ap terminal_of p) (ap (λ k. literal_of k a.place a.text) p)
+complete (grammar.result_value {i = i} a p) = leaf_claim i a (trees.Result a.place) (ap terminal_of p) (ap (λ k. literal_of k a.place a.text) p)
+complete (grammar.old_value {i = i} {r = r} {t = t} a b c p q d w) = old_claim i r t a b c (ap terminal_of p) (ap terminal_of q) (complete d) (ap terminal_of w)
 complete (grammar.parentheses {i = i} {r = r} {t = t} a b p d q) = parentheses_claim i r t a b (ap terminal_of p) (complete d) (ap terminal_of q)
 complete (grammar.variable {i = i} a p) = variable_claim i a (ap terminal_of p)
 complete (grammar.call {i = i} {r = r} {t = t} a b c p q d s) = call_claim i r t a b c (ap terminal_of p) (ap terminal_of q) (complete d) (ap terminal_of s)
@@ -143,10 +146,12 @@ complete (grammar.final_parameter {i = i} {r = r} {t = t} a n p d q) = final_par
 complete (grammar.void {i = i} a p) = void_claim i a (trees.PrimitiveType a.place primitives.Void) (ap terminal_of p) (ap (λ k. trees.PrimitiveType a.place (the_primitive k)) p)
 complete (grammar.result {i = i} {r = r} {t = t} d) = result_claim i r t (complete d)
 complete (grammar.calls_super {i = i} {r = r} {t = t} a b c d p q e g h) = calls_super_claim i r t a b c d (ap terminal_of p) (ap terminal_of q) (complete e) (ap terminal_of g) (ap terminal_of h)
-complete (grammar.nested {o = o} {i = i} {j = j} {r = r} {f = f} {t = t} m h g d) = nested_claim o i j r f t m h g (complete d)
-complete (grammar.field {o = o} {n = n} {i = i} {j = j} {m = m} {r = r} {f = f} {t = t} {u = u} a d h e g p) = members.field_claim o n i j m r f t u a d h (complete e) (complete g) (ap terminal_of p)
-complete (grammar.method {o = o} {n = n} {i = i} {j = j} {m = m} {k = k} {r = r} {f = f} {t = t} {u = u} {s = s} a b c d e x y p q z g h w l) = members.method_claim o n i j m k r f t u s a b c d e x (complete y) (ap terminal_of p) (ap terminal_of q) (complete z) (ap terminal_of g) (ap terminal_of h) (complete w) (ap terminal_of l)
-complete (grammar.constructor {o = o} {n = n} {i = i} {m = m} {j = j} {k = k} {r = r} {u = u} {s = s} {t = t} a b c d e x p y q z g h w v l) = constructor_claim o n i m j k r u s t a b c d e x (ap terminal_of p) y (ap terminal_of q) (complete z) (ap terminal_of g) (ap terminal_of h) (complete w) (complete v) (ap terminal_of l)
+complete (grammar.nested {o = o} {i = i} {j = j} {r = r} {f = f} {t = t} m h g d) = plain_claim o false i r t (nested_claim o i j r f t m h g (complete d))
+complete (grammar.field {o = o} {n = n} {i = i} {j = j} {m = m} {r = r} {f = f} {t = t} {u = u} a d h e g p) = plain_claim o n i r (trees.Field (at j) f.is_static f.is_final t u) (members.field_claim o n i j m r f t u a d h (complete e) (complete g) (ap terminal_of p))
+complete (grammar.precondition {i = i} {r = r} {t = t} a b c p q d w) = precondition_claim i r t a b c (ap terminal_of p) (ap terminal_of q) (complete d) (ap terminal_of w)
+complete (grammar.postcondition {i = i} {r = r} {t = t} a b c p q d w) = postcondition_claim i r t a b c (ap terminal_of p) (ap terminal_of q) (complete d) (ap terminal_of w)
+complete (grammar.method {o = o} {n = n} {h = y0} {i = i} {j = j} {m = m} {k = k} {r = r} {f = f} {v = v} {t = t} {u = u} {s = s} a b c d e ks x y p q z g h w l) = members.method_claim o n y0 i j m k r f v t u s a b c d e (complete ks) x (complete y) (ap terminal_of p) (ap terminal_of q) (complete z) (ap terminal_of g) (ap terminal_of h) (complete w) (ap terminal_of l)
+complete (grammar.constructor {o = o} {n = n} {i = i} {m = m} {j = j} {k = k} {r = r} {u = u} {s = s} {t = t} a b c d e x p y q z g h w v l) = plain_claim o n i r (trees.Constructor a.place u s t) (constructor_claim o n i m j k r u s t a b c d e x (ap terminal_of p) y (ap terminal_of q) (complete z) (ap terminal_of g) (ap terminal_of h) (complete w) (complete v) (ap terminal_of l))
 complete (grammar.no_member {o = o} {n = n} {i = i}) = no_member_claim o n i
 complete (grammar.skip_member {o = o} {n = n} {i = i} {r = r} {t = t} a p d) = skip_member_claim o n i r t a (ap terminal_of p) (complete d)
 complete (grammar.member {o = o} {n = n} {i = i} {m = m} {r = r} {t = t} {u = u} d e) = members_claim o n i m r t u (complete d) (complete e)

@@ -18,7 +18,7 @@ use Rattle.kr_grammar.specs.declared.goal.Make.TheVariants as makes
 use Rattle.kr_grammar.specs.declared.goal.Symbol.{Symbol}
 use Rattle.kr_grammar.specs.declared.goal.Symbol.TheVariants.{Take, Keep, Want, Build}
 use Rattle.kr_grammar.specs.Terminals.{terminal_of}
-use Rattle.kr_grammar.specs.Words.{binary_of, level}
+use Rattle.kr_grammar.specs.TokenMeanings.{binary_of, level}
 use Rattle.kr_grammar.specs.Values.{Item, mark, word, part, tag, is_name}
 use Rattle.kr_grammar.specs.Made.{made, compared}
 use Rattle.kr_grammar.specs.Grammar.{at}
@@ -157,6 +157,7 @@ quiet_end terminals.Literal e h = cc
 quiet_end terminals.LeftParenthesis e h = cc
 quiet_end terminals.New e h = cc
 quiet_end terminals.Super e h = cc
+quiet_end terminals.Old e h = cc
 quiet_end terminals.Complement e h = cc
 quiet_end _ e h = refl
 
@@ -213,6 +214,7 @@ module _ (x y n : ℕ) (ss : List Symbol) (vs ws : List Item) (p : Place) (t u :
       go terminals.LeftParenthesis z s = step goals.ChainGreater terminals.LeftParenthesis ts ns ws m z (build (rw nm operand))
       go terminals.New z s = step goals.ChainGreater terminals.New ts ns ws m z (build (rw nm operand))
       go terminals.Super z s = step goals.ChainGreater terminals.Super ts ns ws m z (build (rw nm operand))
+      go terminals.Old z s = step goals.ChainGreater terminals.Old ts ns ws m z (build (rw nm operand))
       go terminals.Complement z s = step goals.ChainGreater terminals.Complement ts ns ws m z (build (rw nm operand))
       go h z s = cc
 

@@ -72,6 +72,7 @@ ends_suffixes terminals.Literal = false
 ends_suffixes terminals.LeftParenthesis = false
 ends_suffixes terminals.New = false
 ends_suffixes terminals.Super = false
+ends_suffixes terminals.Old = false
 ends_suffixes terminals.Complement = false
 ends_suffixes _ = true
 
@@ -275,10 +276,18 @@ ForInitialClaim i t r = (ss : List Symbol) (vs ws : List Item) → ahead r ≡ t
 abbrev pub ParameterClaim : List Lexeme → Tree → List Lexeme → Type 0
 ParameterClaim i t r = (ss : List Symbol) (vs ws : List Item) → Any ss vs t r ws → Runs (Want goals.Parameter ∷ ss) vs i ws
 
--- what a method's result begins, where its name and a parenthesis follow
-abbrev pub ResultClaim : List Lexeme → Tree → List Lexeme → Type 0
-ResultClaim i t r = (a b : Lexeme) (l : List Lexeme) → r ≡ a ∷ b ∷ l → terminal_of a.kind ≡ terminals.Identifier → terminal_of b.kind ≡ terminals.LeftParenthesis
-    → (ss : List Symbol) (vs ws : List Item) → Runs (Want goals.Method ∷ ss) (word a.place a.text ∷ part (at i) forms.Type t ∷ vs) (b ∷ l) ws → Runs (Want goals.Member ∷ ss) vs i ws
+-- what a method's result begins, where its name and a parenthesis follow: behind the goal for any member, or for a method
+abbrev pub Begun : Goal → Goal → List Lexeme → Tree → List Lexeme → Type 0
+Begun g h i t r = (a b : Lexeme) (l : List Lexeme) → r ≡ a ∷ b ∷ l → terminal_of a.kind ≡ terminals.Identifier → terminal_of b.kind ≡ terminals.LeftParenthesis
+    → (ss : List Symbol) (vs ws : List Item) → Runs (Want h ∷ ss) (word a.place a.text ∷ part (at i) forms.Type t ∷ vs) (b ∷ l) ws → Runs (Want g ∷ ss) vs i ws
+
+pub record ResultClaim (i : List Lexeme) (t : Tree) (r : List Lexeme) : Type 0 where
+  pub plain : Begun goals.Member goals.Method i t r
+  pub contracted : Begun goals.MethodAhead goals.ContractedMethod i t r
+
+pub record ContractClaim (i : List Lexeme) (t : Tree) (r : List Lexeme) : Type 0 where
+  pub starts : ahead i ≡ terminals.Contract
+  pub taken : (ss : List Symbol) (vs ws : List Item) → Any ss vs t r ws → Runs (Keep terminals.Contract ∷ Want goals.Contract ∷ ss) vs i ws
 
 abbrev pub ConstructorCallClaim : List Lexeme → Tree → List Lexeme → Type 0
 ConstructorCallClaim i t r = (ss : List Symbol) (vs ws : List Item) → Any (Want goals.Statements ∷ ss) vs t r ws → Runs (Want goals.ConstructorBody ∷ ss) vs i ws
@@ -296,8 +305,16 @@ pub record ClassClaim (n : Bool) (i : List Lexeme) (t : Tree) (r : List Lexeme) 
   pub body : (ss : List Symbol) (vs ws : List Item) → Runs ss (part place forms.Other t ∷ vs) r ws
       → Runs (Take terminals.Class ∷ Word ∷ Want goals.Extended ∷ Build (owner_make n) ∷ Build makes.MemberAhead ∷ Take terminals.LeftBrace ∷ Want goals.Members ∷ Take terminals.RightBrace ∷ Build makes.Class ∷ ss) vs i ws
 
+-- a member without contracts
+abbrev pub PlainClaim : List ℕ → Bool → List Lexeme → Tree → List Lexeme → Type 0
+PlainClaim o n i t r = (ss : List Symbol) (p : Place) (vs ws : List Item) → Any ss (owner n p o ∷ vs) t r ws → Runs (Want goals.Member ∷ ss) (member n no_modifiers ∷ owner n p o ∷ vs) i ws
+
+-- what goes on from a member to the others
+abbrev pub others : List Symbol → List Symbol
+others ss = Build makes.Swap ∷ Build makes.MemberAhead ∷ Want goals.Members ∷ Build makes.ConsBelow ∷ ss
+
 abbrev pub MemberClaim : List ℕ → Bool → List Lexeme → Tree → List Lexeme → Type 0
-MemberClaim o n i t r = (ss : List Symbol) (p : Place) (vs ws : List Item) → Any ss (owner n p o ∷ vs) t r ws → Runs (Want goals.Member ∷ ss) (member n no_modifiers ∷ owner n p o ∷ vs) i ws
+MemberClaim o n i t r = (ss : List Symbol) (p : Place) (vs ws : List Item) → Any (others ss) (owner n p o ∷ vs) t r ws → Runs (Want goals.Members ∷ ss) (member n no_modifiers ∷ owner n p o ∷ vs) i ws
 
 abbrev pub MembersClaim : List ℕ → Bool → List Lexeme → Tree → List Lexeme → Type 0
 MembersClaim o n i t r = (ss : List Symbol) (p : Place) (vs ws : List Item) → ahead r ≡ terminals.RightBrace → ((q : Place) (f : Form) → Runs ss (owner n p o ∷ part q f t ∷ vs) r ws)

@@ -29,14 +29,6 @@ owner_of true q p f t b vs = refl
 owner_of false q p f t b vs = refl
 
 -- Members.
-members_enter : (ss : List Symbol) (vs ws : List Item) (i : List Lexeme) → Runs (Want goals.Member ∷ Build makes.Swap ∷ Build makes.MemberAhead ∷ Want goals.Members ∷ Build makes.ConsBelow ∷ ss) vs i ws → Runs (Want goals.Members ∷ ss) vs i ws
-members_enter ss vs ws i d = go (ahead i) refl
-  where
-    go : (k : Terminal) → ahead i ≡ k → Runs (Want goals.Members ∷ ss) vs i ws
-    go terminals.RightBrace e = absurd (open_at goals.Member terminals.RightBrace e d)
-    go terminals.Semicolon e = absurd (open_at goals.Member terminals.Semicolon e d)
-    go k e = step goals.Members k ss vs ws i e d
-
 pub no_member_claim : (o : List ℕ) (n : Bool) (i : List Lexeme) → MembersClaim o n i trees.Nil i
 no_member_claim o n i = λ ss p vs ws e k. step goals.Members terminals.RightBrace ss (member n no_modifiers ∷ owner n p o ∷ vs) ws i e (build (k nowhere forms.Other))
 
@@ -44,9 +36,8 @@ pub skip_member_claim : (o : List ℕ) (n : Bool) (i r : List Lexeme) (t : Tree)
 skip_member_claim o n i r t a ka d = λ ss p vs ws e k. step goals.Members terminals.Semicolon ss (member n no_modifiers ∷ owner n p o ∷ vs) ws (a ∷ i) ka (take a ka (d ss p vs ws e k))
 
 pub members_claim : (o : List ℕ) (n : Bool) (i m r : List Lexeme) (t u : Tree) → MemberClaim o n i t m → MembersClaim o n m u r → MembersClaim o n i (trees.Cons t u) r
-members_claim o n i m r t u d rest = λ ss p vs ws e k. members_enter ss (member n no_modifiers ∷ owner n p o ∷ vs) ws i
-    (d (Build makes.Swap ∷ Build makes.MemberAhead ∷ Want goals.Members ∷ Build makes.ConsBelow ∷ ss) p vs ws
-    (λ q f. build (build (rest (Build makes.ConsBelow ∷ ss) p (part q f t ∷ vs) ws e (λ x g. build (k q forms.Other))))))
+members_claim o n i m r t u d rest = λ ss p vs ws e k. d ss p vs ws
+    (λ q f. build (build (rest (Build makes.ConsBelow ∷ ss) p (part q f t ∷ vs) ws e (λ x g. build (k q forms.Other)))))
 
 -- Classes.
 pub not_extended_claim : (i : List Lexeme) → ExtendedClaim i trees.Nil i

@@ -14,7 +14,7 @@ use Rattle.kr_grammar.specs.declared.goal.Make.TheVariants as makes
 use Rattle.kr_grammar.specs.declared.goal.Symbol.{Symbol}
 use Rattle.kr_grammar.specs.declared.goal.Symbol.TheVariants.{Take, Want, Build}
 use Rattle.kr_grammar.specs.Terminals.{terminal_of}
-use Rattle.kr_grammar.specs.Words.{primitive_of}
+use Rattle.kr_grammar.specs.TokenMeanings.{primitive_of}
 use Rattle.kr_grammar.specs.Values.{Item, mark, part}
 use Rattle.kr_grammar.specs.Made.{made}
 use Rattle.kr_grammar.specs.Grammar.{at}

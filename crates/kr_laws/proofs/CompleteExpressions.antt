@@ -43,6 +43,7 @@ module _ (ss : List Symbol) (k : Kind) (p : Place) (vs ws : List Item) where
           at_kind terminals.LeftParenthesis z = absurd (open_at goals.Suffixes terminals.LeftParenthesis z (build_inv x))
           at_kind terminals.New z = absurd (open_at goals.Suffixes terminals.New z (build_inv x))
           at_kind terminals.Super z = absurd (open_at goals.Suffixes terminals.Super z (build_inv x))
+          at_kind terminals.Old z = absurd (open_at goals.Suffixes terminals.Old z (build_inv x))
           at_kind terminals.Complement z = absurd (open_at goals.Suffixes terminals.Complement z (build_inv x))
           at_kind h z = step goals.AfterEnclosedName h ss (v ∷ mark k p ∷ vs) ws l z (build (rw (variable_of v q e u (mark k p ∷ vs) isn) x))
 

@@ -16,7 +16,7 @@ use Rattle.kr_grammar.specs.declared.goal.Make.TheVariants as makes
 use Rattle.kr_grammar.specs.declared.goal.Symbol.{Symbol}
 use Rattle.kr_grammar.specs.declared.goal.Symbol.TheVariants.{Take, Word, Want, Build}
 use Rattle.kr_grammar.specs.Terminals.{terminal_of}
-use Rattle.kr_grammar.specs.Words.{step_before, step_behind}
+use Rattle.kr_grammar.specs.TokenMeanings.{step_before, step_behind}
 use Rattle.kr_grammar.specs.Values.{Item, mark, word, part, tag}
 use Rattle.kr_grammar.specs.Grammar.{at}
 use Rattle.kr_grammar.specs.Machine.{ahead, rule, starts_unary, Runs, take, keep, name, want, build}

@@ -10,13 +10,14 @@ use Rattle.kr_grammar.specs.declared.terminal.Terminal.{Terminal}
 use Rattle.kr_grammar.specs.declared.terminal.Terminal.TheVariants as terminals
 use Rattle.kr_grammar.specs.declared.value.Tag.{Tag}
 use Rattle.kr_grammar.specs.declared.value.Tag.TheVariants as tags
+use Rattle.kr_grammar.specs.declared.value.Form.{Form}
 use Rattle.kr_grammar.specs.declared.value.Form.TheVariants as forms
 use Rattle.kr_grammar.specs.declared.goal.Goal.TheVariants as goals
 use Rattle.kr_grammar.specs.declared.goal.Make.TheVariants as makes
 use Rattle.kr_grammar.specs.declared.goal.Symbol.{Symbol}
 use Rattle.kr_grammar.specs.declared.goal.Symbol.TheVariants.{Take, Word, Want, Build}
 use Rattle.kr_grammar.specs.Terminals.{terminal_of}
-use Rattle.kr_grammar.specs.Words.{is_access}
+use Rattle.kr_grammar.specs.TokenMeanings.{is_access}
 use Rattle.kr_grammar.specs.Values.{Item, mark, word, part, member, owner, tag, no_modifiers}
 use Rattle.kr_grammar.specs.Made.{nowhere, the_primitive}
 use Rattle.kr_grammar.specs.declared.value.Modifiers.{Modifiers}
@@ -25,7 +26,7 @@ use Rattle.kr_grammar.specs.Grammar as grammar
 use Rattle.kr_grammar.specs.Grammar.{at, EndsOpen, Modified}
 use Rattle.kr_grammar.specs.Machine.{ahead, Runs, take, keep, name, spell, build}
 use Rattle.kr_laws.proofs.CompleteSteps.{open_at, step, step_with, name_inv, take_kind, build_inv}
-use Rattle.kr_laws.proofs.CompleteClaims.{Any, Optional, absent, present, Listed, Parted, last, comma, ExpressionClaim, AnyTypeClaim, starts_type, DeclaratorClaim, BlockStatementClaim, ParameterClaim, ResultClaim, ConstructorCallClaim, ClassClaim, MemberClaim}
+use Rattle.kr_laws.proofs.CompleteClaims.{Any, Optional, absent, present, Listed, end, next, Parted, last, comma, ExpressionClaim, AnyTypeClaim, starts_type, DeclaratorClaim, BlockStatementClaim, ParameterClaim, ResultClaim, Begun, ContractClaim, ConstructorCallClaim, ClassClaim, PlainClaim, others, MemberClaim}
 use Rattle.std.specs.Str.{bytes_eq}
 use Rattle.std.proofs.lemmas.Slice.Eq.{bytes_eq-Decides}
 use Rattle.kr_laws.proofs.CompleteSteps.{keep_inv}
@@ -116,7 +117,7 @@ field_names ss vs ws m d =
     go (a, j, e, ka, x) = rw e (name a ka (field_enter ss (word a.place a.text ∷ vs) ws j x))
 
 pub field_claim : (o : List ℕ) (n : Bool) (i j m r : List Lexeme) (f : Modifiers) (t u : Tree) (a : Lexeme) → Modified i f j → f.overrides ≡ false → AnyTypeClaim j t m → Parted DeclaratorClaim m u (a ∷ r) → terminal_of a.kind ≡ terminals.Semicolon
-    → MemberClaim o n i (trees.Field (at j) f.is_static f.is_final t u) r
+    → PlainClaim o n i (trees.Field (at j) f.is_static f.is_final t u) r
 field_claim o n i j m r f t u a d e type ds ka = λ ss p vs ws k. modified d ss n (owner n p o ∷ vs) ws
     (type.type.member ss (member n f ∷ owner n p o ∷ vs) ws (not_overriding n f e (owner n p o ∷ vs))
     (field_names ss (part (at j) forms.Type t ∷ member n f ∷ owner n p o ∷ vs) ws m
@@ -124,10 +125,24 @@ field_claim o n i j m r f t u a d e type ds ka = λ ss p vs ws k. modified d ss 
 
 -- Methods.
 pub void_claim : (i : List Lexeme) (a : Lexeme) (t : Tree) → terminal_of a.kind ≡ terminals.Void → trees.PrimitiveType a.place (the_primitive a.kind) ≡ t → ResultClaim (a ∷ i) t i
-void_claim i a t ka e = λ b c l z kb kc ss vs ws k. step goals.Member terminals.Void ss vs ws (a ∷ i) ka (keep a ka (build (rw (e, z) (name b kb k))))
+void_claim i a t ka e = record {
+  plain = λ b c l z kb kc ss vs ws k. step goals.Member terminals.Void ss vs ws (a ∷ i) ka (keep a ka (build (rw (e, z) (name b kb k))));
+  contracted = λ b c l z kb kc ss vs ws k. step goals.MethodAhead terminals.Void ss vs ws (a ∷ i) ka (keep a ka (build (rw (e, z) (name b kb k))));
+}
 
-pub result_claim : (i r : List Lexeme) (t : Tree) → AnyTypeClaim i t r → ResultClaim i t r
-result_claim i r t d = λ a b l z ka kb ss vs ws k. go a b l z ka kb ss vs ws k (tag vs) refl
+-- a type, where a method is surely meant
+typed_method : (i r : List Lexeme) (t : Tree) → AnyTypeClaim i t r → Begun goals.MethodAhead goals.ContractedMethod i t r
+typed_method i r t d = λ a b l z ka kb ss vs ws k. enter ss vs ws (ahead i) refl d.type.starts
+    (d.type.simple (Word ∷ Want goals.ContractedMethod ∷ ss) vs ws (rw (z, ka) refl)
+    (rw z (step goals.Dimensions terminals.Identifier (Word ∷ Want goals.ContractedMethod ∷ ss) (part (at i) forms.Type t ∷ vs) ws (a ∷ b ∷ l) ka (name a ka k))))
+  where
+    enter : (ss : List Symbol) (vs ws : List Item) (h : Terminal) → ahead i ≡ h → starts_type h ≡ true → Runs (Want goals.Type ∷ Word ∷ Want goals.ContractedMethod ∷ ss) vs i ws → Runs (Want goals.MethodAhead ∷ ss) vs i ws
+    enter ss vs ws terminals.Primitive x y w = step goals.MethodAhead terminals.Primitive ss vs ws i x w
+    enter ss vs ws terminals.Identifier x y w = step goals.MethodAhead terminals.Identifier ss vs ws i x w
+    enter ss vs ws h x y w = cc
+
+typed_member : (i r : List Lexeme) (t : Tree) → AnyTypeClaim i t r → Begun goals.Member goals.Method i t r
+typed_member i r t d = λ a b l z ka kb ss vs ws k. go a b l z ka kb ss vs ws k (tag vs) refl
   where
     go : (a b : Lexeme) (l : List Lexeme) → r ≡ a ∷ b ∷ l → terminal_of a.kind ≡ terminals.Identifier → terminal_of b.kind ≡ terminals.LeftParenthesis → (ss : List Symbol) (vs ws : List Item)
         → Runs (Want goals.Method ∷ ss) (word a.place a.text ∷ part (at i) forms.Type t ∷ vs) (b ∷ l) ws → (q : Tag) → tag vs ≡ q → Runs (Want goals.Member ∷ ss) vs i ws
@@ -151,12 +166,15 @@ result_claim i r t d = λ a b l z ka kb ss vs ws k. go a b l z ka kb ss vs ws k 
         at_tag tags.Overriding e = overriding e (ahead i) refl d.type.starts
         at_tag q e = other (λ x. let y : q ≡ tags.Overriding = sym e ∙ x in cc)
 
-pub method_claim : (o : List ℕ) (n : Bool) (i j m k r : List Lexeme) (f : Modifiers) (t u s : Tree) (a b c d e : Lexeme) → Modified i f j → ResultClaim j t (a ∷ b ∷ m) → terminal_of a.kind ≡ terminals.Identifier → terminal_of b.kind ≡ terminals.LeftParenthesis
+pub result_claim : (i r : List Lexeme) (t : Tree) → AnyTypeClaim i t r → ResultClaim i t r
+result_claim i r t d = record { plain = typed_member i r t d; contracted = typed_method i r t d }
+
+plain_method : (o : List ℕ) (n : Bool) (i j m k r : List Lexeme) (f : Modifiers) (t u s : Tree) (a b c d e : Lexeme) → Modified i f j → ResultClaim j t (a ∷ b ∷ m) → terminal_of a.kind ≡ terminals.Identifier → terminal_of b.kind ≡ terminals.LeftParenthesis
     → Optional (Parted ParameterClaim) m u (c ∷ d ∷ k) → terminal_of c.kind ≡ terminals.RightParenthesis → terminal_of d.kind ≡ terminals.LeftBrace → Listed BlockStatementClaim k s (e ∷ r) → terminal_of e.kind ≡ terminals.RightBrace
-    → MemberClaim o n i (trees.Method a.place f.is_static a.text (trees.Signature a.place t u trees.Nil) s) r
-method_claim o n i j m l r f t u s a b c d e mods result ka kb ps kc kd body ke = λ ss p vs ws k.
+    → PlainClaim o n i (trees.Method a.place f.is_static a.text (trees.Signature a.place t u trees.Nil) s) r
+plain_method o n i j m l r f t u s a b c d e mods result ka kb ps kc kd body ke = λ ss p vs ws k.
     modified mods ss n (owner n p o ∷ vs) ws
-    (result a b m refl ka kb ss (member n f ∷ owner n p o ∷ vs) ws
+    (result.plain a b m refl ka kb ss (member n f ∷ owner n p o ∷ vs) ws
     (step goals.Method terminals.LeftParenthesis ss (word a.place a.text ∷ part (at j) forms.Type t ∷ member n f ∷ owner n p o ∷ vs) ws (b ∷ m) kb
     (take b kb
     (parameters ps kc (Take terminals.RightParenthesis ∷ Take terminals.LeftBrace ∷ Want goals.Statements ∷ Take terminals.RightBrace ∷ Build makes.Method ∷ ss) (word a.place a.text ∷ part (at j) forms.Type t ∷ member n f ∷ owner n p o ∷ vs) ws
@@ -164,6 +182,89 @@ method_claim o n i j m l r f t u s a b c d e mods result ka kb ps kc kd body ke 
     (take d kd
     (statements body ke (Take terminals.RightBrace ∷ Build makes.Method ∷ ss) (part q g u ∷ word a.place a.text ∷ part (at j) forms.Type t ∷ member n f ∷ owner n p o ∷ vs) ws (λ x y. refl)
     (λ x y. take e ke (build (k a.place forms.Other))))))))))
+
+-- Contracts.
+members_enter : (ss : List Symbol) (vs ws : List Item) (i : List Lexeme) → Runs (Want goals.Member ∷ others ss) vs i ws → Runs (Want goals.Members ∷ ss) vs i ws
+members_enter ss vs ws i d = go (ahead i) refl
+  where
+    go : (k : Terminal) → ahead i ≡ k → Runs (Want goals.Members ∷ ss) vs i ws
+    go terminals.RightBrace e = absurd (open_at goals.Member terminals.RightBrace e d)
+    go terminals.Semicolon e = absurd (open_at goals.Member terminals.Semicolon e d)
+    go terminals.Contract e = absurd (open_at goals.Member terminals.Contract e d)
+    go k e = step goals.Members k ss vs ws i e d
+
+pub plain_claim : (o : List ℕ) (n : Bool) (i r : List Lexeme) (t : Tree) → PlainClaim o n i t r → MemberClaim o n i t r
+plain_claim o n i r t d = λ ss p vs ws k. members_enter ss (member n no_modifiers ∷ owner n p o ∷ vs) ws i (d (others ss) p vs ws k)
+
+pub precondition_claim : (i r : List Lexeme) (t : Tree) (a b c : Lexeme) → terminal_of a.kind ≡ terminals.Contract → terminal_of b.kind ≡ terminals.Requires → ExpressionClaim i t (c ∷ r) → terminal_of c.kind ≡ terminals.Semicolon
+    → ContractClaim (a ∷ b ∷ i) (trees.Requires a.place t) r
+precondition_claim i r t a b c ka kb d kc = record {
+  starts = ka;
+  taken = λ ss vs ws k. keep a ka
+      (step goals.Contract terminals.Requires ss (mark a.kind a.place ∷ vs) ws (b ∷ i) kb
+      (take b kb (d.simple (Take terminals.Semicolon ∷ Build makes.Requires ∷ ss) (mark a.kind a.place ∷ vs) ws (rw kc refl) (λ f. take c kc (build (k a.place forms.Other))))));
+}
+
+pub postcondition_claim : (i r : List Lexeme) (t : Tree) (a b c : Lexeme) → terminal_of a.kind ≡ terminals.Contract → terminal_of b.kind ≡ terminals.Ensures → ExpressionClaim i t (c ∷ r) → terminal_of c.kind ≡ terminals.Semicolon
+    → ContractClaim (a ∷ b ∷ i) (trees.Ensures a.place t) r
+postcondition_claim i r t a b c ka kb d kc = record {
+  starts = ka;
+  taken = λ ss vs ws k. keep a ka
+      (step goals.Contract terminals.Ensures ss (mark a.kind a.place ∷ vs) ws (b ∷ i) kb
+      (take b kb (d.simple (Take terminals.Semicolon ∷ Build makes.Ensures ∷ ss) (mark a.kind a.place ∷ vs) ws (rw kc refl) (λ f. take c kc (build (k a.place forms.Other))))));
+}
+
+contracts : {i r : List Lexeme} {t : Tree} → Listed ContractClaim i t r → ahead r ≢ terminals.Contract → (ss : List Symbol) (vs ws : List Item) → Any ss vs t r ws → Runs (Want goals.Contracts ∷ ss) vs i ws
+contracts (end {i = i}) h = λ ss vs ws k. none ss vs ws i h (build (k nowhere forms.Other))
+  where
+    none : (ss : List Symbol) (vs ws : List Item) (i : List Lexeme) → ahead i ≢ terminals.Contract → Runs (Build makes.Nil ∷ ss) vs i ws → Runs (Want goals.Contracts ∷ ss) vs i ws
+    none ss vs ws i h d = go (ahead i) refl
+      where
+        go : (k : Terminal) → ahead i ≡ k → Runs (Want goals.Contracts ∷ ss) vs i ws
+        go terminals.Contract e = absurd (h e)
+        go k e = step goals.Contracts k ss vs ws i e d
+contracts (next {i = i} {t = t} c rest) h = λ ss vs ws k. step goals.Contracts terminals.Contract ss vs ws i c.starts
+    (c.taken (Want goals.Contracts ∷ Build makes.Cons ∷ ss) vs ws
+    (λ p f. contracts rest h (Build makes.Cons ∷ ss) (part p f t ∷ vs) ws (λ q g. build (k p forms.Other))))
+
+-- modifiers behind contracts
+modified_method : {i j : List Lexeme} {f : Modifiers} → Modified i f j → (ss : List Symbol) (n : Bool) (vs ws : List Item) → Runs (Want goals.MethodAhead ∷ ss) (member n f ∷ vs) j ws → Runs (Want goals.MethodAhead ∷ ss) (member n no_modifiers ∷ vs) i ws
+modified_method grammar.nothing = λ ss n vs ws k. k
+modified_method (grammar.access {r = r} {f = f} a d e) = λ ss n vs ws k. modified_method d ss n vs ws (step goals.MethodAhead terminals.Access ss (member n f ∷ vs) ws (a ∷ r) (access_means a.kind e) (take a (access_means a.kind e) k))
+modified_method (grammar.static {r = r} {f = f} a d e) = λ ss n vs ws k. modified_method d ss n vs ws (step goals.MethodAhead terminals.Static ss (member n f ∷ vs) ws (a ∷ r) (ap terminal_of e) (take a (ap terminal_of e) (build k)))
+modified_method (grammar.final {r = r} {f = f} a d e) = λ ss n vs ws k. modified_method d ss n vs ws (step goals.MethodAhead terminals.Final ss (member n f ∷ vs) ws (a ∷ r) (ap terminal_of e) (take a (ap terminal_of e) (build k)))
+modified_method (grammar.overriding {r = r} {f = f} a b d e g h) = λ ss n vs ws k. modified_method d ss n vs ws
+    (step goals.MethodAhead terminals.At ss (member n f ∷ vs) ws (a ∷ b ∷ r) (ap terminal_of e) (take a (ap terminal_of e) (spell {s = spelled.Override} b (ap terminal_of g) h (build k))))
+
+-- a method behind its contracts
+behind_contracts : (o : List ℕ) (n : Bool) (i j m l r : List Lexeme) (f : Modifiers) (v t u s : Tree) (a b c d e : Lexeme) → Modified i f j → ResultClaim j t (a ∷ b ∷ m) → terminal_of a.kind ≡ terminals.Identifier → terminal_of b.kind ≡ terminals.LeftParenthesis
+    → Optional (Parted ParameterClaim) m u (c ∷ d ∷ l) → terminal_of c.kind ≡ terminals.RightParenthesis → terminal_of d.kind ≡ terminals.LeftBrace → Listed BlockStatementClaim l s (e ∷ r) → terminal_of e.kind ≡ terminals.RightBrace
+    → (ss : List Symbol) (q : Place) (g : Form) (vs ws : List Item) → Any ss vs (trees.Method a.place f.is_static a.text (trees.Signature a.place t u v) s) r ws → Runs (Want goals.MethodAhead ∷ ss) (member n no_modifiers ∷ part q g v ∷ vs) i ws
+behind_contracts o n i j m l r f v t u s a b c d e mods result ka kb ps kc kd body ke = λ ss q g vs ws k.
+    modified_method mods ss n (part q g v ∷ vs) ws
+    (result.contracted a b m refl ka kb ss (member n f ∷ part q g v ∷ vs) ws
+    (step goals.ContractedMethod terminals.LeftParenthesis ss (word a.place a.text ∷ part (at j) forms.Type t ∷ member n f ∷ part q g v ∷ vs) ws (b ∷ m) kb
+    (take b kb
+    (parameters ps kc (Take terminals.RightParenthesis ∷ Take terminals.LeftBrace ∷ Want goals.Statements ∷ Take terminals.RightBrace ∷ Build makes.ContractedMethod ∷ ss) (word a.place a.text ∷ part (at j) forms.Type t ∷ member n f ∷ part q g v ∷ vs) ws
+    (λ p0 f0. take c kc
+    (take d kd
+    (statements body ke (Take terminals.RightBrace ∷ Build makes.ContractedMethod ∷ ss) (part p0 f0 u ∷ word a.place a.text ∷ part (at j) forms.Type t ∷ member n f ∷ part q g v ∷ vs) ws (λ x y. refl)
+    (λ x y. take e ke (build (k a.place forms.Other))))))))))
+
+pub method_claim : (o : List ℕ) (n : Bool) (h i j m l r : List Lexeme) (f : Modifiers) (v t u s : Tree) (a b c d e : Lexeme) → Listed ContractClaim h v i → Modified i f j → ResultClaim j t (a ∷ b ∷ m) → terminal_of a.kind ≡ terminals.Identifier → terminal_of b.kind ≡ terminals.LeftParenthesis
+    → Optional (Parted ParameterClaim) m u (c ∷ d ∷ l) → terminal_of c.kind ≡ terminals.RightParenthesis → terminal_of d.kind ≡ terminals.LeftBrace → Listed BlockStatementClaim l s (e ∷ r) → terminal_of e.kind ≡ terminals.RightBrace
+    → MemberClaim o n h (trees.Method a.place f.is_static a.text (trees.Signature a.place t u v) s) r
+method_claim o n h i j m l r f v t u s a b c d e ks mods result ka kb ps kc kd body ke = by_contracts ks mods
+  where
+    by_contracts : {h i : List Lexeme} {v : Tree} → Listed ContractClaim h v i → Modified i f j → MemberClaim o n h (trees.Method a.place f.is_static a.text (trees.Signature a.place t u v) s) r
+    by_contracts (end {i = i}) mods = plain_claim o n i r (trees.Method a.place f.is_static a.text (trees.Signature a.place t u trees.Nil) s) (plain_method o n i j m l r f t u s a b c d e mods result ka kb ps kc kd body ke)
+    by_contracts (next {i = h} {m = m0} {r = i} {t = t0} {u = u0} c0 rest) mods = λ ss p vs ws k. (
+        let behind : (q : Place) (g : Form) → Runs (Want goals.MethodAhead ∷ others ss) (member n no_modifiers ∷ part q g (trees.Cons t0 u0) ∷ owner n p o ∷ vs) i ws =
+        λ q g. behind_contracts o n i j m l r f (trees.Cons t0 u0) t u s a b c d e mods result ka kb ps kc kd body ke (others ss) q g (owner n p o ∷ vs) ws k in
+        step goals.Members terminals.Contract ss (member n no_modifiers ∷ owner n p o ∷ vs) ws h c0.starts
+        (c0.taken (Want goals.Contracts ∷ Build makes.Cons ∷ Build makes.Swap ∷ Want goals.MethodAhead ∷ others ss) (member n no_modifiers ∷ owner n p o ∷ vs) ws
+        (λ q g. contracts rest (λ z. open_at goals.MethodAhead terminals.Contract z (behind nowhere forms.Other)) (Build makes.Cons ∷ Build makes.Swap ∷ Want goals.MethodAhead ∷ others ss) (part q g t0 ∷ member n no_modifiers ∷ owner n p o ∷ vs) ws
+        (λ x y. build (build (behind q forms.Other))))))
 
 -- Constructors.
 pub calls_super_claim : (i r : List Lexeme) (t : Tree) (a b c d : Lexeme) → terminal_of a.kind ≡ terminals.Super → terminal_of b.kind ≡ terminals.LeftParenthesis → Optional (Parted ExpressionClaim) i t (c ∷ d ∷ r) → terminal_of c.kind ≡ terminals.RightParenthesis
@@ -205,7 +306,7 @@ constructor_tag n p q x o vs e = let z : bytes_eq x o ≡ true = (bytes_eq-Decid
 
 pub constructor_claim : (o : List ℕ) (n : Bool) (i m j k r : List Lexeme) (u s t : Tree) (a b c d e : Lexeme) → Modified i no_modifiers (a ∷ b ∷ m) → terminal_of a.kind ≡ terminals.Identifier → a.text ≡ o → terminal_of b.kind ≡ terminals.LeftParenthesis
     → Optional (Parted ParameterClaim) m u (c ∷ d ∷ j) → terminal_of c.kind ≡ terminals.RightParenthesis → terminal_of d.kind ≡ terminals.LeftBrace → Optional ConstructorCallClaim j s k → Listed BlockStatementClaim k t (e ∷ r) → terminal_of e.kind ≡ terminals.RightBrace
-    → MemberClaim o n i (trees.Constructor a.place u s t) r
+    → PlainClaim o n i (trees.Constructor a.place u s t) r
 constructor_claim o n i m j l r u s t a b c d e mods ka eo kb ps kc kd call body ke = λ ss p vs ws k.
     modified mods ss n (owner n p o ∷ vs) ws
     (step goals.Member terminals.Identifier ss (member n no_modifiers ∷ owner n p o ∷ vs) ws (a ∷ b ∷ m) ka
@@ -223,7 +324,7 @@ constructor_claim o n i m j l r u s t a b c d e mods ka eo kb ps kc kd call body
 nested_tag : (f : Modifiers) (vs : List Item) → f.is_static ≡ true → f.overrides ≡ false → tag (member false f ∷ vs) ≡ tags.Nestable
 nested_tag f vs e h = rw (h, e) refl
 
-pub nested_claim : (o : List ℕ) (i j r : List Lexeme) (f : Modifiers) (t : Tree) → Modified i f j → f.is_static ≡ true → f.overrides ≡ false → ClassClaim true j t r → MemberClaim o false i t r
+pub nested_claim : (o : List ℕ) (i j r : List Lexeme) (f : Modifiers) (t : Tree) → Modified i f j → f.is_static ≡ true → f.overrides ≡ false → ClassClaim true j t r → PlainClaim o false i t r
 nested_claim o i j r f t d e h c = λ ss p vs ws k. modified d ss false (owner false p o ∷ vs) ws
     (step_with goals.Member terminals.Class tags.Nestable ss (member false f ∷ owner false p o ∷ vs) ws j c.starts (nested_tag f (owner false p o ∷ vs) e h)
     (c.body (Build makes.Nested ∷ ss) (member false f ∷ owner false p o ∷ vs) ws (build (k c.place forms.Other))))

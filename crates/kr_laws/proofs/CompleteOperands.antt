@@ -20,7 +20,7 @@ use Rattle.kr_grammar.specs.declared.goal.Make.TheVariants as makes
 use Rattle.kr_grammar.specs.declared.goal.Symbol.{Symbol}
 use Rattle.kr_grammar.specs.declared.goal.Symbol.TheVariants.{Take, Want, Build}
 use Rattle.kr_grammar.specs.Terminals.{terminal_of}
-use Rattle.kr_grammar.specs.Words.{primitive_of, sign_of, step_before, step_behind, complement_of, compound_of}
+use Rattle.kr_grammar.specs.TokenMeanings.{primitive_of, sign_of, step_before, step_behind, complement_of, compound_of}
 use Rattle.kr_grammar.specs.Values.{Item, mark, part, tag}
 use Rattle.kr_grammar.specs.Made.{the_primitive, the_unary, the_step_before, the_step_behind, assigned}
 use Rattle.kr_grammar.specs.Grammar.{at}

@@ -19,7 +19,7 @@ use Rattle.kr_grammar.specs.declared.goal.Make.TheVariants as makes
 use Rattle.kr_grammar.specs.declared.goal.Symbol.{Symbol}
 use Rattle.kr_grammar.specs.declared.goal.Symbol.TheVariants.{Keep, Want, Build}
 use Rattle.kr_grammar.specs.Terminals.{terminal_of}
-use Rattle.kr_grammar.specs.Words.{binary_of, level}
+use Rattle.kr_grammar.specs.TokenMeanings.{binary_of, level}
 use Rattle.kr_grammar.specs.Values.{Item, mark, word, pair, part, member, owner, tag, is_name}
 use Rattle.kr_grammar.specs.Made.{made, compared, the_binary}
 use Rattle.kr_grammar.specs.Machine.{ahead, rule, starts_unary, starts_unsigned, ends_expression, level_of, infix_body, operators_rule, Runs, want}
@@ -34,6 +34,7 @@ suffixes_end terminals.Literal q e = cc
 suffixes_end terminals.LeftParenthesis q e = cc
 suffixes_end terminals.New q e = cc
 suffixes_end terminals.Super q e = cc
+suffixes_end terminals.Old q e = cc
 suffixes_end terminals.Complement q e = cc
 suffixes_end _ q e = refl
 
@@ -45,6 +46,7 @@ operand_primary terminals.Literal e = e
 operand_primary terminals.LeftParenthesis e = e
 operand_primary terminals.New e = e
 operand_primary terminals.Super e = e
+operand_primary terminals.Old e = e
 operand_primary terminals.Complement e = e
 operand_primary _ e = refl
 
@@ -166,6 +168,7 @@ primary_starts ss vs ws i d = go (ahead i) (opens d)
     go terminals.Identifier x = refl
     go terminals.LeftParenthesis x = refl
     go terminals.Super x = refl
+    go terminals.Old x = refl
     go terminals.New x = refl
     go _ x = absurd x
 

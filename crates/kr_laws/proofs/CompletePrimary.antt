@@ -48,6 +48,7 @@ abbrev pub is_lead : Terminal → Bool
 is_lead terminals.Literal = true
 is_lead terminals.Identifier = true
 is_lead terminals.Super = true
+is_lead terminals.Old = true
 is_lead terminals.New = true
 is_lead _ = false
 
@@ -56,6 +57,7 @@ enter false k h ss vs ws i e d = step goals.Primary k ss vs ws i e d
 enter true terminals.Literal h ss vs ws i e d = step goals.Unsigned terminals.Literal ss vs ws i e (step goals.Primary terminals.Literal (Want goals.Postfixes ∷ ss) vs ws i e d)
 enter true terminals.Identifier h ss vs ws i e d = step goals.Unsigned terminals.Identifier ss vs ws i e (step goals.Primary terminals.Identifier (Want goals.Postfixes ∷ ss) vs ws i e d)
 enter true terminals.Super h ss vs ws i e d = step goals.Unsigned terminals.Super ss vs ws i e (step goals.Primary terminals.Super (Want goals.Postfixes ∷ ss) vs ws i e d)
+enter true terminals.Old h ss vs ws i e d = step goals.Unsigned terminals.Old ss vs ws i e (step goals.Primary terminals.Old (Want goals.Postfixes ∷ ss) vs ws i e d)
 enter true terminals.New h ss vs ws i e d = step goals.Unsigned terminals.New ss vs ws i e (step goals.Primary terminals.New (Want goals.Postfixes ∷ ss) vs ws i e d)
 enter true k h ss vs ws i e d = cc
 
@@ -112,6 +114,14 @@ super_claim i r t s d a b c ks kd ka kb args kc = record {
       (keep s ks (take d kd (name a ka (take b kb
       (arguments args kc (Take terminals.RightParenthesis ∷ Build makes.SuperCall ∷ Want goals.Suffixes ∷ tail w ss) (word a.place a.text ∷ mark s.kind s.place ∷ vs) ws (λ p f. take c kc (build k)))))));
   led = λ x g ss ns ts vs ws ctx k bare z. absurd (let y : terminals.Super ≡ terminals.Identifier = differ (terminal_of s.kind) terminals.Super terminals.Identifier ks z in cc);
+}
+
+pub old_claim : (i r : List Lexeme) (t : Tree) (a b c : Lexeme) → terminal_of a.kind ≡ terminals.Old → terminal_of b.kind ≡ terminals.LeftParenthesis → ExpressionClaim i t (c ∷ r) → terminal_of c.kind ≡ terminals.RightParenthesis
+    → PrimaryClaim forms.Other (a ∷ b ∷ i) (trees.Old a.place t) r
+old_claim i r t a b c ka kb d kc = record {
+  simple = λ w ss vs ws k. enter w terminals.Old refl ss vs ws (a ∷ b ∷ i) ka
+      (keep a ka (take b kb (d.simple (Take terminals.RightParenthesis ∷ Build makes.Old ∷ Want goals.Suffixes ∷ tail w ss) (mark a.kind a.place ∷ vs) ws (rw kc refl) (λ f. take c kc (build k)))));
+  led = λ x g ss ns ts vs ws ctx k bare z. absurd (let y : terminals.Old ≡ terminals.Identifier = differ (terminal_of a.kind) terminals.Old terminals.Identifier ka z in cc);
 }
 
 -- What goes on from a primary expression.

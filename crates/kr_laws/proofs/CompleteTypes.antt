@@ -16,7 +16,7 @@ use Rattle.kr_grammar.specs.declared.goal.Make.TheVariants as makes
 use Rattle.kr_grammar.specs.declared.goal.Symbol.{Symbol}
 use Rattle.kr_grammar.specs.declared.goal.Symbol.TheVariants.{Take, Keep, Word, Want, Build}
 use Rattle.kr_grammar.specs.Terminals.{terminal_of}
-use Rattle.kr_grammar.specs.Words.{primitive_of}
+use Rattle.kr_grammar.specs.TokenMeanings.{primitive_of}
 use Rattle.kr_grammar.specs.Values.{Item, mark, word, pair, part, tag, is_name}
 use Rattle.kr_grammar.specs.Grammar.{at}
 use Rattle.kr_grammar.specs.Machine.{ahead, rule, starts_unary, starts_unsigned, Runs, take, keep, name, want, build}
@@ -181,6 +181,7 @@ module _ (i r : List Lexeme) (t : Tree) (n : NameClaim i t r) where
           at_kind terminals.LeftParenthesis e z = cc
           at_kind terminals.New e z = cc
           at_kind terminals.Super e z = cc
+          at_kind terminals.Old e z = cc
           at_kind terminals.Complement e z = cc
           at_kind k e z = step goals.ChainGreater k ss (n.value ∷ ns) ws j e y
 
@@ -214,6 +215,7 @@ module _ (i r : List Lexeme) (t : Tree) (n : NameClaim i t r) where
           at_kind terminals.LeftParenthesis e z = step goals.AfterEnclosedName terminals.LeftParenthesis ss (n.value ∷ mark k p ∷ vs) ws j e y
           at_kind terminals.New e z = step goals.AfterEnclosedName terminals.New ss (n.value ∷ mark k p ∷ vs) ws j e y
           at_kind terminals.Super e z = step goals.AfterEnclosedName terminals.Super ss (n.value ∷ mark k p ∷ vs) ws j e y
+          at_kind terminals.Old e z = step goals.AfterEnclosedName terminals.Old ss (n.value ∷ mark k p ∷ vs) ws j e y
           at_kind terminals.Complement e z = step goals.AfterEnclosedName terminals.Complement ss (n.value ∷ mark k p ∷ vs) ws j e y
           at_kind h e z = cc
 

@@ -2,7 +2,7 @@
 use Rattle.std.proofs.Common.{◌≡◌, ℕ, zero, suc, ◌+◌, ◌<◌, ◌≤◌, Bool, true, false, if◌then◌else◌, ltb, List, [], ◌∷◌, ◌++◌, Option, Some, None, refl, arith}
 use Rattle.std.proofs.lemmas.Bool.{ltb-true}
 use Rattle.kr_grammar.specs.declared.terminal.Terminal.{Terminal}
-use Rattle.kr_grammar.specs.declared.terminal.Terminal.TheVariants.{Access, Class, Comma, Complement, Compound, Dot, Else, End, Equal, Extends, Final, Greater, Identifier, Import, LeftBrace, LeftBracket, LeftParenthesis, Less, Literal, Package, Primitive, Question, RightBrace, RightBracket, RightParenthesis, Semicolon, Sign, Step, Super, Instanceof}
+use Rattle.kr_grammar.specs.declared.terminal.Terminal.TheVariants.{Access, Class, Comma, Complement, Compound, Dot, Else, End, Equal, Extends, Final, Greater, Identifier, Import, LeftBrace, LeftBracket, LeftParenthesis, Less, Literal, Package, Primitive, Question, RightBrace, RightBracket, RightParenthesis, Semicolon, Sign, Step, Super, Instanceof, Contract, Requires, Ensures}
 use Rattle.kr_grammar.specs.declared.value.Tag.{Tag}
 use Rattle.kr_grammar.specs.declared.value.Tag.TheVariants as tags
 use Rattle.kr_grammar.specs.declared.goal.Goal.{Goal}
@@ -57,6 +57,7 @@ lighter goals.Extended _ _ = refl
 lighter goals.ClassTail Dot _ = refl
 lighter goals.ClassTail _ _ = refl
 lighter goals.Members RightBrace _ = refl
+lighter goals.Members Contract _ = refl
 lighter goals.Members _ _ = refl
 lighter goals.Member Class tags.Nestable = refl
 lighter goals.Member Primitive tags.Overriding = refl
@@ -65,6 +66,14 @@ lighter goals.Member Class _ = refl
 lighter goals.Member Primitive _ = refl
 lighter goals.Member Identifier _ = refl
 lighter goals.Member _ _ = refl
+lighter goals.Contracts Contract _ = refl
+lighter goals.Contracts _ _ = refl
+lighter goals.Contract Requires _ = refl
+lighter goals.Contract Ensures _ = refl
+lighter goals.Contract _ _ = refl
+lighter goals.MethodAhead Access _ = refl
+lighter goals.MethodAhead _ _ = refl
+lighter goals.ContractedMethod _ _ = refl
 lighter goals.MemberName LeftParenthesis tags.Constructor = refl
 lighter goals.MemberName LeftParenthesis _ = refl
 lighter goals.MemberName _ _ = refl

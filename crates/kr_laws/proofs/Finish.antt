@@ -7,7 +7,7 @@ use Rattle.kr_lex.specs.declared.kind.Kind.TheVariants as kinds
 use Rattle.kr_ast.specs.Tree as trees
 use Rattle.kr_ast.specs.Tree.{Tree}
 use Rattle.kr_grammar.specs.declared.terminal.Terminal.{Terminal}
-use Rattle.kr_grammar.specs.declared.terminal.Terminal.TheVariants.{End, Identifier, Literal, Primitive, Access, Static, Final, Package, Import, Class, Extends, Void, New, Super, Instanceof, Return, Break, Continue, If, Else, While, Do, For, LeftParenthesis, RightParenthesis, LeftBrace, RightBrace, LeftBracket, RightBracket, Semicolon, Comma, Dot, At, Question, Colon, Equal, Compound, Less, Greater, Star, Sign, Step, Complement, Or, And, BitOr, BitXor, BitAnd, Equality, Relation, Shift, Division, Contract, Outside}
+use Rattle.kr_grammar.specs.declared.terminal.Terminal.TheVariants.{End, Identifier, Literal, Primitive, Access, Static, Final, Package, Import, Class, Extends, Void, New, Super, Instanceof, Return, Break, Continue, If, Else, While, Do, For, LeftParenthesis, RightParenthesis, LeftBrace, RightBrace, LeftBracket, RightBracket, Semicolon, Comma, Dot, At, Question, Colon, Equal, Compound, Less, Greater, Star, Sign, Step, Complement, Or, And, BitOr, BitXor, BitAnd, Equality, Relation, Shift, Division, Contract, Requires, Ensures, Old, Outside}
 use Rattle.kr_grammar.specs.declared.value.Form.{Form}
 use Rattle.kr_grammar.specs.declared.value.Form.TheVariants as forms
 use Rattle.kr_grammar.specs.declared.value.Modifiers.{Modifiers}
@@ -26,7 +26,7 @@ use Rattle.kr_grammar.specs.Made.{made, nowhere}
 use Rattle.kr_grammar.specs.Machine.{ahead, rule, spelling, Runs, done, take, keep, name, leaf, spell, want, build}
 use Rattle.kr_grammar.specs.State.{is_inside, closes, ends_primary, ends_type, ends_statement, follows, first_of, first, IsTaken, Good}
 use Rattle.kr_laws.specs.Laws.{Productivity}
-use Rattle.kr_laws.proofs.Behind.{of_closes, of_primary, of_type, end_is, semicolon_is, left_brace_is, right_brace_is, right_parenthesis_is, closes_primary, closes_type, closes_inside, primary_inside, type_inside, statement_inside, inside_apart}
+use Rattle.kr_laws.proofs.Behind.{void_is, of_closes, of_primary, of_type, end_is, semicolon_is, left_brace_is, right_brace_is, right_parenthesis_is, closes_primary, closes_type, closes_inside, primary_inside, type_inside, statement_inside, inside_apart}
 
 -- tokens that take the symbols; what they begin with is known, but for a chain of names that closes
 record Finish (ss : List Symbol) (vs : List Item) : Type 0 where
@@ -91,6 +91,9 @@ kind_of Relation = kinds.LessEqual
 kind_of Shift = kinds.LessLess
 kind_of Division = kinds.Slash
 kind_of Contract = kinds.Contract
+kind_of Requires = kinds.Requires
+kind_of Ensures = kinds.Ensures
+kind_of Old = kinds.Old
 kind_of _ = kinds.Null
 
 is_kind : (k : Terminal) → IsTaken k → terminal_of (kind_of k) ≡ k
@@ -353,6 +356,18 @@ finish_method : (ss : List Symbol) → follows goals.Method (first ss) ≡ true 
 finish_method ss h d vs = by_rule goals.Method (Take LeftParenthesis ∷ Want goals.Parameters ∷ Take RightParenthesis ∷ Take LeftBrace ∷ Want goals.Statements ∷ Take RightBrace ∷ Build makes.Method ∷ []) ss vs refl refl refl
     (finish_take LeftParenthesis _ tt (finish_parameters _ refl (finish_take RightParenthesis _ tt (finish_take LeftBrace _ tt (finish_statements _ refl (finish_take RightBrace _ tt (finish_build makes.Method _ d)))))) vs)
 
+finish_contracts : (ss : List Symbol) → follows goals.Contracts (first ss) ≡ true → Finishes ss → Finishes (Want goals.Contracts ∷ ss)
+finish_contracts ss h d vs = by_equal goals.Contracts (Build makes.Nil ∷ []) ss vs Void (void_is (first ss) h) refl refl refl refl
+    (finish_build makes.Nil _ d vs)
+
+finish_contracted_method : (ss : List Symbol) → follows goals.ContractedMethod (first ss) ≡ true → Finishes ss → Finishes (Want goals.ContractedMethod ∷ ss)
+finish_contracted_method ss h d vs = by_rule goals.ContractedMethod (Take LeftParenthesis ∷ Want goals.Parameters ∷ Take RightParenthesis ∷ Take LeftBrace ∷ Want goals.Statements ∷ Take RightBrace ∷ Build makes.ContractedMethod ∷ []) ss vs refl refl refl
+    (finish_take LeftParenthesis _ tt (finish_parameters _ refl (finish_take RightParenthesis _ tt (finish_take LeftBrace _ tt (finish_statements _ refl (finish_take RightBrace _ tt (finish_build makes.ContractedMethod _ d)))))) vs)
+
+finish_method_ahead : (ss : List Symbol) → follows goals.MethodAhead (first ss) ≡ true → Finishes ss → Finishes (Want goals.MethodAhead ∷ ss)
+finish_method_ahead ss h d vs = by_rule goals.MethodAhead (Keep Void ∷ Build makes.TypeOfMark ∷ Word ∷ Want goals.ContractedMethod ∷ []) ss vs refl refl refl
+    (finish_keep Void _ tt (finish_build makes.TypeOfMark _ (finish_word _ (finish_contracted_method _ h d))) vs)
+
 finish_field_or_method : (ss : List Symbol) → follows goals.FieldOrMethod (first ss) ≡ true → Finishes ss → Finishes (Want goals.FieldOrMethod ∷ ss)
 finish_field_or_method ss h d vs = by_rule goals.FieldOrMethod (Want goals.Initialiser ∷ Build makes.Declarator ∷ Want goals.MoreDeclarators ∷ Take Semicolon ∷ Build makes.Field ∷ []) ss vs refl refl refl
     (finish_initialiser _ refl (finish_build makes.Declarator _ (finish_more_declarators _ refl (finish_take Semicolon _ tt (finish_build makes.Field _ d)))) vs)
@@ -522,6 +537,10 @@ finish_array_length : (ss : List Symbol) → follows goals.ArrayLength (first ss
 finish_array_length ss h d vs = by_rule goals.ArrayLength (Take LeftBracket ∷ Want goals.Expression ∷ Take RightBracket ∷ Build makes.ArrayCreation ∷ []) ss vs refl refl refl
     (finish_take LeftBracket _ tt (finish_expression _ refl (finish_take RightBracket _ tt (finish_build makes.ArrayCreation _ d))) vs)
 
+finish_contract : (ss : List Symbol) → follows goals.Contract (first ss) ≡ true → Finishes ss → Finishes (Want goals.Contract ∷ ss)
+finish_contract ss h d vs = by_rule goals.Contract (Take Requires ∷ Want goals.Expression ∷ Take Semicolon ∷ Build makes.Requires ∷ []) ss vs refl refl refl
+    (finish_take Requires _ tt (finish_expression _ refl (finish_take Semicolon _ tt (finish_build makes.Requires _ d))) vs)
+
 finish_in_parentheses : (ss : List Symbol) → follows goals.InParentheses (first ss) ≡ true → Finishes ss → Finishes (Want goals.InParentheses ∷ ss)
 finish_in_parentheses ss h d vs = by_rule goals.InParentheses (Want goals.Expression ∷ Want goals.Closing ∷ []) ss vs refl refl refl
     (finish_expression _ refl (finish_closing _ h d) vs)
@@ -542,6 +561,10 @@ finish_goal goals.ClassTail ss h d = finish_class_tail ss h d
 finish_goal goals.Members ss h d = finish_members ss h d
 finish_goal goals.Member ss h d = finish_member ss h d
 finish_goal goals.MemberName ss h d = finish_member_name ss h d
+finish_goal goals.Contracts ss h d = finish_contracts ss h d
+finish_goal goals.Contract ss h d = finish_contract ss h d
+finish_goal goals.MethodAhead ss h d = finish_method_ahead ss h d
+finish_goal goals.ContractedMethod ss h d = finish_contracted_method ss h d
 finish_goal goals.Method ss h d = finish_method ss h d
 finish_goal goals.FieldOrMethod ss h d = finish_field_or_method ss h d
 finish_goal goals.Parameters ss h d = finish_parameters ss h d

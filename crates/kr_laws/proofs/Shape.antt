@@ -1,7 +1,7 @@
 -- What stands for a goal is good where the goal was.
 use Rattle.std.proofs.Common.{◌≡◌, ℕ, zero, suc, Bool, true, false, if◌then◌else◌, ltb, List, [], ◌∷◌, ◌++◌, Option, Some, None, refl, arith}
 use Rattle.kr_grammar.specs.declared.terminal.Terminal.{Terminal}
-use Rattle.kr_grammar.specs.declared.terminal.Terminal.TheVariants.{Access, At, Break, Class, Comma, Complement, Compound, Continue, Do, Dot, Else, End, Equal, Extends, Final, For, Greater, Identifier, If, Import, LeftBrace, LeftBracket, LeftParenthesis, Less, Literal, New, Package, Primitive, Question, Return, RightBrace, RightBracket, RightParenthesis, Semicolon, Sign, Star, Static, Step, Super, Void, While, Instanceof, Outside}
+use Rattle.kr_grammar.specs.declared.terminal.Terminal.TheVariants.{Access, At, Break, Class, Comma, Complement, Compound, Continue, Do, Dot, Else, End, Equal, Extends, Final, For, Greater, Identifier, If, Import, LeftBrace, LeftBracket, LeftParenthesis, Less, Literal, New, Package, Primitive, Question, Return, RightBrace, RightBracket, RightParenthesis, Semicolon, Sign, Star, Static, Step, Super, Void, While, Instanceof, Outside, Contract, Requires, Ensures, Old}
 use Rattle.kr_grammar.specs.declared.value.Tag.{Tag}
 use Rattle.kr_grammar.specs.declared.value.Tag.TheVariants as tags
 use Rattle.kr_grammar.specs.declared.goal.Goal.{Goal}
@@ -11,7 +11,7 @@ use Rattle.kr_grammar.specs.declared.goal.Symbol.TheVariants.{Want}
 use Rattle.kr_grammar.specs.Machine.{ends_expression, level_of, infix_body, operators_rule, rule}
 use Rattle.kr_grammar.specs.State.{first, IsTaken, Good}
 use Rattle.kr_laws.specs.Laws.{Preservation}
-use Rattle.kr_laws.proofs.Behind.{end_inside, right_brace_inside, right_brace_statement, right_parenthesis_inside, right_parenthesis_closes, semicolon_closes, closes_primary, closes_type, primary_inside}
+use Rattle.kr_laws.proofs.Behind.{void_inside, end_inside, right_brace_inside, right_brace_statement, right_parenthesis_inside, right_parenthesis_closes, semicolon_closes, closes_primary, closes_type, primary_inside}
 
 abbrev GoodOf : Option (List Symbol) → List Symbol → Type 0
 GoodOf None ss = Unit {0}
@@ -64,6 +64,7 @@ good goals.ClassTail Dot _ ss h = (tt, h.1)
 good goals.ClassTail _ _ ss h = h.1
 good goals.Members RightBrace _ ss h = h.1
 good goals.Members Semicolon _ ss h = (tt, h)
+good goals.Members Contract _ ss h = (tt, (refl, (refl, (right_brace_inside (first ss) h.0, h))))
 good goals.Members _ _ ss h = (right_brace_inside (first ss) h.0, h)
 good goals.Member Access _ ss h = (tt, h)
 good goals.Member Static _ ss h = (tt, h)
@@ -76,6 +77,20 @@ good goals.Member Identifier tags.Overriding ss h = (refl, h)
 good goals.Member Primitive _ ss h = (refl, h)
 good goals.Member Identifier _ ss h = h
 good goals.Member _ _ _ _ = tt
+good goals.Contracts Contract _ ss h = (tt, (void_inside (first ss) h.0, h))
+good goals.Contracts _ _ ss h = h.1
+good goals.Contract Requires _ ss h = (tt, (refl, (tt, h.1)))
+good goals.Contract Ensures _ ss h = (tt, (refl, (tt, h.1)))
+good goals.Contract _ _ _ _ = tt
+good goals.MethodAhead Access _ ss h = (tt, h)
+good goals.MethodAhead Static _ ss h = (tt, h)
+good goals.MethodAhead Final _ ss h = (tt, h)
+good goals.MethodAhead At _ ss h = (tt, h)
+good goals.MethodAhead Void _ ss h = (tt, h)
+good goals.MethodAhead Primitive _ ss h = (refl, h)
+good goals.MethodAhead Identifier _ ss h = (refl, h)
+good goals.MethodAhead _ _ _ _ = tt
+good goals.ContractedMethod _ _ ss h = (tt, (refl, (tt, (tt, (refl, (tt, h.1))))))
 good goals.MemberName LeftParenthesis tags.Constructor ss h = (tt, (refl, (tt, (tt, (refl, (tt, h.1))))))
 good goals.MemberName Dot _ ss h = (tt, (refl, h))
 good goals.MemberName Less _ ss h = (refl, h)
@@ -168,6 +183,7 @@ good goals.Primary Literal _ ss h = h
 good goals.Primary Identifier _ ss h = h
 good goals.Primary LeftParenthesis _ ss h = (tt, (refl, (tt, h)))
 good goals.Primary Super _ ss h = (tt, (tt, (tt, (refl, (tt, h)))))
+good goals.Primary Old _ ss h = (tt, (tt, (refl, (tt, h))))
 good goals.Primary New _ ss h = (tt, (primary_inside (first ss) h.0, h))
 good goals.Primary _ _ _ _ = tt
 good goals.PrimaryName LeftParenthesis _ ss h = (tt, (refl, (tt, h)))
@@ -192,6 +208,7 @@ good goals.Suffixes Literal _ _ _ = tt
 good goals.Suffixes LeftParenthesis _ _ _ = tt
 good goals.Suffixes New _ _ _ = tt
 good goals.Suffixes Super _ _ _ = tt
+good goals.Suffixes Old _ _ _ = tt
 good goals.Suffixes Complement _ _ _ = tt
 good goals.Suffixes _ _ ss h = h.1
 good goals.Selected LeftParenthesis _ ss h = (tt, (refl, (tt, h)))
@@ -236,6 +253,7 @@ good goals.AfterEnclosedName Literal _ ss h = h
 good goals.AfterEnclosedName LeftParenthesis _ ss h = h
 good goals.AfterEnclosedName New _ ss h = h
 good goals.AfterEnclosedName Super _ ss h = h
+good goals.AfterEnclosedName Old _ ss h = h
 good goals.AfterEnclosedName Complement _ ss h = h
 good goals.AfterEnclosedName _ _ ss h = (closes_primary (first ss) h.0, h)
 good goals.AfterChain _ tags.Type ss h = (tt, h)
@@ -259,6 +277,7 @@ good goals.ChainGreater Literal _ ss h = (h.0, h)
 good goals.ChainGreater LeftParenthesis _ ss h = (h.0, h)
 good goals.ChainGreater New _ ss h = (h.0, h)
 good goals.ChainGreater Super _ ss h = (h.0, h)
+good goals.ChainGreater Old _ ss h = (h.0, h)
 good goals.ChainGreater Complement _ ss h = (h.0, h)
 good goals.ChainGreater _ _ ss h = h
 good goals.ChainClosing LeftBracket _ ss h = (tt, (tt, h))

@@ -28,7 +28,7 @@ use Rattle.kr_laws.proofs.SoundTypes.{means_type, means_type_name, means_type_ta
 use Rattle.kr_laws.proofs.SoundEnclosed.{means_closing, means_in_parentheses, means_primitive_cast, means_enclosed_name, means_enclosed_bracket, means_enclosed_primary, means_after_enclosed_name, means_after_chain}
 use Rattle.kr_laws.proofs.SoundTested.{means_chain_argument, means_chain_name, means_chain_bracket, means_chain_primary, means_chain_greater, means_chain_closing, means_tested, means_tested_name, means_after_tested}
 use Rattle.kr_laws.proofs.SoundStatements.{means_initialiser, means_more_declarators, means_after_local_name, means_item, means_item_name, means_item_bracket, means_statement_expression, means_after_statement_primary, means_block_statement, means_statements, means_statement, means_optional_expression, means_else_part, means_for_initial, means_more_initial, means_for_updates, means_more_updates}
-use Rattle.kr_laws.proofs.SoundMembers.{means_parameters, means_parameter, means_more_parameters, means_constructor_body, means_after_super, means_method, means_field_or_method, means_member_name, means_member, means_members, means_class_ahead, means_classes, means_dotted, means_imported, means_imports, means_file}
+use Rattle.kr_laws.proofs.SoundMembers.{means_parameters, means_parameter, means_more_parameters, means_constructor_body, means_after_super, means_contracted_method, means_contract, means_contracts, means_method_ahead, means_method, means_field_or_method, means_member_name, means_member, means_members, means_class_ahead, means_classes, means_dotted, means_imported, means_imports, means_file}
 
 means : (g : Goal) (vs : List Item) (ss : List Symbol) (i : List Lexeme) (ws : List Item) → DenOf (rule g (ahead i) (tag vs)) ss vs i ws → Den (Want g ∷ ss) vs i ws
 means goals.File vs ss i ws d = means_file (ahead i) (tag vs) vs ss i ws d
@@ -42,6 +42,10 @@ means goals.ClassTail vs ss i ws d = means_class_tail (ahead i) (tag vs) vs ss i
 means goals.Members vs ss i ws d = means_members (ahead i) (tag vs) vs ss i ws d
 means goals.Member vs ss i ws d = means_member (ahead i) (tag vs) vs refl ss i ws d
 means goals.MemberName vs ss i ws d = means_member_name (ahead i) (tag vs) vs refl ss i ws d
+means goals.Contracts vs ss i ws d = means_contracts (ahead i) (tag vs) vs ss i ws d
+means goals.Contract vs ss i ws d = means_contract (ahead i) (tag vs) vs ss i ws d
+means goals.MethodAhead vs ss i ws d = means_method_ahead (ahead i) (tag vs) vs ss i ws d
+means goals.ContractedMethod vs ss i ws d = means_contracted_method (ahead i) (tag vs) vs ss i ws d
 means goals.Method vs ss i ws d = means_method (ahead i) (tag vs) vs ss i ws d
 means goals.FieldOrMethod vs ss i ws d = means_field_or_method (ahead i) (tag vs) vs ss i ws d
 means goals.Parameters vs ss i ws d = means_parameters (ahead i) (tag vs) vs ss i ws d

@@ -21,7 +21,7 @@ use Rattle.kr_grammar.specs.Grammar as grammar
 use Rattle.kr_grammar.specs.Grammar.{Class, Der, Modified, at, ClassName, ReferenceType, AnyType, Maybe, Many, Several}
 use Rattle.kr_laws.proofs.SoundMeanings.{Named, NamedBefore, place_of, class_of, operand_of, Tight, Before, Chained, Behind, argument, EndingBefore, Den, Goes}
 use Rattle.kr_laws.proofs.SoundSteps.{from, named_at, named_class, named_operand}
-use Rattle.kr_grammar.specs.Words.{binary_of, level}
+use Rattle.kr_grammar.specs.TokenMeanings.{binary_of, level}
 use Rattle.kr_laws.proofs.SoundTypes.{generic_of}
 
 -- what is known of a chain may be told in other words

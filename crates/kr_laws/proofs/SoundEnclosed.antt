@@ -174,7 +174,9 @@ means_after_enclosed_name terminals.LeftParenthesis q (pair w o n ∷ mark x p �
 means_after_enclosed_name terminals.New q (word w n ∷ mark x p ∷ vs) ss i ws d = cast_name (word w n) x p vs ss i ws d
 means_after_enclosed_name terminals.New q (pair w o n ∷ mark x p ∷ vs) ss i ws d = cast_name (pair w o n) x p vs ss i ws d
 means_after_enclosed_name terminals.Super q (word w n ∷ mark x p ∷ vs) ss i ws d = cast_name (word w n) x p vs ss i ws d
+means_after_enclosed_name terminals.Old q (word w n ∷ mark x p ∷ vs) ss i ws d = cast_name (word w n) x p vs ss i ws d
 means_after_enclosed_name terminals.Super q (pair w o n ∷ mark x p ∷ vs) ss i ws d = cast_name (pair w o n) x p vs ss i ws d
+means_after_enclosed_name terminals.Old q (pair w o n ∷ mark x p ∷ vs) ss i ws d = cast_name (pair w o n) x p vs ss i ws d
 means_after_enclosed_name terminals.Complement q (word w n ∷ mark x p ∷ vs) ss i ws d = cast_name (word w n) x p vs ss i ws d
 means_after_enclosed_name terminals.Complement q (pair w o n ∷ mark x p ∷ vs) ss i ws d = cast_name (pair w o n) x p vs ss i ws d
 means_after_enclosed_name k q (word w n ∷ mark x p ∷ vs) ss i ws d = enclosed_alone (word w n) p vs ss ws i d

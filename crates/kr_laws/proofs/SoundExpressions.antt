@@ -18,7 +18,7 @@ use Rattle.kr_grammar.specs.declared.goal.Make.TheVariants as makes
 use Rattle.kr_grammar.specs.declared.goal.Symbol.{Symbol}
 use Rattle.kr_grammar.specs.declared.goal.Symbol.TheVariants.{Take, Keep, Want, Build}
 use Rattle.kr_grammar.specs.Values.{Item, mark, word, pair, part, tag}
-use Rattle.kr_grammar.specs.Words.{primitive_of}
+use Rattle.kr_grammar.specs.TokenMeanings.{primitive_of}
 use Rattle.kr_grammar.specs.Made.{nowhere, assigned, the_primitive, the_unary, the_step_before, the_step_behind, the_binary}
 use Rattle.kr_grammar.specs.Grammar as grammar
 use Rattle.kr_grammar.specs.Grammar.{Class, Der, Modified, at, ClassName, ReferenceType, AnyType, Maybe, Many, Several}
@@ -46,6 +46,8 @@ means_primary terminals.LeftParenthesis q vs ss i ws (a, m, e, ka, (p, f, t, l, 
     (p1, g, u, r, (w ∙ begins e, h i (begins e) (from e (grammar.parentheses a b ka (onto y x) kb))), d)
 means_primary terminals.Super q vs ss i ws (a, m, e, ka, (b, l, f, kb, (c, s, g, kc, (o, s1, y, ko, (p, g1, u, s2, v, (c2, s3, z, kz, (p1, g2, t, r, (w, h), d))))))) =
     (p1, g2, t, r, (w ∙ begins e, h i (begins e) (from (four e f g y) (grammar.super_call a b c o c2 ka kb kc ko (onto z v) kz))), d)
+means_primary terminals.Old q vs ss i ws (a, m, e, ka, (b, l, f, kb, (p, g1, u, s, (z, v), (c, s2, y, kc, (p1, g2, t, r, (w, h), d))))) =
+    (p1, g2, t, r, (w ∙ begins e, h i (begins e) (from (both e f) (grammar.old_value a b c ka kb (onto y v) kc))), d)
 means_primary terminals.New q vs ss i ws (a, m, e, ka, (p, f, t, l, (z, x), (p1, g, u, r, (w, h), d))) =
     (p1, g, u, r, (w ∙ (z ∙ begins e), h i (z ∙ begins e) (x i m (a, e, ka, refl) refl)), d)
 means_primary _ q vs ss i ws d = absurd d
@@ -77,6 +79,7 @@ means_suffixes terminals.Literal q (part p f t ∷ vs) e ss i ws d = absurd d
 means_suffixes terminals.LeftParenthesis q (part p f t ∷ vs) e ss i ws d = absurd d
 means_suffixes terminals.New q (part p f t ∷ vs) e ss i ws d = absurd d
 means_suffixes terminals.Super q (part p f t ∷ vs) e ss i ws d = absurd d
+means_suffixes terminals.Old q (part p f t ∷ vs) e ss i ws d = absurd d
 means_suffixes terminals.Complement q (part p f t ∷ vs) e ss i ws d = absurd d
 means_suffixes k q (part p f t ∷ vs) e ss i ws d = (p, f, t, i, (refl, λ j w s. s), d)
 means_suffixes k q _ e ss i ws d = tt

@@ -10,10 +10,10 @@ use Rattle.kr_ast.specs.Tree.{Tree}
 use Rattle.kr_grammar.specs.declared.terminal.Terminal.{Terminal}
 use Rattle.kr_grammar.specs.declared.terminal.Terminal.TheVariants as terminals
 use Rattle.kr_grammar.specs.declared.value.Form.TheVariants as forms
-use Rattle.kr_grammar.specs.Words.{primitive_of, sign_of, step_before, step_behind, complement_of, binary_of, level, compound_of, is_access}
+use Rattle.kr_grammar.specs.TokenMeanings.{primitive_of, sign_of, step_before, step_behind, complement_of, binary_of, level, compound_of, is_access}
 use Rattle.kr_grammar.specs.Terminals.{terminal_of}
 use Rattle.kr_grammar.specs.Made.{the_primitive, the_unary, the_step_before, the_step_behind, the_binary, the_compound, assigned, literal_of}
-use Rattle.kr_grammar.specs.Grammar.{Der, Primary, number, truth, falsity, null, this}
+use Rattle.kr_grammar.specs.Grammar.{Der, Primary, number, truth, falsity, result_value, null, this}
 
 -- an operator between two operands, of this level
 abbrev pub IsBinary : ℕ → Kind → Type 0
@@ -81,7 +81,10 @@ Kinds terminals.Equality x = IsBinary 6 x
 Kinds terminals.Relation x = IsBinary 7 x
 Kinds terminals.Shift x = IsBinary 8 x
 Kinds terminals.Division x = IsBinary 10 x
-Kinds terminals.Contract x = Unit {0}
+Kinds terminals.Contract x = x ≡ kinds.Contract
+Kinds terminals.Requires x = x ≡ kinds.Requires
+Kinds terminals.Ensures x = x ≡ kinds.Ensures
+Kinds terminals.Old x = x ≡ kinds.Old
 Kinds terminals.Outside x = Unit {0}
 
 kinds_are : (x : Kind) → Kinds (terminal_of x) x
@@ -140,11 +143,11 @@ kinds_are kinds.Throws = tt
 kinds_are kinds.Transient = tt
 kinds_are kinds.Try = tt
 kinds_are kinds.Volatile = tt
-kinds_are kinds.Contract = tt
-kinds_are kinds.Requires = tt
-kinds_are kinds.Ensures = tt
-kinds_are kinds.Result = tt
-kinds_are kinds.Old = tt
+kinds_are kinds.Contract = refl
+kinds_are kinds.Requires = refl
+kinds_are kinds.Ensures = refl
+kinds_are kinds.Result = λ a r e. result_value a e
+kinds_are kinds.Old = refl
 kinds_are kinds.LeftParenthesis = refl
 kinds_are kinds.RightParenthesis = refl
 kinds_are kinds.LeftBrace = refl

@@ -19,7 +19,7 @@ use Rattle.kr_grammar.specs.declared.goal.Symbol.TheVariants.{Take, Keep, Word, 
 use Rattle.kr_grammar.specs.Values.{Item, mark, word, pair, part, member, owner, no_modifiers, is_name}
 use Rattle.kr_grammar.specs.Made.{made, literal, the_primitive}
 use Rattle.kr_grammar.specs.Machine.{ahead, rule, spelling}
-use Rattle.kr_grammar.specs.Words.{primitive_of}
+use Rattle.kr_grammar.specs.TokenMeanings.{primitive_of}
 use Rattle.kr_grammar.specs.Grammar as grammar
 use Rattle.kr_grammar.specs.Grammar.{Class, Der, Modified, Heading, at, EndsOpen, ClassName, ReferenceType, AnyType, Maybe, Many, Several}
 use Rattle.kr_laws.proofs.SoundKinds.{Kinds}
@@ -190,6 +190,12 @@ Meaning goals.Members (member b m ∷ owner c p n ∷ vs) i K =
 Meaning goals.Member (member b m ∷ owner c p n ∷ vs) i K = Gives (λ q f t r. (h : List Lexeme) → Modified h m i → Der (grammar.Member n b) h t r) (owner c p n ∷ vs) K
 Meaning goals.MemberName (word p n ∷ member b m ∷ owner c q o ∷ vs) i K =
     Gives (λ w f t r. (h j : List Lexeme) → Modified h m j → m.overrides ≡ false → Named (word p n) j i → Der (grammar.Member o b) h t r) (owner c q o ∷ vs) K
+Meaning goals.Contracts vs i K = Gives (λ p f t r. Der (Many grammar.Contract) i t r) vs K
+Meaning goals.Contract (mark x p ∷ vs) i K = Gives (λ q f t r. (j : List Lexeme) → Token kinds.Contract p j i → Der grammar.Contract j t r) vs K
+Meaning goals.MethodAhead (member b m ∷ part e g v ∷ vs) i K =
+    Gives (λ q f t r. (o : List ℕ) (x : Bool) (c h : List Lexeme) → Der (Many grammar.Contract) c v h → Modified h m i → Der (grammar.Member o x) c t r) vs K
+Meaning goals.ContractedMethod (word p n ∷ part q f t ∷ member b m ∷ part d e v ∷ vs) i K =
+    Gives (λ w g u r. (o : List ℕ) (x : Bool) (c h j l : List Lexeme) → Der (Many grammar.Contract) c v h → Modified h m j → Der grammar.ResultType j t l → Named (word p n) l i → Der (grammar.Member o x) c u r) vs K
 Meaning goals.Method (word p n ∷ part q f t ∷ member b m ∷ vs) i K =
     Gives (λ w g u r. (o : List ℕ) (x : Bool) (h j l : List Lexeme) → Modified h m j → Der grammar.ResultType j t l → Named (word p n) l i → Der (grammar.Member o x) h u r) vs K
 Meaning goals.FieldOrMethod (word p n ∷ part q f t ∷ member b m ∷ vs) i K =

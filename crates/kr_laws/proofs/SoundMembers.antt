@@ -80,19 +80,51 @@ means_after_super _ q (mark x p ∷ vs) ss i ws d = absurd d
 means_after_super k q _ ss i ws d = tt
 
 -- members
-method_of : (o : List ℕ) (x : Bool) (w : Place) (n : List ℕ) (m : Modifiers) (h j l i l0 l1 l2 l3 l4 r : List Lexeme) (t u s : Tree) (a c d e : Lexeme) → Modified h m j
+method_of : (o : List ℕ) (x : Bool) (w : Place) (n : List ℕ) (m : Modifiers) (k h j l i l0 l1 l2 l3 l4 r : List Lexeme) (v t u s : Tree) (a c d e : Lexeme) → Der (Many grammar.Contract) k v h → Modified h m j
     → Der grammar.ResultType j t l → Named (word w n) l i
     → i ≡ a ∷ l0 → a.kind ≡ kinds.LeftParenthesis → Der (Maybe (Several grammar.Parameter)) l0 u l1 → l1 ≡ c ∷ l2 → c.kind ≡ kinds.RightParenthesis → l2 ≡ d ∷ l3
     → d.kind ≡ kinds.LeftBrace → Der (Many grammar.BlockStatement) l3 s l4 → l4 ≡ e ∷ r → e.kind ≡ kinds.RightBrace
-    → Der (grammar.Member o x) h (trees.Method w m.is_static n (trees.Signature w t u trees.Nil) s) r
-method_of o x w n m h j l i l0 l1 l2 l3 l4 r t u s a c d e mx dt (g, eq, kg, zw, yn) y ka dx y2 kc y3 kd ds y4 ke =
-    rw (zw, yn) (grammar.method g a c d e mx (onto (both eq y) dt) kg ka (onto (both y2 y3) dx) kc kd (onto y4 ds) ke)
+    → Der (grammar.Member o x) k (trees.Method w m.is_static n (trees.Signature w t u v) s) r
+method_of o x w n m k h j l i l0 l1 l2 l3 l4 r v t u s a c d e ks mx dt (g, eq, kg, zw, yn) y ka dx y2 kc y3 kd ds y4 ke =
+    rw (zw, yn) (grammar.method g a c d e ks mx (onto (both eq y) dt) kg ka (onto (both y2 y3) dx) kc kd (onto y4 ds) ke)
 
 pub means_method : (k : Terminal) (q : Tag) (vs : List Item) → Holds goals.Method k q vs
 means_method terminals.LeftParenthesis q (word w n ∷ part p f t ∷ member b m ∷ vs) ss i ws (a, l, y, ka, (p1, f1, u, l1, dx, (c, l2, y2, kc, (g, l3, y3, kg, (p2, f2, s, l4, x2, (e, r, y4, ke, d)))))) =
-    (w, forms.Other, trees.Method w m.is_static n (trees.Signature w t u trees.Nil) s, r, λ o x h j l0 mx dt nm. method_of o x w n m h j l0 i l l1 l2 l3 l4 r t u s a c g e mx dt nm y ka dx y2 kc y3 kg x2 y4 ke, d)
+    (w, forms.Other, trees.Method w m.is_static n (trees.Signature w t u trees.Nil) s, r, λ o x h j l0 mx dt nm. method_of o x w n m h h j l0 i l l1 l2 l3 l4 r trees.Nil t u s a c g e grammar.end mx dt nm y ka dx y2 kc y3 kg x2 y4 ke, d)
 means_method _ q (word w n ∷ part p f t ∷ member b m ∷ vs) ss i ws d = absurd d
 means_method k q _ ss i ws d = tt
+
+-- methods with contracts
+pub means_contracted_method : (k : Terminal) (q : Tag) (vs : List Item) → Holds goals.ContractedMethod k q vs
+means_contracted_method k q (word w n ∷ part p f t ∷ member b m ∷ part p0 f0 v ∷ vs) ss i ws d =
+    go d
+  where
+    go : Den (Take terminals.LeftParenthesis ∷ Want goals.Parameters ∷ Take terminals.RightParenthesis ∷ Take terminals.LeftBrace ∷ Want goals.Statements ∷ Take terminals.RightBrace ∷ Build makes.ContractedMethod ∷ ss) (word w n ∷ part p f t ∷ member b m ∷ part p0 f0 v ∷ vs) i ws
+        → Den (Want goals.ContractedMethod ∷ ss) (word w n ∷ part p f t ∷ member b m ∷ part p0 f0 v ∷ vs) i ws
+    go (a, l, y, ka, (p1, f1, u, l1, dx, (c, l2, y2, kc, (g, l3, y3, kg, (p2, f2, s, l4, x2, (e, r, y4, ke, d)))))) =
+        (w, forms.Other, trees.Method w m.is_static n (trees.Signature w t u v) s, r, λ o x s0 h j l0 ks mx dt nm. method_of o x w n m s0 h j l0 i l l1 l2 l3 l4 r v t u s a c g e ks mx dt nm y ka dx y2 kc y3 kg x2 y4 ke, d)
+means_contracted_method k q _ ss i ws d = tt
+
+precondition_of : (p : Place) (j i l l1 r : List Lexeme) (t : Tree) (a c : Lexeme) → Token kinds.Contract p j i → i ≡ a ∷ l → a.kind ≡ kinds.Requires
+    → Der grammar.Expression l t l1 → l1 ≡ c ∷ r → c.kind ≡ kinds.Semicolon → Der grammar.Contract j (trees.Requires p t) r
+precondition_of p j i l l1 r t a c (g, e, kg, z) y ka dx y2 kc = rw z (from (both e y) (grammar.precondition g a c kg ka (onto y2 dx) kc))
+
+postcondition_of : (p : Place) (j i l l1 r : List Lexeme) (t : Tree) (a c : Lexeme) → Token kinds.Contract p j i → i ≡ a ∷ l → a.kind ≡ kinds.Ensures
+    → Der grammar.Expression l t l1 → l1 ≡ c ∷ r → c.kind ≡ kinds.Semicolon → Der grammar.Contract j (trees.Ensures p t) r
+postcondition_of p j i l l1 r t a c (g, e, kg, z) y ka dx y2 kc = rw z (from (both e y) (grammar.postcondition g a c kg ka (onto y2 dx) kc))
+
+pub means_contract : (k : Terminal) (q : Tag) (vs : List Item) → Holds goals.Contract k q vs
+means_contract terminals.Requires q (mark x p ∷ vs) ss i ws (a, l, y, ka, (p1, f1, t, l1, (z, dx), (c, r, y2, kc, d))) =
+    (p, forms.Other, trees.Requires p t, r, λ j o. precondition_of p j i l l1 r t a c o y ka dx y2 kc, d)
+means_contract terminals.Ensures q (mark x p ∷ vs) ss i ws (a, l, y, ka, (p1, f1, t, l1, (z, dx), (c, r, y2, kc, d))) =
+    (p, forms.Other, trees.Ensures p t, r, λ j o. postcondition_of p j i l l1 r t a c o y ka dx y2 kc, d)
+means_contract _ q (mark x p ∷ vs) ss i ws d = absurd d
+means_contract k q _ ss i ws d = tt
+
+pub means_contracts : (k : Terminal) (q : Tag) (vs : List Item) → Holds goals.Contracts k q vs
+means_contracts terminals.Contract q vs ss i ws (a, l, y, ka, (p1, f1, t, l1, h, (p2, f2, u, r, dx, d))) =
+    (p1, forms.Other, trees.Cons t u, r, grammar.next (h i (a, y, ka, refl)) dx, d)
+means_contracts k q vs ss i ws d = (nowhere, forms.Other, trees.Nil, i, grammar.end, d)
 
 field_of : (o : List ℕ) (x : Bool) (p : Place) (m : Modifiers) (h j l l2 r : List Lexeme) (t v : Tree) (a : Lexeme) → Modified h m j → m.overrides ≡ false → p ≡ at j
     → Der AnyType j t l → Der (Several grammar.Declarator) l v l2 → l2 ≡ a ∷ r → a.kind ≡ kinds.Semicolon
@@ -204,6 +236,29 @@ means_member terminals.Identifier q (member b m ∷ owner c p n ∷ vs) e ss i w
 means_member _ q (member b m ∷ owner c p n ∷ vs) e ss i ws d = absurd d
 means_member k q _ e ss i ws d = tt
 
+pub means_method_ahead : (k : Terminal) (q : Tag) (vs : List Item) → Holds goals.MethodAhead k q vs
+means_method_ahead terminals.Access q (member b m ∷ part e g v ∷ vs) ss i ws (a, l, y, ka, (p1, f, t, r, h, d)) =
+    (p1, f, t, r, λ o x c s ks mx. h o x c s ks (grammar.access a (modified_onto y mx) ka), d)
+means_method_ahead terminals.Static q (member b m ∷ part e g v ∷ vs) ss i ws (a, l, y, ka, (p1, f, t, r, h, d)) =
+    (p1, f, t, r, λ o x c s ks mx. h o x c s ks (grammar.static a (modified_onto y mx) ka), d)
+means_method_ahead terminals.Final q (member b m ∷ part e g v ∷ vs) ss i ws (a, l, y, ka, (p1, f, t, r, h, d)) =
+    (p1, f, t, r, λ o x c s ks mx. h o x c s ks (grammar.final a (modified_onto y mx) ka), d)
+means_method_ahead terminals.At q (member b m ∷ part e g v ∷ vs) ss i ws (a, l, y, ka, (a2, l2, y2, k2, tx, (p1, f, t, r, h, d))) =
+    (p1, f, t, r, λ o x c s ks mx. h o x c s ks (grammar.overriding a a2 (modified_onto (both y y2) mx) ka k2 tx), d)
+means_method_ahead terminals.Void q (member b m ∷ part e g v ∷ vs) ss i ws (a, l, y, ka, (b2, l2, y2, kb, (p1, f, u, r, h, d))) =
+    (p1, f, u, r, λ o x c s ks mx. h o x c s i l ks mx (void_of a.kind a.place i l ka (from y (grammar.void a ka))) (b2, y2, kb, refl, refl), d)
+means_method_ahead terminals.Primitive q (member b m ∷ part e g v ∷ vs) ss i ws (p1, f, t, l, (z, x), (b2, l2, y2, kb, (p2, f2, u, r, h, d))) =
+    (p2, f2, u, r, λ o n c s ks mx. h o n c s i l ks mx (grammar.result x) (b2, y2, kb, refl, refl), d)
+means_method_ahead terminals.Identifier q (member b m ∷ part e g v ∷ vs) ss i ws (p1, f, t, l, (z, x), (b2, l2, y2, kb, (p2, f2, u, r, h, d))) =
+    (p2, f2, u, r, λ o n c s ks mx. h o n c s i l ks mx (grammar.result x) (b2, y2, kb, refl, refl), d)
+means_method_ahead _ q (member b m ∷ part e g v ∷ vs) ss i ws d = absurd d
+means_method_ahead k q _ ss i ws d = tt
+
+-- a method with contracts, and the members behind it
+contracted_of : (n : List ℕ) (c : Bool) (m : Modifiers) (i h l r : List Lexeme) (v t u : Tree) → m ≡ no_modifiers → Der (Many grammar.Contract) i v h
+    → ((o : List ℕ) (x : Bool) (s j : List Lexeme) → Der (Many grammar.Contract) s v j → Modified j m h → Der (grammar.Member o x) s t l) → Der (grammar.Members n c) l u r → Der (grammar.Members n c) i (trees.Cons t u) r
+contracted_of n c m i h l r v t u z ks g x = grammar.member (g n c i h ks (subst (λ f. Modified h f h) (sym z) grammar.nothing)) x
+
 member_of : (n : List ℕ) (b c : Bool) (m : Modifiers) (i l r : List Lexeme) (t u : Tree) → m ≡ no_modifiers → b ≡ c
     → ((s : List Lexeme) → Modified s m i → Der (grammar.Member n b) s t l) → Der (grammar.Members n c) l u r → Der (grammar.Members n c) i (trees.Cons t u) r
 member_of n b c m i l r t u z y h x = grammar.member (subst (λ v. Der (grammar.Member n v) i t l) y (h i (subst (λ f. Modified i f i) (sym z) grammar.nothing))) x
@@ -211,6 +266,8 @@ member_of n b c m i l r t u z y h x = grammar.member (subst (λ v. Der (grammar.
 pub means_members : (k : Terminal) (q : Tag) (vs : List Item) → Holds goals.Members k q vs
 means_members terminals.RightBrace q (member b m ∷ owner c p n ∷ vs) ss i ws d = (nowhere, forms.Other, trees.Nil, i, λ z y. grammar.no_member, d)
 means_members terminals.Semicolon q (member b m ∷ owner c p n ∷ vs) ss i ws (a, l, e, ka, (p1, f, t, r, h, d)) = (p1, f, t, r, λ z y. from e (grammar.skip_member a ka (h z y)), d)
+means_members terminals.Contract q (member b m ∷ owner c p n ∷ vs) ss i ws (a, l, e, ka, (p1, f1, t, l1, h1, (p2, f2, u, l2, dx, (p3, f3, v, l3, h3, (p4, f4, w, r, h4, d))))) =
+    (p3, forms.Other, trees.Cons v w, r, λ z y. contracted_of n c m i l2 l3 r (trees.Cons t u) v w z (grammar.next (h1 i (a, e, ka, refl)) dx) h3 (h4 refl refl), d)
 means_members k q (member b m ∷ owner c p n ∷ vs) ss i ws d =
     (d.0, forms.Other, trees.Cons d.2 d.5.2, d.5.3, λ z y. member_of n b c m i d.3 d.5.3 d.2 d.5.2 z y d.4 (d.5.4 refl refl), d.5.5)
 means_members k q _ ss i ws d = tt

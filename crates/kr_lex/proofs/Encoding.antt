@@ -1,5 +1,5 @@
 -- Tokens and gaps end between characters.
-use Rattle.std.proofs.Common.{◌≡◌, ℕ, ◌+◌, ◌<◌, ◌≤◌, ◌⊎◌, inl, inr, true, List, [], ◌∷◌, ◌++◌, length, slice_index, take, drop, refl, sym, ap, ◌∙◌, arith, length-append, append_assoc}
+use Rattle.std.proofs.Common.{◌≡◌, ℕ, ◌+◌, ◌<◌, ◌≤◌, ◌⊎◌, inl, inr, Bool, true, List, [], ◌∷◌, ◌++◌, length, slice_index, take, drop, refl, sym, ap, ◌∙◌, arith, length-append, append_assoc}
 use Rattle.std.specs.Char.{encode_utf8}
 use Rattle.std.specs.Str.{IsUtf8, encode_utf8_all, all_scalars}
 use Rattle.std.proofs.lemmas.Str.{IsUtf8-append, IsUtf8-take, IsUtf8-drop, IsCharBoundary-before_ascii, IsCharBoundary-after_ascii, IsCharBoundary-from_take}
@@ -11,10 +11,12 @@ use Rattle.kr_lex.specs.Characters.{is_white, is_line_end, AllParts}
 use Rattle.kr_lex.specs.Lexemes.{Lexeme}
 use Rattle.kr_lex.specs.Words.{IsToken, name, number, fixed}
 use Rattle.kr_lex.specs.Gaps.{IsGap, white, line, block, EndsLine}
-use Rattle.kr_lex.specs.Spells.{Reaches, here, gap, token}
+use Rattle.kr_lex.specs.ContractLines.{head_of}
+use Rattle.kr_lex.specs.Spells.{IsTokenHere, anywhere, within, Reaches, here, gap, token, contract}
 use Rattle.kr_lex.specs.Pieces.{BeginsCharacter}
 use Rattle.kr_lex.specs.Reading.{IsValidLength}
 use Rattle.kr_lex.proofs.Shapes.{spelled_utf8}
+use Rattle.kr_lex.proofs.Heads.{head_utf8, contract_token_utf8}
 use Rattle.kr_lex.proofs.Classes.{digits_run, start_is_part}
 use Rattle.kr_lex.proofs.Paths.{onward}
 
@@ -39,6 +41,10 @@ pub token_utf8 : (kind : Kind) (text rest : List ℕ) → IsToken kind text rest
 token_utf8 kind text rest (name e h n) = parts_utf8 (h.first ∷ h.others) text ((h.scalar, start_is_part h.first h.starts), h.parts) (sym h.spelled)
 token_utf8 kind text rest (number e h w) = let r = digits_run text h.digits in parts_utf8 text text r.0 r.1
 token_utf8 kind text rest (fixed l e) = rw e (spelled_utf8 kind (omega (arith, l, ap length e)))
+
+here_utf8 : (inside : Bool) (kind : Kind) (text rest : List ℕ) → IsTokenHere inside kind text rest → IsUtf8 text
+here_utf8 inside kind text rest (anywhere t) = token_utf8 kind text rest t.token
+here_utf8 inside kind text rest (within i t) = contract_token_utf8 kind text t
 
 white_low : (b : ℕ) → is_white b ≡ true → b < 128
 white_low b t = grind (arith, nat_tests)
@@ -97,15 +103,18 @@ module _ (bytes : List ℕ) (valid : ℕ) (v : IsValidLength bytes valid) where
       rw z (cut_behind (front ++ inner) rest 47 (e ∙ ap (λ t. t ++ rest) z) low long)
 
   -- what was reached is UTF-8, as far as the bytes are
-  pub reached_utf8 : {file : ℕ} {front text end left : List ℕ} {list : List Lexeme} → Reaches file front text list end left → bytes ≡ front ++ text → IsUtf8 front
+  pub reached_utf8 : {file : ℕ} {inside last : Bool} {front text end left : List ℕ} {list : List Lexeme} → Reaches file inside front text list last end left → bytes ≡ front ++ text → IsUtf8 front
       → length end ≤ valid → IsUtf8 end
   reached_utf8 here e u l = u
   reached_utf8 (gap {front = front} part rest z g d) e u l =
       let s : bytes ≡ (front ++ part) ++ rest = e ∙ (ap (λ t. front ++ t) z ∙ sym (append_assoc front part rest)) in
       reached_utf8 d s (gap_utf8 front part rest s g (omega (arith, onward d, l))) l
-  reached_utf8 (token {front = front} kind part rest z g d) e u l =
+  reached_utf8 (token {inside = inside} {front = front} kind part rest z g d) e u l =
       let s : bytes ≡ (front ++ part) ++ rest = e ∙ (ap (λ t. front ++ t) z ∙ sym (append_assoc front part rest)) in
-      reached_utf8 d s (IsUtf8-append front part u (token_utf8 kind part rest g.token)) l
+      reached_utf8 d s (IsUtf8-append front part u (here_utf8 inside kind part rest g)) l
+  reached_utf8 (contract {front = front} kind blank rest c d) e u l =
+      let s : bytes ≡ (front ++ head_of kind blank) ++ rest = e ∙ (ap (λ t. front ++ t) c.spelled ∙ sym (append_assoc front (head_of kind blank) rest)) in
+      reached_utf8 d s (IsUtf8-append front (head_of kind blank) u (head_utf8 kind blank c.word c.white)) l
 
 -- where UTF-8 goes on a character begins
 pub begins_character_at : (bytes : List ℕ) (valid at : ℕ) → IsValidLength bytes valid → at < valid → IsUtf8 (take at bytes) → BeginsCharacter (drop at bytes)

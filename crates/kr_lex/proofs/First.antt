@@ -1,5 +1,5 @@
 -- The broken rule of the least place.
-use Rattle.std.proofs.Common.{◌≡◌, ℕ, ◌+◌, ◌<◌, ◌≤◌, ◌⊎◌, inl, inr, List, [], ◌++◌, length, take, drop, refl, sym, ap, ◌∙◌, arith, length-append}
+use Rattle.std.proofs.Common.{◌≡◌, ℕ, ◌+◌, ◌<◌, ◌≤◌, ◌⊎◌, inl, inr, Bool, false, List, [], ◌++◌, length, take, drop, refl, sym, ap, ◌∙◌, arith, length-append}
 use Rattle.std.specs.Str.{IsUtf8, IsValidUpTo}
 use Rattle.std.proofs.lemmas.List.{take_all, take_at, take-append-drop, length-take-le}
 use Rattle.std.proofs.lemmas.Bool.{cases_order, cases_lt}
@@ -46,14 +46,14 @@ module _ (file : ℕ) (bytes : List ℕ) (valid : ℕ) (v : IsValidLength bytes 
       go (inr w) = valid_once bytes n valid h w
 
   -- a rule that is broken where tokens and gaps lead, before the encoding breaks
-  pub first_reached : (front text : List ℕ) (list : List Lexeme) (place : Place) (rule : LexRule) → Reaches file [] bytes list front text → length front < valid
-      → BreaksHere rule text → place ≡ place_after file front → IsFirstBroken file bytes place rule
-  first_reached front text list place rule d l h p =
-      record { front = front; breaks = reached list text d h; at = p; least = least }
+  pub first_reached : (inside : Bool) (front text : List ℕ) (list : List Lexeme) (place : Place) (rule : LexRule) → Reaches file false [] bytes list inside front text → length front < valid
+      → BreaksHere inside rule text → place ≡ place_after file front → IsFirstBroken file bytes place rule
+  first_reached inside front text list place rule d l h p =
+      record { front = front; breaks = reached inside list text d h; at = p; least = least }
     where
       least : (other : List ℕ) (r : LexRule) → Breaks file bytes other r → (length front < length other) ⊎ ((front ≡ other) × (rank rule ≤ rank r))
       least other r (encoding rest e s u) = inl (omega (arith, encoding_at (length other) u, l))
-      least other r (reached more rest c b) = go (cases_lt (length front) (length other))
+      least other r (reached there more rest c b) = go (cases_lt (length front) (length other))
         where
           go : (length front < length other) ⊎ (length other ≤ length front) → (length front < length other) ⊎ ((front ≡ other) × (rank rule ≤ rank r))
           go (inl less) = inl less
@@ -61,12 +61,12 @@ module _ (file : ℕ) (bytes : List ℕ) (valid : ℕ) (v : IsValidLength bytes 
               let up = none_before r d c b in
               let z : front ++ text ≡ other ++ rest = sym (whole d) ∙ whole c in
               let same = same_split front other text rest z (omega (arith, up, more_or_same)) in
-              let rules_same : rule ≡ r = rule_is rule text h ∙ (ap rule_of same.1 ∙ sym (rule_is r rest b)) in
+              let rules_same : rule ≡ r = rule_is inside rule text h ∙ (ap rule_of same.1 ∙ sym (rule_is there r rest b)) in
               inr (same.0, omega (arith, ap rank rules_same))
 
   -- the encoding, where nothing else is broken before
   pub first_encoding : (place : Place) → valid < length bytes → place ≡ place_after file (take valid bytes)
-      → ((list : List Lexeme) (other rest : List ℕ) (r : LexRule) → Reaches file [] bytes list other rest → BreaksHere r rest → valid ≤ length other)
+      → ((inside : Bool) (list : List Lexeme) (other rest : List ℕ) (r : LexRule) → Reaches file false [] bytes list inside other rest → BreaksHere inside r rest → valid ≤ length other)
       → IsFirstBroken file bytes place rules.NotUtf8
   first_encoding place short p none =
       record { front = take valid bytes; breaks = encoding (drop valid bytes) refl (sym (take-append-drop valid bytes)) up_to; at = p; least = least }
@@ -87,16 +87,16 @@ module _ (file : ℕ) (bytes : List ℕ) (valid : ℕ) (v : IsValidLength bytes 
       least : (other : List ℕ) (r : LexRule) → Breaks file bytes other r
           → (length (take valid bytes) < length other) ⊎ ((take valid bytes ≡ other) × (rank rules.NotUtf8 ≤ rank r))
       least other r (encoding rest e s u) = inr (front_is other rest s (encoding_at (length other) u), rank_some r)
-      least other r (reached more rest c b) = go (cases_lt valid (length other))
+      least other r (reached there more rest c b) = go (cases_lt valid (length other))
         where
           go : (valid < length other) ⊎ (length other ≤ valid) → (length (take valid bytes) < length other) ⊎ ((take valid bytes ≡ other) × (rank rules.NotUtf8 ≤ rank r))
           go (inl less) = inl (omega (arith, size, less))
-          go (inr same) = inr (front_is other rest (whole c) (omega (arith, none more other rest r c b, same)), rank_some r)
+          go (inr same) = inr (front_is other rest (whole c) (omega (arith, none there more other rest r c b, same)), rank_some r)
 
 -- a source that tokens spell breaks no rule
 pub unbroken : (file : ℕ) (bytes front : List ℕ) (tokens : Lexemes) (rule : LexRule) → AreTokens file bytes tokens → Breaks file bytes front rule → ⊥
 unbroken file bytes front tokens rule t (encoding rest e s u) = not_utf8_all bytes (length front) t.utf8 u
-unbroken file bytes front tokens rule t (reached list rest d h) =
-    let up = none_before rule t.spelled d h in
+unbroken file bytes front tokens rule t (reached inside list rest d h) =
+    let up = none_before rule t.spelled.1 d h in
     let long : length bytes ≡ length front + length rest = ap length (whole d) ∙ length-append front rest in
-    omega (arith, up, long, breaks_some rule rest h)
+    omega (arith, up, long, breaks_some inside rule rest h)

@@ -5,6 +5,7 @@ pub mod Lookup
 pub mod Numbers
 pub mod Positions
 pub mod Shapes
+pub mod Heads
 pub mod Classes
 pub mod Longest
 pub mod Unique
@@ -12,4 +13,6 @@ pub mod Stuck
 pub mod Paths
 pub mod Encoding
 pub mod First
+pub mod Lines
+pub mod Lifted
 pub mod Steps

@@ -22,7 +22,7 @@ spelled_once a b l e =
     let same : find (spelling a) (peers a) ≡ find (spelling b) (peers b) = ap (λ t. find t (beginning_with (slice_index t 0))) e in
     cc
 
-ascii_at : (bs : List ℕ) → all_ascii bs ≡ true → IsAscii bs
+pub ascii_at : (bs : List ℕ) → all_ascii bs ≡ true → IsAscii bs
 ascii_at [] h i = omega arith
 ascii_at (b ∷ bs) h zero = ltb-true b 128 (and_parts (nat_lt b 128) (all_ascii bs) h).0
 ascii_at (b ∷ bs) h (suc i) = ascii_at bs (and_parts (nat_lt b 128) (all_ascii bs) h).1 i

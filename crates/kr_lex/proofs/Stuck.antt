@@ -13,46 +13,20 @@ use Rattle.kr_lex.specs.Characters.{is_start, is_white, is_line_end, AllParts, E
 use Rattle.kr_lex.specs.Spelling.{spelling}
 use Rattle.kr_lex.specs.Words.{IsNumber, IsToken, name, number, fixed}
 use Rattle.kr_lex.specs.Gaps.{IsGap, IsLineComment, IsBlockComment, EndsLine, BeginsComment}
-use Rattle.kr_lex.specs.Spells.{IsLongest}
-use Rattle.kr_lex.specs.Broken.{BreaksHere, IsStray, IsUnclosed, IsBadNumber, BeginsEscape, BeginsContract}
+use Rattle.kr_lex.specs.Spells.{IsLongest, IsTokenHere, anywhere, within}
+use Rattle.kr_lex.specs.ContractLines.{IsContract, IsContractToken, BeginsContract}
+use Rattle.kr_lex.specs.Broken.{BreaksHere, IsStray, IsUnclosed, IsBadNumber, BeginsEscape}
 use Rattle.kr_lex.proofs.Fronts.{char_some, same_char}
 use Rattle.kr_lex.proofs.Numbers.{digit_from_test}
-use Rattle.kr_lex.proofs.Listing.{is_symbol, all_small}
-use Rattle.kr_lex.proofs.Shapes.{shape}
-use Rattle.kr_lex.proofs.Classes.{start_ascii, digit_no_start, small_starts, symbol_facts, token_shape, token_some, first_byte, run_longest, digits_run}
-use Rattle.kr_lex.proofs.Unique.{same_split, gap_cases, comment_begins, block_text, name_byte, number_byte, fixed_no_digit}
-
--- the first byte where a token or a gap stands
-gap_first : (text g r : List ℕ) → text ≡ g ++ r → IsGap g r → (is_white (slice_index text 0) ≡ true) ⊎ BeginsComment text
-gap_first text g r e i = go (gap_cases g r i)
-  where
-    go : ((b : ℕ) × (g ≡ b ∷ []) × (is_white b ≡ true)) ⊎ (IsLineComment g r ⊎ IsBlockComment g r) → (is_white (slice_index text 0) ≡ true) ⊎ BeginsComment text
-    go (inl w) =
-        let first : slice_index text 0 ≡ w.0 = ap (λ x. slice_index x 0) e ∙ ap (λ x. slice_index (x ++ r) 0) w.1 in
-        inl (ap is_white first ∙ w.2)
-    go (inr c) = inr (rw e (comment_begins g r c))
-
-comment_bytes : (text : List ℕ) → BeginsComment text → (slice_index text 0 ≡ 47) × ((slice_index text 1 ≡ 47) ⊎ (slice_index text 1 ≡ 42))
-comment_bytes [] h = absurd h
-comment_bytes (a ∷ []) h = absurd h
-comment_bytes (a ∷ b ∷ more) h = h
+use Rattle.kr_lex.proofs.Listing.{is_symbol}
+use Rattle.kr_lex.proofs.Classes.{digit_no_start, symbol_facts, token_shape, token_some, run_longest, digits_run}
+use Rattle.kr_lex.proofs.Unique.{same_split, gap_cases, block_text, name_byte, fixed_no_digit, plain_no_gap, escape_no_token, first_of}
+use Rattle.kr_lex.proofs.Heads.{begins_contract, begins_comment, contract_bytes, here_first}
 
 escape_bytes : (text : List ℕ) → BeginsEscape text → (slice_index text 0 ≡ 92) × (slice_index text 1 ≡ 117)
 escape_bytes [] h = absurd h
 escape_bytes (a ∷ []) h = absurd h
 escape_bytes (a ∷ b ∷ more) h = h
-
-contract_bytes : (text : List ℕ) → BeginsContract text → (slice_index text 0 ≡ 47) × (slice_index text 1 ≡ 47) × (slice_index text 2 ≡ 64)
-contract_bytes [] h = absurd h
-contract_bytes (a ∷ []) h = absurd h
-contract_bytes (a ∷ b ∷ []) h = absurd h
-contract_bytes (a ∷ b ∷ c ∷ more) h = h
-
-contract_comment : (text : List ℕ) → BeginsContract text → BeginsComment text
-contract_comment [] h = absurd h
-contract_comment (a ∷ []) h = absurd h
-contract_comment (a ∷ b ∷ []) h = absurd h
-contract_comment (a ∷ b ∷ c ∷ more) h = (h.0, inl h.1)
 
 -- a stray character is its own first byte where that is ASCII
 stray_byte : (text : List ℕ) (s : IsStray text) (b : ℕ) → slice_index text 0 ≡ b → b < 128 → s.char ≡ b
@@ -121,25 +95,17 @@ is_stray x y d t p q = rw (ne_eqb x 47 p, t, both_not) refl
     both_not = false_from_ne_true (x == 92 && y == 117) (λ b. let h = and_parts (x == 92) (y == 117) b in q (eqb-true x 92 h.0) (eqb-true y 117 h.1))
 
 -- at a place only one rule is broken
-pub rule_is : (rule : LexRule) (text : List ℕ) → BreaksHere rule text → rule ≡ rule_of text
-rule_is rules.NotUtf8 text h = absurd h
-rule_is rules.StrayCharacter text h =
-    is_stray (slice_index text 0) (slice_index text 1) (is_ascii_digit (slice_index text 0)) (false_from_ne_true _ (stray_no_digit text h))
-    (λ e. stray_no_byte text h kinds.Slash 47 slash_spelled (omega arith) e) (λ p q. h.no_escape (escape_from_bytes text p q))
-rule_is rules.UnclosedComment text h = let b = unclosed_bytes text h in is_unclosed (slice_index text 0) (slice_index text 1) (is_ascii_digit (slice_index text 0)) b.0 b.1
-rule_is rules.BadNumber text h =
+pub rule_is : (inside : Bool) (rule : LexRule) (text : List ℕ) → BreaksHere inside rule text → rule ≡ rule_of text
+rule_is inside rules.NotUtf8 text h = absurd h
+rule_is inside rules.StrayCharacter text h =
+    is_stray (slice_index text 0) (slice_index text 1) (is_ascii_digit (slice_index text 0)) (false_from_ne_true _ (stray_no_digit text h.0))
+    (λ e. stray_no_byte text h.0 kinds.Slash 47 slash_spelled (omega arith) e) (λ p q. h.0.no_escape (escape_from_bytes text p q))
+rule_is inside rules.UnclosedComment text h = let b = unclosed_bytes text h in is_unclosed (slice_index text 0) (slice_index text 1) (is_ascii_digit (slice_index text 0)) b.0 b.1
+rule_is inside rules.BadNumber text h =
     let d = digit_from_test (slice_index text 0) h.digit in
     is_bad (slice_index text 0) (slice_index text 1) (is_ascii_digit (slice_index text 0)) h.digit (λ e. omega (arith, e, d.2)) (λ e. omega (arith, e, d.3))
-rule_is rules.UnicodeEscape text h = let b = escape_bytes text h in is_escape (slice_index text 0) (slice_index text 1) (is_ascii_digit (slice_index text 0)) b.0 b.1
-rule_is rules.ContractLine text h = let b = contract_bytes text h in is_contract (slice_index text 0) (slice_index text 1) (is_ascii_digit (slice_index text 0)) b.0 b.1
-
--- no gap stands there
-plain_no_gap : (text g r : List ℕ) → text ≡ g ++ r → IsGap g r → is_white (slice_index text 0) ≡ false → (slice_index text 0 ≡ 47 → ⊥) → ⊥
-plain_no_gap text g r e i w s = go (gap_first text g r e i)
-  where
-    go : (is_white (slice_index text 0) ≡ true) ⊎ BeginsComment text → ⊥
-    go (inl t) = both_ways (is_white (slice_index text 0)) w t
-    go (inr c) = s (comment_bytes text c).0
+rule_is inside rules.UnicodeEscape text h = let b = escape_bytes text h in is_escape (slice_index text 0) (slice_index text 1) (is_ascii_digit (slice_index text 0)) b.0 b.1
+rule_is inside rules.ContractLine text h = let b = contract_bytes text h.begins in is_contract (slice_index text 0) (slice_index text 1) (is_ascii_digit (slice_index text 0)) b.0 b.1
 
 stray_no_white : (text : List ℕ) (s : IsStray text) → is_white (slice_index text 0) ≡ false
 stray_no_white text s = false_from_ne_true (is_white (slice_index text 0)) (λ t.
@@ -175,19 +141,30 @@ block_second text g r e h = ap (λ x. slice_index x 1) (e ∙ (ap (λ x. x ++ r)
 slash_no_white : (text : List ℕ) → slice_index text 0 ≡ 47 → is_white (slice_index text 0) ≡ false
 slash_no_white text z = ap is_white z ∙ refl
 
-pub stuck_gap : (rule : LexRule) (text g r : List ℕ) → BreaksHere rule text → text ≡ g ++ r → IsGap g r → ⊥
-stuck_gap rules.NotUtf8 text g r h e i = h
-stuck_gap rules.StrayCharacter text g r h e i =
-    plain_no_gap text g r e i (stray_no_white text h) (stray_no_byte text h kinds.Slash 47 slash_spelled (omega arith))
-stuck_gap rules.BadNumber text g r h e i =
+-- no gap stands where a contract line begins
+pub contract_no_gap : (text g r : List ℕ) → BeginsContract text → text ≡ g ++ r → IsGap g r → ⊥
+contract_no_gap text g r h e i = go (gap_cases g r i)
+  where
+    go : ((b : ℕ) × (g ≡ b ∷ []) × (is_white b ≡ true)) ⊎ (IsLineComment g r ⊎ IsBlockComment g r) → ⊥
+    go (inl w) =
+        let first : slice_index text 0 ≡ w.0 = ap (λ x. slice_index x 0) e ∙ ap (λ x. slice_index (x ++ r) 0) w.1 in
+        both_ways (is_white (slice_index text 0)) (slash_no_white text (contract_bytes text h).0) (ap is_white first ∙ w.2)
+    go (inr (inl c)) = line_no_contract text g r e c h
+    go (inr (inr c)) = omega (arith, block_second text g r e c, (contract_bytes text h).1)
+
+pub stuck_gap : (inside : Bool) (rule : LexRule) (text g r : List ℕ) → BreaksHere inside rule text → text ≡ g ++ r → IsGap g r → ⊥
+stuck_gap inside rules.NotUtf8 text g r h e i = h
+stuck_gap inside rules.StrayCharacter text g r h e i =
+    plain_no_gap text g r e i (stray_no_white text h.0) (stray_no_byte text h.0 kinds.Slash 47 slash_spelled (omega arith))
+stuck_gap inside rules.BadNumber text g r h e i =
     let d = digit_from_test (slice_index text 0) h.digit in
     plain_no_gap text g r e i (digit_no_white (slice_index text 0) h.digit) (λ z. omega (arith, z, d.2))
   where
     digit_no_white : (b : ℕ) → is_ascii_digit b ≡ true → is_white b ≡ false
     digit_no_white b t = grind (arith, nat_tests)
-stuck_gap rules.UnicodeEscape text g r h e i =
+stuck_gap inside rules.UnicodeEscape text g r h e i =
     let b = escape_bytes text h in plain_no_gap text g r e i (ap is_white b.0 ∙ refl) (λ z. omega (arith, z, b.0))
-stuck_gap rules.UnclosedComment text g r h e i = go (gap_cases g r i)
+stuck_gap inside rules.UnclosedComment text g r h e i = go (gap_cases g r i)
   where
     go : ((b : ℕ) × (g ≡ b ∷ []) × (is_white b ≡ true)) ⊎ (IsLineComment g r ⊎ IsBlockComment g r) → ⊥
     go (inl w) =
@@ -198,18 +175,7 @@ stuck_gap rules.UnclosedComment text g r h e i = go (gap_cases g r i)
         let z : 47 ∷ 42 ∷ h.body ≡ 47 ∷ 42 ∷ (c.body ++ 42 ∷ 47 ∷ r) = sym h.spelled ∙ (e ∙ (ap (λ x. x ++ r) c.spelled ∙ block_text c.body r)) in
         let t : h.body ≡ c.body ++ 42 ∷ 47 ∷ r = cc in
         h.unclosed c.body r t
-stuck_gap rules.ContractLine text g r h e i = go (gap_cases g r i)
-  where
-    go : ((b : ℕ) × (g ≡ b ∷ []) × (is_white b ≡ true)) ⊎ (IsLineComment g r ⊎ IsBlockComment g r) → ⊥
-    go (inl w) =
-        let first : slice_index text 0 ≡ w.0 = ap (λ x. slice_index x 0) e ∙ ap (λ x. slice_index (x ++ r) 0) w.1 in
-        both_ways (is_white (slice_index text 0)) (slash_no_white text (contract_bytes text h).0) (ap is_white first ∙ w.2)
-    go (inr (inl c)) = line_no_contract text g r e c h
-    go (inr (inr c)) = omega (arith, block_second text g r e c, (contract_bytes text h).1)
-
--- the first byte of what stands there
-first_of : (text part rest : List ℕ) → text ≡ part ++ rest → 0 < length part → slice_index text 0 ≡ slice_index part 0
-first_of text part rest e l = ap (λ x. slice_index x 0) e ∙ first_byte part rest l
+stuck_gap inside rules.ContractLine text g r h e i = contract_no_gap text g r h.begins e i
 
 -- no token stands there
 stray_no_token : (text part rest : List ℕ) (kind : Kind) → IsStray text → text ≡ part ++ rest → IsToken kind part rest → ⊥
@@ -252,48 +218,60 @@ bad_no_token text part rest kind h e (fixed l k) =
     let d : is_ascii_digit (slice_index (spelling kind) 0) ≡ true = ap (λ t. is_ascii_digit (slice_index t 0)) (sym k) ∙ (ap is_ascii_digit (sym b) ∙ h.digit) in
     fixed_no_digit kind (omega (arith, l, ap length k)) d
 
--- no token begins with a backslash
-escape_no_token : (text part rest : List ℕ) (kind : Kind) → slice_index text 0 ≡ 92 → text ≡ part ++ rest → IsToken kind part rest → ⊥
-escape_no_token text part rest kind z e (name k i o) =
-    let b : slice_index part 0 ≡ 92 = sym (first_of text part rest e (token_some kind part rest (name k i o))) ∙ z in
-    let f : is_start (slice_index part 0) ≡ false = ap is_start b ∙ (start_ascii 92 (omega arith) ∙ refl) in
-    both_ways (is_start (slice_index part 0)) f (name_byte part rest i (omega (arith, b)))
-escape_no_token text part rest kind z e (number k i w) =
-    let b : slice_index part 0 ≡ 92 = sym (first_of text part rest e i.some) ∙ z in
-    omega (arith, b, (digit_from_test (slice_index part 0) (number_byte part i)).3)
-escape_no_token text part rest kind z e (fixed l k) = go (shape kind (omega (arith, l, ap length k)))
-  where
-    byte : slice_index (spelling kind) 0 ≡ 92
-    byte = ap (λ t. slice_index t 0) (sym k) ∙ (sym (first_of text part rest e l) ∙ z)
-
-    go : (all_small (spelling kind) ≡ true) ⊎ (is_symbol (slice_index (spelling kind) 0) ≡ true) → ⊥
-    go (inl s) =
-        let f : is_start (slice_index (spelling kind) 0) ≡ false = ap is_start byte ∙ (start_ascii 92 (omega arith) ∙ refl) in
-        both_ways (is_start (slice_index (spelling kind) 0)) f (small_starts (spelling kind) (omega (arith, l, ap length k)) s).1
-    go (inr s) = (symbol_facts (slice_index (spelling kind) 0) s).4 byte
-
 unclosed_comment : (text : List ℕ) → IsUnclosed text → BeginsComment text
 unclosed_comment text h = rw h.spelled (refl, inr refl)
 
-pub stuck_token : (rule : LexRule) (text part rest : List ℕ) (kind : Kind) → BreaksHere rule text → text ≡ part ++ rest → IsLongest kind part rest → ⊥
-stuck_token rules.NotUtf8 text part rest kind h e t = h
-stuck_token rules.StrayCharacter text part rest kind h e t = stray_no_token text part rest kind h e t.token
-stuck_token rules.UnclosedComment text part rest kind h e t = t.no_comment (rw e at (unclosed_comment text h))
-stuck_token rules.BadNumber text part rest kind h e t = bad_no_token text part rest kind h e t.token
-stuck_token rules.UnicodeEscape text part rest kind h e t = escape_no_token text part rest kind (escape_bytes text h).0 e t.token
-stuck_token rules.ContractLine text part rest kind h e t = t.no_comment (rw e at (contract_comment text h))
+stuck_token : (inside : Bool) (rule : LexRule) (text part rest : List ℕ) (kind : Kind) → BreaksHere inside rule text → text ≡ part ++ rest → IsLongest kind part rest → ⊥
+stuck_token inside rules.NotUtf8 text part rest kind h e t = h
+stuck_token inside rules.StrayCharacter text part rest kind h e t = stray_no_token text part rest kind h.0 e t.token
+stuck_token inside rules.UnclosedComment text part rest kind h e t = t.no_comment (rw e at (unclosed_comment text h))
+stuck_token inside rules.BadNumber text part rest kind h e t = bad_no_token text part rest kind h e t.token
+stuck_token inside rules.UnicodeEscape text part rest kind h e t = escape_no_token text part rest kind (escape_bytes text h).0 e t.token
+stuck_token inside rules.ContractLine text part rest kind h e t = t.no_comment (rw e at (begins_comment text h.begins))
+
+stuck_within : (inside : Bool) (rule : LexRule) (text part rest : List ℕ) (kind : Kind) → BreaksHere inside rule text → text ≡ part ++ rest → inside ≡ true → IsContractToken kind part → ⊥
+stuck_within inside rules.NotUtf8 text part rest kind h e i t = h
+stuck_within inside rules.StrayCharacter text part rest kind h e i t = h.1 i kind part rest e t
+stuck_within inside rules.UnclosedComment text part rest kind h e i t = omega (arith, (here_first text part rest kind e t).0, (unclosed_bytes text h).0)
+stuck_within inside rules.BadNumber text part rest kind h e i t =
+    let b = (here_first text part rest kind e t).0 in
+    omega (arith, b, (digit_from_test (slice_index text 0) h.digit).3)
+stuck_within inside rules.UnicodeEscape text part rest kind h e i t = (here_first text part rest kind e t).1 (escape_bytes text h).1
+stuck_within inside rules.ContractLine text part rest kind h e i t = omega (arith, (here_first text part rest kind e t).0, (contract_bytes text h.begins).0)
+
+pub stuck_here : (inside : Bool) (rule : LexRule) (text part rest : List ℕ) (kind : Kind) → BreaksHere inside rule text → text ≡ part ++ rest → IsTokenHere inside kind part rest → ⊥
+stuck_here inside rule text part rest kind h e (anywhere t) = stuck_token inside rule text part rest kind h e t
+stuck_here inside rule text part rest kind h e (within i t) = stuck_within inside rule text part rest kind h e i t
+
+contract_rule : (text : List ℕ) → BeginsContract text → rules.ContractLine ≡ rule_of text
+contract_rule text c =
+    let b = contract_bytes text c in
+    is_contract (slice_index text 0) (slice_index text 1) (is_ascii_digit (slice_index text 0)) b.0 b.1
+
+-- nor a contract line
+pub stuck_contract : (inside : Bool) (rule : LexRule) (text : List ℕ) (kind : Kind) (blank rest : List ℕ) → BreaksHere inside rule text → IsContract text kind blank rest → ⊥
+stuck_contract inside rules.NotUtf8 text kind blank rest h c = h
+stuck_contract inside rules.ContractLine text kind blank rest h c = h.bad kind blank rest c
+stuck_contract inside rules.StrayCharacter text kind blank rest h c =
+    let z : rules.StrayCharacter ≡ rules.ContractLine = rule_is inside rules.StrayCharacter text h ∙ sym (contract_rule text (begins_contract text kind blank rest c)) in cc
+stuck_contract inside rules.UnclosedComment text kind blank rest h c =
+    let z : rules.UnclosedComment ≡ rules.ContractLine = rule_is inside rules.UnclosedComment text h ∙ sym (contract_rule text (begins_contract text kind blank rest c)) in cc
+stuck_contract inside rules.BadNumber text kind blank rest h c =
+    let z : rules.BadNumber ≡ rules.ContractLine = rule_is inside rules.BadNumber text h ∙ sym (contract_rule text (begins_contract text kind blank rest c)) in cc
+stuck_contract inside rules.UnicodeEscape text kind blank rest h c =
+    let z : rules.UnicodeEscape ≡ rules.ContractLine = rule_is inside rules.UnicodeEscape text h ∙ sym (contract_rule text (begins_contract text kind blank rest c)) in cc
 
 -- and some byte does
-pub breaks_some : (rule : LexRule) (text : List ℕ) → BreaksHere rule text → 0 < length text
-breaks_some rules.NotUtf8 text h = absurd h
-breaks_some rules.StrayCharacter text h = char_some text h.more h.char h.spelled
-breaks_some rules.UnclosedComment text h = omega (arith, ap length h.spelled)
-breaks_some rules.BadNumber text h = go text h.digit
+pub breaks_some : (inside : Bool) (rule : LexRule) (text : List ℕ) → BreaksHere inside rule text → 0 < length text
+breaks_some inside rules.NotUtf8 text h = absurd h
+breaks_some inside rules.StrayCharacter text h = char_some text h.0.more h.0.char h.0.spelled
+breaks_some inside rules.UnclosedComment text h = omega (arith, ap length h.spelled)
+breaks_some inside rules.BadNumber text h = go text h.digit
   where
     go : (text : List ℕ) → is_ascii_digit (slice_index text 0) ≡ true → 0 < length text
     go [] d = absurd (both_ways (is_ascii_digit 0) refl d)
     go (b ∷ text) d = omega arith
-breaks_some rules.UnicodeEscape [] h = absurd h
-breaks_some rules.UnicodeEscape (a ∷ text) h = omega arith
-breaks_some rules.ContractLine [] h = absurd h
-breaks_some rules.ContractLine (a ∷ text) h = omega arith
+breaks_some inside rules.UnicodeEscape [] h = absurd h
+breaks_some inside rules.UnicodeEscape (a ∷ text) h = omega arith
+breaks_some inside rules.ContractLine [] h = absurd h.begins
+breaks_some inside rules.ContractLine (a ∷ text) h = omega arith

@@ -1,5 +1,5 @@
 -- At most one gap or token stands at a place.
-use Rattle.std.proofs.Common.{◌≡◌, ℕ, ◌<◌, ◌≤◌, ◌⊎◌, inl, inr, true, false, List, [], ◌∷◌, ◌++◌, length, slice_index, refl, sym, ap, ◌∙◌, arith, length-append, append_assoc}
+use Rattle.std.proofs.Common.{◌≡◌, ℕ, ◌<◌, ◌≤◌, ◌⊎◌, inl, inr, Bool, true, false, List, [], ◌∷◌, ◌++◌, length, slice_index, refl, sym, ap, ◌∙◌, arith, length-append, append_assoc}
 use Rattle.std.specs.Char.{is_ascii_digit}
 use Rattle.std.specs.Str.{encode_utf8_all}
 use Rattle.std.specs.List.{AllByRecursion}
@@ -11,7 +11,9 @@ use Rattle.kr_lex.specs.Characters.{is_start, is_white, is_line_end}
 use Rattle.kr_lex.specs.Spelling.{spelling}
 use Rattle.kr_lex.specs.Words.{IsName, IsNumber, IsToken, name, number, fixed}
 use Rattle.kr_lex.specs.Gaps.{IsGap, white, line, block, IsLineComment, IsBlockComment, EndsLine, BeginsComment}
-use Rattle.kr_lex.specs.Spells.{IsLongest}
+use Rattle.kr_lex.specs.ContractLines.{contract_spelling, IsContract, BeginsContract}
+use Rattle.kr_lex.specs.Spells.{IsLongest, IsTokenHere, anywhere, within}
+use Rattle.kr_lex.proofs.Heads.{begins_comment, contract_bytes, contract_token_some, here_first, same_contract_token, blank_same, word_no_blank, same_word}
 use Rattle.kr_lex.proofs.Fronts.{char_some}
 use Rattle.kr_lex.proofs.Numbers.{digit_at, digit_from_value, digit_from_test}
 use Rattle.kr_lex.proofs.Listing.{is_symbol, all_small}
@@ -164,3 +166,87 @@ gap_no_token g s r q kind e i t = go (gap_cases g r i)
         let first : slice_index s 0 ≡ w.0 =
         sym (first_byte s q (token_some kind s q t.token)) ∙ (ap (λ x. slice_index x 0) (sym e) ∙ ap (λ x. slice_index (x ++ r) 0) w.1) in
         token_no_white kind s q t.token (ap is_white first ∙ w.2)
+
+-- the first byte where a token or a gap stands
+pub gap_first : (text g r : List ℕ) → text ≡ g ++ r → IsGap g r → (is_white (slice_index text 0) ≡ true) ⊎ BeginsComment text
+gap_first text g r e i = go (gap_cases g r i)
+  where
+    go : ((b : ℕ) × (g ≡ b ∷ []) × (is_white b ≡ true)) ⊎ (IsLineComment g r ⊎ IsBlockComment g r) → (is_white (slice_index text 0) ≡ true) ⊎ BeginsComment text
+    go (inl w) =
+        let first : slice_index text 0 ≡ w.0 = ap (λ x. slice_index x 0) e ∙ ap (λ x. slice_index (x ++ r) 0) w.1 in
+        inl (ap is_white first ∙ w.2)
+    go (inr c) = inr (rw e (comment_begins g r c))
+
+pub comment_bytes : (text : List ℕ) → BeginsComment text → (slice_index text 0 ≡ 47) × ((slice_index text 1 ≡ 47) ⊎ (slice_index text 1 ≡ 42))
+comment_bytes [] h = absurd h
+comment_bytes (a ∷ []) h = absurd h
+comment_bytes (a ∷ b ∷ more) h = h
+
+-- no gap stands there
+pub plain_no_gap : (text g r : List ℕ) → text ≡ g ++ r → IsGap g r → is_white (slice_index text 0) ≡ false → (slice_index text 0 ≡ 47 → ⊥) → ⊥
+plain_no_gap text g r e i w s = go (gap_first text g r e i)
+  where
+    go : (is_white (slice_index text 0) ≡ true) ⊎ BeginsComment text → ⊥
+    go (inl t) = both_ways (is_white (slice_index text 0)) w t
+    go (inr c) = s (comment_bytes text c).0
+
+-- the first byte of what stands there
+pub first_of : (text part rest : List ℕ) → text ≡ part ++ rest → 0 < length part → slice_index text 0 ≡ slice_index part 0
+first_of text part rest e l = ap (λ x. slice_index x 0) e ∙ first_byte part rest l
+
+-- no token begins with a backslash
+pub escape_no_token : (text part rest : List ℕ) (kind : Kind) → slice_index text 0 ≡ 92 → text ≡ part ++ rest → IsToken kind part rest → ⊥
+escape_no_token text part rest kind z e (name k i o) =
+    let b : slice_index part 0 ≡ 92 = sym (first_of text part rest e (token_some kind part rest (name k i o))) ∙ z in
+    let f : is_start (slice_index part 0) ≡ false = ap is_start b ∙ (start_ascii 92 (omega arith) ∙ refl) in
+    both_ways (is_start (slice_index part 0)) f (name_byte part rest i (omega (arith, b)))
+escape_no_token text part rest kind z e (number k i w) =
+    let b : slice_index part 0 ≡ 92 = sym (first_of text part rest e i.some) ∙ z in
+    omega (arith, b, (digit_from_test (slice_index part 0) (number_byte part i)).3)
+escape_no_token text part rest kind z e (fixed l k) = go (shape kind (omega (arith, l, ap length k)))
+  where
+    byte : slice_index (spelling kind) 0 ≡ 92
+    byte = ap (λ t. slice_index t 0) (sym k) ∙ (sym (first_of text part rest e l) ∙ z)
+
+    go : (all_small (spelling kind) ≡ true) ⊎ (is_symbol (slice_index (spelling kind) 0) ≡ true) → ⊥
+    go (inl s) =
+        let f : is_start (slice_index (spelling kind) 0) ≡ false = ap is_start byte ∙ (start_ascii 92 (omega arith) ∙ refl) in
+        both_ways (is_start (slice_index (spelling kind) 0)) f (small_starts (spelling kind) (omega (arith, l, ap length k)) s).1
+    go (inr s) = (symbol_facts (slice_index (spelling kind) 0) s).4 byte
+
+-- a contract line's own token, and any that may stand there
+pub same_here : (inside : Bool) (a b : Kind) (s t r q : List ℕ) → s ++ r ≡ t ++ q → IsTokenHere inside a s r → IsTokenHere inside b t q → (a ≡ b) × (s ≡ t) × (r ≡ q)
+same_here inside a b s t r q e (anywhere g) (anywhere h) = same_token a b s t r q e g h
+same_here inside a b s t r q e (anywhere g) (within i h) = absurd (escape_no_token (t ++ q) s r a (here_first (t ++ q) t q b refl h).0 (sym e) g.token)
+same_here inside a b s t r q e (within i g) (anywhere h) = absurd (escape_no_token (s ++ r) t q b (here_first (s ++ r) s r a refl g).0 e h.token)
+same_here inside a b s t r q e (within i g) (within j h) =
+    let k = same_contract_token a b s t r q e g h in
+    let long : length s ≡ length t = ap length g.spelled ∙ (ap (λ x. length (contract_spelling x)) k ∙ sym (ap length h.spelled)) in
+    let p = same_split s t r q e long in
+    (k, p.0, p.1)
+
+pub here_some : (inside : Bool) (kind : Kind) (part rest : List ℕ) → IsTokenHere inside kind part rest → 0 < length part
+here_some inside kind part rest (anywhere t) = token_some kind part rest t.token
+here_some inside kind part rest (within i t) = contract_token_some kind part t
+
+pub gap_no_here : (inside : Bool) (g s r q : List ℕ) (kind : Kind) → g ++ r ≡ s ++ q → IsGap g r → IsTokenHere inside kind s q → ⊥
+gap_no_here inside g s r q kind e i (anywhere t) = gap_no_token g s r q kind e i t
+gap_no_here inside g s r q kind e i (within j t) =
+    let b = (here_first (s ++ q) s q kind refl t).0 in
+    plain_no_gap (s ++ q) g r (sym e) i (ap is_white b ∙ refl) (λ z. omega (arith, z, b))
+
+pub same_contract : (text : List ℕ) (k j : Kind) (b c r s : List ℕ) → IsContract text k b r → IsContract text j c s → (k ≡ j) × (b ≡ c) × (r ≡ s)
+same_contract text k j b c r s g h =
+    let z : 47 ∷ 47 ∷ 64 ∷ ((b ++ contract_spelling k) ++ r) ≡ 47 ∷ 47 ∷ 64 ∷ ((c ++ contract_spelling j) ++ s) = sym g.spelled ∙ h.spelled in
+    let y : (b ++ contract_spelling k) ++ r ≡ (c ++ contract_spelling j) ++ s = cc in
+    let x : b ++ (contract_spelling k ++ r) ≡ c ++ (contract_spelling j ++ s) =
+    sym (append_assoc b (contract_spelling k) r) ∙ (y ∙ append_assoc c (contract_spelling j) s) in
+    let long : length b ≡ length c = blank_same b c (contract_spelling k ++ r) (contract_spelling j ++ s) g.white h.white (word_no_blank k r g.word) (word_no_blank j s h.word) x in
+    let p = same_split b c (contract_spelling k ++ r) (contract_spelling j ++ s) x long in
+    let kind : k ≡ j = same_word k j r s g.word h.word p.1 in
+    let q = same_split (contract_spelling k) (contract_spelling j) r s p.1 (ap (λ o. length (contract_spelling o)) kind) in
+    (kind, p.0, q.1)
+
+pub contract_no_here : (inside : Bool) (text part rest : List ℕ) (kind : Kind) → BeginsContract text → text ≡ part ++ rest → IsTokenHere inside kind part rest → ⊥
+contract_no_here inside text part rest kind c e (anywhere t) = t.no_comment (rw e at (begins_comment text c))
+contract_no_here inside text part rest kind c e (within i t) = omega (arith, (here_first text part rest kind e t).0, (contract_bytes text c).0)

@@ -1,5 +1,5 @@
 -- The lexical rules, and which one a source breaks first.
-use Rattle.std.specs.Prelude.{◌≡◌, ℕ, ◌<◌, ◌≤◌, ◌⊎◌, true, false, List, [], ◌∷◌, ◌++◌, length, slice_index}
+use Rattle.std.specs.Prelude.{◌≡◌, ℕ, ◌<◌, ◌≤◌, ◌⊎◌, Bool, true, false, List, [], ◌∷◌, ◌++◌, length, slice_index}
 use Rattle.std.specs.Char.{IsScalar, is_ascii_digit, encode_utf8}
 use Rattle.std.specs.Str.{encode_utf8_all, IsValidUpTo}
 use Rattle.kr_base.specs.declared.place.Place.{Place}
@@ -12,6 +12,7 @@ use Rattle.kr_lex.specs.Characters.{is_white, AllParts, EndsWord}
 use Rattle.kr_lex.specs.Words.{IsNumber, IsToken}
 use Rattle.kr_lex.specs.Lexemes.{Lexeme, Lexemes}
 use Rattle.kr_lex.specs.Spells.{Reaches, AreTokens}
+use Rattle.kr_lex.specs.ContractLines.{BeginsContract, IsContract, IsContractToken}
 use Rattle.kr_lex.specs.Places.{place_after}
 
 -- a backslash before `u`
@@ -19,13 +20,8 @@ abbrev pub BeginsEscape : List ℕ → Type 0
 BeginsEscape (a ∷ b ∷ more) = (a ≡ 92) × (b ≡ 117)
 BeginsEscape _ = ⊥
 
--- two slashes and `@`
-abbrev pub BeginsContract : List ℕ → Type 0
-BeginsContract (a ∷ b ∷ c ∷ more) = (a ≡ 47) × (b ≡ 47) × (c ≡ 64)
-BeginsContract _ = ⊥
-
--- A character that begins no token stands at the front, and it is no white space. A backslash before `u` has a rule of
--- its own.
+-- A character that begins no token outside of contract lines stands at the front, and it is no white space. A backslash
+-- before `u` has a rule of its own.
 pub record IsStray (text : List ℕ) : Type 0 where
   pub char : ℕ
   pub more : List ℕ
@@ -51,20 +47,29 @@ pub record IsBadNumber (text : List ℕ) : Type 0 where
   pub longest : EndsWord rest
   pub bad : IsNumber (encode_utf8_all chars) → ⊥
 
--- What breaks a rule where a token or a gap may begin.
-abbrev pub BreaksHere : LexRule → List ℕ → Type 0
-BreaksHere rules.NotUtf8 text = ⊥
-BreaksHere rules.StrayCharacter text = IsStray text
-BreaksHere rules.UnclosedComment text = IsUnclosed text
-BreaksHere rules.BadNumber text = IsBadNumber text
-BreaksHere rules.UnicodeEscape text = BeginsEscape text
-BreaksHere rules.ContractLine text = BeginsContract text
+-- two slashes and `@`, and the line is no contract
+pub record IsBadContract (text : List ℕ) : Type 0 where
+  pub begins : BeginsContract text
+  pub bad : (kind : Kind) (blank rest : List ℕ) → IsContract text kind blank rest → ⊥
+
+-- in a contract line, no token stands at the front that it alone has
+abbrev pub BeginsNoContractToken : Bool → List ℕ → Type 0
+BeginsNoContractToken inside text = inside ≡ true → (kind : Kind) (part rest : List ℕ) → text ≡ part ++ rest → IsContractToken kind part → ⊥
+
+-- What breaks a rule where a token or a gap may begin, in a contract line or outside of them.
+abbrev pub BreaksHere : Bool → LexRule → List ℕ → Type 0
+BreaksHere inside rules.NotUtf8 text = ⊥
+BreaksHere inside rules.StrayCharacter text = IsStray text × BeginsNoContractToken inside text
+BreaksHere inside rules.UnclosedComment text = IsUnclosed text
+BreaksHere inside rules.BadNumber text = IsBadNumber text
+BreaksHere inside rules.UnicodeEscape text = BeginsEscape text
+BreaksHere inside rules.ContractLine text = IsBadContract text
 
 -- The bytes break the rule just behind the front: it is the longest front that is UTF-8; or tokens and gaps lead there,
 -- and what follows breaks the rule.
 pub data Breaks (file : ℕ) (bytes front : List ℕ) (rule : LexRule) : Type 0 where
   encoding : (rest : List ℕ) → rule ≡ rules.NotUtf8 → bytes ≡ front ++ rest → IsValidUpTo bytes (length front) → Breaks file bytes front rule
-  reached : (list : List Lexeme) (rest : List ℕ) → Reaches file [] bytes list front rest → BreaksHere rule rest → Breaks file bytes front rule
+  reached : (inside : Bool) (list : List Lexeme) (rest : List ℕ) → Reaches file false [] bytes list inside front rest → BreaksHere inside rule rest → Breaks file bytes front rule
 
 -- the rules' order
 abbrev pub rank : LexRule → ℕ

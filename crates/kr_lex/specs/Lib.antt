@@ -4,6 +4,7 @@ pub mod Characters
 pub mod Words
 pub mod Gaps
 pub mod Places
+pub mod ContractLines
 pub mod Lexemes
 pub mod Entries
 pub mod Spells

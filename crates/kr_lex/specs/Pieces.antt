@@ -1,15 +1,19 @@
--- What stands at the front of a text: the lengths of words and comments, and the piece as a whole.
-use Rattle.std.specs.Prelude.{◌≡◌, ℕ, ◌+◌, ◌<◌, ◌≤◌, true, false, List, ◌∷◌, ◌++◌, length, take, drop, slice_index}
+-- What stands at the front of a text: the lengths of words and comments, the piece as a whole, and the parts of a contract
+-- line.
+use Rattle.std.specs.Prelude.{◌≡◌, ℕ, ◌+◌, ◌<◌, ◌≤◌, ◌⊎◌, Bool, true, false, List, ◌∷◌, ◌++◌, length, take, drop, slice_index}
 use Rattle.std.specs.Char.{IsScalar, is_ascii_digit, encode_utf8}
 use Rattle.std.specs.Str.{encode_utf8_all}
 use Rattle.std.specs.List.{AllByRecursion}
 use Rattle.kr_lex.specs.declared.kind.Kind.{Kind}
+use Rattle.kr_lex.specs.declared.kind.Kind.TheVariants as kinds
+use Rattle.kr_lex.specs.declared.contract.Head.{Head}
 use Rattle.kr_lex.specs.declared.piece.Piece.{Piece}
 use Rattle.kr_lex.specs.declared.piece.Piece.TheVariants as pieces
 use Rattle.kr_lex.specs.Characters.{is_line_end, is_white, is_start, is_part, AllParts, EndsWord}
 use Rattle.kr_lex.specs.Gaps.{EndsLine, IsGap, BeginsComment}
 use Rattle.kr_lex.specs.Spelling.{spelling}
-use Rattle.kr_lex.specs.Spells.{IsLongest}
+use Rattle.kr_lex.specs.ContractLines.{contract_spelling, is_blank, has_block, IsContract}
+use Rattle.kr_lex.specs.Spells.{IsTokenHere}
 use Rattle.kr_lex.specs.Broken.{BreaksHere}
 
 -- a character of that length that a name may go on with
@@ -83,8 +87,48 @@ pub record IsSymbolic (text : List ℕ) : Type 0 where
   pub no_name : StartsName text → ⊥
   pub no_comment : BeginsComment text → ⊥
 
--- What stands at the front: a gap or a token of some length, or what breaks a rule.
-abbrev pub IsPiece : List ℕ → Piece → Type 0
-IsPiece text (pieces.Gap n) = (0 < n) × (n ≤ length text) × IsGap (take n text) (drop n text)
-IsPiece text (pieces.Token kind n) = (0 < n) × (n ≤ length text) × IsLongest kind (take n text) (drop n text)
-IsPiece text (pieces.Broken rule) = BreaksHere rule text
+-- What stands at the front, in a contract line or outside of them: a gap or a token of some length, or what breaks a
+-- rule.
+abbrev pub IsPiece : Bool → List ℕ → Piece → Type 0
+IsPiece inside text (pieces.Gap n) = (0 < n) × (n ≤ length text) × IsGap (take n text) (drop n text)
+IsPiece inside text (pieces.Token kind n) = (0 < n) × (n ≤ length text) × IsTokenHere inside kind (take n text) (drop n text)
+IsPiece inside text (pieces.Broken rule) = BreaksHere inside rule text
+
+-- a token that contract lines alone have stands at the front
+pub record IsContractTokenAt (text : List ℕ) (kind : Kind) : Type 0 where
+  pub one_of : (kind ≡ kinds.Result) ⊎ (kind ≡ kinds.Old)
+  pub spelled : text ≡ contract_spelling kind ++ drop (length (contract_spelling kind)) text
+
+-- the length of the blanks at the front
+pub record IsBlankLength (text : List ℕ) (n : ℕ) : Type 0 where
+  pub blank : AllByRecursion (λ b. is_blank b ≡ true) (take n text)
+  pub longest : is_blank (slice_index (drop n text) 0) ≡ false
+  pub within : n ≤ length text
+
+-- this word stands at the front, and goes on no further
+pub record IsWordOf (text : List ℕ) (kind : Kind) : Type 0 where
+  pub spelled : text ≡ contract_spelling kind ++ drop (length (contract_spelling kind)) text
+  pub whole : EndsWord (drop (length (contract_spelling kind)) text)
+
+-- a contract's word does
+pub record IsWordAt (text : List ℕ) (kind : Kind) : Type 0 where
+  pub word : (kind ≡ kinds.Requires) ⊎ (kind ≡ kinds.Ensures)
+  pub stands : IsWordOf text kind
+
+abbrev pub BeginsNoWord : List ℕ → Type 0
+BeginsNoWord text = (kind : Kind) (rest : List ℕ) → (kind ≡ kinds.Requires) ⊎ (kind ≡ kinds.Ensures) → text ≡ contract_spelling kind ++ rest → EndsWord rest → ⊥
+
+-- no slash and star stand side by side in a line from here, nor from any place up to that length
+abbrev pub IsClear : List ℕ → ℕ → Type 0
+IsClear text n = (k : ℕ) → k ≤ n → has_block (drop k text) ≡ false
+
+-- a contract line, and where its word begins and ends
+pub record IsHead (text : List ℕ) (head : Head) : Type 0 where
+  pub blank : List ℕ
+  pub contract : IsContract text head.kind blank (drop head.end text)
+  pub word : head.word ≡ 3 + length blank
+  pub end : head.end ≡ head.word + length (contract_spelling head.kind)
+  pub within : head.end ≤ length text
+
+abbrev pub IsNoContract : List ℕ → Type 0
+IsNoContract text = (kind : Kind) (blank rest : List ℕ) → IsContract text kind blank rest → ⊥

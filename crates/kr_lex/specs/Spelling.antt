@@ -110,15 +110,6 @@ spelling kinds.GreaterGreaterEqual = codes ">>="
 spelling kinds.GreaterGreaterGreaterEqual = codes ">>>="
 spelling _ = []
 
--- how the kinds are spelled that stand in contract lines alone
-unfoldable pub contract_spelling : Kind → List ℕ
-contract_spelling kinds.Contract = codes "//@"
-contract_spelling kinds.Requires = codes "requires"
-contract_spelling kinds.Ensures = codes "ensures"
-contract_spelling kinds.Result = codes "\\result"
-contract_spelling kinds.Old = codes "\\old"
-contract_spelling _ = []
-
 -- a keyword of Java that the language doesn't use
 unfoldable pub is_outside_profile : Kind → Bool
 is_outside_profile kinds.Abstract = true

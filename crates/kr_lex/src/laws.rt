@@ -3,7 +3,6 @@ ghost use Rattle.kr_lex.specs.Spells.{OneListLaw};
 ghost use Rattle.kr_lex.specs.Broken.{UnbrokenLaw};
 
 /// At most one list of tokens spells a source.
-#[tactic(auto, using(crate::proofs::Paths::one_list))]
 pub fn one_list_law()
     ensures { OneListLaw }
 {}

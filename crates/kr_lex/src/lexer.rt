@@ -1,14 +1,19 @@
 // The lexer: reads a source once, piece by piece.
-ghost use Rattle.std.specs.Prelude.{◌≡◌, ◌+◌, ◌<◌, ◌≤◌, ◌^◌, [], length, IfErr, IfOk};
+ghost use Rattle.std.specs.Prelude.{◌≡◌, ◌+◌, ◌<◌, ◌≤◌, ◌^◌, true, [], length, drop, IfErr, IfOk, IfNone, IfSome};
+ghost use Rattle.kr_lex.specs.declared.refusal.LexRefusal.TheVariants.{NoMemory};
 ghost use Rattle.kr_lex.specs.Spells.{AreTokens};
 ghost use Rattle.kr_lex.specs.Broken.{IsCause};
+ghost use Rattle.kr_lex.specs.ContractLines.{has_block, BeginsContract};
 ghost use Rattle.kr_lex.specs.Cursors.{Stands};
-ghost use Rattle.kr_lex.specs.Reading.{IsValidLength, IsReading, IsPassed, IsPast};
+ghost use Rattle.kr_lex.specs.Pieces.{IsHead, IsNoContract};
+ghost use Rattle.kr_lex.specs.Reading.{IsValidLength, IsClearBetween, IsReading, IsPassed, IsPast, ArePushed};
 
+use crate::contract::{Head, Line, clear_len, contract_head};
 use crate::cursor::Cursor;
-use crate::piece::{Piece, first_piece};
+use crate::piece::{Piece, begins_contract, first_piece};
+use crate::progress::Progress;
 use crate::token::{Token, Tokens};
-use crate::{LexRefusal, LexRule};
+use crate::{Kind, LexRefusal, LexRule};
 use std::alloc::Global;
 use std::str;
 
@@ -23,10 +28,10 @@ pub fn lex(alloc: Global, file: u32, bytes: &[u8]) -> Result<Tokens, LexRefusal>
 {
     let valid = valid_len(bytes);
     let mut items = Vec::with_capacity(alloc, bytes.len())?;
-    let cursor = read_all(&mut items, file, bytes, valid)?;
+    let progress = read_all(&mut items, file, bytes, valid)?;
     let mut source = Vec::with_capacity(alloc, bytes.len())?;
     source.extend_from_slice(bytes)?;
-    Ok(Tokens::new(source, items, cursor.place(file)))
+    Ok(Tokens::new(source, items, progress.cursor.place(file)))
 }
 
 /// The length of the longest front that is UTF-8.
@@ -45,54 +50,176 @@ fn read_all(
     file: u32,
     bytes: &[u8],
     valid: usize,
-) -> Result<Cursor, LexRefusal>
+) -> Result<Progress, LexRefusal>
     requires room { length bytes.now < 2 ^ 30 }
     requires valid { IsValidLength bytes.now valid }
     requires empty { items.old.items ≡ [] }
     ensures read { IfOk result (IsReading file bytes.now valid items.new.items) }
-    ensures whole { IfOk result (λ cursor. cursor.at ≡ length bytes.now) }
+    ensures whole { IfOk result (λ progress. progress.cursor.at ≡ length bytes.now) }
     ensures refused { IfErr result (IsCause file bytes.now) }
 {
-    let mut cursor = Cursor::start();
-    while cursor.at < valid {
-        cursor = read_piece(items, file, bytes, valid, cursor)?;
+    let mut progress = Progress::start();
+    while progress.cursor.at < valid {
+        progress = read_piece(items, file, bytes, valid, progress)?;
     }
     if valid < bytes.len() {
         return Err(LexRefusal::Broken {
-            place: cursor.place(file),
+            place: progress.cursor.place(file),
             rule: LexRule::NotUtf8,
         });
     }
-    Ok(cursor)
+    Ok(progress)
 }
 
-/// Reads one piece.
+/// Reads one piece, or how a contract line begins.
 fn read_piece(
     items: &mut Vec<Token>,
     file: u32,
     bytes: &[u8],
     valid: usize,
-    cursor: Cursor,
-) -> Result<Cursor, LexRefusal>
+    progress: Progress,
+) -> Result<Progress, LexRefusal>
     requires room { length bytes.now < 2 ^ 30 }
     requires valid { IsValidLength bytes.now valid }
-    requires reading { IsReading file bytes.now valid items.old.items cursor }
-    requires more { cursor.at < valid }
+    requires reading { IsReading file bytes.now valid items.old.items progress }
+    requires more { progress.cursor.at < valid }
     ensures read { IfOk result (IsReading file bytes.now valid items.new.items) }
-    ensures onward { IfOk result (λ next. cursor.at < next.at) }
+    ensures onward { IfOk result (λ next. progress.cursor.at < next.cursor.at) }
     ensures refused { IfErr result (IsCause file bytes.now) }
 {
-    match first_piece(&bytes[cursor.at..]) {
+    if begins_contract(&bytes[progress.cursor.at..]) {
+        read_contract(items, file, bytes, valid, progress)
+    } else {
+        read_plain(items, file, bytes, valid, progress)
+    }
+}
+
+/// Reads a gap or a token.
+fn read_plain(
+    items: &mut Vec<Token>,
+    file: u32,
+    bytes: &[u8],
+    valid: usize,
+    progress: Progress,
+) -> Result<Progress, LexRefusal>
+    requires room { length bytes.now < 2 ^ 30 }
+    requires valid { IsValidLength bytes.now valid }
+    requires reading { IsReading file bytes.now valid items.old.items progress }
+    requires more { progress.cursor.at < valid }
+    requires no_contract { BeginsContract (drop progress.cursor.at bytes.now) → ⊥ }
+    ensures read { IfOk result (IsReading file bytes.now valid items.new.items) }
+    ensures onward { IfOk result (λ next. progress.cursor.at < next.cursor.at) }
+    ensures refused { IfErr result (IsCause file bytes.now) }
+{
+    let cursor = progress.cursor;
+    match first_piece(&bytes[cursor.at..], progress.inside) {
         Piece::Broken(rule) => Err(LexRefusal::Broken {
             place: cursor.place(file),
             rule,
         }),
-        Piece::Gap(len) => pass(file, bytes, valid, cursor, len),
+        Piece::Gap(len) => {
+            let behind = progress.behind_gap(bytes[cursor.at]);
+            pass(file, bytes, valid, behind, len)
+        }
         Piece::Token(kind, len) => {
             items.push(Token::new(cursor, kind, len))?;
-            pass(file, bytes, valid, cursor, len)
+            pass(file, bytes, valid, progress, len)
         }
     }
+}
+
+/// Reads how a contract line begins: its mark and its word.
+fn read_contract(
+    items: &mut Vec<Token>,
+    file: u32,
+    bytes: &[u8],
+    valid: usize,
+    progress: Progress,
+) -> Result<Progress, LexRefusal>
+    requires room { length bytes.now < 2 ^ 30 }
+    requires valid { IsValidLength bytes.now valid }
+    requires reading { IsReading file bytes.now valid items.old.items progress }
+    requires more { progress.cursor.at < valid }
+    requires contract { BeginsContract (drop progress.cursor.at bytes.now) }
+    ensures read { IfOk result (IsReading file bytes.now valid items.new.items) }
+    ensures onward { IfOk result (λ next. progress.cursor.at < next.cursor.at) }
+    ensures refused { IfErr result (IsCause file bytes.now) }
+{
+    match well_formed(bytes, progress) {
+        Some(line) => {
+            push_head(items, bytes, progress.cursor, line.head)?;
+            let behind = Progress {
+                cursor: progress.cursor,
+                inside: true,
+                clear: line.clear,
+            };
+            pass(file, bytes, valid, behind, line.head.end)
+        }
+        None => {
+            let at_mark = progress.cursor;
+            Err(LexRefusal::Broken {
+                place: at_mark.place(file),
+                rule: LexRule::ContractLine,
+            })
+        }
+    }
+}
+
+/// The contract line at two slashes and `@`, if it is well formed.
+fn well_formed(bytes: &[u8], progress: Progress) -> Option<Line>
+    requires stands { progress.cursor.at ≤ length bytes.now }
+    requires room { length bytes.now < 2 ^ 30 }
+    requires clear { IsClearBetween bytes.now progress.cursor.at progress.clear }
+    requires contract { BeginsContract (drop progress.cursor.at bytes.now) }
+    ensures found { IfSome result (λ line. IsHead (drop progress.cursor.at bytes.now) line.head) }
+    ensures clear { IfSome result (λ line. IsClearBetween bytes.now progress.cursor.at line.clear) }
+    ensures none { IfNone result (IsNoContract (drop progress.cursor.at bytes.now)) }
+{
+    match clear_from(bytes, progress) {
+        Some(clear) => match contract_head(&bytes[progress.cursor.at..]) {
+            Some(head) => Some(Line { head, clear }),
+            None => None,
+        },
+        None => None,
+    }
+}
+
+/// Up to which byte no slash and star stand side by side in a line from there, unless they do in this one.
+fn clear_from(bytes: &[u8], progress: Progress) -> Option<usize>
+    requires stands { progress.cursor.at ≤ length bytes.now }
+    requires room { length bytes.now < 2 ^ 30 }
+    requires clear { IsClearBetween bytes.now progress.cursor.at progress.clear }
+    ensures onward { IfSome result (λ clear. progress.cursor.at < clear) }
+    ensures clear { IfSome result (IsClearBetween bytes.now progress.cursor.at) }
+    ensures none { IfNone result (has_block (drop progress.cursor.at bytes.now) ≡ true) }
+{
+    let at = progress.cursor.at;
+    if at < progress.clear {
+        return Some(progress.clear);
+    }
+    match clear_len(&bytes[at..]) {
+        Some(len) => Some(at + len + 1),
+        None => None,
+    }
+}
+
+/// Adds the mark and the word of a contract line.
+fn push_head(
+    items: &mut Vec<Token>,
+    bytes: &[u8],
+    cursor: Cursor,
+    head: Head,
+) -> Result<(), LexRefusal>
+    requires room { length bytes.now < 2 ^ 30 }
+    requires stands { Stands bytes.now cursor }
+    requires head { IsHead (drop cursor.at bytes.now) head }
+    ensures pushed { IfOk result (λ _. ArePushed bytes.now cursor head items.old.items items.new.items) }
+    ensures refused { IfErr result (λ refusal. refusal ≡ NoMemory) }
+{
+    items.push(Token::new(cursor, Kind::Contract, 3))?;
+    let word = cursor.advance(bytes, cursor.at + head.word);
+    items.push(Token::new(word, head.kind, head.end - head.word))?;
+    Ok(())
 }
 
 /// Passes a piece, unless it goes on past what is UTF-8.
@@ -100,16 +227,17 @@ fn pass(
     file: u32,
     bytes: &[u8],
     valid: usize,
-    cursor: Cursor,
+    progress: Progress,
     len: usize,
-) -> Result<Cursor, LexRefusal>
+) -> Result<Progress, LexRefusal>
     requires room { length bytes.now < 2 ^ 30 }
     requires valid { valid ≤ length bytes.now }
-    requires stands { Stands bytes.now cursor }
-    requires before { cursor.at ≤ valid }
-    ensures passed { IfOk result (IsPassed bytes.now valid cursor len) }
-    ensures past { IfErr result (IsPast file bytes.now valid (cursor.at + len)) }
+    requires stands { Stands bytes.now progress.cursor }
+    requires before { progress.cursor.at ≤ valid }
+    ensures passed { IfOk result (IsPassed bytes.now valid progress len) }
+    ensures past { IfErr result (IsPast file bytes.now valid (progress.cursor.at + len)) }
 {
+    let cursor = progress.cursor;
     if len > valid - cursor.at {
         let end = cursor.advance(bytes, valid);
         return Err(LexRefusal::Broken {
@@ -117,5 +245,9 @@ fn pass(
             rule: LexRule::NotUtf8,
         });
     }
-    Ok(cursor.advance(bytes, cursor.at + len))
+    Ok(Progress {
+        cursor: cursor.advance(bytes, cursor.at + len),
+        inside: progress.inside,
+        clear: progress.clear,
+    })
 }

@@ -2,6 +2,7 @@
 #![tactic(auto)]
 
 mod characters;
+mod contract;
 mod cursor;
 mod fixed;
 mod gaps;
@@ -9,6 +10,7 @@ mod kind;
 mod laws;
 mod lexer;
 mod piece;
+mod progress;
 mod refusal;
 mod table;
 #[cfg(test)]

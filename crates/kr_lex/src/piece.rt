@@ -1,10 +1,12 @@
 // What stands at the front of a text: a gap, a token, or what breaks a rule.
-ghost use Rattle.std.specs.Prelude.{◌≡◌, ◌<◌, ◌↔◌, IsTrue, true, length, slice_index};
+ghost use Rattle.std.specs.Prelude.{◌≡◌, ◌<◌, ◌↔◌, IsTrue, true, false, length, slice_index};
 ghost use Rattle.std.specs.Char.{is_ascii_digit};
 ghost use Rattle.kr_lex.specs.Broken.{BeginsEscape};
+ghost use Rattle.kr_lex.specs.ContractLines.{BeginsContract};
 ghost use Rattle.kr_lex.specs.Pieces.{IsPiece, BeginsCharacter, StartsName, IsSymbolic};
 
 use crate::characters::{is_start, is_white};
+use crate::contract::{contract_spelling, contract_token};
 use crate::fixed::{fixed_word, longest_fixed};
 use crate::gaps::{body_len, line_len};
 use crate::table::spelling;
@@ -21,10 +23,30 @@ pub enum Piece {
     Broken(LexRule),
 }
 
-/// What stands at the front of a text.
-pub fn first_piece(text: &[u8]) -> Piece
-    requires { BeginsCharacter text.now }
-    ensures { IsPiece text.now result }
+/// Whether two slashes and `@` stand at the front.
+pub fn begins_contract(text: &[u8]) -> bool
+    ensures { IsTrue result ↔ BeginsContract text.now }
+{
+    text.starts_with(b"//@")
+}
+
+/// What stands at the front of a text, in a contract line or outside of them, where none begins.
+pub fn first_piece(text: &[u8], inside: bool) -> Piece
+    requires character { BeginsCharacter text.now }
+    requires no_contract { BeginsContract text.now → ⊥ }
+    ensures { IsPiece inside text.now result }
+{
+    match contract_token(text, inside) {
+        Some(kind) => Piece::Token(kind, contract_spelling(kind).len()),
+        None => plain_piece(text),
+    }
+}
+
+/// What stands at the front of a text outside of contract lines, where none begins.
+fn plain_piece(text: &[u8]) -> Piece
+    requires character { BeginsCharacter text.now }
+    requires no_contract { BeginsContract text.now → ⊥ }
+    ensures { IsPiece false text.now result }
 {
     let first = text[0];
     if is_white(first) {
@@ -40,11 +62,12 @@ pub fn first_piece(text: &[u8]) -> Piece
     }
 }
 
-/// What stands at a slash: a comment, a contract line or an operator.
+/// What stands at a slash: a comment or an operator.
 fn slash(text: &[u8]) -> Piece
     requires some { 0 < length text.now }
     requires slash { slice_index text.now 0 ≡ 47 }
-    ensures { IsPiece text.now result }
+    requires no_contract { BeginsContract text.now → ⊥ }
+    ensures { IsPiece false text.now result }
 {
     if text.starts_with(b"//") {
         line_comment(text)
@@ -55,16 +78,14 @@ fn slash(text: &[u8]) -> Piece
     }
 }
 
-/// A comment up to the line's end, or a contract line.
+/// A comment up to the line's end.
 fn line_comment(text: &[u8]) -> Piece
     requires some { 1 < length text.now }
     requires first { slice_index text.now 0 ≡ 47 }
     requires second { slice_index text.now 1 ≡ 47 }
-    ensures { IsPiece text.now result }
+    requires no_contract { BeginsContract text.now → ⊥ }
+    ensures { IsPiece false text.now result }
 {
-    if text.len() > 2 && text[2] == b'@' {
-        return Piece::Broken(LexRule::ContractLine);
-    }
     Piece::Gap(2 + line_len(&text[2..]))
 }
 
@@ -73,7 +94,7 @@ fn block_comment(text: &[u8]) -> Piece
     requires some { 1 < length text.now }
     requires first { slice_index text.now 0 ≡ 47 }
     requires second { slice_index text.now 1 ≡ 42 }
-    ensures { IsPiece text.now result }
+    ensures { IsPiece false text.now result }
 {
     match body_len(&text[2..]) {
         Some(len) => Piece::Gap(len + 4),
@@ -84,7 +105,7 @@ fn block_comment(text: &[u8]) -> Piece
 /// The number at a digit, which goes on as far as a name would.
 fn number(text: &[u8]) -> Piece
     requires { is_ascii_digit (slice_index text.now 0) ≡ true }
-    ensures { IsPiece text.now result }
+    ensures { IsPiece false text.now result }
 {
     let len = word_len(text);
     if is_number(&text[..len]) {
@@ -112,7 +133,7 @@ fn starts_name(text: &[u8]) -> bool
 /// The name or the word of the language at a character that starts names.
 fn name(text: &[u8]) -> Piece
     requires { StartsName text.now }
-    ensures { IsPiece text.now result }
+    ensures { IsPiece false text.now result }
 {
     let len = word_len(text);
     match fixed_word(&text[..len]) {
@@ -124,7 +145,7 @@ fn name(text: &[u8]) -> Piece
 /// The separator or operator at a character that begins no gap, number or name, or the rule that it breaks.
 fn symbol(text: &[u8]) -> Piece
     requires { IsSymbolic text.now }
-    ensures { IsPiece text.now result }
+    ensures { IsPiece false text.now result }
 {
     match longest_fixed(text) {
         Some(kind) => Piece::Token(kind, spelling(kind).len()),

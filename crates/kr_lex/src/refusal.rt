@@ -19,7 +19,7 @@ pub enum LexRule {
     BadNumber,
     /// L5: a backslash before `u` outside a comment.
     UnicodeEscape,
-    /// L6: a contract line, which the language doesn't have yet.
+    /// L6: a contract line of another word, without a semicolon at its end, or with a slash and a star.
     ContractLine,
 }
 

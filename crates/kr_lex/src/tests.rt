@@ -82,7 +82,61 @@ fn comments() -> [(&'static [u8], &'static [u8]); 14] {
     ]
 }
 
-fn refusals() -> [(&'static [u8], &'static [u8]); 24] {
+/// Contract lines.
+fn contracts() -> [(&'static [u8], &'static [u8]); 15] {
+    [
+        (
+            b"//@ requires x>0;\nrequires",
+            b"//@ requires x > 0 ; requires",
+        ),
+        (
+            b"//@\tensures \\result==\\old(x) ; // y",
+            b"//@ ensures \\result == \\old ( x ) ;",
+        ),
+        (b"//@requires \\resultx;", b"//@ requires \\result x ;"),
+        (
+            b"//@ requires a; //@ ensures b;",
+            b"//@ requires a ; //@ ensures b ;",
+        ),
+        (b"//@ ensures ensures; b;", b"//@ ensures ensures ; b ;"),
+        (b"/* //@ */ //@ requires a\xc2\xa0;", b"1:25: L2"),
+        (b"//@ requires;", b"//@ requires ;"),
+        (b"//@ requires \\u0041;", b"1:14: L5"),
+        (b"//@ requires \\old;\r\\old", b"2:1: L2"),
+        (b"//@ requires 08 \xff;", b"1:14: L4"),
+        (b"//@ requires a \xff;", b"1:16: L1"),
+        (b"//@ requires a;\n\xff", b"2:1: L1"),
+        (b"//@ requires # ;", b"1:14: L2"),
+        (
+            b"//@requires;//@requires \\old;",
+            b"//@ requires ; //@ requires \\old ;",
+        ),
+        (b"//@ requires a;/**/", b"1:1: L6"),
+    ]
+}
+
+/// Contract lines that are malformed.
+fn malformed() -> [(&'static [u8], &'static [u8]); 15] {
+    [
+        (b"a //@ requires", b"1:3: L6"),
+        (b"//@", b"1:1: L6"),
+        (b"//@ require a;", b"1:1: L6"),
+        (b"//@ requiresa;", b"1:1: L6"),
+        (b"//@ invariant a;", b"1:1: L6"),
+        (b"//@\nrequires a;", b"1:1: L6"),
+        (b"//@ requires a; #", b"1:1: L6"),
+        (b"//@ requires a; \xff", b"1:1: L6"),
+        (b"//@ requires a; b", b"1:1: L6"),
+        (b"//@ requires a // b;", b"1:1: L6"),
+        (b"//@ requires a\n;", b"1:1: L6"),
+        (b"//@ requires a /* b */;", b"1:1: L6"),
+        (b"//@ requires a; // /*", b"1:1: L6"),
+        (b"//@ requires a //@ ensures b;", b"1:1: L6"),
+        (b"//@ requires a; //@ old b;", b"1:17: L6"),
+    ]
+}
+
+fn refusals() -> [(&'static [u8], &'static [u8]); 23] {
     [
         (b"2147483649", b"1:1: L4"),
         (b"99999999999999999999999", b"1:1: L4"),
@@ -93,7 +147,6 @@ fn refusals() -> [(&'static [u8], &'static [u8]); 24] {
         (b"1_0", b"1:1: L4"),
         (b"a \\u0041", b"1:3: L5"),
         (b"\\ u", b"1:1: L2"),
-        (b"a //@ requires", b"1:3: L6"),
         (b"\xef\xbb\xbfa", b"1:1: L2"),
         (b"a\x0bb", b"1:2: L2"),
         (b"a\r\nb #", b"2:3: L2"),
@@ -130,6 +183,22 @@ fn comments_are_gaps(rt: HostRuntime) -> Result<(), Fail> {
 #[test]
 fn the_first_broken_rule_is_named(rt: HostRuntime) -> Result<(), Fail> {
     for (source, expected) in &refusals() {
+        assert_eq!(rt; outcome(rt.alloc(), source)?.as_slice(), *expected);
+    }
+    Ok(())
+}
+
+#[test]
+fn contract_lines_have_tokens_of_their_own(rt: HostRuntime) -> Result<(), Fail> {
+    for (source, expected) in &contracts() {
+        assert_eq!(rt; outcome(rt.alloc(), source)?.as_slice(), *expected);
+    }
+    Ok(())
+}
+
+#[test]
+fn malformed_contract_lines_are_refused(rt: HostRuntime) -> Result<(), Fail> {
+    for (source, expected) in &malformed() {
         assert_eq!(rt; outcome(rt.alloc(), source)?.as_slice(), *expected);
     }
     Ok(())

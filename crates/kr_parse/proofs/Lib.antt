@@ -1,4 +1,5 @@
 mod Ahead
+mod Named
 mod OneRefusal
 mod Standing
 mod States

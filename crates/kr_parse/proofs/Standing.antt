@@ -11,7 +11,7 @@ use Rattle.kr_grammar.specs.declared.terminal.Terminal.TheVariants.{Outside}
 use Rattle.kr_grammar.specs.Terminals.{terminal_of}
 use Rattle.kr_grammar.specs.Machine.{ahead}
 use Rattle.kr_grammar.specs.State.{is_inside}
-use Rattle.kr_parse.specs.Refusals.{IsViable, IsTooNested, IsLeastDead, IsFirstTooNested, is_opening, open_behind, token_at}
+use Rattle.kr_parse.specs.Refusals.{IsTooNested, IsLeastDead, is_opening, open_behind, token_at}
 use Rattle.kr_parse.proofs.Ahead.{behind_all, no_token}
 use Rattle.kr_parse.specs.Steps.{depth_behind, IsStanding, IsLeast}
 
@@ -37,16 +37,6 @@ standing_next ts at n k m l h e room = record { within = omega arith; next = e; 
         go : (j < at) ⊎ (at ≤ j) → ⊥
         go (inl k) = h.shallow j k d
         go (inr k) = let e : j ≡ at = omega arith in here (subst (λ (x : ℕ). IsTooNested ts x) e d)
-
-pub too_nested : (ts : Lexemes) (at n : ℕ) (k : Terminal) → at < length ts.list → IsStanding ts (record { at = at; depth = n; next = k }) → IsViable ts.list (at + 1) → is_opening (token_at ts at).kind ≡ true → 64 ≤ n
-    → IsFirstTooNested ts (token_at ts at).place
-too_nested ts at n k l h v o m = record {
-  index = at;
-  place = refl;
-  viable = v;
-  nested = (l, o, (let e = h.depth in omega arith));
-  shallow = h.shallow;
-}
 
 outside_is : (k : Kind) → is_outside_profile k ≡ not (is_inside (terminal_of k))
 unfolding is_outside_profile

@@ -115,9 +115,6 @@ debt_small (Build m ∷ ss) = omega arith
 pub token_falls : (s : Symbol) (ss : List Symbol) (at n : ℕ) → AsksToken s → at < n → load ss + 100 * (n - (at + 1)) < load (s ∷ ss) + 100 * (n - at)
 token_falls s ss at n u l = let w = token_weighs s ss u in let d = debt_small ss in omega arith
 
-pub build_falls : (m : Make) (ss : List Symbol) → load ss < load (Build m ∷ ss)
-build_falls m ss = let d = debt_small ss in omega arith
-
 pub state_start : AreLaws → (ts : List Lexeme) → State ts 0 start []
 state_start laws ts = record {
   within = omega arith;

@@ -9,6 +9,8 @@ mod refusal;
 mod stack;
 #[cfg(test)]
 mod tests;
+#[cfg(test)]
+mod tree_tests;
 
 pub use laws::one_refusal_law;
 pub use parser::parse;

@@ -1,12 +1,12 @@
 // The parser: takes the tokens one by one, looking at the next one alone.
 ghost use Rattle.std.specs.Prelude.{◌≡◌, ◌+◌, ◌*◌, ◌-◌, ◌<◌, ◌≤◌, ◌∷◌, [], List, ℕ, IfOk, IfErr, length};
 ghost use Rattle.kr_ast.specs.Arena.{root, parts, names, tree_of};
-ghost use Rattle.kr_ast.specs.Tree.{Tree as SyntaxTree};
+ghost use Rattle.kr_ast.specs.Tree.{Tree as SyntaxTree, size};
 ghost use Rattle.kr_grammar.specs.Grammar.{Derives};
 ghost use Rattle.kr_grammar.specs.Made.{literal};
 ghost use Rattle.kr_grammar.specs.State.{State, load};
 ghost use Rattle.kr_parse.specs.Refusals.{IsRefusal, IsShallow, token_at};
-ghost use Rattle.kr_build.specs.Shown.{values_of, IsBuilt};
+ghost use Rattle.kr_builder.specs.Built.{values_of, IsBuilt};
 ghost use Rattle.kr_parse.specs.Steps.{AreLaws, kept_of, IsStanding};
 
 use crate::cursor::{Cursor, dead};
@@ -14,7 +14,7 @@ use crate::refusal::ParseRefusal;
 use crate::stack::Stack;
 use kr_ast::{Node, Tree};
 use kr_base::NoMemory;
-use kr_build::Builder;
+use kr_builder::Builder;
 use kr_grammar::{Goal, Infix, Symbol, after_operand, rule};
 use kr_laws::{completeness, productivity, small_trees, soundness};
 use kr_lex::{Kind, Tokens};
@@ -84,6 +84,7 @@ fn literal(tokens: &Tokens, at: usize) -> Node
         Kind::True => Node::Truth { value: true },
         Kind::False => Node::Truth { value: false },
         Kind::Null => Node::Null,
+        Kind::Result => Node::Result,
         _ => Node::This,
     }
 }
@@ -150,6 +151,7 @@ pub fn parse(alloc: Global, tokens: &Tokens) -> Result<Tree, ParseRefusal>
     ensures derived { IfOk result (λ tree. Derives tokens.now.list (root tree)) }
     ensures shallow { IfOk result (λ tree. IsShallow tokens.now (length tokens.now.list)) }
     ensures small { IfOk result (λ tree. length tree.entries ≤ 3 * length tokens.now.list + 1) }
+    ensures whole { IfOk result (λ tree. length tree.entries ≡ size (root tree)) }
     ensures refused { IfErr result (λ refusal. IsRefusal tokens.now refusal) }
 {
     laws();

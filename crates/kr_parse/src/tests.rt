@@ -300,6 +300,43 @@ fn members(rt: HostRuntime) -> Result<(), Fail> {
     Ok(())
 }
 
+const CONTRACTS: [(&'static str, u32); 15] = [
+    ("class A { //@ requires x > 0;\nint m() { } }", 0),
+    ("class A { //@ requires x > 0;\nint v; }", 1006),
+    ("class A { //@ requires x > 0;\nA() { } }", 1002),
+    ("//@ requires x;\nclass A { }", 1001),
+    ("class A { public //@ requires x;\nint m() { } }", 1018),
+    ("class A { //@ requires x;\nstatic class B { } }", 1008),
+    ("class A { void m() { //@ requires x;\n} }", 1022),
+    ("class A { //@ requires x;\n}", 1001),
+    ("class A { //@ requires x;\n; int m() { } }", 1001),
+    ("class A { //@ requires \\old x;\nint m() { } }", 1029),
+    ("class A { //@ ensures \\result = 1;\nint m() { } }", 1031),
+    (
+        "class A { //@ ensures (A) \\result == \\old(a)[0].b;\nA m() { } }",
+        0,
+    ),
+    (
+        "class A { //@ ensures (a < b > \\old(c));\n@Override int m() { } }",
+        0,
+    ),
+    ("class A { //@ ensures a \\old(c);\nint m() { } }", 1025),
+    ("class A { //@ requires switch;\nint m() { } }", 2024),
+];
+
+#[test]
+fn contracts(rt: HostRuntime) -> Result<(), Fail> {
+    let alloc = rt.alloc();
+    for (text, expected) in CONTRACTS {
+        let found = outcome(alloc, text)?;
+        if found != expected {
+            println!(rt; "{text}: {found}, not {expected}")?;
+        }
+        assert_eq!(rt; found, expected);
+    }
+    Ok(())
+}
+
 /// `class A { int v = `, so many `(`, and the rest.
 fn nested(alloc: Global, count: usize, rest: &str) -> Result<u32, AllocError> {
     let mut text = String::from_str(alloc, "class A { int v = ")?;

@@ -1,6 +1,6 @@
 // Rows, which are moved and never copied.
 ghost use Rattle.std.specs.Prelude.{◌≡◌, ◌==◌, length};
-ghost use Rattle.kr_survey.specs.Joins.{joined};
+ghost use Rattle.kr_survey.specs.Joins.{joined, lists};
 
 use std::marker::Model;
 
@@ -55,35 +55,35 @@ impl<R> RowList<R> {
 /// Rows in pieces, one after another. Contracts see one list.
 #[derive(Debug, Drop)]
 pub struct Rows<R> {
-    pieces: Vec<RowList<R>>,
+    pieces: Vec<Vec<R>>,
 }
 
 impl<R> Model for Rows<R> {
     ghost use Rattle.std.specs.Prelude.{List};
-    ghost use Rattle.kr_survey.specs.Joins.{joined};
+    ghost use Rattle.kr_survey.specs.Joins.{joined, lists};
 
     ghost Value = { List R };
 
-    ghost view = { λ r. joined r.pieces.items };
+    ghost view = { λ r. joined (lists r.pieces.items) };
 }
 
 impl<R> Rows<R> {
     /// The rows of these pieces. It takes no memory.
-    pub fn new(pieces: Vec<RowList<R>>) -> Self
-        ensures { result ≡ joined pieces.items }
+    pub fn new(pieces: Vec<Vec<R>>) -> Self
+        ensures { result ≡ joined (lists pieces.items) }
     {
         Rows { pieces }
     }
 
-    pub fn pieces(&self) -> &[RowList<R>]
-        ensures { joined result.now ≡ self.now }
+    pub fn pieces(&self) -> &[Vec<R>]
+        ensures { joined (lists result.now) ≡ self.now }
     {
         self.pieces.as_slice()
     }
 
     /// The pieces, given back.
-    pub fn into_pieces(self) -> Vec<RowList<R>>
-        ensures { joined result.items ≡ self }
+    pub fn into_pieces(self) -> Vec<Vec<R>>
+        ensures { joined (lists result.items) ≡ self }
     {
         self.pieces
     }

@@ -1,18 +1,20 @@
 -- What the family of classes means, as the checker computes it.
 use Rattle.std.proofs.Common.{◌≡◌, refl}
-use Rattle.std.specs.Prelude.{[], ◌∷◌, map, true, false, pos, Some, None, option_map, codes}
+use Rattle.std.specs.Prelude.{[], ◌∷◌, map, flat_map, length, take, true, false, pos, Some, None, option_map, codes}
 use Rattle.kr_ast.specs.declared.node.BinaryOperator.TheVariants.{Add, Less}
 use Rattle.kr_ast.specs.Tree as trees
 use Rattle.kr_ast.specs.Tree.{Tree, Nil}
-use Rattle.kr_table.specs.Types.{IntType, BooleanType, NullType, ClassType, SetType, ArrayType, InferredType}
-use Rattle.kr_table.specs.Table.{table_of, ancestors, fields_of, field_named, method_named, constructor_parameters, is_assignable, are_related}
+use Rattle.kr_table.specs.Types.{IntType, BooleanType, NullType, ClassType, SetType, ListType, ArrayType, InferredType}
+use Rattle.kr_table.specs.Table.{table_of, class_at, ancestors, fields_of, field_named, method_named, constructor_parameters, is_assignable, are_related}
+use Rattle.kr_table.specs.Nodes.{nodes}
 use Rattle.kr_table.specs.Arrays.{array_types_of, array_number}
+use Rattle.kr_table.specs.Rules.{class_fault}
 use Rattle.kr_table.specs.Constants.{Whole, Truth, is_constant, evaluated, values_of}
 use Rattle.kr_typing.specs.Scopes.{under_minus, LocalName, NoName, meant, meant_by, class_before, method_meant}
-use Rattle.kr_typing.specs.Typing.{judged, type_of, IsWellTyped}
-use Rattle.kr_typing.specs.Texts.{at}
+use Rattle.kr_typing.specs.Typing.{judged, type_of, type_fault, refusal, IsWellTyped}
+use Rattle.kr_typing.specs.Texts.{at, type_rule_at}
 use Rattle.kr_typing.specs.Examples.{family}
-use Rattle.kr_typing.specs.Meanings.{table, scope, nested, variable, field, with_arrays, Meanings}
+use Rattle.kr_typing.specs.Meanings.{table, scope, nested, variable, field, number, with_arrays, arrays_of_collections, every_kind, numbers_in, whole, whole_class, field_of_class_name, constant_of_class_name, method_of_outer, nested_in_second, Meanings}
 
 well_typed : IsWellTyped family
 unfolding table_of is_constant evaluated values_of judged
@@ -145,11 +147,47 @@ of_value = refl
 numbered : array_types_of with_arrays ≡ ArrayType IntType ∷ ArrayType (ArrayType IntType) ∷ ArrayType BooleanType ∷ ArrayType (ClassType 0) ∷ ArrayType (ClassType 1) ∷ []
 numbered = refl
 
-number : array_number (array_types_of with_arrays) (ArrayType (ClassType 0)) ≡ Some 3
-number = refl
+number_of_type : array_number (array_types_of with_arrays) (ArrayType (ClassType 0)) ≡ Some 3
+number_of_type = refl
 
 unnamed : array_number (array_types_of with_arrays) (ArrayType (ClassType 2)) ≡ None
 unnamed = refl
+
+elements_first : array_types_of arrays_of_collections ≡ ArrayType IntType ∷ ArrayType (SetType (ArrayType IntType)) ∷ ArrayType BooleanType ∷ ArrayType (ListType (ArrayType BooleanType)) ∷ []
+elements_first = refl
+
+parts_in_order : flat_map numbers_in (nodes every_kind) ≡ 0 ∷ 1 ∷ 2 ∷ 3 ∷ 4 ∷ 5 ∷ 6 ∷ 7 ∷ 8 ∷ 9 ∷ 10 ∷ 11 ∷ 12 ∷ 13 ∷ 14 ∷ 15 ∷ 16 ∷ 17 ∷ 18 ∷ 19 ∷ 20 ∷ 21 ∷ 22 ∷ 23 ∷ 24 ∷ 25 ∷ 26 ∷ 27 ∷ 28 ∷ 29 ∷ 30 ∷ 31 ∷ 32 ∷ 33 ∷ 34 ∷ 35 ∷ 36 ∷ 37 ∷ 38 ∷ 39 ∷ 40 ∷ 41 ∷ 42 ∷ 43 ∷ 44 ∷ 45 ∷ 46 ∷ 47 ∷ 48 ∷ 49 ∷ 50 ∷ 51 ∷ 52 ∷ 53 ∷ 54 ∷ 55 ∷ 56 ∷ 57 ∷ 58 ∷ 59 ∷ 60 ∷ 61 ∷ 62 ∷ 63 ∷ 64 ∷ 65 ∷ []
+parts_in_order = refl
+
+all_nodes : length (nodes every_kind) ≡ 115
+all_nodes = refl
+
+own_first : map numbers_in (take 2 (nodes (trees.Return (at 0 9 9) (number 7)))) ≡ [] ∷ (7 ∷ []) ∷ []
+own_first = refl
+
+class_read : class_at (table_of whole).classes 0 ≡ Some whole_class
+unfolding table_of
+class_read = refl
+
+field_first : refusal field_of_class_name ≡ None
+unfolding table_of class_fault is_constant evaluated values_of judged type_fault
+field_first = refl
+
+constant_first : map (λ k. k.value) (values_of (table_of constant_of_class_name)) ≡ Whole (pos 1) ∷ Whole (pos 2) ∷ []
+unfolding table_of is_constant evaluated values_of
+constant_first = refl
+
+no_outer_method : refusal method_of_outer ≡ Some (type_rule_at 24 0 2 4)
+unfolding table_of class_fault is_constant evaluated values_of judged type_fault
+no_outer_method = refl
+
+outer_numbers : map (λ d. d.outer) (table_of nested_in_second).classes ≡ None ∷ Some 0 ∷ None ∷ Some 2 ∷ []
+unfolding table_of
+outer_numbers = refl
+
+second_outer : refusal nested_in_second ≡ None
+unfolding table_of class_fault is_constant evaluated values_of judged type_fault
+second_outer = refl
 
 pub meanings : Meanings
 meanings = record {
@@ -186,6 +224,16 @@ meanings = record {
   null = null;
   null_to_int = null_to_int;
   numbered = numbered;
-  number = number;
+  number_of_type = number_of_type;
+  elements_first = elements_first;
+  parts_in_order = parts_in_order;
+  all_nodes = all_nodes;
+  own_first = own_first;
+  class_read = class_read;
+  field_first = field_first;
+  constant_first = constant_first;
+  no_outer_method = no_outer_method;
+  outer_numbers = outer_numbers;
+  second_outer = second_outer;
   unnamed = unnamed;
 }

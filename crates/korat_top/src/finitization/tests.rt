@@ -1,12 +1,12 @@
 // Finitizations of the cell that are taken and that are refused.
 use super::{Finitization, read_finitization};
-use crate::source::Source;
+use crate::one_field::OneField;
 use kr_ast::BinaryOperator;
 use kr_base::NoMemory;
 use std::alloc::Global;
 
-fn cell(alloc: Global) -> Result<Source, NoMemory> {
-    Ok(Source {
+fn cell(alloc: Global) -> Result<OneField, NoMemory> {
+    Ok(OneField {
         class_name: String::from_str(alloc, "Cell")?,
         field_name: String::from_str(alloc, "v")?,
         test: BinaryOperator::Greater,

@@ -1,28 +1,38 @@
-use Rattle.std.proofs.Common.{◌≡◌, sym, subst, Option, Some, None}
-use Rattle.korat_top.specs.Answer.{Command, ListFiles, command_of}
+use Rattle.std.proofs.Common.{◌≡◌, refl, sym, subst, Option, Some, None}
+use Rattle.korat_top.specs.Answer.{Command, asked_of}
+use Rattle.korat_top.specs.Orders.{command_in}
 use Rattle.korat_top.specs.Ends.{EndsFor}
-use Rattle.korat_top.specs.Found.{word}
-use Rattle.korat_top.proofs.Calls.{put_usage, complete}
+use Rattle.korat_top.proofs.Calls.{put_usage, put_memory, complete}
 use Rattle.korat_top.proofs.top.run.Goals as goal
 
-pub returns-then-is_listing : goal.returns-then-is_listing
-returns-then-is_listing g c =
+pub returns-in-Ok-Some : goal.returns-in-Ok-Some
+returns-in-Ok-Some g c =
     let words = c.args.words.now in
-    let asked : command_of words ≡ Some (ListFiles (word words 1) (word words 2)) = rw c.if-is_listing.true at c.is_listing.ensures.means in
-    let P : Option Command → Type 0 = λ a. EndsFor g.F.Files.held g.F.Files.faults g.F.Files.last g.K.Sink.taken g.K.Sink.faults a c.args.files.now c.serve.new.files c.args.out.now c.serve.new.out c.serve.result in
-    let ends = subst P (sym asked) c.serve.ensures in
+    let asked : asked_of words ≡ Some (command_in c.in-Ok-Some.order) = sym (rw c.in-Ok-Some.field-0-is at c.in-Ok-Some.ensures.means) in
+    let P : Option Command → Type 0 = λ a. EndsFor g.F.Files.held g.F.Files.faults g.F.Files.last g.K.Sink.taken g.K.Sink.faults a c.args.files.now c.serve_order.new.files c.args.out.now c.serve_order.new.out c.serve_order.result in
+    let ends = subst P (sym asked) c.serve_order.ensures in
     record {
       headline = ends;
-      complete = complete g.F.Files.held g.F.Files.faults g.F.Files.last g.K.Sink.taken g.K.Sink.faults (command_of words) c.args.files.now c.serve.new.files c.args.out.now c.serve.new.out c.serve.result ends;
+      complete = complete g.F.Files.held g.F.Files.faults g.F.Files.last g.K.Sink.taken g.K.Sink.faults (asked_of words) c.args.files.now c.serve_order.new.files c.args.out.now c.serve_order.new.out c.serve_order.result ends;
     }
 
-pub returns-else-is_listing : goal.returns-else-is_listing
-returns-else-is_listing g c =
+pub returns-in-Ok-None : goal.returns-in-Ok-None
+returns-in-Ok-None g c =
     let words = c.args.words.now in
-    let asked : command_of words ≡ None = rw c.if-is_listing.false at c.is_listing.ensures.means in
-    let ends = put_usage g.F.Files.held g.F.Files.faults g.F.Files.last g.K.Sink.taken g.K.Sink.faults (command_of words) c.args.files.now c.args.out.now c.put_usage_fault.new.out c.once_written.result
+    let asked : asked_of words ≡ None = sym (rw c.in-Ok-None.field-0-is at c.in-Ok-None.ensures.means) in
+    let ends = put_usage g.F.Files.held g.F.Files.faults g.F.Files.last g.K.Sink.taken g.K.Sink.faults (asked_of words) c.args.files.now c.args.out.now c.put_usage_fault.new.out c.once_written.result
     c.put_usage_fault.result asked c.put_usage_fault.ensures c.once_written.ensures in
     record {
       headline = ends;
-      complete = complete g.F.Files.held g.F.Files.faults g.F.Files.last g.K.Sink.taken g.K.Sink.faults (command_of words) c.args.files.now c.args.files.now c.args.out.now c.put_usage_fault.new.out c.once_written.result ends;
+      complete = complete g.F.Files.held g.F.Files.faults g.F.Files.last g.K.Sink.taken g.K.Sink.faults (asked_of words) c.args.files.now c.args.files.now c.args.out.now c.put_usage_fault.new.out c.once_written.result ends;
+    }
+
+pub returns-in-Err : goal.returns-in-Err
+returns-in-Err g c =
+    let words = c.args.words.now in
+    let ends = put_memory g.F.Files.held g.F.Files.faults g.F.Files.last g.K.Sink.taken g.K.Sink.faults (asked_of words) c.args.files.now c.args.files.now c.args.out.now c.put_out_of_memory.new.out c.once_written-in-Err.result
+    c.put_out_of_memory.result refl c.put_out_of_memory.ensures c.once_written-in-Err.ensures in
+    record {
+      headline = ends;
+      complete = complete g.F.Files.held g.F.Files.faults g.F.Files.last g.K.Sink.taken g.K.Sink.faults (asked_of words) c.args.files.now c.args.files.now c.args.out.now c.put_out_of_memory.new.out c.once_written-in-Err.result ends;
     }

@@ -29,3 +29,6 @@ returns-in-AfterChain c = rw c.in-AfterChain.is (c.after_chain.ensures c.args.ne
 
 pub returns-in-AfterTested : goal.returns-in-AfterTested
 returns-in-AfterTested c = rw c.in-AfterTested.is (c.after_tested.ensures c.args.next)
+
+pub returns-in-ContractedMethod : goal.returns-in-ContractedMethod
+returns-in-ContractedMethod c = rw c.in-ContractedMethod.is (c.contracted_method.ensures c.args.next c.args.tag)

@@ -9,4 +9,4 @@ returns-clause-tokens c =
     let copied : c.extend_from_slice.new.self.items ≡ bytes =
     c.in_ok-extend_from_slice.ensures.items ∙ ap (λ s. s ++ bytes) c.in_ok-source.ensures.items in
     rw (c.new.ensures, copied)
-    (all_read c.args.file bytes c.valid_len-valid.result items c.in_ok-cursor.cursor c.place.result c.valid_len-valid.ensures c.in_ok-cursor.ensures.read c.in_ok-cursor.ensures.whole c.place.ensures)
+    (all_read c.args.file bytes c.valid_len-valid.result items c.in_ok-progress.progress c.place.result c.valid_len-valid.ensures c.in_ok-progress.ensures.read c.in_ok-progress.ensures.whole c.place.ensures)

@@ -2,8 +2,8 @@ use Rattle.std.proofs.Common.{◌-◌}
 use Rattle.kr_lex.specs.Reading.{IsReading}
 use Rattle.kr_lex.proofs.lexer.read_all.Given as goal
 
-abbrev pub invariant-loop-cursor : goal.invariant-loop-cursor
-invariant-loop-cursor l = IsReading l.file l.bytes l.valid l.items.items l.cursor
+abbrev pub invariant-loop-progress : goal.invariant-loop-progress
+invariant-loop-progress l = IsReading l.file l.bytes l.valid l.items.items l.progress
 
-abbrev pub decreases-loop-cursor : goal.decreases-loop-cursor
-decreases-loop-cursor l = l.valid - l.cursor.at
+abbrev pub decreases-loop-progress : goal.decreases-loop-progress
+decreases-loop-progress l = l.valid - l.progress.cursor.at

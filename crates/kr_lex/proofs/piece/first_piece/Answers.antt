@@ -1,15 +1,10 @@
-use Rattle.std.proofs.Common.{◌≡◌, ◌<◌, [], ◌∷◌, length, slice_index, take, sym, ◌∙◌, arith}
-use Rattle.std.proofs.lemmas.List.{take_more}
-use Rattle.kr_lex.specs.Gaps.{white}
-use Rattle.kr_lex.proofs.Fronts.{char_some}
+use Rattle.std.proofs.Common.{length, ap}
+use Rattle.kr_lex.proofs.Lifted.{token_at, lift}
 use Rattle.kr_lex.proofs.piece.first_piece.Goals as goal
 
-pub bounds-text-0 : goal.bounds-text-0
-bounds-text-0 c = char_some c.args.text.now c.requires.rest c.requires.char c.requires.spelled
+pub returns-in-Some : goal.returns-in-Some
+returns-in-Some c =
+    token_at c.args.text.now c.args.inside c.in-Some.kind (length c.contract_spelling.result.now) (ap length c.contract_spelling.ensures) c.in-Some.ensures.inside c.in-Some.ensures.found
 
-pub returns-then-is_white : goal.returns-then-is_white
-returns-then-is_white c =
-    let text = c.args.text.now in
-    let some : 0 < length text = char_some text c.requires.rest c.requires.char c.requires.spelled in
-    let front : take 1 text ≡ slice_index text 0 ∷ [] = take_more text 0 0 some in
-    (omega arith, some, white (slice_index text 0) front (sym c.is_white.ensures ∙ c.if-is_white.true))
+pub returns-in-None : goal.returns-in-None
+returns-in-None c = lift c.args.inside c.args.text.now c.plain_piece.result c.plain_piece.ensures c.in-None.ensures.none

@@ -1,6 +1,7 @@
 use Rattle.std.proofs.Common.{arith}
 use Rattle.std.proofs.lemmas.List.{length-take-le}
 use Rattle.std.proofs.lemmas.Bool.{both_ways}
+use Rattle.kr_lex.specs.Spells.{anywhere}
 use Rattle.kr_lex.proofs.Longest.{number_longest, number_bad}
 use Rattle.kr_lex.proofs.piece.number.Goals as goal
 
@@ -10,7 +11,7 @@ returns-then-is_number c =
     let n = c.word_len-len.result in
     let w = c.word_len-len.ensures in
     let h = c.is_number.ensures.0 c.if-is_number.true in
-    (omega (arith, h.some, length-take-le n text w.within), w.within, number_longest text n w c.requires h)
+    (omega (arith, h.some, length-take-le n text w.within), w.within, anywhere (number_longest text n w c.requires h))
 
 pub returns-else-is_number : goal.returns-else-is_number
 returns-else-is_number c =

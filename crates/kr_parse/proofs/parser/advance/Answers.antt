@@ -6,7 +6,7 @@ use Rattle.kr_grammar.specs.declared.goal.Symbol.TheVariants.{Take, Keep, Word, 
 use Rattle.kr_grammar.specs.Values.{Item}
 use Rattle.kr_grammar.specs.State.{State, load}
 use Rattle.kr_parse.specs.Refusals.{token_at}
-use Rattle.kr_build.specs.Shown.{values_of}
+use Rattle.kr_builder.specs.Built.{values_of}
 use Rattle.kr_parse.specs.Steps.{AsksToken, kept_of}
 use Rattle.kr_parse.proofs.States.{fits_asks, least_token, viable, state_token, state_build, token_falls}
 use Rattle.kr_parse.proofs.parser.advance.Goals as goal

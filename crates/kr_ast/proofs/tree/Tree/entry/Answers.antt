@@ -1,6 +1,6 @@
-use Rattle.std.proofs.Common.{◌≡◌, ◌<◌, length, refl, sym, subst}
+use Rattle.std.proofs.Common.{◌≡◌, ◌+◌, ◌<◌, length, refl, sym, subst}
 use Rattle.std.proofs.lemmas.Option.{slice_get_read}
-use Rattle.kr_ast.specs.Arena.{Arena, AreNamesIn, ArePartsFrom, names, parts, tree_at, tree_of}
+use Rattle.kr_ast.specs.Arena.{Arena, AreNamesIn, ArePartsFrom, IsPartOfParent, names, parts, tree_at, tree_of}
 use Rattle.kr_ast.proofs.Trees.{tree_stands}
 use Rattle.kr_ast.proofs.tree.Tree.entry.Goals as goal
 
@@ -24,3 +24,11 @@ returns-clause-names c =
     let within = subst (λ (a : Arena). c.args.at < length a.entries) (sym c.self.view_is) c.requires in
     let P : Arena → Type 0 = λ a. AreNamesIn a.text (names entry.node) in
     subst P c.self.view_is (c.self.invariant.0.forest.named c.args.at entry (slice_get_read _ _ _ _ refl within c.index.ensures))
+
+pub returns-clause-held : goal.returns-clause-held
+returns-clause-held c =
+    let entry = c.index.result.now in
+    let within = subst (λ (a : Arena). c.args.at < length a.entries) (sym c.self.view_is) c.requires in
+    let here = slice_get_read _ _ _ _ refl within c.index.ensures in
+    let P : Arena → Type 0 = λ a. c.args.at + 1 < length a.entries → IsPartOfParent a.entries c.args.at entry in
+    subst P c.self.view_is (λ below. c.self.invariant.0.forest.held c.args.at entry here (c.self.invariant.0.parted c.args.at entry here below))

@@ -1,0 +1,8 @@
+use Rattle.std.proofs.Common.{take}
+use Rattle.std.specs.Prelude.{Ok, map}
+use Rattle.kr_ast.specs.Arena.{root}
+use Rattle.korat_top.specs.Steps.{each, growing}
+use Rattle.korat_top.proofs.find.trees_of.Given as goal
+
+abbrev pub invariant-loop-number : goal.invariant-loop-number
+invariant-loop-number l = each growing 0 (take l.number l.texts) (Ok (map root l.trees.items))

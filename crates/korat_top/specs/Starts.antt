@@ -1,0 +1,47 @@
+-- What the program does with what it was given for words.
+use Rattle.std.specs.Prelude.{◌≡◌, ℕ, List, [], Option, Result, Ok, Err, drop, map, string_bytes}
+use Rattle.std.specs.declared.alloc.Global.{Global}
+use Rattle.std.specs.declared.io.Error.{Error}
+use Rattle.std.specs.declared.io.ErrorKind.TheVariants.{OutOfMemory}
+use Rattle.std.specs.declared.string.String.{String}
+use Rattle.std.specs.declared.vec.IntoIter.{IntoIter}
+use Rattle.std.specs.IoError.{error_kind}
+use Rattle.std.specs.Vec.Iter.{into_iter_items}
+use Rattle.korat_top.specs.Steps.{Held}
+use Rattle.korat_top.specs.Answer.{Command, asked_of}
+use Rattle.korat_top.specs.Ends.{EndsFor, IsComplete}
+use Rattle.korat_top.specs.declared.given.NoWords.{NoWords}
+use Rattle.korat_top.specs.declared.given.NoWords.TheVariants.{NotText, Memory}
+
+-- what the system gives for words: all of them, the program's own name first
+abbrev pub Given : Type 0
+Given = Result (IntoIter (String Global) Global) Error
+
+-- the words are those behind the program's own name
+abbrev pub IsGiven : Given → List (List ℕ) → Type 0
+IsGiven (Ok all) words = words ≡ drop 1 (map string_bytes (into_iter_items all))
+IsGiven (Err error) words = ⊥
+
+-- why there are none: the system lacked memory for them, or has another error, as it has for words that aren't text; or
+-- memory was refused for a copy, which is free
+abbrev pub WhyNone : Given → NoWords → Type 0
+WhyNone (Ok all) why = why ≡ Memory
+WhyNone (Err error) Memory = error_kind error ≡ OutOfMemory
+WhyNone (Err error) NotText = ¬ (error_kind error ≡ OutOfMemory)
+
+-- how a call ends whose words ask for this
+pub record Serves {F K : Type 0} (held : F → Held) (read_faults : F → ℕ) (last : F → Option (List ℕ)) (taken : K → Option (List ℕ)) (faults : K → ℕ) (asked : Option Command) (files files' : F) (out out' : K) (status : ℕ) : Type 0 where
+  pub headline : EndsFor held read_faults last taken faults asked files files' out out' status
+  pub complete : IsComplete held read_faults taken faults asked files files' out out' status
+
+-- nothing is read or written, and the status is that of want of memory
+pub record EndsUnread {F K : Type 0} (files files' : F) (out out' : K) (status : ℕ) : Type 0 where
+  pub status_is : status ≡ 8
+  pub unread : files' ≡ files
+  pub unwritten : out' ≡ out
+
+-- Words are served. Words of which one isn't text are served as none, which are no command.
+abbrev pub Starts : {F K : Type 0} → (F → Held) → (F → ℕ) → (F → Option (List ℕ)) → (K → Option (List ℕ)) → (K → ℕ) → Result (List (List ℕ)) NoWords → F → F → K → K → ℕ → Type 0
+Starts held read_faults last taken faults (Ok words) files files' out out' status = Serves held read_faults last taken faults (asked_of words) files files' out out' status
+Starts held read_faults last taken faults (Err NotText) files files' out out' status = Serves held read_faults last taken faults (asked_of []) files files' out out' status
+Starts held read_faults last taken faults (Err Memory) files files' out out' status = EndsUnread files files' out out' status

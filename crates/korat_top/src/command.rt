@@ -1,0 +1,81 @@
+// The command that the words give.
+ghost use Rattle.std.specs.Prelude.{◌≡◌, ◌≤◌, IfOk, IfSome, Some, option_map, length};
+ghost use Rattle.kr_args.specs.Reading.{task_of};
+ghost use Rattle.korat_top.specs.Answer.{asked_of, is_whole, served_of};
+ghost use Rattle.korat_top.specs.Orders.{command_in, range_of};
+
+use kr_args::command;
+use kr_args::forms::{ArgRefusal, Ask, Command};
+use kr_base::{Bound, NoMemory, Words};
+use std::alloc::Global;
+
+/// How many sources a call may have.
+const MAX_SOURCES: usize = 16;
+
+/// What is done with files of which none is refused.
+#[derive(Clone, Copy, Debug, PartialEq, Eq)]
+pub(crate) enum Purpose {
+    List,
+    Check,
+}
+
+/// A command that is served, with the files that it names.
+#[derive(Drop)]
+pub(crate) struct Order {
+    pub(crate) purpose: Purpose,
+    pub(crate) fin: String,
+    pub(crate) sources: Words,
+}
+
+/// Whether all keys are asked for, and no limit.
+fn is_whole(ask: &Ask) -> bool
+    ensures { result ≡ is_whole (range_of ask.now) }
+{
+    let is_end = match ask.to {
+        Bound::End => true,
+        Bound::At(_) => false,
+    };
+    ask.from.numbers().is_empty() && is_end && ask.limit == u32::MAX
+}
+
+/// The order that a command is, if it is served.
+fn served(command: Command) -> Option<Order>
+    ensures means { option_map command_in result ≡ served_of (Some (task_of command)) }
+    ensures few { IfSome result (λ order. length order.sources ≤ 16) }
+{
+    match command {
+        Command::List(ask) => {
+            if ask.sources.len() > MAX_SOURCES || !is_whole(&ask) {
+                return None;
+            }
+            Some(Order {
+                purpose: Purpose::List,
+                fin: ask.fin,
+                sources: ask.sources,
+            })
+        }
+        Command::Check { fin, sources } => {
+            if sources.len() > MAX_SOURCES {
+                return None;
+            }
+            Some(Order {
+                purpose: Purpose::Check,
+                fin,
+                sources,
+            })
+        }
+        Command::Demo { .. } => None,
+    }
+}
+
+/// The order that the words give, if they give one that is served.
+pub(crate) fn order_of(alloc: Global, words: &Words) -> Result<Option<Order>, NoMemory>
+    ensures means { IfOk result (λ order. option_map command_in order ≡ asked_of words.now) }
+    ensures few { IfOk result (λ order. IfSome order (λ it. length it.sources ≤ 16)) }
+{
+    match command(alloc, words) {
+        Ok(command) => Ok(served(command)),
+        Err(ArgRefusal::Usage) => Ok(None),
+        Err(ArgRefusal::NoMemory) => Err(NoMemory),
+    }
+}

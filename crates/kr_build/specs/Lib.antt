@@ -1,5 +1,0 @@
-pub mod Kept
-pub mod Plans
-pub mod Perm
-pub mod Shown
-pub mod Chain

@@ -1,0 +1,5 @@
+pub mod Each
+pub mod Examples
+pub mod Leasts
+pub mod Plain
+pub mod WellFormed

@@ -1,0 +1,221 @@
+-- Which rules a document breaks for a program and a mode, each with the item that breaks it: all of them, in no order that
+-- matters. A domain is judged where it is given, whether a slot has it or not.
+use Rattle.std.specs.Prelude.{ℕ, ◌+◌, ◌==◌, Bool, true, false, not, ◌&&◌, ◌||◌, List, [], ◌∷◌, ◌++◌, length, map, flat_map, find, nat_eq, nat_lt, bytes_eq, codes, Option, Some, None, option_map, is_none, if◌then◌else◌}
+use Rattle.std.specs.Int.Signed.{le_z}
+use Rattle.std.specs.Ordering.{int_eq}
+use Rattle.std.specs.List.{list_any, before_first, after_first}
+use Rattle.kr_table.specs.Types.{JavaType, IntType, BooleanType, ClassType, ArrayType, is_same, is_reference}
+use Rattle.kr_table.specs.Table.{Table, Parameter, Method, Class, own_fields, fields_of, number_of, is_assignable}
+use Rattle.kr_value.specs.declared.value.Value.{Value}
+use Rattle.kr_value.specs.declared.value.Value.TheVariants.{Int, Bool as Truth, Null, Ref as Reference}
+use Rattle.kr_mean.specs.declared.mode.Mode.{Mode}
+use Rattle.kr_mean.specs.declared.mode.Mode.TheVariants.{List as Listing, Method as Testing}
+use Rattle.kr_mean.specs.Problem.{Problem, Choice, Domain, slots, choices_in, domain_at}
+use Rattle.kr_fin.specs.declared.document.FinDoc.{FinDoc}
+use Rattle.kr_fin.specs.declared.document.ArrayBound.{ArrayBound}
+use Rattle.kr_fin.specs.declared.document.Item.{Item}
+use Rattle.kr_fin.specs.declared.document.Item.TheVariants.{Number, Range, Truth as FinTruth, Name}
+use Rattle.kr_fin.specs.Shapes.{is_dot}
+use Rattle.kr_domains.specs.declared.refusal.Fault.{Fault}
+use Rattle.kr_domains.specs.declared.refusal.SpaceRule.TheVariants.{UnknownName, NoDomain, EmptyDomain, UnfitValue, ValueTwice, TooMany, NoPredicate, NoMethod, NoSlot}
+use Rattle.kr_domains.specs.Names.{Meant, NoReference, Objects, Arrays, Unknown, array_type, meant}
+use Rattle.kr_domains.specs.Bounds.{Setting, root_of, method_at, parameters_of, tested_parameters, parameter_key, given, values_of, lengths_of, field_key, elements_key, count_named, greatest}
+use Rattle.kr_domains.specs.Order.{break_if}
+
+abbrev Text : Type 0
+Text = List ℕ
+
+-- ---- keys
+
+-- the two parts of a domain's key
+abbrev pub owner_part : Text → Text
+owner_part key = before_first is_dot key
+
+abbrev pub name_part : Text → Text
+name_part key = after_first is_dot key
+
+abbrev pub is_elements : Text → Bool
+is_elements key = bytes_eq (name_part key) (codes "*")
+
+abbrev pub element_of : Option JavaType → Option JavaType
+element_of (Some (ArrayType t)) = Some t
+element_of t = None
+
+-- the type of the instance field of that name that a class itself declares
+abbrev pub own_field_type : Table → Text → Option ℕ → Option JavaType
+own_field_type table name None = None
+own_field_type table name (Some c) = option_map (λ f. f.type) (find (λ f. bytes_eq f.name name && not f.is_static) (own_fields table c))
+
+-- the type of the values that a key of `fields` asks for, if there is such a field, or if it names an array type's elements
+abbrev pub field_type : Table → Text → Option JavaType
+field_type table key =
+    if is_elements key then element_of (array_type table.headings (owner_part key))
+    else own_field_type table (name_part key) (number_of table.headings (owner_part key))
+
+-- the type of the values that a key of `params` asks for, if there is such a parameter of a method of the root
+abbrev pub parameter_type : Setting → Text → Option JavaType
+parameter_type setting key =
+    option_map (λ p. p.type) (find (λ p. bytes_eq p.name (name_part key)) (parameters_of (method_at setting.table (root_of setting) (owner_part key))))
+
+-- ---- items
+
+abbrev pub of_fields : Text → Text
+of_fields key = codes "fields." ++ key
+
+abbrev pub of_params : Text → Text
+of_params key = codes "params." ++ key
+
+abbrev pub of_arrays : Text → Text
+of_arrays name = codes "arrays." ++ name
+
+abbrev pub of_objects : Text → Text
+of_objects name = codes "objects." ++ name
+
+-- the domains of fields, elements and parameters, each with its item
+abbrev pub named_domains : FinDoc → List (Text × List Item)
+named_domains document =
+    map (λ d. (of_fields d.key, d.domain)) document.fields ++ map (λ d. (of_params d.key, d.domain)) document.params
+
+-- each domain that is given, with its values: lengths too
+abbrev pub given_values : Setting → List (Text × Domain)
+given_values setting =
+    map (λ d. (d.0, values_of setting d.1)) (named_domains setting.document)
+    ++ map (λ b. (of_arrays b.name, lengths_of setting b.lengths)) setting.document.arrays
+
+-- ---- S1: names
+
+abbrev pub is_unknown : Meant → Bool
+is_unknown Unknown = true
+is_unknown m = false
+
+abbrev pub names_unknown : Setting → Item → Bool
+names_unknown setting (Name name) = is_unknown (meant setting.table.headings name)
+names_unknown setting item = false
+
+-- what stands before the dot is a class, and before `.*` an array type
+abbrev pub owner_unknown : Table → Text → Bool
+owner_unknown table key =
+    if is_elements key then is_none (array_type table.headings (owner_part key))
+    else is_none (number_of table.headings (owner_part key))
+
+abbrev pub S1 : Setting → List Fault
+S1 setting =
+    break_if (is_none (root_of setting)) UnknownName (codes "root")
+    ++ (flat_map (λ c. break_if (is_none (number_of setting.table.headings c.name)) UnknownName (of_objects c.name)) setting.document.objects
+    ++ (flat_map (λ b. break_if (is_none (array_type setting.table.headings b.name)) UnknownName (of_arrays b.name)) setting.document.arrays
+    ++ (flat_map (λ d. break_if (owner_unknown setting.table d.key) UnknownName (of_fields d.key)) setting.document.fields
+    ++ flat_map (λ d. break_if (list_any (names_unknown setting) d.1) UnknownName d.0) (named_domains setting.document))))
+
+-- ---- S2: each slot has a domain
+
+abbrev pub no_field_domain : Setting → Text → List Fault
+no_field_domain setting key = break_if (is_none (given setting.document.fields key)) NoDomain (of_fields key)
+
+-- the fields of a class that has objects
+abbrev pub class_S2 : Setting → ℕ → Class → List Fault
+class_S2 setting c d =
+    if nat_lt 0 (count_named setting.document.objects d.name)
+    then flat_map (λ f. no_field_domain setting (field_key setting.table f)) (fields_of setting.table c)
+    else []
+
+abbrev pub classes_S2 : Setting → ℕ → List Class → List Fault
+classes_S2 setting c [] = []
+classes_S2 setting c (d ∷ ds) = class_S2 setting c d ++ classes_S2 setting (c + 1) ds
+
+-- the elements of an array type that has arrays with elements
+abbrev pub array_S2 : Setting → JavaType × ArrayBound → List Fault
+array_S2 setting a =
+    if nat_lt 0 a.1.count && nat_lt 0 (greatest (lengths_of setting a.1.lengths))
+    then no_field_domain setting (elements_key a.1.name)
+    else []
+
+abbrev pub parameter_S2 : Setting → Mode → Parameter → List Fault
+parameter_S2 setting mode p =
+    break_if (is_none (given setting.document.params (parameter_key mode p))) NoDomain (of_params (parameter_key mode p))
+
+abbrev pub S2 : Setting → Mode → List Fault
+S2 setting mode =
+    classes_S2 setting 0 setting.table.classes
+    ++ (flat_map (array_S2 setting) setting.arrays
+    ++ flat_map (parameter_S2 setting mode) (tested_parameters setting mode))
+
+-- ---- S3, S5, S6: how many values, and each once
+
+abbrev pub is_same_value : Value → Value → Bool
+is_same_value (Int a) (Int b) = int_eq a b
+is_same_value (Truth a) (Truth b) = if a then b else not b
+is_same_value Null Null = true
+is_same_value (Reference a) (Reference b) = nat_eq a b
+is_same_value a b = false
+
+abbrev pub has_twice : List Choice → Bool
+has_twice [] = false
+has_twice (c ∷ cs) = list_any (λ d. is_same_value c.value d.value) cs || has_twice cs
+
+abbrev pub S3 : Problem → Setting → List Fault
+S3 problem setting =
+    flat_map (λ d. break_if (length (choices_in problem d.1) == 0) EmptyDomain d.0) (given_values setting)
+    ++ break_if ((domain_at problem problem.root).count == 0) EmptyDomain (codes "this")
+
+abbrev pub S5 : Problem → Setting → List Fault
+S5 problem setting = flat_map (λ d. break_if (has_twice (choices_in problem d.1)) ValueTwice d.0) (given_values setting)
+
+abbrev pub S6 : Problem → Setting → List Fault
+S6 problem setting =
+    flat_map (λ d. break_if (nat_lt 65536 (length (choices_in problem d.1))) TooMany d.0) (given_values setting)
+    ++ break_if (nat_lt 4096 (length (slots problem))) TooMany (codes "slots")
+
+-- ---- S4: values fit their types
+
+abbrev pub meant_fits : Table → JavaType → Meant → Bool
+meant_fits table t NoReference = is_reference t
+meant_fits table t (Objects c) = is_assignable table (ClassType c) t
+meant_fits table t (Arrays a) = is_assignable table a t
+meant_fits table t Unknown = true
+
+-- a range that is empty has no value that could be unfit; a name is judged also where it has no objects
+abbrev pub fits : Setting → JavaType → Item → Bool
+fits setting t (Number z) = is_same t IntType
+fits setting t (Range from to) = not (le_z from to) || is_same t IntType
+fits setting t (FinTruth b) = is_same t BooleanType
+fits setting t (Name name) = meant_fits setting.table t (meant setting.table.headings name)
+
+abbrev pub is_unfit : Setting → Option JavaType → List Item → Bool
+is_unfit setting None items = false
+is_unfit setting (Some t) items = list_any (λ i. not (fits setting t i)) items
+
+abbrev pub S4 : Setting → List Fault
+S4 setting =
+    flat_map (λ d. break_if (is_unfit setting (field_type setting.table d.key) d.domain) UnfitValue (of_fields d.key)) setting.document.fields
+    ++ flat_map (λ d. break_if (is_unfit setting (parameter_type setting d.key) d.domain) UnfitValue (of_params d.key)) setting.document.params
+
+-- ---- S7, S8: the predicate and the method under test
+
+abbrev pub is_predicate : Option Method → Bool
+is_predicate None = false
+is_predicate (Some m) = not m.is_static && (length m.parameters == 0) && is_same m.result BooleanType
+
+abbrev pub is_instance : Option Method → Bool
+is_instance None = false
+is_instance (Some m) = not m.is_static
+
+abbrev pub S7 : Setting → List Fault
+S7 setting = break_if (not (is_predicate (method_at setting.table (root_of setting) (codes "repOk")))) NoPredicate (codes "root")
+
+abbrev pub S8 : Setting → Mode → List Fault
+S8 setting Listing = []
+S8 setting (Testing name) = break_if (not (is_instance (method_at setting.table (root_of setting) name))) NoMethod (codes "method")
+
+-- ---- S9: each domain is a field's, elements' or a parameter's
+
+abbrev pub S9 : Setting → List Fault
+S9 setting =
+    flat_map (λ d. break_if (is_none (field_type setting.table d.key) && not (owner_unknown setting.table d.key)) NoSlot (of_fields d.key)) setting.document.fields
+    ++ flat_map (λ d. break_if (is_none (parameter_type setting d.key)) NoSlot (of_params d.key)) setting.document.params
+
+-- ---- the whole
+
+unfoldable pub faults_in : Problem → Setting → Mode → List Fault
+faults_in problem setting mode =
+    S1 setting ++ (S2 setting mode ++ (S3 problem setting ++ (S4 setting
+    ++ (S5 problem setting ++ (S6 problem setting ++ (S7 setting ++ (S8 setting mode ++ S9 setting)))))))

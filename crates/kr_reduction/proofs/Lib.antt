@@ -1,0 +1,4 @@
+pub mod Stacks
+pub mod Roots
+pub mod Planned
+pub mod Stays

@@ -1,0 +1,14 @@
+//! What is made of the values on top of the parser's stack: of each kind of production which values it takes, and the node
+//! or the values that take their place.
+#![tactic(auto)]
+
+mod moves;
+mod operators;
+mod plan;
+mod value;
+mod way;
+
+pub use moves::{Move, move_of};
+pub use plan::{Plan, below, lower, plan_of, single, staying, tree, type_node, upper};
+pub use value::{Kept, Sort, ValueStack, no_modifiers};
+pub use way::{Way, sorts_of, way_of};
