@@ -4,7 +4,7 @@ use Rattle.kr_table.specs.Table.{table_of}
 use Rattle.kr_domains.specs.Names.{array_type, meant}
 use Rattle.kr_domains.specs.Bounds.{setting_of, problem_in}
 use Rattle.kr_domains.specs.Faults.{faults_in}
-use Rattle.kr_domains.specs.Examples.{Problems, Refusals}
+use Rattle.kr_domains.specs.Examples.{Problems, Refusals, CloseRefusals, Sizes}
 
 pub problems : Problems
 unfolding table_of array_type meant setting_of problem_in faults_in
@@ -46,6 +46,33 @@ refusals = record {
   no_field = refl;
   inherited_field = refl;
   no_parameter = refl;
+}
+
+pub close_refusals : CloseRefusals
+unfolding table_of array_type meant setting_of problem_in faults_in
+close_refusals = record {
+  least_item = refl;
+  bounded_unknown = refl;
+  set_of_numbers = refl;
+  set_of_nodes = refl;
+  lists_of_arrays = refl;
+  no_element_domain = refl;
+  no_element = refl;
+  no_length = refl;
+  empty_range_beside = refl;
+  unfit_range = refl;
+  unfit_class = refl;
+  static_predicate = refl;
+  number_predicate = refl;
+  predicate_with_parameter = refl;
+  static_tested = refl;
+  static_parameter = refl;
+  static_field = refl;
+}
+
+pub sizes : Sizes
+unfolding table_of array_type meant setting_of problem_in faults_in
+sizes = record {
   many_slots = refl;
   too_many_slots = refl;
 }

@@ -1,17 +1,16 @@
 -- Small sources with finitizations, their problems, and the rules that others break, worked by hand.
-use Rattle.std.specs.Prelude.{◌≡◌, ◌++◌, ℕ, pos, negsuc, true, false, List, [], ◌∷◌, Option, Some, None, codes}
+use Rattle.std.specs.Prelude.{◌≡◌, ◌++◌, ℕ, pos, negsuc, Bool, true, false, List, [], ◌∷◌, Option, Some, None, codes, map}
+use Rattle.kr_base.specs.declared.place.Place.{Place}
+use Rattle.kr_ast.specs.declared.node.BinaryOperator.TheVariants.{Equal}
 use Rattle.kr_ast.specs.Tree as trees
-use Rattle.kr_ast.specs.Tree.{Tree, Nil}
+use Rattle.kr_ast.specs.Tree.{Tree, Nil, Cons}
 use Rattle.kr_ast.specs.declared.node.Primitive.TheVariants.{Int as IntName, Boolean as BooleanName}
 use Rattle.kr_value.specs.declared.value.Value.TheVariants.{Int, Bool as TruthValue, Null}
 use Rattle.kr_value.specs.declared.object.Class.TheVariants.{Object, Array}
-use Rattle.kr_value.specs.declared.object.Spot.TheVariants.{Length, Element}
+use Rattle.kr_value.specs.declared.object.Spot.TheVariants.{Field, Length, Element}
 use Rattle.kr_mean.specs.declared.mode.Mode.{Mode}
 use Rattle.kr_mean.specs.declared.mode.Mode.TheVariants.{List as Listing, Method as Testing}
 use Rattle.kr_mean.specs.Problem.{ClassDomain, Domain, Spotted, Plain, Objects}
-use Rattle.kr_mean.specs.Runs.{nowhere}
-use Rattle.kr_mean.specs.OneField.{one}
-use Rattle.kr_mean.specs.Examples.{rep_ok_of, always, int_field, class_field, field_of, class_named, list_of, at_field, int_items}
 use Rattle.kr_fin.specs.declared.document.FinDoc.{FinDoc}
 use Rattle.kr_fin.specs.declared.document.Count.{Count}
 use Rattle.kr_fin.specs.declared.document.ArrayBound.{ArrayBound}
@@ -27,6 +26,36 @@ abbrev Text : Type 0
 Text = List ℕ
 
 -- ---- sources
+
+abbrev pub nowhere : Place
+nowhere = record { file = 0; line = 0; col = 0 }
+
+abbrev pub list_of : List Tree → Tree
+list_of [] = Nil
+list_of (t ∷ ts) = Cons t (list_of ts)
+
+abbrev pub one : Tree → Tree
+one t = list_of (t ∷ [])
+
+-- `0 == 0`
+abbrev pub always : Tree
+always = trees.Binary nowhere Equal (trees.Number nowhere 0) (trees.Number nowhere 0)
+
+-- `boolean repOk() { return TEST; }`
+abbrev pub rep_ok_of : Tree → Tree
+rep_ok_of test = trees.Method nowhere false (codes "repOk") (trees.Signature nowhere (trees.PrimitiveType nowhere BooleanName) Nil Nil) (one (trees.Return nowhere test))
+
+abbrev pub field_of : Tree → Text → Tree
+field_of type name = trees.Field nowhere false false type (one (trees.Declarator nowhere name Nil))
+
+abbrev pub int_field : Text → Tree
+int_field name = field_of (trees.PrimitiveType nowhere IntName) name
+
+abbrev pub class_field : Text → Text → Tree
+class_field class name = field_of (trees.NamedType nowhere class) name
+
+abbrev pub class_named : Text → List Tree → Tree
+class_named name members = trees.Class nowhere name Nil (list_of members)
 
 abbrev pub named : Text → Tree
 named n = trees.NamedType nowhere n
@@ -135,6 +164,26 @@ with_params params = record {
   params = params;
 }
 
+-- `static boolean NAME(TYPE x) { return 0 == 0; }`
+abbrev pub static_method : Text → Tree → Tree
+static_method name type = trees.Method nowhere true name (trees.Signature nowhere boolean (one (trees.Parameter nowhere type (codes "x"))) Nil) (one (trees.Return nowhere always))
+
+-- a method without parameters
+abbrev pub without_parameters : Bool → Text → Tree → Tree
+without_parameters is_static name result = trees.Method nowhere is_static name (trees.Signature nowhere result Nil Nil) (one (trees.Return nowhere always))
+
+-- `static final int NAME = 0;`
+abbrev pub constant : Text → Tree
+constant name = trees.Field nowhere true true int (one (trees.Declarator nowhere name (trees.Number nowhere 0)))
+
+-- the class N with a `next` and these members
+abbrev pub node_and : List Tree → List Tree
+node_and members = class_named (codes "N") (class_field (codes "N") (codes "next") ∷ members) ∷ []
+
+-- two classes, the second without objects
+abbrev pub two_classes : List Tree
+two_classes = class_named (codes "Other") [] ∷ node ∷ []
+
 -- 63 arrays of 64 numbers, which have 4,095 slots
 abbrev pub long_arrays : List NamedDomain → FinDoc
 long_arrays fields = record {
@@ -149,10 +198,27 @@ long_arrays fields = record {
 abbrev pub plain_root : List Tree → List Tree
 plain_root fields = class_named (codes "R") (fields ++ rep_ok_of always ∷ []) ∷ []
 
+-- one node, and an array type with these lengths
+abbrev pub bounding : Text → List FinItem → FinDoc
+bounding type lengths = record {
+  root = codes "N";
+  fuel = 9;
+  objects = objects (codes "N") 1 ∷ [];
+  arrays = arrays type 1 lengths ∷ [];
+  fields = given (codes "N.next") (name (codes "null") ∷ []) ∷ [];
+  params = [];
+}
+
+abbrev pub with_parameter : FinDoc → Text → List FinItem → FinDoc
+with_parameter document key items = record document { params = given key items ∷ [] }
+
 -- ---- the rows
 
 abbrev pub at : ℕ → Domain → Spotted
-at f domain = at_field f domain
+at f domain = record { spot = Field f; domain = domain }
+
+abbrev pub int_items : List ℕ → Domain
+int_items numbers = map (λ n. Plain (Int (pos n))) numbers
 
 pub record Problems : Type 0 where
   pub of_nodes : domains (node ∷ []) two_nodes ≡ record { name = codes "N"; class = Object 0; count = 2; spots = at 0 (Plain Null ∷ Objects 0 ∷ []) ∷ [] } ∷ []
@@ -196,6 +262,29 @@ pub record Refusals : Type 0 where
   pub no_field : refused (node ∷ []) (plain_document (codes "N") (objects (codes "N") 1 ∷ []) (given (codes "N.1x") (Number (pos 0) ∷ []) ∷ given (codes "N.next") (name (codes "N") ∷ []) ∷ [])) Listing ≡ broken (codes "S9") (codes "fields.N.1x")
   pub inherited_field : refused with_heir (plain_document (codes "R") (objects (codes "R") 1 ∷ []) (given (codes "Base.a") (Number (pos 0) ∷ []) ∷ given (codes "R.a") (Number (pos 0) ∷ []) ∷ given (codes "R.b") (name (codes "R") ∷ []) ∷ [])) Listing ≡ broken (codes "S9") (codes "fields.R.a")
   pub no_parameter : refused with_heir (with_params (given (codes "put.y") (Truth true ∷ []) ∷ [])) Listing ≡ broken (codes "S9") (codes "params.put.y")
+
+-- documents that break a rule by a little, or none by a little
+pub record CloseRefusals : Type 0 where
+  pub least_item : refused (node ∷ []) (plain_document (codes "N") (objects (codes "M") 2 ∷ []) (given (codes "N.next") (name (codes "M") ∷ []) ∷ [])) Listing ≡ broken (codes "S1") (codes "fields.N.next")
+  pub bounded_unknown : refused (node ∷ []) (bounding (codes "int") []) Listing ≡ broken (codes "S1") (codes "arrays.int")
+  pub set_of_numbers : refused (node ∷ []) (node_with (name (codes "HashSet<int>[]") ∷ [])) Listing ≡ broken (codes "S1") (codes "fields.N.next")
+  pub set_of_nodes : refused (node ∷ []) (node_with (name (codes "null") ∷ name (codes "HashSet<N>[]") ∷ [])) Listing ≡ broken (codes "S4") (codes "fields.N.next")
+  pub lists_of_arrays : refused (node ∷ []) (node_with (name (codes "null") ∷ name (codes "LinkedList<int[]>[][]") ∷ [])) Listing ≡ broken (codes "S4") (codes "fields.N.next")
+  pub no_element_domain : refused (node ∷ []) (bounding (codes "int[]") (Number (pos 1) ∷ [])) Listing ≡ broken (codes "S2") (codes "fields.int[].*")
+  pub no_element : refused (node ∷ []) (bounding (codes "int[]") (Number (pos 0) ∷ [])) Listing ≡ None
+  pub no_length : refused (node ∷ []) (bounding (codes "int[]") []) Listing ≡ broken (codes "S3") (codes "arrays.int[]")
+  pub empty_range_beside : refused (node ∷ []) (node_with (name (codes "null") ∷ Range (pos 2) (pos 1) ∷ [])) Listing ≡ None
+  pub unfit_range : refused (node ∷ []) (node_with (Range (pos 1) (pos 1) ∷ [])) Listing ≡ broken (codes "S4") (codes "fields.N.next")
+  pub unfit_class : refused two_classes (node_with (name (codes "null") ∷ name (codes "Other") ∷ [])) Listing ≡ broken (codes "S4") (codes "fields.N.next")
+  pub static_predicate : refused (node_and (without_parameters true (codes "repOk") boolean ∷ [])) two_nodes Listing ≡ broken (codes "S7") (codes "root")
+  pub number_predicate : refused (node_and (without_parameters false (codes "repOk") int ∷ [])) two_nodes Listing ≡ broken (codes "S7") (codes "root")
+  pub predicate_with_parameter : refused (node_and (method_of (codes "repOk") int ∷ [])) two_nodes Listing ≡ broken (codes "S7") (codes "root")
+  pub static_tested : refused (node_and (rep_ok_of always ∷ static_method (codes "put") int ∷ [])) (with_parameter two_nodes (codes "put.x") (Number (pos 0) ∷ [])) (Testing (codes "put")) ≡ broken (codes "S8") (codes "method")
+  pub static_parameter : refused (node_and (rep_ok_of always ∷ static_method (codes "put") int ∷ [])) (with_parameter two_nodes (codes "put.x") (Number (pos 0) ∷ [])) Listing ≡ None
+  pub static_field : refused (node_and (rep_ok_of always ∷ constant (codes "K") ∷ [])) (plain_document (codes "N") (objects (codes "N") 1 ∷ []) (given (codes "N.K") (Number (pos 0) ∷ []) ∷ given (codes "N.next") (name (codes "N") ∷ []) ∷ [])) Listing ≡ broken (codes "S9") (codes "fields.N.K")
+
+-- the greatest number of slots, and one more
+pub record Sizes : Type 0 where
   -- with `this` and one field more
   pub many_slots : refused (plain_root []) (long_arrays []) Listing ≡ None
   pub too_many_slots : refused (plain_root (int_field (codes "a") ∷ [])) (long_arrays (given (codes "R.a") (Number (pos 0) ∷ []) ∷ [])) Listing ≡ broken (codes "S6") (codes "slots")

@@ -20,16 +20,38 @@ of_elements collection (Some t) = if is_element t then Some (collection t) else 
 abbrev pub is_of : Text → Text → Bool
 is_of collection text = starts_with nat_eq text collection && ends_with nat_eq text (codes ">")
 
--- the type of a text of at most n bytes: `int`, `boolean`, a class, a collection of a type, or a type and `[]`
-abbrev pub type_within : ℕ → List Heading → Text → Option JavaType
-type_within zero hs text = None
-type_within (suc n) hs text =
-    if ends_with nat_eq text (codes "[]") then option_map ArrayType (type_within n hs (inside 0 2 text))
-    else if is_of (codes "HashSet<") text then of_elements SetType (type_within n hs (inside 8 1 text))
-    else if is_of (codes "LinkedList<") text then of_elements ListType (type_within n hs (inside 11 1 text))
-    else if bytes_eq text (codes "int") then Some IntType
+-- how a type is written: as an array type of another, as a collection, or as a word
+pub data Written : Type 0 where
+  ArrayOf : Text → Written
+  SetOf : Text → Written
+  ListOf : Text → Written
+  Word : Text → Written
+
+abbrev pub written : Text → Written
+written text =
+    if ends_with nat_eq text (codes "[]") then ArrayOf (inside 0 2 text)
+    else if is_of (codes "HashSet<") text then SetOf (inside 8 1 text)
+    else if is_of (codes "LinkedList<") text then ListOf (inside 11 1 text)
+    else Word text
+
+-- `int`, `boolean` or a class
+abbrev pub word_type : List Heading → Text → Option JavaType
+word_type hs text =
+    if bytes_eq text (codes "int") then Some IntType
     else if bytes_eq text (codes "boolean") then Some BooleanType
     else option_map ClassType (number_of hs text)
+
+-- the type that is written so, where the types of the texts in it are given
+abbrev pub type_of : List Heading → (Text → Option JavaType) → Written → Option JavaType
+type_of hs inner (ArrayOf text) = option_map ArrayType (inner text)
+type_of hs inner (SetOf text) = of_elements SetType (inner text)
+type_of hs inner (ListOf text) = of_elements ListType (inner text)
+type_of hs inner (Word text) = word_type hs text
+
+-- the type of a text with at most n types in it; there are no more than bytes
+abbrev pub type_within : ℕ → List Heading → Text → Option JavaType
+type_within zero hs text = None
+type_within (suc n) hs text = type_of hs (type_within n hs) (written text)
 
 abbrev pub array_or_none : Option JavaType → Option JavaType
 array_or_none (Some (ArrayType t)) = Some (ArrayType t)

@@ -1,10 +1,9 @@
 // What holds of the definitions: problems of documents that break no rule, and small ones worked by hand.
 ghost use Rattle.kr_domains.specs.Laws.{WellFormedLaw, LeastLaw};
-ghost use Rattle.kr_domains.specs.Examples.{Problems, Refusals};
+ghost use Rattle.kr_domains.specs.Examples.{Problems, Refusals, CloseRefusals, Sizes};
 
 /// The problem of a document that breaks no rule is well formed: the root has a class domain, no slot's domain is empty,
 /// no plain value is a reference, and each object has its fields, or its length and its elements.
-#[tactic(auto, using(crate::proofs::WellFormed::well_formed))]
 pub fn well_formed_law()
     ensures { WellFormedLaw }
 {}
@@ -22,7 +21,9 @@ pub fn worked_problems()
 {}
 
 /// The rules that small documents break first, worked by hand.
-#[tactic(auto, using(crate::proofs::Examples::refusals))]
+#[tactic(auto, using(crate::proofs::Examples::refusals, crate::proofs::Examples::close_refusals, crate::proofs::Examples::sizes))]
 pub fn worked_refusals()
-    ensures { Refusals }
+    ensures plain { Refusals }
+    ensures close { CloseRefusals }
+    ensures sizes { Sizes }
 {}
