@@ -1,9 +1,10 @@
 #!/usr/bin/env bash
 # Times the built program on sources of 1 MiB, the longest that it takes, which are read, cut into tokens, parsed and
-# then refused: `SOURCE:1:1: N0`, status 3. So nearly all of the time is the lexer's and the parser's; where the source is
-# one comment, the lexer's alone. The others are many fields, many methods with some statements each, and one expression
-# of a token a byte. For each it prints the call's line and status, the best wall time of several runs, MB/s over the
-# whole call, and peak memory. It judges nothing and never fails.
+# then refused: `SOURCE:1:1: N0`, status 3. So nearly all of the time is the lexer's and the parser's; where the source
+# is one comment, the lexer's alone. The others are many fields, many methods with some statements each, one expression
+# of a token a byte, and contracts: one long line, and many of them in one line. For each it prints the call's line and
+# status, the best wall time of several runs, MB/s over the whole call, and peak memory. It judges nothing and never
+# fails.
 #
 # It needs bash 5 and the program (run ./korat once). Peak memory needs GNU time as /usr/bin/time; where it isn't there,
 # the script says so in place of the figure.
@@ -40,6 +41,23 @@ operators() {
     printf 'a; }'
 }
 
+# A method with one contract line of that many bytes, `//@ requires a+a+ .. +a;`.
+contract() {
+    local count=$(((size - 42) / 2))
+    printf 'class X {\n//@ requires a'
+    yes '+a' | head -n "$count" | tr -d '\n'
+    printf ';\nvoid m() { }\n}%*s' $((size - 40 - 2 * count)) ''
+}
+
+# A method with a line of many contracts, `//@ requires a;//@ requires a; ..`.
+contracts() {
+    local one='//@ requires a;' count
+    count=$(((size - 26) / ${#one}))
+    printf 'class X {\n'
+    yes "$one" | head -n "$count" | tr -d '\n'
+    printf '\nvoid m() { }\n}%*s' $((size - 25 - count * ${#one})) ''
+}
+
 # One comment of that many bytes.
 comment() {
     printf '/*'
@@ -63,9 +81,13 @@ comment >Comment.java
 fields >Fields.java
 methods >Methods.java
 operators >Operators.java
+contract >Contract.java
+contracts >Contracts.java
 figures Comment.java "one comment"
 figures Fields.java "many fields"
 figures Methods.java "many methods"
 figures Operators.java "one deep expression"
+figures Contract.java "one contract line"
+figures Contracts.java "one line of many contracts"
 echo "start-up (no words)     $(least_time /dev/null) us, the best of $runs"
 exit 0

@@ -103,15 +103,21 @@ fn kind(alloc: Global, node: Node) -> Result<String, AllocError> {
     }
 }
 
-/// Appends names, a space before each.
+/// Appends a space and a name.
+fn push_name(text: &mut String, name: &[u8]) -> Result<(), AllocError> {
+    text.push(' ')?;
+    for byte in name {
+        text.push(*byte as char)?;
+    }
+    Ok(())
+}
+
+/// Appends names.
 fn push_names(text: &mut String, tree: &Tree, names: &[Name]) -> Result<(), AllocError>
     requires { AreNamesIn tree.now.text names.now }
 {
     for at in 0..names.len() {
-        text.push(' ')?;
-        for byte in tree.name(names[at]) {
-            text.push(*byte as char)?;
-        }
+        push_name(text, tree.name(names[at]))?;
     }
     Ok(())
 }
@@ -170,13 +176,25 @@ fn all_printed(alloc: Global, tree: &Tree, origin: u32) -> Result<Vec<String>, A
     Ok(texts)
 }
 
+/// The tree of a source, if it has one.
+fn tree_of(alloc: Global, text: &str) -> Option<Tree> {
+    let bytes = text.as_bytes();
+    if bytes.len() >= 1 << 30 {
+        return None;
+    }
+    match lex(alloc, 0, bytes) {
+        Ok(tokens) => match parse(alloc, &tokens) {
+            Ok(tree) => Some(tree),
+            Err(_) => None,
+        },
+        Err(_) => None,
+    }
+}
+
 /// The text of the initial value of the first declarator, its columns counted from its start.
 fn expression(alloc: Global, text: &str) -> Result<String, AllocError> {
     let source = format!(in alloc; "class A {{ int v = {text}; }}")?;
-    let Ok(tokens) = lex(alloc, 0, source.as_bytes()) else {
-        return String::from_str(alloc, "no tokens");
-    };
-    let Ok(tree) = parse(alloc, &tokens) else {
+    let Some(tree) = tree_of(alloc, source.as_str()) else {
         return String::from_str(alloc, "no tree");
     };
     let texts = all_printed(alloc, &tree, 18)?;
@@ -192,10 +210,7 @@ fn expression(alloc: Global, text: &str) -> Result<String, AllocError> {
 
 /// The text of the whole tree.
 fn source(alloc: Global, text: &str) -> Result<String, AllocError> {
-    let Ok(tokens) = lex(alloc, 0, text.as_bytes()) else {
-        return String::from_str(alloc, "no tokens");
-    };
-    let Ok(tree) = parse(alloc, &tokens) else {
+    let Some(tree) = tree_of(alloc, text) else {
         return String::from_str(alloc, "no tree");
     };
     let texts = all_printed(alloc, &tree, 0)?;
@@ -208,22 +223,18 @@ fn source(alloc: Global, text: &str) -> Result<String, AllocError> {
 /// The text of the statements of a method, their columns counted from the first one's start.
 fn statements(alloc: Global, text: &str) -> Result<String, AllocError> {
     let source = format!(in alloc; "class A {{ void m() {{ {text} }} }}")?;
-    let Ok(tokens) = lex(alloc, 0, source.as_bytes()) else {
-        return String::from_str(alloc, "no tokens");
-    };
-    let Ok(tree) = parse(alloc, &tokens) else {
+    let Some(tree) = tree_of(alloc, source.as_str()) else {
         return String::from_str(alloc, "no tree");
     };
     let texts = all_printed(alloc, &tree, 21)?;
-    let mut found = String::from_str(alloc, "no method")?;
     for at in 0..tree.nodes() {
         if let Node::Method { body, .. } = tree.entry(at).node {
-            if let Some(inner) = texts.get(body as usize) {
-                found = inner.clone()?;
+            if let Some(found) = texts.get(body as usize) {
+                return found.clone();
             }
         }
     }
-    Ok(found)
+    String::from_str(alloc, "no method")
 }
 
 const EXPRESSIONS: [(&'static str, &'static str); 25] = [

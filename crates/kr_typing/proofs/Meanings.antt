@@ -8,13 +8,13 @@ use Rattle.kr_table.specs.Types.{IntType, BooleanType, NullType, ClassType, SetT
 use Rattle.kr_table.specs.Table.{table_of, class_at, ancestors, fields_of, field_named, method_named, constructor_parameters, is_assignable, are_related}
 use Rattle.kr_table.specs.Nodes.{nodes}
 use Rattle.kr_table.specs.Arrays.{array_types_of, array_number}
-use Rattle.kr_table.specs.Rules.{class_fault}
+use Rattle.kr_table.specs.Rules.{C6, class_fault}
 use Rattle.kr_table.specs.Constants.{Whole, Truth, is_constant, evaluated, values_of}
 use Rattle.kr_typing.specs.Scopes.{under_minus, LocalName, NoName, meant, meant_by, class_before, method_meant}
 use Rattle.kr_typing.specs.Typing.{judged, type_of, type_fault, refusal, IsWellTyped}
-use Rattle.kr_typing.specs.Texts.{at, type_rule_at}
+use Rattle.kr_typing.specs.Texts.{at, list_of, class_rule_at, type_rule_at}
 use Rattle.kr_typing.specs.Examples.{family}
-use Rattle.kr_typing.specs.Meanings.{table, scope, nested, variable, field, number, with_arrays, arrays_of_collections, every_kind, numbers_in, whole, whole_class, field_of_class_name, constant_of_class_name, method_of_outer, nested_in_second, Meanings}
+use Rattle.kr_typing.specs.Meanings.{table, scope, nested, variable, field, number, with_arrays, arrays_of_collections, every_kind, numbers_in, whole, whole_class, field_of_class_name, constant_of_class_name, method_of_outer, nested_in_second, classes_on, kept_methods, Meanings}
 
 well_typed : IsWellTyped family
 unfolding table_of is_constant evaluated values_of judged
@@ -189,6 +189,22 @@ second_outer : refusal nested_in_second ≡ None
 unfolding table_of class_fault is_constant evaluated values_of judged type_fault
 second_outer = refl
 
+most_classes : refusal (list_of (classes_on 1 64) ∷ []) ≡ None
+unfolding table_of class_fault is_constant evaluated values_of judged type_fault
+most_classes = refl
+
+too_many_classes : refusal (list_of (classes_on 1 66) ∷ []) ≡ Some (class_rule_at 8 0 65 7)
+unfolding table_of class_fault is_constant evaluated values_of judged type_fault
+too_many_classes = refl
+
+object_methods : map (λ f. f.place.line) (flat_map (C6 (table_of kept_methods) 0) (table_of kept_methods).classes) ≡ 1 ∷ 2 ∷ 3 ∷ 4 ∷ 5 ∷ 6 ∷ []
+unfolding table_of
+object_methods = refl
+
+collection_name : refusal (list_of (trees.Class (at 0 1 7) (codes "LinkedList") Nil Nil ∷ []) ∷ []) ≡ Some (class_rule_at 1 0 1 7)
+unfolding table_of class_fault is_constant evaluated values_of judged type_fault
+collection_name = refl
+
 pub meanings : Meanings
 meanings = record {
   well_typed = well_typed;
@@ -235,5 +251,9 @@ meanings = record {
   no_outer_method = no_outer_method;
   outer_numbers = outer_numbers;
   second_outer = second_outer;
+  most_classes = most_classes;
+  too_many_classes = too_many_classes;
+  object_methods = object_methods;
+  collection_name = collection_name;
   unnamed = unnamed;
 }

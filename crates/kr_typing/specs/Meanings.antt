@@ -1,7 +1,7 @@
 -- What names, types and constants mean in one family of classes: A with its nested class N, B below A, C below B. Their
 -- numbers are 0 to 3.
-use Rattle.std.specs.Prelude.{◌≡◌, ℕ, List, [], ◌∷◌, map, flat_map, length, take, true, false, pos, Some, None, option_map, codes}
-use Rattle.kr_ast.specs.declared.node.Primitive.TheVariants.{Int, Boolean}
+use Rattle.std.specs.Prelude.{◌≡◌, ℕ, zero, suc, ◌+◌, List, [], ◌∷◌, map, flat_map, length, take, true, false, pos, Some, None, option_map, codes}
+use Rattle.kr_ast.specs.declared.node.Primitive.TheVariants.{Int, Boolean, Void}
 use Rattle.kr_ast.specs.declared.node.BinaryOperator.TheVariants.{Add, Less}
 use Rattle.kr_ast.specs.declared.node.UnaryOperator.TheVariants.{Not}
 use Rattle.kr_ast.specs.declared.node.StepOperator.TheVariants.{IncrementBefore}
@@ -9,12 +9,13 @@ use Rattle.kr_ast.specs.Tree as trees
 use Rattle.kr_ast.specs.Tree.{Tree, Nil}
 use Rattle.kr_table.specs.Types.{IntType, BooleanType, NullType, ClassType, SetType, ListType, ArrayType, InferredType}
 use Rattle.kr_table.specs.Table.{Table, Class, table_of, class_at, ancestors, fields_of, field_named, method_named, constructor_parameters, is_assignable, are_related}
+use Rattle.kr_table.specs.Rules.{C6}
 use Rattle.kr_table.specs.Nodes.{nodes}
 use Rattle.kr_table.specs.Arrays.{array_types_of, array_number}
 use Rattle.kr_table.specs.Constants.{Whole, Truth, values_of}
 use Rattle.kr_typing.specs.Scopes.{Scope, LocalName, NoName, scope_of, under_minus, meant, meant_by, class_before, bind, method_meant}
 use Rattle.kr_typing.specs.Typing.{type_of, refusal, IsWellTyped}
-use Rattle.kr_typing.specs.Texts.{at, list_of, type_rule_at}
+use Rattle.kr_typing.specs.Texts.{at, list_of, class_rule_at, type_rule_at}
 use Rattle.kr_typing.specs.Examples.{family}
 
 abbrev pub table : Table
@@ -196,6 +197,21 @@ nested_in_second = list_of (
     ∷ []))
     ∷ []) ∷ []
 
+-- so many classes, each on a line of its own, from this one on
+abbrev pub classes_on : ℕ → ℕ → List Tree
+classes_on line zero = []
+classes_on line (suc n) = trees.Class (at 0 line 7) (line ∷ []) Nil Nil ∷ classes_on (line + 1) n
+
+-- a method without parameters, result and statements
+abbrev pub bare : ℕ → List ℕ → Tree
+bare line n = trees.Method (at 0 line 1) false n (trees.Signature (at 0 line 1) (trees.PrimitiveType (at 0 line 1) Void) Nil Nil) Nil
+
+-- the methods that every object has, and one more
+abbrev pub kept_methods : List Tree
+kept_methods = list_of (trees.Class (at 0 9 9) (codes "A") Nil (list_of (
+    bare 1 (codes "equals") ∷ bare 2 (codes "hashCode") ∷ bare 3 (codes "toString") ∷ bare 4 (codes "clone") ∷ bare 5 (codes "finalize") ∷ bare 6 (codes "getClass") ∷ bare 7 (codes "equal")
+    ∷ [])) ∷ []) ∷ []
+
 -- HashSet<int[]>[] a; LinkedList<boolean[]>[] b;
 abbrev pub arrays_of_collections : List Tree
 arrays_of_collections = list_of (trees.Class (at 0 9 9) (codes "E") Nil (list_of (
@@ -258,3 +274,9 @@ pub record Meanings : Type 0 where
   pub no_outer_method : refusal method_of_outer ≡ Some (type_rule_at 24 0 2 4)
   pub outer_numbers : map (λ d. d.outer) (table_of nested_in_second).classes ≡ None ∷ Some 0 ∷ None ∷ Some 2 ∷ []
   pub second_outer : refusal nested_in_second ≡ None
+  -- 64 classes are taken, and no more
+  pub most_classes : refusal (list_of (classes_on 1 64) ∷ []) ≡ None
+  pub too_many_classes : refusal (list_of (classes_on 1 66) ∷ []) ≡ Some (class_rule_at 8 0 65 7)
+  -- names that are kept
+  pub object_methods : map (λ f. f.place.line) (flat_map (C6 (table_of kept_methods) 0) (table_of kept_methods).classes) ≡ 1 ∷ 2 ∷ 3 ∷ 4 ∷ 5 ∷ 6 ∷ []
+  pub collection_name : refusal (list_of (trees.Class (at 0 1 7) (codes "LinkedList") Nil Nil ∷ []) ∷ []) ≡ Some (class_rule_at 1 0 1 7)

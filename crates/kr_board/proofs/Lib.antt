@@ -1,0 +1,14 @@
+pub mod Lists
+pub mod Sound
+pub mod Staying
+pub mod Grants
+pub mod Parting
+pub mod Whole
+pub mod Draining
+pub mod Releasing
+pub mod Reports
+pub mod Adding
+pub mod Taking
+pub mod Fronts
+pub mod Opened
+pub mod Drained

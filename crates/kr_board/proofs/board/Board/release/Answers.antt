@@ -1,0 +1,24 @@
+use Rattle.std.proofs.Common.{◌≡◌, ◌++◌, ◌∷◌, [], refl, subst}
+use Rattle.kr_survey.specs.Joins.{lists}
+use Rattle.kr_core.specs.declared.event.Event.TheVariants.{GiveUp}
+use Rattle.kr_core.specs.declared.event.Reply.TheVariants.{Noted}
+use Rattle.kr_board.specs.Held.{Held}
+use Rattle.kr_board.specs.Boards.{Adds}
+use Rattle.kr_board.proofs.Lists.{when_ok}
+use Rattle.kr_board.proofs.Releasing.{released_sound, released_room}
+use Rattle.kr_board.proofs.board.Board.release.Goals as goal
+
+pub invariant_of-self : goal.invariant_of-self
+invariant_of-self g c = released_sound c.self.inside.core _ c.self.inside.log c.push.new.self c.args.seat c.args.segment _ c.give_up_in.new.core c.push.result c.self.invariant c.give_up_in.ensures c.push.ensures.len c.push.ensures.succeeds c.push.ensures.capacity
+
+pub returns : goal.returns
+returns g c =
+    let old : Held g.row.R.Denot = record { core = c.self.inside.core; kept = lists c.self.inside.kept.items; log = c.self.inside.log.items } in
+    let new : Held g.row.R.Denot = record { core = c.give_up_in.new.core; kept = lists c.self.inside.kept.items; log = c.push.new.self.items } in
+    let place = released_room c.self.inside.core c.args.seat c.args.segment Noted c.give_up_in.new.core c.self.inside.log c.self.invariant.room c.give_up_in.ensures in
+    let adds : Adds old (GiveUp c.args.seat c.args.segment) Noted [] new = record {
+      step = c.give_up_in.ensures;
+      kept = refl;
+      logged = when_ok c.push.result c.push.new.self.items _ c.self.inside.log.items c.push.ensures.items (c.push.ensures.succeeds place);
+    } in
+    subst (λ (o : Held g.row.R.Denot). Adds o (GiveUp c.args.seat c.args.segment) Noted [] new) c.self.view_is adds

@@ -1,0 +1,51 @@
+-- What a report comes to.
+use Rattle.std.specs.Prelude.{◌≡◌, ℕ, List, [], Bool, not, Option, Some, None, is_none, length, if◌then◌else◌}
+use Rattle.kr_base.specs.declared.span.Bound.{Bound}
+use Rattle.kr_base.specs.declared.span.Bound.TheVariants.{At, End}
+use Rattle.kr_base.specs.Bounds.{less}
+use Rattle.kr_survey.specs.declared.part.Part.{Part}
+use Rattle.kr_core.specs.declared.segment.Segment.{Segment}
+use Rattle.kr_core.specs.declared.event.Event.{Event}
+use Rattle.kr_core.specs.declared.event.Event.TheVariants.{Report, Look}
+use Rattle.kr_core.specs.declared.event.Lease.{Lease}
+use Rattle.kr_core.specs.declared.event.Reply.{Reply}
+use Rattle.kr_core.specs.declared.event.Reply.TheVariants.{Go as GoOn, Done as AllDone, Noted}
+use Rattle.kr_core.specs.States.{State, is_same, is_owned_by, segment_of}
+use Rattle.kr_board.specs.declared.board.reporting.Reported.{Reported}
+use Rattle.kr_board.specs.declared.board.reporting.Reported.TheVariants.{Gone, Moved, Overrun, Done, Go}
+
+-- A seat's own segment, by its mark: the mark isn't the lease's; or the part reaches above its upto, which the lease has
+-- then. An owned segment's mark is a cut.
+abbrev pub refusal_at : Bound → Bound → Lease → Bound → Option Reported
+refusal_at End upto lease reach = Some Gone
+refusal_at (At mark) upto lease reach =
+    if not (is_same (At mark) (At lease.mark)) then Some (Moved mark)
+    else (if less upto reach then Some (Overrun (record lease { upto = upto })) else None)
+
+-- Why a report isn't taken in, first to last: no segment of that number is owned by the lease's seat, or as above.
+abbrev pub refusal_of : Option Segment → Lease → Bound → Option Reported
+refusal_of None lease reach = Some Gone
+refusal_of (Some g) lease reach = if not (is_owned_by lease.seat g.owner) then Some Gone else refusal_at g.mark g.upto lease reach
+
+abbrev pub refusal : State → Lease → Bound → Option Reported
+refusal s lease reach = refusal_of (segment_of lease.segment s.segments) lease reach
+
+-- a report that isn't taken in is a look
+abbrev pub report_event : {R : Type 0} → State → Lease → Part R → Event
+report_event s lease part =
+    if is_none (refusal s lease part.reach)
+    then Report lease.seat lease.segment part.reach (length part.rows) part.tried part.spent
+    else Look lease.seat
+
+-- what the machine said
+abbrev pub reply_of : Reported → Reply
+reply_of Gone = Noted
+reply_of (Moved mark) = Noted
+reply_of (Overrun lease) = Noted
+reply_of Done = AllDone
+reply_of (Go lease) = GoOn lease
+
+-- the refusal, if there is one
+abbrev pub IsRefusal : Option Reported → Reported → Type 0
+IsRefusal None reported = Unit {0}
+IsRefusal (Some refused) reported = reported ≡ refused

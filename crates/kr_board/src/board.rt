@@ -1,0 +1,142 @@
+// A board: the machine, the rows beside it, and the log.
+ghost use Rattle.std.specs.Prelude.{◌≡◌, ◌+◌, ◌-◌, ◌^◌, ◌≤◌, [], true, length, replicate, vec_len, vec_capacity, IfOk, IfErr, OnOk, OnErr};
+ghost use Rattle.kr_survey.specs.Joins.{joined};
+ghost use Rattle.kr_core.specs.Openings.{AreInside, opening};
+ghost use Rattle.kr_core.specs.Steps.{fits};
+ghost use Rattle.kr_core.specs.Rows.{brought};
+ghost use Rattle.kr_board.specs.Boards.{IsBoardOf, Adds};
+ghost use Rattle.kr_board.specs.Rooms.{IsAdded};
+
+mod closing;
+mod releasing;
+mod reporting;
+mod taking;
+
+use crate::edits::{edit_of, empty_lists, make_room, write};
+pub use closing::Closed;
+use kr_base::{Cut, NoMemory, Span};
+use kr_core::{Core, Event, Reply, Segment};
+use kr_survey::Survey;
+pub use releasing::GivenUp;
+pub use reporting::{Refused, Reported};
+use std::alloc::{AllocError, Global};
+use std::marker::Model;
+pub use taking::Taken;
+
+/// A board whose rows are of one type. Contracts see the machine's state, the rows and the log.
+#[derive(Drop)]
+pub struct Board<R> {
+    alloc: Global,
+    core: Core,
+    kept: Vec<Vec<R>>,
+    log: Vec<Event>,
+}
+
+impl<R> Model for Board<R> {
+    ghost use Rattle.kr_survey.specs.Joins.{lists};
+    ghost use Rattle.kr_board.specs.Held.{Held};
+    ghost use Rattle.kr_board.specs.Rooms.{IsSound};
+
+    ghost Value = { Held R };
+
+    ghost view = { λ b. record { core = b.core; kept = lists b.kept.items; log = b.log.items } };
+
+    ghost invariant = { λ b. IsSound b.core (lists b.kept.items) b.log };
+}
+
+// Makes room in the log for an event, and then for each owner to give up, where there are so many segments.
+fn make_log_room(log: &mut Vec<Event>, segments: usize) -> Result<(), AllocError>
+    ensures items { log.new.items ≡ log.old.items }
+    ensures len { vec_len log.new ≡ vec_len log.old }
+    ensures never_less { vec_capacity log.old ≤ vec_capacity log.new }
+    ensures room { IfOk result (λ _. vec_len log.new + (segments + 2) ≤ vec_capacity log.new) }
+{
+    match segments.checked_add(2) {
+        None => Err(AllocError),
+        Some(places) => log.reserve(places),
+    }
+}
+
+impl<R: Drop> Board<R> {
+    /// Segments that adjoin at the cuts, and no rows. The survey gives the rows their type.
+    pub fn new<S: Survey<Row = R>>(
+        alloc: Global,
+        survey: &S,
+        span: Span,
+        cuts: &[Cut],
+    ) -> Result<Board<R>, NoMemory>
+        requires { AreInside cuts.now span }
+        ensures core { IfOk result (λ board. board.core ≡ opening span cuts.now) }
+        ensures kept { IfOk result (λ board. board.kept ≡ replicate (length cuts.now + 1) []) }
+        ensures log { IfOk result (λ board. board.log ≡ []) }
+        ensures of_survey { IfOk result (IsBoardOf (S.all survey.now) span cuts.now) }
+    {
+        let _ = survey;
+        let core = Core::open(alloc, &span, cuts)?;
+        let kept = empty_lists(alloc, core.segments().len())?;
+        Ok(Board {
+            alloc,
+            core,
+            kept,
+            log: Vec::new(alloc),
+        })
+    }
+
+    /// The events so far, in order.
+    pub fn log(&self) -> &[Event]
+        ensures { result.now ≡ self.now.log }
+    {
+        self.log.as_slice()
+    }
+
+    /// The segments, in the order of candidates.
+    pub fn segments(&self) -> &[Segment]
+        ensures { result.now ≡ self.now.core.segments }
+    {
+        self.core.segments()
+    }
+
+    // One event that fits, with the rows that it brings: room first, then the step, then what can't fail. Rows that aren't
+    // taken are given back.
+    fn add(&mut self, event: Event, logged: Event, rows: Vec<R>) -> Result<Reply, Vec<R>>
+        requires same { logged ≡ event }
+        requires fits { fits self.old.core event ≡ true }
+        requires kind { IsAdded event }
+        requires brings { brought event ≡ length rows.items }
+        requires few { length rows.items ≤ (2 ^ 64 - 1) - length (joined self.old.kept) }
+        ensures added { IfOk result (λ reply. Adds self.old event reply rows.items self.new) }
+        ensures unchanged { OnErr result (self.new ≡ self.old) }
+        ensures back { IfErr result (λ back. back ≡ rows) }
+    {
+        let edit = edit_of(&self.core, &logged);
+        let Ok(()) = make_log_room(&mut self.log, self.core.segments().len()) else {
+            return Err(rows);
+        };
+        let Ok(()) = make_room(&mut self.kept, edit, rows.len()) else {
+            return Err(rows);
+        };
+        match self.core.apply(event) {
+            Err(_) => Err(rows),
+            Ok(reply) => {
+                write(self.alloc, &mut self.kept, edit, rows);
+                let _ = self.log.push(logged);
+                Ok(reply)
+            }
+        }
+    }
+
+    // A seat looks, and finds nothing to do.
+    fn look(&mut self, seat: u32) -> Result<(), NoMemory>
+        ensures added { OnOk result (Adds self.old (Event.Look seat) Reply.Noted [] self.new) }
+        ensures unchanged { OnErr result (self.new ≡ self.old) }
+    {
+        match self.add(
+            Event::Look { seat },
+            Event::Look { seat },
+            Vec::new(self.alloc),
+        ) {
+            Ok(_) => Ok(()),
+            Err(_) => Err(NoMemory),
+        }
+    }
+}

@@ -1,0 +1,175 @@
+// Reports: a part of a survey, taken in under a lease.
+ghost use Rattle.std.specs.Prelude.{◌≡◌, ◌-◌, ◌^◌, ◌≤◌, [], None, length, IfOk, IfErr, OnOk, OnErr};
+ghost use Rattle.std.specs.List.{sum_by};
+ghost use Rattle.kr_survey.specs.Joins.{joined};
+ghost use Rattle.kr_core.specs.States.{capped};
+ghost use Rattle.kr_board.specs.Boards.{Adds, StaysWith};
+ghost use Rattle.kr_board.specs.Parts.{IsPossible};
+ghost use Rattle.kr_board.specs.Reporting.{IsRefusal, refusal, report_event, reply_of};
+
+use super::Board;
+use kr_base::{Bound, Cut, NoMemory};
+use kr_core::{Core, Event, Lease, Reply, Segment};
+use kr_survey::{Part, RowList};
+
+/// What a report comes to: the lease's seat doesn't own the segment; its mark is another; the part reaches above its upto,
+/// which the lease has then; nothing is left of it; or it goes on under this lease. The first three change nothing but
+/// the log.
+#[derive(Debug, Drop)]
+pub enum Reported {
+    Gone,
+    Moved(Cut),
+    Overrun(Lease),
+    Done,
+    Go(Lease),
+}
+
+/// A report that was refused memory, with what was handed in.
+#[derive(Debug, Drop)]
+pub struct Refused<R> {
+    pub lease: Lease,
+    pub part: Part<R>,
+}
+
+// The lease again, up to where its segment ends now.
+fn lowered(lease: &Lease, upto: &Bound) -> Result<Lease, NoMemory>
+    ensures { IfOk result (λ l. l ≡ record lease.now { upto = upto.now }) }
+{
+    Ok(Lease {
+        seat: lease.seat,
+        segment: lease.segment,
+        mark: lease.mark.try_clone()?,
+        upto: upto.try_clone()?,
+    })
+}
+
+// Why a report isn't taken in, if so.
+fn refusal(core: &Core, lease: &Lease, reach: &Bound) -> Result<Option<Reported>, NoMemory>
+    ensures { IfOk result (λ refused. refused ≡ refusal core.now lease.now reach.now) }
+{
+    let Some(segment) = core.segment_of(lease.segment) else {
+        return Ok(Some(Reported::Gone));
+    };
+    if !segment.is_owned_by(lease.seat) {
+        return Ok(Some(Reported::Gone));
+    }
+    let Bound::At(mark) = &segment.mark else {
+        return Ok(Some(Reported::Gone));
+    };
+    if !mark.is_same(&lease.mark) {
+        return Ok(Some(Reported::Moved(mark.try_clone()?)));
+    }
+    if segment.upto.is_below(reach) {
+        return Ok(Some(Reported::Overrun(lowered(lease, &segment.upto)?)));
+    }
+    Ok(None)
+}
+
+// The rows that are kept, by the segments' counts.
+fn kept_rows(segments: &[Segment]) -> u64
+    ensures { result ≡ capped (sum_by (λ s. s.rows) segments.now) }
+{
+    let mut rows: u64 = 0;
+    for segment in segments {
+        rows = rows.saturating_add(segment.rows);
+    }
+    rows
+}
+
+impl<R: Drop> Board<R> {
+    /// Takes in what a scan gave from a lease's mark on.
+    pub fn report(&mut self, lease: Lease, part: Part<R>) -> Result<Reported, Refused<R>>
+        requires { IsPossible lease.mark part }
+        ensures refusal { IfOk result (IsRefusal (refusal self.old.core lease part.reach)) }
+        ensures event { IfOk result (λ reported. Adds self.old (report_event self.old.core lease part) (reply_of reported) part.rows self.new) }
+        ensures stays { OnOk result (StaysWith lease.mark part self.old self.new) }
+        ensures unchanged { OnErr result (self.new ≡ self.old) }
+        ensures back { IfErr result (λ refused. (refused.lease ≡ lease) × (refused.part ≡ part)) }
+    {
+        match refusal(&self.core, &lease, &part.reach) {
+            Err(_) => Err(Refused { lease, part }),
+            Ok(None) => self.take_in(lease, part),
+            Ok(Some(reported)) => match self.look(lease.seat) {
+                Ok(()) => Ok(reported),
+                Err(_) => Err(Refused { lease, part }),
+            },
+        }
+    }
+
+    // A part that fits.
+    fn take_in(&mut self, lease: Lease, part: Part<R>) -> Result<Reported, Refused<R>>
+        requires possible { IsPossible lease.mark part }
+        requires fits { refusal self.old.core lease part.reach ≡ None }
+        ensures event { IfOk result (λ reported. Adds self.old (Event.Report lease.seat lease.segment part.reach (length part.rows) part.tried part.spent) (reply_of reported) part.rows self.new) }
+        ensures unchanged { OnErr result (self.new ≡ self.old) }
+        ensures back { IfErr result (λ refused. (refused.lease ≡ lease) × (refused.part ≡ part)) }
+    {
+        let count = part.rows.len() as u64;
+        if count > u64::MAX - kept_rows(self.core.segments()) {
+            return Err(Refused { lease, part });
+        }
+        let Ok(reach) = part.reach.try_clone() else {
+            return Err(Refused { lease, part });
+        };
+        let Ok(again) = part.reach.try_clone() else {
+            return Err(Refused { lease, part });
+        };
+        self.write_in(lease, part, reach, again)
+    }
+
+    // The same, with two copies of the reach.
+    fn write_in(
+        &mut self,
+        lease: Lease,
+        part: Part<R>,
+        reach: Bound,
+        again: Bound,
+    ) -> Result<Reported, Refused<R>>
+        requires copies { (reach ≡ part.reach) × (again ≡ part.reach) }
+        requires possible { IsPossible lease.mark part }
+        requires fits { refusal self.old.core lease part.reach ≡ None }
+        requires few { length part.rows ≤ (2 ^ 64 - 1) - length (joined self.old.kept) }
+        ensures event { IfOk result (λ reported. Adds self.old (Event.Report lease.seat lease.segment part.reach (length part.rows) part.tried part.spent) (reply_of reported) part.rows self.new) }
+        ensures unchanged { OnErr result (self.new ≡ self.old) }
+        ensures back { IfErr result (λ refused. (refused.lease ≡ lease) × (refused.part ≡ part)) }
+    {
+        let Part {
+            reach: own,
+            rows,
+            tried,
+            spent,
+        } = part;
+        let count = rows.len() as u64;
+        let event = Event::Report {
+            seat: lease.seat,
+            segment: lease.segment,
+            reach,
+            rows: count,
+            tried,
+            spent,
+        };
+        let logged = Event::Report {
+            seat: lease.seat,
+            segment: lease.segment,
+            reach: again,
+            rows: count,
+            tried,
+            spent,
+        };
+        match self.add(event, logged, rows.into_vec()) {
+            Ok(Reply::Go(next)) => Ok(Reported::Go(next)),
+            Ok(Reply::Done) => Ok(Reported::Done),
+            Ok(Reply::Lease(_)) => unreachable!(),
+            Ok(Reply::Noted) => unreachable!(),
+            Err(rows) => Err(Refused {
+                lease,
+                part: Part {
+                    reach: own,
+                    rows: RowList::new(rows),
+                    tried,
+                    spent,
+                },
+            }),
+        }
+    }
+}

@@ -1,0 +1,5 @@
+pub mod Sooner
+pub mod Lines
+pub mod ByClass
+pub mod Repeated
+pub mod Fronts

@@ -1,0 +1,6 @@
+use Rattle.kr_table.specs.Rules.{C2}
+use Rattle.kr_classes.specs.Faults.{IsFirstIn, table_in}
+use Rattle.kr_classes.proofs.name_rules.first_unknown_superclass.Given as goal
+
+abbrev pub invariant-loop-class : goal.invariant-loop-class
+invariant-loop-class l = IsFirstIn 2 C2 (table_in l.trees) l.class l.first

@@ -1,0 +1,59 @@
+-- The first place at which a class rule on names is broken.
+use Rattle.std.specs.Prelude.{◌≡◌, ℕ, ◌-◌, ◌<◌, ◌||◌, not, List, [], ◌∷◌, length, map, take, codes, Option, Some, None, slice_index_or}
+use Rattle.kr_base.specs.declared.place.Place.{Place}
+use Rattle.kr_ast.specs.Arena.{Arena, root}
+use Rattle.kr_table.specs.Table.{Table, Class, super_of, table_of, line_within, ancestors, is_among, is_number, number_of}
+use Rattle.kr_table.specs.Rules.{Fault, break_if, each_class, is_name_among, least}
+use Rattle.kr_names.specs.declared.class_names.Heads.{Heads}
+use Rattle.kr_names.specs.Shown.{AreHeads}
+
+-- the rule's fault at this place, if there is one
+abbrev pub fault_at : ℕ → Option Place → Option Fault
+fault_at rule None = None
+fault_at rule (Some p) = Some (record { place = p; rule = rule })
+
+abbrev pub table_in : List Arena → Table
+table_in files = table_of (map root files)
+
+abbrev pub superclass_at : List (Option ℕ) → ℕ → Option ℕ
+superclass_at supers c = slice_index_or supers c None
+
+-- a superclass is one of the classes
+abbrev pub AreBelow : List (Option ℕ) → Type 0
+AreBelow supers = (c d : ℕ) → superclass_at supers c ≡ Some d → d < length supers
+
+-- the superclass of each class of the table
+pub record AreSuperclasses (supers : List (Option ℕ)) (t : Table) : Type 0 where
+  pub count : length supers ≡ length t.classes
+  pub each : (c : ℕ) → c < length supers → super_of t c ≡ superclass_at supers c
+
+-- after so many steps upwards the class is still looked for on the line from here
+abbrev pub IsLeft : List (Option ℕ) → ℕ → ℕ → Option ℕ → Type 0
+IsLeft supers class steps at = (t : Table) → AreSuperclasses supers t → is_among class (line_within (length supers - steps) t at) ≡ is_among class (ancestors t class)
+
+abbrev pub IsWithin : List (Option ℕ) → Option ℕ → Type 0
+IsWithin supers at = (d : ℕ) → at ≡ Some d → d < length supers
+
+-- a class rule, by the class and its number
+abbrev pub ClassRule : Type 0
+ClassRule = Table → ℕ → Class → List Fault
+
+-- the first place at which a class rule is broken
+abbrev pub first_of_rule : ClassRule → Table → Option Fault
+first_of_rule rule t = least (each_class (rule t) 0 t.classes)
+
+-- of the first classes of a table
+abbrev pub IsFirstIn : ℕ → ClassRule → Table → ℕ → Option Place → Type 0
+IsFirstIn n rule t count first = fault_at n first ≡ least (each_class (rule t) 0 (take count t.classes))
+
+-- of each table that these are the heads and superclasses of
+abbrev pub IsFirstOf : ℕ → ClassRule → Heads → List (Option ℕ) → ℕ → Option Place → Type 0
+IsFirstOf n rule heads supers count first = (files : List Arena) → AreHeads files heads → AreSuperclasses supers (table_in files) → IsFirstIn n rule (table_in files) count first
+
+-- the names that are kept for the collections
+abbrev pub collections : List (List ℕ)
+collections = codes "HashSet" ∷ codes "LinkedList" ∷ []
+
+-- a class has the name of a collection, or that of a class before it
+abbrev pub repeats : ClassRule
+repeats t c d = break_if (is_name_among d.name collections || not (is_number (number_of t.headings d.name) (Some c))) 1 d.place

@@ -1,0 +1,38 @@
+-- What a refusal says of the class rules.
+use Rattle.std.specs.Prelude.{◌≡◌, ℕ, List, [], ◌∷◌, Option, Some, None, codes}
+use Rattle.kr_ast.specs.Arena.{Arena}
+use Rattle.kr_table.specs.Table.{Table}
+use Rattle.kr_table.specs.Rules.{Fault, C1, C2, C3, class_fault, first_of, least}
+use Rattle.kr_names.specs.Shown.{AreHeads}
+use Rattle.kr_classes.specs.declared.refusal.ClassRule.{ClassRule as Rule}
+use Rattle.kr_classes.specs.declared.refusal.ClassRule.TheVariants.{RepeatedClass, UnknownSuperclass, OwnAncestor}
+use Rattle.kr_classes.specs.declared.refusal.ClassRefusal.{ClassRefusal}
+use Rattle.kr_classes.specs.declared.refusal.ClassRefusal.TheVariants.{Broken, NoMemory}
+use Rattle.kr_classes.specs.declared.hierarchy.Hierarchy.{Hierarchy}
+use Rattle.kr_classes.specs.Faults.{AreBelow, AreSuperclasses, first_of_rule, table_in}
+
+abbrev pub rule_code : Rule → List ℕ
+rule_code RepeatedClass = codes "C1"
+rule_code UnknownSuperclass = codes "C2"
+rule_code OwnAncestor = codes "C3"
+
+abbrev pub rule_number : Rule → ℕ
+rule_number RepeatedClass = 1
+rule_number UnknownSuperclass = 2
+rule_number OwnAncestor = 3
+
+-- the first fault of the rules on names and on what classes extend
+abbrev pub names_fault : Table → Option Fault
+names_fault t = first_of (least (C1 t) ∷ first_of_rule C2 t ∷ first_of_rule C3 t ∷ [])
+
+-- the rule that is named is the first broken one; want of memory is free
+abbrev pub IsRefusal : List Arena → ClassRefusal → Type 0
+IsRefusal files (Broken p r) = class_fault (table_in files) ≡ Some (record { place = p; rule = rule_number r })
+IsRefusal files NoMemory = Unit {0}
+
+-- the classes of these files, which break none of these rules
+pub record IsHierarchy (files : List Arena) (h : Hierarchy) : Type 0 where
+  pub heads : AreHeads files h.heads
+  pub supers : AreSuperclasses h.supers.items (table_in files)
+  pub below : AreBelow h.supers.items
+  pub unbroken : names_fault (table_in files) ≡ None

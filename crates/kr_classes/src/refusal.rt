@@ -1,0 +1,45 @@
+// Why classes are refused.
+ghost use Rattle.std.specs.Prelude.{◌≡◌};
+ghost use Rattle.kr_classes.specs.declared.refusal.ClassRefusal.TheVariants.{NoMemory as Lacking};
+ghost use Rattle.kr_classes.specs.Refusals.{rule_code};
+
+use kr_base::{NoMemory, Place};
+
+/// A class rule, by what breaks it.
+#[derive(Clone, Copy, Debug, PartialEq, Eq)]
+pub enum ClassRule {
+    /// C1: a class has the name of a collection, or of a class before it.
+    RepeatedClass,
+    /// C2: `extends` names no class.
+    UnknownSuperclass,
+    /// C3: a class is its own ancestor.
+    OwnAncestor,
+}
+
+impl ClassRule {
+    /// The rule's code, as `C1`.
+    pub fn code(self) -> &'static str
+        ensures { result.now ≡ rule_code self }
+    {
+        match self {
+            ClassRule::RepeatedClass => "C1",
+            ClassRule::UnknownSuperclass => "C2",
+            ClassRule::OwnAncestor => "C3",
+        }
+    }
+}
+
+/// The classes were refused: they break a rule at a place, or memory was refused.
+#[derive(Clone, Copy, Debug, PartialEq, Eq)]
+pub enum ClassRefusal {
+    Broken { place: Place, rule: ClassRule },
+    NoMemory,
+}
+
+impl From<NoMemory> for ClassRefusal {
+    ghost from_gives = { λ _ refusal. refusal ≡ Lacking };
+
+    fn from(_: NoMemory) -> ClassRefusal {
+        ClassRefusal::NoMemory
+    }
+}

@@ -1,0 +1,9 @@
+pub mod Orders
+pub mod Spans
+pub mod Keys
+pub mod Paths
+pub mod Nexts
+pub mod Seeks
+pub mod Firsts
+pub mod Turns
+pub mod Bases

@@ -1,0 +1,30 @@
+use Rattle.std.proofs.Common.{true, false}
+use Rattle.kr_step.proofs.Turns.{back, stays_behind, moved_along}
+use Rattle.kr_step.proofs.search.find.Goals as goal
+
+pub returns-then-not-advance-clause-stands : goal.returns-then-not-advance-clause-stands
+returns-then-not-advance-clause-stands g c = λ after stands.
+    let S = g.R.Slots.space c.args.runner.now in
+    let o = g.R.Runner.order c.args.runner.now in
+    let m = g.R.Runner.ending c.args.runner.now in
+    let w = g.R.Runner.vector c.args.runner.now in
+    let on = back S o m c.args.stage.now after w (g.R.Runner.vector c.advance.new.runner) c.args.path.now.items c.advance.new.path.items c.advance.result false c.in-Behind.is c.if-not-advance.true (c.advance.ensures.advanced after) stands in
+    stays_behind S o m c.args.stage.now after (g.R.Runner.vector c.advance.new.runner) c.advance.new.path.items c.in-Behind.is on.0
+
+pub returns-then-not-advance-clause-found : goal.returns-then-not-advance-clause-found
+returns-then-not-advance-clause-found g c = λ after stands.
+    let S = g.R.Slots.space c.args.runner.now in
+    let o = g.R.Runner.order c.args.runner.now in
+    let m = g.R.Runner.ending c.args.runner.now in
+    let w = g.R.Runner.vector c.args.runner.now in
+    let on = back S o m c.args.stage.now after w (g.R.Runner.vector c.advance.new.runner) c.args.path.now.items c.advance.new.path.items c.advance.result false c.in-Behind.is c.if-not-advance.true (c.advance.ensures.advanced after) stands in
+    on.1
+
+pub arrive-requires-in-Behind : goal.arrive-requires-in-Behind
+arrive-requires-in-Behind g c =
+    let S = g.R.Slots.space c.args.runner.now in
+    let o = g.R.Runner.order c.args.runner.now in
+    let m = g.R.Runner.ending c.args.runner.now in
+    let w = g.R.Runner.vector c.args.runner.now in
+    let on = back S o m c.args.stage.now c.requires.0 w (g.R.Runner.vector c.advance.new.runner) c.args.path.now.items c.advance.new.path.items c.advance.result true c.in-Behind.is c.if-not-advance.false (c.advance.ensures.advanced c.requires.0) c.requires.1 in
+    (c.requires.0, moved_along S (g.R.Slots.space c.advance.new.runner) o (g.R.Runner.order c.advance.new.runner) c.requires.0 (g.R.Runner.vector c.advance.new.runner) c.advance.new.path.items c.advance.ensures.space c.advance.ensures.order on)

@@ -1,0 +1,55 @@
+use Rattle.std.proofs.Common.{◌≡◌, ℕ, List, [], ◌∷◌, ◌++◌, Bool, true, false, subst, ap, ◌∙◌, ◌-◌, take, append-nil, arith, vec_len}
+use Rattle.kr_step.specs.Steps.{IsStuck}
+use Rattle.kr_step.specs.Turns.{Turned}
+use Rattle.kr_step.proofs.Turns.{stuck_along, turned_along, none_left}
+use Rattle.kr_step.proofs.turning.advance.Goals as goal
+
+pub returns-then-raise-clause-advanced : goal.returns-then-raise-clause-advanced
+returns-then-raise-clause-advanced g c = λ after stuck.
+    let S = g.R.Slots.space c.args.runner.now in
+    let o = g.R.Runner.order c.args.runner.now in
+    let T = g.R.Slots.space c.loop-slot.runner in
+    let p = g.R.Runner.order c.loop-slot.runner in
+    let v = g.R.Runner.vector c.loop-slot.runner in
+    let inv = c.loop-slot.invariant in
+    let here : IsStuck S o after v (c.pop.new.self.items ++ (c.in-Some.slot, c.in-Some.index) ∷ []) = subst (IsStuck S o after v) c.in-Some.ensures.items (inv.stuck after stuck) in
+    let there = stuck_along S T o p after v (c.pop.new.self.items ++ (c.in-Some.slot, c.in-Some.index) ∷ []) inv.space inv.order here in
+    let turned : Turned T p after true (g.R.Runner.vector c.raise.new.runner) c.raise.new.path.items = subst (λ (b : Bool). Turned T p after b (g.R.Runner.vector c.raise.new.runner) c.raise.new.path.items) c.if-raise.true (c.raise.ensures.turned after there) in
+    turned_along S T o p after true (g.R.Runner.vector c.raise.new.runner) c.raise.new.path.items inv.space inv.order turned
+
+pub loop-slot-smaller : goal.loop-slot-smaller
+loop-slot-smaller g c =
+    let kept = ap vec_len (c.raise.ensures.kept c.if-raise.false) in
+    omega (arith, kept, c.in-Some.ensures.len)
+
+pub loop-slot-preserved : goal.loop-slot-preserved
+loop-slot-preserved g c =
+    let S = g.R.Slots.space c.args.runner.now in
+    let o = g.R.Runner.order c.args.runner.now in
+    let T = g.R.Slots.space c.loop-slot.runner in
+    let p = g.R.Runner.order c.loop-slot.runner in
+    let v = g.R.Runner.vector c.loop-slot.runner in
+    let inv = c.loop-slot.invariant in
+    let on : (after : List ℕ) → IsStuck S o after v c.loop-slot.path.items → IsStuck S o after (g.R.Runner.vector c.raise.new.runner) c.raise.new.path.items = λ after stuck.
+    let here : IsStuck S o after v (c.pop.new.self.items ++ (c.in-Some.slot, c.in-Some.index) ∷ []) = subst (IsStuck S o after v) c.in-Some.ensures.items stuck in
+    let there = stuck_along S T o p after v (c.pop.new.self.items ++ (c.in-Some.slot, c.in-Some.index) ∷ []) inv.space inv.order here in
+    let turned : Turned T p after false (g.R.Runner.vector c.raise.new.runner) c.raise.new.path.items = subst (λ (b : Bool). Turned T p after b (g.R.Runner.vector c.raise.new.runner) c.raise.new.path.items) c.if-raise.false (c.raise.ensures.turned after there) in
+    turned_along S T o p after false (g.R.Runner.vector c.raise.new.runner) c.raise.new.path.items inv.space inv.order turned in
+    record {
+      space = c.raise.ensures.space ∙ inv.space;
+      order = c.raise.ensures.order ∙ inv.order;
+      ending = c.raise.ensures.ending ∙ inv.ending;
+      some = (inv.some.0, on inv.some.0 inv.some.1);
+      stuck = λ after stuck. on after (inv.stuck after stuck);
+    }
+
+pub returns-clause-advanced : goal.returns-clause-advanced
+returns-clause-advanced g c = λ after stuck.
+    let S = g.R.Slots.space c.args.runner.now in
+    let o = g.R.Runner.order c.args.runner.now in
+    let m = g.R.Runner.ending c.args.runner.now in
+    let v = g.R.Runner.vector c.loop-slot.runner in
+    let empty : c.pop.new.self.items ≡ [] = c.in_default.ensures.rest ∙ ap (λ (n : ℕ). take (n - 1) c.loop-slot.path.items) c.in_default.ensures.cases.0 in
+    let items : c.loop-slot.path.items ≡ c.pop.new.self.items = c.in_default.ensures.items ∙ append-nil c.pop.new.self.items in
+    let here : IsStuck S o after v c.pop.new.self.items = subst (IsStuck S o after v) items (c.loop-slot.invariant.stuck after stuck) in
+    (here, none_left S o m c.laws.ensures.space c.laws.ensures.reading after v c.pop.new.self.items empty here)

@@ -1,0 +1,5 @@
+pub mod Steps
+pub mod Turns
+pub mod Stages
+pub mod Found
+pub mod Bases
