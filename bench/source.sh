@@ -13,7 +13,7 @@
 source "$(dirname "$(readlink -f "$0")")/common.sh"
 size=1048576
 cd "$work" || exit 0
-: >fin.toml
+printf 'root = "X"\nfuel = 1\n' >fin.toml
 
 # `class X { int a; int a; .. }`, filled up with spaces.
 fields() {
