@@ -4,3 +4,4 @@ pub mod Made
 pub mod Same
 pub mod Growing
 pub mod Base
+pub mod Totals

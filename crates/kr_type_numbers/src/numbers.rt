@@ -4,7 +4,7 @@ ghost use Rattle.kr_table.specs.Types.{UnknownType};
 ghost use Rattle.kr_table.specs.Table.{class_or};
 ghost use Rattle.kr_names.specs.Shown.{AreHeads, file_at};
 ghost use Rattle.kr_type_numbers.specs.Types.{Extends, IsTypeNumber};
-ghost use Rattle.kr_type_numbers.specs.Numbers.{AreNodeTypes, AreNumbersOf, named_type, number_in, primitive_named};
+ghost use Rattle.kr_type_numbers.specs.Numbers.{AreFileTypes, AreNodeTypes, AreNumbersOf, named_type, number_in, primitive_named};
 
 use crate::{TypeForm, Types};
 use kr_ast::{Node, Primitive, Tree};
@@ -104,7 +104,7 @@ fn file_types(
 ) -> Result<Vec<u32>, NoMemory>
     requires heads { AreHeads trees.now heads.now }
     requires file { file < length trees.now }
-    ensures numbers { IfOk result (λ numbers. AreNumbersOf trees.now types.new file (length (file_at trees.now file).entries) numbers.items) }
+    ensures numbers { IfOk result (λ numbers. AreFileTypes trees.now types.new file numbers.items) }
     ensures extends { Extends types.old types.new }
 {
     let mut numbers = Vec::new(alloc);
@@ -135,17 +135,18 @@ impl NodeTypes {
             let numbers = file_types(alloc, trees, heads, types, file)?;
             files.push(numbers)?;
         }
+        let _void = types.void();
         Ok(NodeTypes { files })
     }
 
-    /// The number of the type that a node names.
+    /// The number of the type that a node names; that of what has no value where there is no such node.
     pub fn number(&self, file: u32, node: u32) -> u32
         ensures { result ≡ number_in self.now file node }
     {
         match self.files.get(file as usize) {
-            None => 0,
+            None => 3,
             Some(numbers) => match numbers.get(node as usize) {
-                None => 0,
+                None => 3,
                 Some(number) => *number,
             },
         }

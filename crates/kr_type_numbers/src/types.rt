@@ -128,7 +128,8 @@ impl Types {
 
     /// What has no value.
     pub fn void(&self) -> u32
-        ensures { IsTypeNumber self.now result VoidType }
+        ensures number { result ≡ 3 }
+        ensures is { IsTypeNumber self.now result VoidType }
     {
         prove!(3 < self.forms.len());
         3
