@@ -1,0 +1,130 @@
+// Expressions whose names, types and calls are resolved.
+
+use kr_ast::{BinaryOperator, StepOperator, UnaryOperator};
+use kr_base::Place;
+use kr_value::Value;
+
+/// Nodes that follow one another: so many links of the code, from one on.
+#[derive(Clone, Copy, Debug)]
+pub struct Nodes {
+    pub first: u32,
+    pub count: u32,
+}
+
+/// What is called with arguments.
+#[derive(Clone, Copy, Debug)]
+pub enum Callee {
+    /// Nothing that is known: the run is stuck behind the arguments.
+    Unknown,
+    /// A static method.
+    Static(u32),
+    /// The method that `this`'s class has in place of this one.
+    Own(u32),
+    /// The superclass's method on `this`, if it has one.
+    Super(Option<u32>),
+    /// The constructors of a class, on a new object.
+    New(u32),
+}
+
+/// What is written.
+#[derive(Clone, Copy, Debug)]
+pub enum Variable {
+    Unknown,
+    Local(u32),
+    /// A field of `this`, by its name, and as one that is stored.
+    Own { name: u32, field: u32 },
+    /// A field of an object.
+    Of { object: u32, name: u32, field: u32 },
+    /// An element of an array, whose type has a number.
+    Element { array: u32, index: u32, class: u32 },
+}
+
+/// An expression over the indices of its parts.
+#[derive(Clone, Copy, Debug)]
+pub enum Expression {
+    /// Nothing that has a meaning.
+    Stuck,
+    Literal(Value),
+    This,
+    Local(u32),
+    /// A field of `this`, by its name.
+    OwnField(u32),
+    /// A field of an object, or an array's length.
+    FieldOf {
+        object: u32,
+        name: u32,
+    },
+    Element {
+        array: u32,
+        index: u32,
+    },
+    Call {
+        callee: Callee,
+        arguments: Nodes,
+    },
+    /// The method that an object's class has in place of this one.
+    CallOn {
+        object: u32,
+        method: u32,
+        arguments: Nodes,
+    },
+    /// A static method that is called through an object.
+    StaticCallOn {
+        object: u32,
+        method: u32,
+        arguments: Nodes,
+    },
+    /// The array type's number, if it has one, and what an element begins with.
+    NewArray {
+        class: Option<u32>,
+        default: Value,
+        length: u32,
+    },
+    Unary {
+        operator: UnaryOperator,
+        operand: u32,
+    },
+    And {
+        left: u32,
+        right: u32,
+    },
+    Or {
+        left: u32,
+        right: u32,
+    },
+    Binary {
+        operator: BinaryOperator,
+        left: u32,
+        right: u32,
+    },
+    InstanceOf {
+        operand: u32,
+        class: u32,
+    },
+    Conditional {
+        condition: u32,
+        then: u32,
+        otherwise: u32,
+    },
+    Cast {
+        class: u32,
+        operand: u32,
+    },
+    /// A cast to a primitive type.
+    Same(u32),
+    Assign {
+        variable: Variable,
+        value: u32,
+    },
+    Compound {
+        operator: BinaryOperator,
+        variable: Variable,
+        value: u32,
+    },
+    Step {
+        operator: StepOperator,
+        variable: Variable,
+    },
+    Result,
+    Old(Place),
+}
