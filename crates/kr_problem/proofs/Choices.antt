@@ -1,6 +1,6 @@
 -- The values of stretches are the values of the domains that their entries make.
-use Rattle.std.proofs.Common.{◌≡◌, ℕ, zero, suc, ◌+◌, ◌-◌, ◌<◌, ◌≤◌, ◌⊎◌, inl, inr, List, [], ◌∷◌, ◌++◌, length, get_or, Option, Some, None, refl, sym, ap, ◌∙◌, arith, subst}
-use Rattle.std.specs.Prelude.{ℤ, pos, ◌+ℤ◌, map, flat_map}
+use Rattle.std.proofs.Common.{◌≡◌, ℕ, zero, suc, ◌+◌, ◌<◌, ◌≤◌, ◌⊎◌, inl, inr, List, [], ◌∷◌, ◌++◌, length, get_or, Some, refl, sym, ap, ◌∙◌, arith, subst}
+use Rattle.std.specs.Prelude.{ℤ, map, flat_map}
 use Rattle.std.specs.List.{range_with_len}
 use Rattle.std.proofs.lemmas.List.{append-nil, get_or_past}
 use Rattle.std.proofs.lemmas.List.Concat.{flat_map-append}
@@ -12,8 +12,6 @@ use Rattle.kr_problem.specs.declared.classes.ClassDomain.{ClassDomain}
 use Rattle.kr_problem.specs.declared.item.Item.{Item}
 use Rattle.kr_problem.specs.declared.item.Item.TheVariants.{Plain, Integers, Objects}
 use Rattle.kr_problem.specs.declared.stretch.Block.{Block}
-use Rattle.kr_problem.specs.declared.stretch.Stretch.{Stretch}
-use Rattle.kr_problem.specs.declared.stretch.Stretch.TheVariants as stretches
 use Rattle.kr_problem.specs.Items as entries
 use Rattle.kr_problem.specs.Items.{integers}
 use Rattle.kr_problem.specs.Stretches.{integer_choice, object_choice, choices_of, all_choices, domain_of, meant, no_block, stretch_of}

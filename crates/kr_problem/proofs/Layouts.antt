@@ -1,5 +1,5 @@
 -- What the tables of a layout say of the problem's slots.
-use Rattle.std.proofs.Common.{◌≡◌, ℕ, zero, suc, ◌+◌, ◌<◌, List, [], ◌∷◌, ◌++◌, length, get_or, Option, Some, None, refl, sym, ap, ◌∙◌, arith, subst}
+use Rattle.std.proofs.Common.{◌≡◌, ℕ, zero, suc, ◌<◌, List, [], ◌∷◌, length, get_or, Option, Some, None, refl, sym, ap, ◌∙◌, arith, subst}
 use Rattle.std.specs.Prelude.{map}
 use Rattle.std.proofs.lemmas.List.{get_or-map, length-map}
 use Rattle.kr_mean.specs.declared.mode.Mode.{Mode}
@@ -12,7 +12,6 @@ use Rattle.kr_problem.specs.declared.stretch.Stretch.{Stretch}
 use Rattle.kr_problem.specs.declared.entry.Entry.{Entry}
 use Rattle.kr_problem.specs.declared.layout.Layout.TheInside.{Inside}
 use Rattle.kr_iso.specs.Objects.{shown}
-use Rattle.kr_problem.specs.Items as entries
 use Rattle.kr_problem.specs.Stretches.{all_choices, domain_of}
 use Rattle.kr_problem.specs.Bounds.{Bounds, bare, bounds_of}
 use Rattle.kr_problem.specs.Tables.{all_entries, blocks_from, place_of, slot_of, domain_with}

@@ -1,8 +1,8 @@
 -- The table of slots is the slots of the problem.
-use Rattle.std.proofs.Common.{◌≡◌, ℕ, zero, suc, ◌+◌, ◌-◌, ◌*◌, ◌<◌, ◌≤◌, ◌⊎◌, inl, inr, List, [], ◌∷◌, ◌++◌, length, get_or, Option, Some, None, refl, sym, ap, ◌∙◌, arith, subst, append_assoc}
+use Rattle.std.proofs.Common.{◌≡◌, ℕ, zero, suc, ◌+◌, List, [], ◌∷◌, ◌++◌, length, get_or, Some, None, refl, sym, ap, ◌∙◌, arith, append_assoc}
 use Rattle.std.specs.Prelude.{map, flat_map}
 use Rattle.std.specs.List.{range_with_len}
-use Rattle.std.proofs.lemmas.List.{length-append, length-map, map-append, get_or_at}
+use Rattle.std.proofs.lemmas.List.{length-append, map-append, get_or_at}
 use Rattle.std.proofs.lemmas.List.Concat.{flat_map-append}
 use Rattle.kr_mean.specs.Problem as problems
 use Rattle.kr_mean.specs.Problem.{Problem, Domain, DomainObject, Slot, objects_before, objects_from, objects_of_domain, slots, slots_of_object, parameter_slots, domain_at, no_objects, heap_number}
@@ -10,7 +10,6 @@ use Rattle.kr_mean.specs.Places.{This, Parameter, At}
 use Rattle.kr_problem.specs.declared.classes.Spotted.{Spotted}
 use Rattle.kr_problem.specs.declared.classes.ClassDomain.{ClassDomain}
 use Rattle.kr_problem.specs.declared.stretch.Block.{Block}
-use Rattle.kr_problem.specs.declared.entry.Entry.{Entry}
 use Rattle.kr_problem.specs.Bounds.{spotted, class_domain}
 use Rattle.kr_problem.specs.Tables.{blocks_from, parameter_entries, spot_entry, object_entries, class_entries, entries_with, all_entries, slot_of}
 use Rattle.kr_problem.proofs.Both.{ap2}

@@ -1,9 +1,8 @@
 -- Where the slots of the class domains begin.
-use Rattle.std.proofs.Common.{◌≡◌, ℕ, zero, suc, ◌+◌, ◌*◌, ◌<◌, ◌≤◌, List, [], ◌∷◌, ◌++◌, length, get_or, refl, sym, ap, ◌∙◌, arith}
+use Rattle.std.proofs.Common.{◌≡◌, ℕ, zero, suc, ◌+◌, ◌*◌, ◌<◌, ◌≤◌, List, [], ◌∷◌, length, get_or, refl, ap, arith}
 use Rattle.std.specs.Prelude.{map, flat_map}
 use Rattle.std.specs.List.{range_with_len}
 use Rattle.std.proofs.lemmas.List.{length-append, length-map}
-use Rattle.kr_mean.specs.Problem as problems
 use Rattle.kr_mean.specs.Problem.{Domain, no_objects}
 use Rattle.kr_problem.specs.declared.classes.Spotted.{Spotted}
 use Rattle.kr_problem.specs.declared.classes.ClassDomain.{ClassDomain}

@@ -1,7 +1,5 @@
 use Rattle.std.proofs.Common.{refl}
 use Rattle.kr_mean.specs.Space.{space_of}
-use Rattle.kr_mean.specs.Program.{Program}
-use Rattle.kr_problem.specs.Bounds.{Bounds}
 use Rattle.kr_problem.specs.Layouts.{AnyProgramLaw}
 use Rattle.kr_problem.proofs.layout.any_program_law.Goals as goal
 

@@ -1,4 +1,4 @@
-use Rattle.std.proofs.Common.{◌≡◌, ◌+◌, ℕ, [], ◌∷◌, List, ap, sym, ◌∙◌, arith, length, rules}
+use Rattle.std.proofs.Common.{◌≡◌, ◌+◌, ℕ, [], ◌∷◌, List, ap, ◌∙◌, arith, length, rules}
 use Rattle.std.proofs.lemmas.List.{length-append}
 use Rattle.kr_problem.specs.declared.entry.Entry.{Entry}
 use Rattle.kr_problem.specs.Tables.{parameter_entries, starts_with, this_entry}

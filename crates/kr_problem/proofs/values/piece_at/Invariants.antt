@@ -1,4 +1,4 @@
-use Rattle.std.proofs.Common.{ℕ, ◌+◌, ◌-◌, ◌<◌, ◌≤◌, length, get_or}
+use Rattle.std.proofs.Common.{◌-◌, ◌<◌, ◌≤◌, length, get_or}
 use Rattle.kr_problem.specs.Stretches.{no_piece}
 use Rattle.kr_problem.proofs.values.piece_at.Given as goal
 

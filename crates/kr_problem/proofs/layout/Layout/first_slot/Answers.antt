@@ -1,7 +1,6 @@
-use Rattle.std.proofs.Common.{◌≡◌, ℕ, suc, ◌+◌, ◌*◌, ◌^◌, ◌<◌, ◌≤◌, List, length, get_or, sym, ap, ◌∙◌, arith, rules}
+use Rattle.std.proofs.Common.{ℕ, suc, ◌+◌, ◌*◌, ◌^◌, ◌<◌, ◌≤◌, ap, ◌∙◌, arith, rules}
 use Rattle.std.proofs.Math.Nat.{mul-le-mul_left}
-use Rattle.kr_problem.specs.Layouts.{slots_before}
-use Rattle.kr_problem.proofs.Objects.{OfObjects, of_objects}
+use Rattle.kr_problem.proofs.Objects.{of_objects}
 use Rattle.kr_problem.proofs.layout.Layout.first_slot.Goals as goal
 
 -- an object's row is one of its class domain's

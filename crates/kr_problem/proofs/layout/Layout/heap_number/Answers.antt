@@ -1,7 +1,5 @@
-use Rattle.std.proofs.Common.{◌≡◌, ℕ, ◌+◌, ◌*◌, ◌<◌, ◌≤◌, ◌^◌, List, [], ◌∷◌, Option, Some, None, length, get_or, sym, ap, ◌∙◌, arith, rules, subst, refl}
-use Rattle.kr_problem.proofs.Layouts.{Known, known}
-use Rattle.kr_problem.proofs.Objects.{OfObjects, of_objects}
-use Rattle.kr_mean.specs.Problem.{objects_before}
+use Rattle.std.proofs.Common.{ℕ, ◌+◌, ◌<◌, ◌^◌, sym, ap, ◌∙◌, arith, rules, subst}
+use Rattle.kr_problem.proofs.Objects.{of_objects}
 use Rattle.kr_problem.specs.declared.stretch.Block.{Block}
 use Rattle.kr_problem.specs.Stretches.{IsNumbered}
 use Rattle.kr_problem.proofs.layout.Layout.heap_number.Goals as goal

@@ -1,4 +1,4 @@
-use Rattle.std.proofs.Common.{◌≡◌, ℕ, List, length, sym, ap, ◌∙◌, arith, rules}
+use Rattle.std.proofs.Common.{◌≡◌, List, length, sym, ap, ◌∙◌, rules}
 use Rattle.std.specs.Prelude.{map}
 use Rattle.kr_mean.specs.Problem.{Domain}
 use Rattle.kr_problem.specs.declared.stretch.Block.{Block}

@@ -1,9 +1,7 @@
-use Rattle.std.proofs.Common.{◌≡◌, ℕ, ◌+◌, ◌*◌, ◌<◌, ◌≤◌, List, [], ◌∷◌, Option, Some, None, length, get_or, sym, ap, ◌∙◌, arith, rules, subst, refl}
-use Rattle.kr_problem.proofs.Layouts.{Known, known}
-use Rattle.kr_problem.proofs.Objects.{OfObjects, of_objects}
+use Rattle.std.proofs.Common.{ap, ◌∙◌, arith}
+use Rattle.kr_problem.proofs.Layouts.{known}
 use Rattle.kr_iso.specs.Objects.{shown}
 use Rattle.kr_problem.specs.declared.entry.Entry.{Entry}
-use Rattle.kr_problem.specs.Tables.{place_of}
 use Rattle.kr_problem.proofs.layout.Layout.owner.Goals as goal
 
 pub index-requires : goal.index-requires

@@ -1,6 +1,5 @@
-use Rattle.std.proofs.Common.{◌≡◌, ℕ, ◌+◌, ◌*◌, ◌<◌, ◌≤◌, List, [], ◌∷◌, Option, Some, None, length, get_or, sym, ap, ◌∙◌, arith, rules, subst, refl}
-use Rattle.kr_problem.proofs.Layouts.{Known, known}
-use Rattle.kr_problem.proofs.Objects.{OfObjects, of_objects}
+use Rattle.std.proofs.Common.{List, [], get_or, sym, ap, ◌∙◌, arith}
+use Rattle.kr_problem.proofs.Layouts.{known}
 use Rattle.kr_problem.specs.declared.entry.Entry.{Entry}
 use Rattle.kr_problem.specs.declared.stretch.Stretch.{Stretch}
 use Rattle.kr_problem.specs.Stretches.{all_choices}

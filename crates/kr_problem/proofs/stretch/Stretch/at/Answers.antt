@@ -1,5 +1,4 @@
-use Rattle.std.proofs.Common.{◌≡◌, ◌<◌, ap, sym, ◌∙◌, subst, arith, get_or, rules}
-use Rattle.std.specs.Prelude.{pos, ◌+ℤ◌}
+use Rattle.std.proofs.Common.{◌<◌, ap, sym, ◌∙◌, subst, arith, get_or}
 use Rattle.std.proofs.lemmas.Int.{ints}
 use Rattle.kr_mean.specs.Space.{no_choice}
 use Rattle.kr_problem.specs.declared.stretch.Stretch.{Stretch}

@@ -1,7 +1,6 @@
-use Rattle.std.proofs.Common.{◌≡◌, ◌+◌, ◌++◌, ◌∷◌, [], ℕ, List, ap, sym, ◌∙◌, subst, arith, rules, refl}
-use Rattle.std.specs.Prelude.{All}
+use Rattle.std.proofs.Common.{◌≡◌, ◌+◌, ◌++◌, ◌∷◌, [], ℕ, List, sym, subst, rules, refl}
 use Rattle.kr_problem.specs.declared.values.Piece.{Piece}
-use Rattle.kr_problem.specs.Stretches.{ArePieces, AreCounted, Fits, count_of}
+use Rattle.kr_problem.specs.Stretches.{ArePieces, count_of}
 use Rattle.kr_problem.proofs.Pieces.{counted_push, fit_push}
 use Rattle.kr_problem.proofs.values.Values.push.Goals as goal
 

@@ -1,4 +1,4 @@
-use Rattle.std.proofs.Common.{arith, length, ap, ◌∙◌, ◌≡◌, List}
+use Rattle.std.proofs.Common.{arith, length, ap, List}
 use Rattle.kr_problem.specs.declared.stretch.Stretch.{Stretch}
 use Rattle.kr_problem.specs.Stretches.{all_choices}
 use Rattle.kr_problem.proofs.Pieces.{all_long}
