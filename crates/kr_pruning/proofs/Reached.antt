@@ -15,7 +15,7 @@ use Rattle.kr_pruning.proofs.Numbers.{no_lacks}
 use Rattle.kr_pruning.proofs.Numbering.{object, nobody, count_at, parameters, first_slot, parameter_slot, object_slot, object_at_number}
 use Rattle.kr_pruning.proofs.Spaces.{block_of, plain_choice}
 use Rattle.kr_pruning.proofs.Places.{one_object, extent, extent_within, slots_in_are, same_objects, same_object}
-use Rattle.kr_pruning.proofs.Respects.{AllOf}
+use Rattle.kr_bounds.proofs.Respects.{AllOf}
 use Rattle.kr_pruning.proofs.Goes.{KnownValue}
 use Rattle.kr_pruning.proofs.SlotForks.{all_has, all_from}
 use Rattle.kr_pruning.proofs.Walked.{Valid, objects_there, met_valid, walked, adds}

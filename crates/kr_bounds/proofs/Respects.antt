@@ -21,10 +21,10 @@ use Rattle.kr_mean.specs.declared.kind.Kind.TheVariants.{NullPointerException, C
 use Rattle.kr_mean.specs.Program.{Program, default_of, is_of_type, field_position, overriding, class_scope, method_scope, constructor_scope, constructor_of, declared_fields}
 use Rattle.kr_mean.specs.Steps.{Stop, Trapped, OutOfFuel, Stuck, Run, say, give, stop, given, not_null, ◌>>=◌, tick, get_this, read_local, declare, assign, get_result, get_old, within, scoped, load, load_at, load_in, load_field, element, class_or_null, class_of, store, store_new, store_element, make, collect}
 use Rattle.kr_mean.specs.Operators.{value_of_constant, operated, operated_alone, step_operator, gives_old}
-use Rattle.kr_mean.specs.Meaning.{Flow, Next, Broke, Continued, Left, Gave, Parts, Target, LocalTarget, OwnField, FieldOf, ElementOf, NoTarget, Change, then_on, then_round, then_update, returned, completed, choose, values_of, all, updates, condition, rounds, constant, read_name, access, typed_method, run_body, run_method, run_chosen, own_call, called, method_call, super_method, super_arguments, initialised, all_initialised, constructed_by, constructed, create, create_array, target_of, assigned, changed, change_to, compound, change_from, stepped, binary, cast, is_primitive, instance, value_of, initial_value, declared, all_declared, declaring_locals, flow_of, statement, parts_within, eval, exec}
+use Rattle.kr_mean.specs.Meaning.{Flow, Next, Broke, Continued, Left, Gave, Parts, Target, LocalTarget, OwnField, FieldOf, ElementOf, NoTarget, Change, then_on, then_round, then_update, returned, completed, choose, values_of, all, updates, condition, rounds, constant, read_name, access, typed_method, run_body, run_method, run_chosen, own_call, called, method_call, super_method, super_arguments, initialised, all_initialised, constructed_by, constructed, create, create_array, target_of, assigned, changed, change_to, compound, change_from, stepped, binary, cast, is_primitive, instance, value_of, initial_value, declared, all_declared, declaring_locals, flow_of, statement, spent, parts_within, eval, exec}
 use Rattle.kr_mean.specs.Code.{Node, code, code_of_all, code_of_method, code_of_constructor, code_of_class, overriders, runnable, runnable_behind, methods_run, classes_run, code_run}
 use Rattle.kr_mean.specs.Purity.{IsOneOf, written_by}
-use Rattle.kr_pruning.proofs.Overriders.{overrider_in}
+use Rattle.kr_bounds.proofs.Overriders.{overrider_in}
 
 abbrev pub Any : {A : Type 0} → A → A → Type 0
 Any a b = Unit {0}
@@ -143,7 +143,7 @@ module _ (program : Program) (MayStore : Field → Type 0) (MayPut : JavaType �
   pub record PartsAlike (p p' : Parts) : Type 0 where
     pub value : RunsAlike l.R p.value p'.value
     pub exec : RunsAlike (OnFlow l.R) p.exec p'.exec
-    pub loops : (test test' : Run Value) (body body' : Run Flow) → l.Rel l.R test test' → l.Rel (OnFlow l.R) body body' → l.Rel (OnFlow l.R) (rounds p.rounds test body) (rounds p'.rounds test' body')
+    pub loops : (test test' : Run Value) (body body' : Run Flow) → l.Rel l.R test test' → l.Rel (OnFlow l.R) body body' → l.Rel (OnFlow l.R) (p.rounds test body) (p'.rounds test' body')
 
   -- ---- steps of steps
 
@@ -216,7 +216,7 @@ module _ (program : Program) (MayStore : Field → Type 0) (MayPut : JavaType �
   then_rounds (Gave v) (Gave w) m m' r p = l.gives_ (OnFlow l.R) (Gave v) (Gave w) r
   then_rounds _ _ m m' r p = absurd r
 
-  then_updates : (v w : Flow) (m m' : Run Flow) → OnFlow l.R v w → l.Rel (OnFlow l.R) m m' → l.Rel (OnFlow l.R) (then_update v m) (then_update w m')
+  pub then_updates : (v w : Flow) (m m' : Run Flow) → OnFlow l.R v w → l.Rel (OnFlow l.R) m m' → l.Rel (OnFlow l.R) (then_update v m) (then_update w m')
   then_updates Next Next m m' r p = p
   then_updates Broke Broke m m' r p = l.gives_ (OnFlow l.R) Broke Broke tt
   then_updates Continued Continued m m' r p = p
@@ -303,7 +303,7 @@ module _ (program : Program) (MayStore : Field → Type 0) (MayPut : JavaType �
     alls s (t ∷ ts) h =
         l.binds _ _ _ _ _ _ (q.exec s t (all_front Q (code s t) (code_of_all (after s t) ts) h)) (λ v w r. thens v w _ _ r (alls (after s t) ts (all_back Q (code s t) (code_of_all (after s t) ts) h)))
 
-    updatess : (s : Scope) (ts : List Tree) → AllCoded s ts → l.Rel (OnFlow l.R) (updates p s ts) (updates p' s ts)
+    pub updatess : (s : Scope) (ts : List Tree) → AllCoded s ts → l.Rel (OnFlow l.R) (updates p s ts) (updates p' s ts)
     updatess s [] h = l.gives_ (OnFlow l.R) Next Next tt
     updatess s (t ∷ ts) h = l.binds _ _ _ _ _ _ (q.value s t (all_front Q (code s t) (code_of_all (after s t) ts) h)) (λ v w r. updatess (after s t) ts (all_back Q (code s t) (code_of_all (after s t) ts) h))
 
@@ -522,20 +522,20 @@ module _ (program : Program) (MayStore : Field → Type 0) (MayPut : JavaType �
     initial_value_by : (s : Scope) (k : ℕ) (e : Tree) → Coded s e → l.Rel Any (p.value s e >>= assign k) (p'.value s e >>= assign k)
     initial_value_by s k e h = l.binds _ _ _ _ _ _ (q.value s e h) (λ v w r. l.assigns k v w r)
 
-    initial_values : (s : Scope) (k : ℕ) (e : Tree) → Coded s e → l.Rel Any (initial_value p s k e) (initial_value p' s k e)
+    pub initial_values : (s : Scope) (k : ℕ) (e : Tree) → Coded s e → l.Rel Any (initial_value p s k e) (initial_value p' s k e)
     initial_values s k trees.Nil h = l.gives_ Any tt tt tt
     initial_values s k e h = initial_value_by s k e h
 
-    declareds : (s : Scope) (t : Tree) → Coded s t → l.Rel Any (declared p s t) (declared p' s t)
+    pub declareds : (s : Scope) (t : Tree) → Coded s t → l.Rel Any (declared p s t) (declared p' s t)
     declareds s (trees.Declarator r n e) h =
         l.binds _ _ _ _ _ _ l.ticks (λ x y u. l.binds _ _ _ _ _ _ (l.declares (default_of s.declared) (default_of s.declared) (defaults s.declared)) (λ x y u. initial_values (with_local n s.declared s) (length s.locals) e h.1))
     declareds s _ h = l.stops Any Stuck
 
-    all_declareds : (s : Scope) (ts : List Tree) → AllCoded s ts → l.Rel (OnFlow l.R) (all_declared p s ts) (all_declared p' s ts)
+    pub all_declareds : (s : Scope) (ts : List Tree) → AllCoded s ts → l.Rel (OnFlow l.R) (all_declared p s ts) (all_declared p' s ts)
     all_declareds s [] h = l.gives_ (OnFlow l.R) Next Next tt
     all_declareds s (t ∷ ts) h = l.binds _ _ _ _ _ _ (declareds s t (all_front Q (code s t) (code_of_all (after s t) ts) h)) (λ x y u. all_declareds (after s t) ts (all_back Q (code s t) (code_of_all (after s t) ts) h))
 
-    conditions : (s : Scope) (e : Tree) → Coded s e → l.Rel l.R (condition p s e) (condition p' s e)
+    pub conditions : (s : Scope) (e : Tree) → Coded s e → l.Rel l.R (condition p s e) (condition p' s e)
     conditions s trees.Nil h = l.gives_ l.R _ _ (l.truths true)
     conditions s e h = q.value s e h
 
@@ -583,7 +583,7 @@ module _ (program : Program) (MayStore : Field → Type 0) (MayPut : JavaType �
     evals (suc n) s e h = l.binds _ _ _ _ _ _ l.ticks (λ x y u. values (parts_within program n) (parts_within program n) (record { value = evals n; exec = execs n; loops = roundss n }) s e h)
 
     pub execs : (n : ℕ) → RunsAlike (OnFlow l.R) (exec program n) (exec program n)
-    execs zero s t h = l.stops (OnFlow l.R) OutOfFuel
+    execs zero s t h = statements spent spent (record { value = λ s t h. l.stops l.R OutOfFuel; exec = λ s t h. l.stops (OnFlow l.R) OutOfFuel; loops = λ t t' b b' p q. l.stops (OnFlow l.R) OutOfFuel }) s t h
     execs (suc n) s t h = statements (parts_within program n) (parts_within program n) (record { value = evals n; exec = execs n; loops = roundss n }) s t h
 
   pub parts_alike : (n : ℕ) → PartsAlike (parts_within program n) (parts_within program n)
