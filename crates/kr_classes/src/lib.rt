@@ -1,7 +1,9 @@
 //! The class rules on the names of classes and on what they extend.
 #![tactic(auto)]
 
+mod field_rules;
 mod hierarchy;
+mod method_rules;
 mod name_rules;
 mod places;
 mod refusal;
