@@ -62,7 +62,16 @@ abbrev pub Lists : {R : Type 0} → Held R → Listing R → Type 0
 Lists {R} b l =
     (all : List (Entry R)) (span : Span) (cuts : List (List ℕ)) → Ascends all → AreInside cuts span → IsBoardOf all span cuts b → IsListingOf all span b l
 
--- a listing of all where the board is finished, else the board again
-abbrev pub Closes : {R : Type 0} → Held R → Closed R → Type 0
-Closes b (Listed l) = (all_closed b.core ≡ true) × IsListing b l × Lists b l
-Closes b (Unfinished again) = (all_closed b.core ≡ false) × (again ≡ b)
+abbrev pub is_listing : {R : Type 0} → Closed R → Bool
+is_listing (Listed l) = true
+is_listing (Unfinished again) = false
+
+-- a listing is the board's, and of every survey that it is of
+abbrev pub GivesListing : {R : Type 0} → Held R → Closed R → Type 0
+GivesListing b (Listed l) = IsListing b l × Lists b l
+GivesListing b (Unfinished again) = Unit {0}
+
+-- else the board is given back
+abbrev pub GivesBack : {R : Type 0} → Held R → Closed R → Type 0
+GivesBack b (Listed l) = Unit {0}
+GivesBack b (Unfinished again) = again ≡ b
