@@ -6,3 +6,4 @@ pub mod Fronts
 pub mod Again
 pub mod Each
 pub mod Counts
+pub mod SameTypes

@@ -1,6 +1,6 @@
 // A class that extends none of the classes.
 
-use crate::{ClassRefusal, hierarchy_of};
+use crate::{ClassRefusal, classes, hierarchy_of};
 use kr_ast::{Forest, Node, Tree};
 use kr_base::{NoMemory, Place};
 use std::alloc::Global;
@@ -48,3 +48,4 @@ fn two_files(rt: HostRuntime) -> Result<(), NoMemory> {
     }
     Ok(())
 }
+
