@@ -1,0 +1,4 @@
+pub mod Fits
+pub mod Domains
+pub mod Laws
+pub mod Premises
