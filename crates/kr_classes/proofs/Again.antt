@@ -1,12 +1,11 @@
 -- Members whose name stands before them.
-use Rattle.std.proofs.Common.{◌≡◌, refl, sym, ap, ◌∙◌, ℕ, zero, suc, ◌+◌, ◌<◌, Bool, true, false, ◌||◌, not, List, [], ◌∷◌, ◌++◌, length, map, take, get_or, append-nil, append_assoc, zero-add, add-one, nat_eq, bytes_eq, cond, arith}
+use Rattle.std.proofs.Common.{◌≡◌, refl, sym, ap, ◌∙◌, ℕ, zero, suc, ◌+◌, ◌<◌, Bool, true, false, ◌||◌, not, List, [], ◌∷◌, ◌++◌, length, map, take, get_or, append-nil, append_assoc, zero-add, nat_eq, bytes_eq, cond, arith}
 use Rattle.std.specs.Prelude.{Option, Some, None, find, is_some, option_map}
 use Rattle.std.specs.List.{position_from}
 use Rattle.std.proofs.lemmas.List.{map-append, take_more, take-map}
-use Rattle.std.proofs.lemmas.Slice.Eq.{bytes_eq-Decides}
 use Rattle.kr_base.specs.declared.place.Place.{Place}
 use Rattle.kr_table.specs.Table.{is_number}
-use Rattle.kr_table.specs.Rules.{Fault, break_if, is_name_among, least, repeated, sooner}
+use Rattle.kr_table.specs.Rules.{break_if, is_name_among, least, repeated, sooner}
 use Rattle.kr_names.proofs.ClassNumbers.{turned}
 use Rattle.kr_classes.specs.Faults.{fault_at}
 use Rattle.kr_classes.proofs.Repeated.{among_onto, itself, onto}

@@ -1,10 +1,10 @@
 -- How many instance fields there are.
-use Rattle.std.proofs.Common.{◌≡◌, refl, sym, ap, ◌∙◌, ℕ, zero, suc, ◌+◌, ◌-◌, ◌<◌, ◌≤◌, min, Bool, true, false, ◌&&◌, not, List, [], ◌∷◌, ◌++◌, length, map, take, drop, get_or, append-nil, length-append, nat_lt, if◌then◌else◌, arith, rules}
-use Rattle.std.specs.Prelude.{Option, Some, None, flat_map, reverse}
+use Rattle.std.proofs.Common.{◌≡◌, refl, sym, ap, ◌∙◌, ℕ, zero, suc, ◌+◌, ◌-◌, ◌<◌, ◌≤◌, min, Bool, true, false, ◌&&◌, not, List, [], ◌∷◌, ◌++◌, length, take, drop, get_or, append-nil, length-append, nat_lt, if◌then◌else◌, arith, rules}
+use Rattle.std.specs.Prelude.{Option, Some, flat_map, reverse}
 use Rattle.std.proofs.lemmas.Grind.{flat_map-append, reverse_onto}
 use Rattle.kr_base.specs.declared.place.Place.{Place}
 use Rattle.kr_table.specs.Table.{Field, Table, ancestors, fields_of, is_instance, line_of, line_within, own_fields, super_of}
-use Rattle.kr_table.specs.Rules.{Fault, break_if, least, past, sooner}
+use Rattle.kr_table.specs.Rules.{break_if, least, past, sooner}
 use Rattle.kr_classes.specs.Faults.{fault_at}
 use Rattle.kr_classes.proofs.Sooner.{least_append}
 use Rattle.kr_names.proofs.Walks.{flat_step}
@@ -57,7 +57,7 @@ drop_none (suc n) = refl
 
 drop_past : {A : Type 0} (n : ℕ) (xs : List A) (x : A) → drop n (xs ++ x ∷ []) ≡ drop n xs ++ (if nat_lt (length xs) n then [] else x ∷ [])
 drop_past zero xs x = ap (λ b. xs ++ (if b then [] else x ∷ [])) (sym (not_less (length xs)))
-drop_past (suc n) [] x = drop_none n ∙ ap (λ b. if b then [] else x ∷ []) (sym (less_next n)) 
+drop_past (suc n) [] x = drop_none n ∙ ap (λ b. if b then [] else x ∷ []) (sym (less_next n))
 drop_past (suc n) (y ∷ ys) x = drop_past n ys x ∙ ap (λ b. drop n ys ++ (if b then [] else x ∷ [])) (sym (both_next (length ys) n))
 
 of_one : (b : Bool) (f : Field) → flat_map (λ (g : Field). break_if true 8 g.place) (if b then [] else f ∷ []) ≡ break_if (not b) 8 f.place

@@ -1,8 +1,8 @@
 -- The first fault of members, one after another, and the members of a class of the table.
-use Rattle.std.proofs.Common.{◌≡◌, refl, sym, ap, ◌∙◌, ℕ, zero, suc, ◌+◌, ◌<◌, ◌≤◌, List, [], ◌∷◌, ◌++◌, length, map, take, drop, get_or, ◌-◌, arith}
+use Rattle.std.proofs.Common.{◌≡◌, refl, sym, ap, ◌∙◌, ℕ, ◌+◌, ◌<◌, ◌≤◌, List, [], ◌∷◌, ◌++◌, length, map, take, drop, get_or, ◌-◌, arith}
 use Rattle.std.specs.Prelude.{Option, Some, flat_map, option_to_list}
 use Rattle.kr_base.specs.declared.place.Place.{Place}
-use Rattle.kr_table.specs.Table.{Class, Constructor, Field, Method, Table, class_at, own_fields, own_methods}
+use Rattle.kr_table.specs.Table.{Class, Table, class_at, own_fields, own_methods}
 use Rattle.kr_table.specs.Rules.{Fault, least, sooner}
 use Rattle.kr_names.proofs.Walks.{flat_step}
 use Rattle.kr_members.proofs.Classes.{declared_by}

@@ -10,10 +10,14 @@ use Rattle.kr_constants.specs.Kept.{AreValues}
 use Rattle.kr_classes.specs.declared.class_table.ClassTable.{ClassTable}
 use Rattle.kr_classes.specs.Faults.{table_in}
 
--- heads, members, types by number and constants' values are those of the files, which break no class rule
-pub record IsClassTable (files : List Arena) (t : ClassTable) : Type 0 where
+-- heads, members, types by number and constants' values are those of the files
+pub record IsTableOf (files : List Arena) (t : ClassTable) : Type 0 where
   pub heads : AreHeads files t.heads
   pub members : AreMembers files t.members
   pub numbers : AreNodeTypes files t.types t.numbers
   pub values : AreValues (values_of (table_in files)) t.values
+
+-- and these break no class rule
+pub record IsClassTable (files : List Arena) (t : ClassTable) : Type 0 where
+  pub table : IsTableOf files t
   pub unbroken : class_fault (table_in files) ≡ None

@@ -141,7 +141,11 @@ fn extra_class(members: &Members, class: u32) -> Option<Place>
     requires { class < class_count members.now }
     ensures { (files : List Arena) → AreMembers files members.now → fault_at 8 result ≡ least (break_if (nat_lt 63 class) 8 (class_in (table_in files) class).place) }
 {
-    if class > 63 { members.place(class) } else { None }
+    if class > 63 {
+        members.place(class)
+    } else {
+        None
+    }
 }
 
 /// Where rule C8 is broken first in a class.
@@ -150,5 +154,8 @@ pub(crate) fn too_many(members: &Members, class: u32) -> Option<Place>
     ensures { (files : List Arena) → AreMembers files members.now → fault_at 8 result ≡ least (C8 (table_in files) class (class_in (table_in files) class)) }
 {
     let room = 32 - inherited_count(members, class);
-    earlier(extra_class(members, class), extra_field(members, class, room))
+    earlier(
+        extra_class(members, class),
+        extra_field(members, class, room),
+    )
 }

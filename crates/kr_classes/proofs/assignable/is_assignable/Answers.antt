@@ -1,4 +1,4 @@
-use Rattle.std.proofs.Common.{◌≡◌, ◌∙◌, sym, ap}
+use Rattle.std.proofs.Common.{◌∙◌, sym, ap}
 use Rattle.kr_table.specs.Table.{is_assignable}
 use Rattle.kr_classes.specs.Faults.{table_in}
 use Rattle.kr_type_numbers.specs.Types.{type_at, type_of_form}

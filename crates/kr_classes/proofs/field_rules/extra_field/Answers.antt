@@ -1,4 +1,4 @@
-use Rattle.std.proofs.Common.{◌≡◌, ◌<◌, sym, ap, ◌∙◌, false, length, get_or, arith}
+use Rattle.std.proofs.Common.{◌<◌, sym, ap, ◌∙◌, false, length, get_or, arith}
 use Rattle.kr_table.specs.Table.{is_instance}
 use Rattle.kr_table.specs.Rules.{least, past}
 use Rattle.kr_names.proofs.Walks.{flat_all}

@@ -1,4 +1,4 @@
-use Rattle.std.proofs.Common.{◌≡◌, ◌<◌, ◌+◌, ◌-◌, sym, ap, ◌∙◌, min, length, arith}
+use Rattle.std.proofs.Common.{◌<◌, ◌+◌, ◌-◌, sym, ap, ◌∙◌, min, length, arith}
 use Rattle.std.specs.Prelude.{flat_map}
 use Rattle.kr_table.specs.Table.{is_instance, line_within, own_fields}
 use Rattle.kr_members.specs.Kept.{class_count}

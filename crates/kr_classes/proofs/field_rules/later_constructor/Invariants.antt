@@ -1,4 +1,4 @@
-use Rattle.std.proofs.Common.{◌≡◌, true, List, take}
+use Rattle.std.proofs.Common.{◌≡◌, true, take}
 use Rattle.std.specs.Prelude.{flat_map}
 use Rattle.kr_table.specs.Rules.{break_if, least}
 use Rattle.kr_classes.specs.Faults.{fault_at}

@@ -1,4 +1,4 @@
-use Rattle.std.proofs.Common.{◌≡◌, ◌<◌, sym, ap, ◌∙◌, false, ◌||◌, not, [], List, ℕ, length, map, get_or, bytes_eq, arith}
+use Rattle.std.proofs.Common.{◌≡◌, ◌<◌, sym, ap, ◌∙◌, false, ◌||◌, not, List, ℕ, length, map, get_or, bytes_eq, arith}
 use Rattle.std.specs.Prelude.{Some, flat_map}
 use Rattle.std.specs.List.{position_from}
 use Rattle.std.proofs.lemmas.List.{take_all}

@@ -1,4 +1,4 @@
-use Rattle.std.proofs.Common.{◌≡◌, ◌<◌, ap, ◌∙◌, true, drop, length, arith}
+use Rattle.std.proofs.Common.{◌<◌, ap, ◌∙◌, true, drop, length, arith}
 use Rattle.std.specs.Prelude.{flat_map}
 use Rattle.kr_table.specs.Table as table
 use Rattle.kr_table.specs.Rules.{break_if, least, repeated}

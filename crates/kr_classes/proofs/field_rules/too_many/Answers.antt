@@ -1,4 +1,4 @@
-use Rattle.std.proofs.Common.{◌≡◌, ◌<◌, ◌-◌, sym, ap, ◌∙◌, min, length, nat_lt, arith}
+use Rattle.std.proofs.Common.{◌<◌, ◌-◌, ap, ◌∙◌, length, nat_lt, arith}
 use Rattle.std.specs.Prelude.{flat_map}
 use Rattle.kr_table.specs.Table.{ancestors, fields_of, is_instance, own_fields}
 use Rattle.kr_table.specs.Rules.{break_if, least, past}

@@ -1,4 +1,4 @@
-use Rattle.std.proofs.Common.{◌≡◌, ◌<◌, sym, ap, ◌∙◌, false, Bool, List, ℕ, length, get_or, arith}
+use Rattle.std.proofs.Common.{◌≡◌, ◌<◌, ap, ◌∙◌, false, Bool, List, ℕ, length, get_or, arith}
 use Rattle.std.specs.Prelude.{flat_map}
 use Rattle.kr_ast.specs.Arena.{Arena, name_in}
 use Rattle.kr_table.specs.Table as table

@@ -1,4 +1,4 @@
-use Rattle.std.proofs.Common.{◌≡◌, ◌<◌, ap, ◌∙◌, false, length, arith}
+use Rattle.std.proofs.Common.{◌<◌, ap, ◌∙◌, false, length, arith}
 use Rattle.kr_table.specs.Rules.{least, overrides}
 use Rattle.kr_names.proofs.Walks.{flat_all}
 use Rattle.kr_members.specs.declared.methods.Method.{Method}

@@ -1,4 +1,4 @@
-use Rattle.std.proofs.Common.{◌≡◌, ◌<◌, ap, ◌∙◌, [], length, arith}
+use Rattle.std.proofs.Common.{◌<◌, ap, ◌∙◌, [], length, arith}
 use Rattle.std.specs.Prelude.{flat_map}
 use Rattle.kr_table.specs.Rules.{least, overrides, repeated}
 use Rattle.kr_members.proofs.Upwards.{kept_count}

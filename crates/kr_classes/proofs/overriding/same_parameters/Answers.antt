@@ -1,4 +1,4 @@
-use Rattle.std.proofs.Common.{ap, ◌∙◌, List, ℕ, map}
+use Rattle.std.proofs.Common.{ap, ◌∙◌, List, map}
 use Rattle.kr_ast.specs.Arena.{tree_in}
 use Rattle.kr_table.specs.Types.{JavaType}
 use Rattle.kr_table.specs.Table.{parameters_in}
