@@ -2,7 +2,6 @@
 //! that nodes name, and the values of constants.
 #![tactic(auto)]
 
-mod assignable;
 mod class_table;
 mod field_rules;
 mod hierarchy;
@@ -16,7 +15,6 @@ mod refusal;
 #[cfg(test)]
 mod tests;
 
-pub use assignable::is_assignable;
 pub use class_table::{ClassTable, classes};
 pub use hierarchy::{Hierarchy, hierarchy_of};
 pub use name_rules::{first_own_ancestor, first_repeated_name, first_unknown_superclass};

@@ -11,12 +11,12 @@ ghost use Rattle.kr_type_numbers.specs.Numbers.{AreNodeTypes};
 ghost use Rattle.kr_classes.specs.Faults.{table_in};
 ghost use Rattle.kr_classes.specs.Overriding.{are_same, is_shared};
 
-use crate::assignable::is_assignable;
 use kr_ast::{Node, Tree};
 use kr_base::NoMemory;
 use kr_members::{Members, Method, add_found};
 use kr_names::{items, tree_of};
 use kr_type_numbers::{NodeTypes, Types};
+use kr_type_rules::is_assignable;
 use std::alloc::Global;
 
 /// What an overriding method shares with the one that it overrides: the types of the parameters; `static` and the result.
