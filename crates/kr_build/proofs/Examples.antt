@@ -27,8 +27,8 @@ pub well_formed : IsWellFormed (bare two_nodes)
 well_formed = record {
   root = omega arith;
   filled = eight _ (omega arith) (omega arith) (omega arith) (omega arith) (omega arith) (omega arith) (omega arith) (omega arith);
-  plain = eight _ tt (tt, tt) (tt, tt) (tt, tt) (tt, tt) (tt, tt, tt, tt) (tt, tt) (tt, tt);
-  spots = two _ (refl, refl, tt) (refl, (refl, refl, tt), (omega arith, omega arith, omega arith, tt));
+  plain = eight _ tt (tt, tt) (tt, tt) (tt, tt) (tt, tt) (tt, (tt, (tt, tt))) (tt, tt) (tt, tt);
+  spots = two _ (refl, (refl, tt)) (refl, (refl, (refl, tt)), (omega arith, (omega arith, (omega arith, tt))));
 }
 
 pub is_vector : IsVector (space_of (bare two_nodes)) from_second
