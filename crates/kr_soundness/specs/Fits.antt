@@ -6,7 +6,7 @@ use Rattle.kr_value.specs.declared.value.Value.{Value}
 use Rattle.kr_value.specs.declared.value.Value.TheVariants.{Int, Bool as Truth, Null, Ref as Reference}
 use Rattle.kr_value.specs.declared.object.Class.TheVariants.{Object, Set, List as ListClass}
 use Rattle.kr_value.specs.Heaps.{HeapObject}
-use Rattle.kr_table.specs.Types.{JavaType, IntType, BooleanType, VoidType, ClassType, ArrayType, SetType, ListType, is_reference}
+use Rattle.kr_table.specs.Types.{JavaType, IntType, BooleanType, VoidType, ClassType, ArrayType, SetType, ListType, is_element, is_reference}
 use Rattle.kr_table.specs.Table.{Table, fields_of, is_assignable}
 use Rattle.kr_mean.specs.Program.{Program, is_array_of}
 
@@ -45,8 +45,8 @@ AreAll table types t (v ∷ vs) = IsOf table types t v × AreAll table types t v
 abbrev pub IsObjectOf : Program → List JavaType → JavaType → HeapObject → Type 0
 IsObjectOf program types (ClassType c) o = (o.class ≡ Object c) × AreOf program.table types (map (λ f. f.type) (fields_of program.table c)) o.values
 IsObjectOf program types (ArrayType t) o = (is_array_of program t o.class ≡ true) × AreAll program.table types t o.values
-IsObjectOf program types (SetType t) o = (o.class ≡ Set) × AreAll program.table types t o.values
-IsObjectOf program types (ListType t) o = (o.class ≡ ListClass) × AreAll program.table types t o.values
+IsObjectOf program types (SetType t) o = (o.class ≡ Set) × (is_element t ≡ true) × AreAll program.table types t o.values
+IsObjectOf program types (ListType t) o = (o.class ≡ ListClass) × (is_element t ≡ true) × AreAll program.table types t o.values
 IsObjectOf program types t o = ⊥
 
 -- objects in order, each of its type, where the types of all objects are known

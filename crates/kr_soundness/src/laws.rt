@@ -1,4 +1,5 @@
 // What holds of the heaps of candidates.
+ghost use Rattle.kr_soundness.specs.KeepTypes.{StepsLaw};
 ghost use Rattle.kr_soundness.specs.Laws.{VectorsLaw};
 ghost use Rattle.kr_soundness.specs.Premises.{Premises};
 
@@ -12,4 +13,10 @@ pub fn vectors_law()
 #[tactic(auto, using(crate::proofs::Premises::premises))]
 pub fn worked_premises()
     ensures { Premises }
+{}
+
+/// Each step of the meaning keeps types: on values, locals and a heap of their types it isn't stuck, and what it gives and
+/// leaves is of its types.
+pub fn steps_law()
+    ensures { StepsLaw }
 {}
