@@ -1,5 +1,5 @@
 -- Giving up, draining, stopping, closing.
-use Rattle.std.specs.Prelude.{◌≡◌, ℕ, ◌+◌, List, [], ◌∷◌, ◌++◌, Bool, true, false, Option, Some, None, length, take, drop, if◌then◌else◌}
+use Rattle.std.specs.Prelude.{◌≡◌, ℕ, ◌+◌, List, [], ◌∷◌, Bool, true, false, Option, Some, None, length, drop, if◌then◌else◌}
 use Rattle.std.specs.List.{sum_by, list_all}
 use Rattle.kr_base.specs.declared.span.Bound.{Bound}
 use Rattle.kr_base.specs.declared.span.Bound.TheVariants.{At, End}
@@ -10,9 +10,8 @@ use Rattle.kr_survey.specs.declared.part.Listing.{Listing}
 use Rattle.kr_survey.specs.Joins.{joined}
 use Rattle.kr_survey.specs.Scans.{rows_of}
 use Rattle.kr_core.specs.declared.segment.Segment.{Segment}
-use Rattle.kr_core.specs.States.{State, capped, is_cut, is_closed}
+use Rattle.kr_core.specs.States.{State, capped, is_closed}
 use Rattle.kr_core.specs.Openings.{AreInside}
-use Rattle.kr_core.specs.Kept.{first_after}
 use Rattle.kr_core.specs.Counts.{EndsSpent}
 use Rattle.kr_core.specs.Rows.{drained}
 use Rattle.kr_core.specs.Beside.{fronts}

@@ -3,7 +3,6 @@ use Rattle.std.specs.Prelude.{◌≡◌, ℕ, ◌+◌, List, [], ◌∷◌, ◌+
 use Rattle.kr_core.specs.declared.segment.Segment.{Segment}
 use Rattle.kr_core.specs.declared.event.Event.{Event}
 use Rattle.kr_core.specs.declared.event.Event.TheVariants.{GiveUp}
-use Rattle.kr_core.specs.States.{State}
 use Rattle.kr_core.specs.Steps.{owned, replay}
 use Rattle.kr_board.specs.Held.{Held}
 use Rattle.kr_board.specs.Boards.{Stays}

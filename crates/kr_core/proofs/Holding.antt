@@ -1,11 +1,10 @@
 -- The log tells who holds each segment and where it ends, and a lease is that of the segment as it then stands.
 use Rattle.std.proofs.Common.{◌≡◌, ◌≢◌, ℕ, ◌+◌, ◌<◌, List, [], ◌∷◌, Bool, true, false, ◌&&◌, not, ◌==◌, cond, refl, sym, ap, ◌∙◌, subst, arith, Option, Some, None}
-use Rattle.std.specs.Prelude.{◌||◌, ◌-◌, ◌^◌, nat_lt, if◌then◌else◌}
+use Rattle.std.specs.Prelude.{◌-◌, ◌^◌, nat_lt, nat_le, if◌then◌else◌}
 use Rattle.std.specs.Option.{option_map}
 use Rattle.std.proofs.lemmas.Bool.Decides.{nat_tests}
 use Rattle.kr_base.specs.declared.span.Bound.{Bound}
 use Rattle.kr_base.specs.declared.span.Bound.TheVariants.{At}
-use Rattle.kr_base.specs.declared.span.Span.{Span}
 use Rattle.kr_base.specs.Bounds.{less}
 use Rattle.kr_base.proofs.Bounds.{irreflexive}
 use Rattle.kr_core.specs.declared.segment.Segment.{Segment}
@@ -14,12 +13,12 @@ use Rattle.kr_core.specs.declared.event.Event.TheVariants.{Take, Steal, Report, 
 use Rattle.kr_core.specs.declared.event.Lease.{Lease}
 use Rattle.kr_core.specs.declared.event.Reply.{Reply}
 use Rattle.kr_core.specs.declared.event.Reply.TheVariants.{Lease as Leased, Go, Done, Noted}
-use Rattle.kr_core.specs.States.{State, has_remainder, is_owned, is_owned_by, is_closed, segment_of, change, Each}
-use Rattle.kr_core.specs.Openings.{AreInside, untouched, segments_at, end_of, opening}
-use Rattle.kr_core.specs.Steps.{Step, after, may_take, may_steal, may_report, may_give_up, may_stop, owned, lowered, stolen, scanned, left, stopped, IsLease, IsLeased, IsReported, keeps_owner}
+use Rattle.kr_core.specs.States.{State, is_cut, has_remainder, is_owned, is_owned_by, is_closed, segment_of, change, Each}
+use Rattle.kr_core.specs.Openings.{segments_at, end_of, opening}
+use Rattle.kr_core.specs.Steps.{Step, after, may_take, may_steal, may_report, may_give_up, may_stop, owned, lowered, stolen, scanned, left, stopped, IsLease, IsLeased, IsReported}
 use Rattle.kr_core.specs.Kept.{Runs, NumbersDiffer, IsKept}
-use Rattle.kr_core.specs.Leases.{holder_after, holder_of, ends_after, ends_of, upto_of, opening_end, IsToldBy, OwnersLaw, IsHeld, IsFree, IsGranted, GoesOn, Leases, LeasesLaw}
-use Rattle.kr_core.proofs.Bools.{and-left, and-right, not-true, not-false, owner_known}
+use Rattle.kr_core.specs.Leases.{holder_after, holder_of, ends_after, ends_of, upto_of, opening_end, IsToldBy, OwnersLaw, IsHeld, IsFree, IsGranted, GoesOn, Leases, LeasesLaw, ExclusiveLaw}
+use Rattle.kr_core.proofs.Bools.{and-left, and-right, not-true, owner_known}
 use Rattle.kr_core.proofs.Chains.{Change}
 use Rattle.kr_core.proofs.Places.{segment_of_change, segment_of_cut}
 use Rattle.kr_core.proofs.Ends.{kept_law}
@@ -380,3 +379,32 @@ leases old (Look seat) reply new k step = step.reply_is
 
 pub leases_law : LeasesLaw
 leases_law span cuts events old event reply new inside runs step = leases old event reply new (kept_law span cuts events old inside runs) step
+
+-- what a lease is worth
+
+and-false : (b : Bool) → (b && false) ≡ false
+and-false true = refl
+and-false false = refl
+
+all-of : (a b c d : Bool) → a ≡ true → b ≡ true → c ≡ false → d ≡ true → (a && (b && (not c && d))) ≡ true
+all-of a b c d ha hb hc hd = ap (λ (x : Bool). x && (b && (not c && d))) ha ∙ (ap (λ (x : Bool). x && (not c && d)) hb ∙ (ap (λ (x : Bool). not x && d) hc ∙ hd))
+
+other-owner : (seat other : ℕ) (o : Option ℕ) → o ≡ Some seat → (other ≡ seat → ⊥) → is_owned_by other o ≡ false
+other-owner seat other o is apart = ap (is_owned_by other) is ∙ is-other seat other (λ e. apart (sym e))
+
+pub exclusive_law : ExclusiveLaw
+exclusive_law seat n s lease h =
+    let g = h.segment in
+    let own : is_owned_by seat g.owner ≡ true = ap (is_owned_by seat) h.owner ∙ is-equal seat seat refl in
+    record {
+      reports = λ reach rows tried spent above below counts.
+          ap (may_report seat reach rows tried spent) h.found
+          ∙ all-of (is_owned_by seat g.owner) (less g.mark reach) (less g.upto reach) (if spent then is_cut reach && nat_lt rows tried else nat_le rows tried) own (ap (λ (b : Bound). less b reach) h.mark ∙ above)
+          (ap (λ (b : Bound). less b reach) h.upto ∙ below) counts;
+      gives_up = ap (may_give_up seat) h.found ∙ own;
+      nobody_takes = λ other. ap may_take h.found ∙ (ap (λ (o : Option ℕ). has_remainder g && not (is_owned o)) h.owner ∙ and-false (has_remainder g));
+      no_other_reports = λ other reach rows tried spent apart.
+          ap (may_report other reach rows tried spent) h.found
+          ∙ ap (λ (b : Bool). b && (less g.mark reach && (not (less g.upto reach) && (if spent then is_cut reach && nat_lt rows tried else nat_le rows tried)))) (other-owner seat other g.owner h.owner apart);
+      no_other_gives_up = λ other apart. ap (may_give_up other) h.found ∙ other-owner seat other g.owner h.owner apart;
+    }

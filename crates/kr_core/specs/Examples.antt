@@ -138,10 +138,11 @@ pub record WorkedRun : Type 0 where
   pub rest_end : ends_of (opening_end span cuts) (take 4 events) 2 ≡ End
   -- and where a spent candidate ends one
   pub spent_end : ends_of (opening_end span []) (Take 0 0 ∷ Report 0 0 (At k3) 1 3 true ∷ []) 0 ≡ At k3
-  -- a report past a bound that a thief lowered, one by a seat that isn't the owner, a theft from a closed segment, and a
-  -- drain of fewer rows fit nowhere
+  -- a report past a bound that a thief lowered, one by a seat that isn't the owner, a taking of what is taken, a theft from a
+  -- closed segment, and a drain of fewer rows fit nowhere
   pub past_a_lowered_bound : fits s4 (Report 1 1 End 0 1 false) ≡ false
   pub not_the_owner : fits s4 (Report 2 1 (At k3) 0 1 true) ≡ false
+  pub taken_already : fits s1 (Take 5 0) ≡ false
   pub theft_from_closed : fits s5 (Steal 7 1 k3 3) ≡ false
   pub fewer_rows : fits s8 (Drain 0) ≡ false
   -- a whole listing by one seat, to the end of all

@@ -1,5 +1,5 @@
 -- Leases: who holds a segment and up to where, told by the log alone, and what a lease says of the segment that it is of.
-use Rattle.std.specs.Prelude.{ℕ, ◌≡◌, List, [], ◌∷◌, Bool, true, false, ◌&&◌, ◌==◌, if◌then◌else◌, Option, Some, None}
+use Rattle.std.specs.Prelude.{ℕ, ◌≡◌, ◌≢◌, List, [], ◌∷◌, Bool, true, false, ◌&&◌, ◌==◌, nat_lt, nat_le, if◌then◌else◌, Option, Some, None}
 use Rattle.kr_base.specs.declared.span.Bound.{Bound}
 use Rattle.kr_base.specs.declared.span.Bound.TheVariants.{At, End}
 use Rattle.kr_base.specs.declared.span.Span.{Span}
@@ -10,9 +10,9 @@ use Rattle.kr_core.specs.declared.event.Event.TheVariants.{Take, Steal, Report, 
 use Rattle.kr_core.specs.declared.event.Lease.{Lease}
 use Rattle.kr_core.specs.declared.event.Reply.{Reply}
 use Rattle.kr_core.specs.declared.event.Reply.TheVariants.{Lease as Leased, Go, Done, Noted}
-use Rattle.kr_core.specs.States.{State, has_remainder, segment_of, Each}
+use Rattle.kr_core.specs.States.{State, is_cut, has_remainder, segment_of, Each}
 use Rattle.kr_core.specs.Openings.{AreInside, opening}
-use Rattle.kr_core.specs.Steps.{Step}
+use Rattle.kr_core.specs.Steps.{Step, fits}
 use Rattle.kr_core.specs.Kept.{Runs}
 
 -- by an event, who a segment was given to last, and didn't give it up
@@ -108,3 +108,16 @@ Leases (Look seat) new reply = reply ≡ Noted
 abbrev pub LeasesLaw : Type 0
 LeasesLaw = (span : Span) (cuts : List (List ℕ)) (events : List Event) (old : State) (event : Event) (reply : Reply) (new : State) → AreInside cuts span →
     Runs (opening span cuts) events old → Step old event reply new → Leases event new reply
+
+-- What a lease is worth: its seat may report from its mark on up to its upto, and may give the segment up; nobody else may,
+-- and nobody may take it.
+pub record IsExclusive (seat n : ℕ) (s : State) (lease : Lease) : Type 0 where
+  pub reports : (reach : Bound) (rows tried : ℕ) (spent : Bool) → less (At lease.mark) reach ≡ true → less lease.upto reach ≡ false →
+      (if spent then is_cut reach && nat_lt rows tried else nat_le rows tried) ≡ true → fits s (Report seat n reach rows tried spent) ≡ true
+  pub gives_up : fits s (GiveUp seat n) ≡ true
+  pub nobody_takes : (other : ℕ) → fits s (Take other n) ≡ false
+  pub no_other_reports : (other : ℕ) (reach : Bound) (rows tried : ℕ) (spent : Bool) → other ≢ seat → fits s (Report other n reach rows tried spent) ≡ false
+  pub no_other_gives_up : (other : ℕ) → other ≢ seat → fits s (GiveUp other n) ≡ false
+
+abbrev pub ExclusiveLaw : Type 0
+ExclusiveLaw = (seat n : ℕ) (s : State) (lease : Lease) → IsHeld seat n s lease → IsExclusive seat n s lease

@@ -1,4 +1,4 @@
-use Rattle.std.proofs.Common.{◌≡◌, ◌∙◌, ◌<◌, ◌≤◌, List, ap, arith, length}
+use Rattle.std.proofs.Common.{◌≡◌, ◌∙◌, List, ap, arith, length}
 use Rattle.kr_core.specs.declared.segment.Segment.{Segment}
 use Rattle.kr_board.specs.Held.{Held}
 use Rattle.kr_board.proofs.Disowning.{released_init, released_next, released_length, released_all}
