@@ -23,7 +23,7 @@ use Rattle.kr_code.specs.declared.expression.Expression.TheVariants as expressio
 use Rattle.kr_code.specs.declared.statement.Statement.{Statement}
 use Rattle.kr_code.specs.declared.statement.Statement.TheVariants as statements
 use Rattle.kr_code.specs.declared.statement.Declarator.{Declarator}
-use Rattle.kr_code.specs.Tables.{node_at, expression_of, statement_of, declarator_of, listed, method_at, class_at, method_in}
+use Rattle.kr_code.specs.Tables.{node_at, expression_of, statement_of, declarator_of, initialiser_of, listed, values_in, method_at, class_at, method_in}
 use Rattle.kr_code.specs.Steps.{load_named, store_field, store_initial, store_item, cast_to, instance_of}
 
 -- what the nodes of code do, as expressions and as statements, and what a loop does
@@ -75,19 +75,22 @@ abbrev pub super_values : Code → Doing → Option Nodes → Run (List Value)
 super_values code d None = give []
 super_values code d (Some ns) = tick >> values_at d (listed code ns)
 
-abbrev pub initialised : Code → Doing → Value → List Initialiser → Run (Unit {0})
+abbrev pub initialised_by : Code → Doing → Value → Option Initialiser → Run (Unit {0})
+initialised_by code d o None = stop Stuck
+initialised_by code d o (Some x) = do
+  v ← d.value x.value
+  store_initial code x.field o v
+
+abbrev pub initialised : Code → Doing → Value → List ℕ → Run (Unit {0})
 initialised code d o [] = give tt
-initialised code d o (i ∷ is) = do
-  v ← d.value i.value
-  store_initial code i.field o v
-  initialised code d o is
+initialised code d o (i ∷ is) = initialised_by code d o (initialiser_of (node_at code i)) >> initialised code d o is
 
 abbrev pub constructed_by : Code → Doing → ClassCode → Option Constructor → Value → List Value → (List Value → Run (Unit {0})) → Run (Unit {0})
-constructed_by code d c None o arguments up = within o 0 arguments (up [] >> initialised code d o c.initialisers.items)
+constructed_by code d c None o arguments up = within o 0 arguments (up [] >> initialised code d o (listed code c.initialisers))
 constructed_by code d c (Some k) o arguments up = within o k.parameters arguments (do
   vs ← super_values code d k.call
   up vs
-  within o 0 [] (initialised code d o c.initialisers.items)
+  within o 0 [] (initialised code d o (listed code c.initialisers))
   flow ← all_at d (listed code k.body)
   completed flow)
 
@@ -104,8 +107,8 @@ constructed code d (c ∷ cs) o arguments = constructed_in code d (class_at code
 abbrev pub create : Code → Doing → ℕ → List Value → Option ClassCode → Run Value
 create code d c arguments None = stop Stuck
 create code d c arguments (Some k) = do
-  o ← make (Object c) k.defaults.items
-  constructed code d k.line.items o arguments
+  o ← make (Object c) (values_in code k.defaults)
+  constructed code d (listed code k.line) o arguments
   give o
 
 abbrev pub call : Code → Doing → Callee → List ℕ → Run Value

@@ -35,7 +35,7 @@ use Rattle.kr_code.specs.declared.expression.Expression.TheVariants as expressio
 use Rattle.kr_code.specs.declared.statement.Statement.{Statement}
 use Rattle.kr_code.specs.declared.statement.Statement.TheVariants as statements
 use Rattle.kr_code.specs.declared.statement.Declarator.{Declarator}
-use Rattle.kr_code.specs.Tables.{node_at, expression_of, statement_of, declarator_of, listed, method_at, class_at, position_in, spot_in, method_in, is_instance}
+use Rattle.kr_code.specs.Tables.{node_at, expression_of, statement_of, declarator_of, initialiser_of, listed, values_in, method_at, class_at, position_in, spot_in, method_in, is_instance}
 
 -- What numbers stand for: names, fields that are stored, methods, types; and of each node the tree with its scope.
 pub record Numbering : Type 0 where
@@ -266,10 +266,14 @@ has_initial f = initial_or_none f f.initial
 abbrev pub initialised_fields : List Field → List Field
 initialised_fields fs = flat_map has_initial fs
 
-abbrev pub AreInitialisers : Program → Numbering → List Field → List Initialiser → Type 0
-AreInitialisers program n [] [] = Unit {0}
-AreInitialisers program n (f ∷ fs) (i ∷ is) = IsPart n (class_scope program f.class) f.initial i.value × (n.field i.field ≡ f) × AreInitialisers program n fs is
-AreInitialisers program n fs is = ⊥
+abbrev pub IsInitialiser : Program → Numbering → Field → Option Initialiser → Type 0
+IsInitialiser program n f None = ⊥
+IsInitialiser program n f (Some x) = IsPart n (class_scope program f.class) f.initial x.value × (n.field x.field ≡ f)
+
+abbrev pub AreInitialisers : Program → Code → Numbering → List Field → List ℕ → Type 0
+AreInitialisers program code n [] [] = Unit {0}
+AreInitialisers program code n (f ∷ fs) (i ∷ is) = IsInitialiser program n f (initialiser_of (node_at code i)) × AreInitialisers program code n fs is
+AreInitialisers program code n fs is = ⊥
 
 abbrev pub AreArguments : Code → Numbering → Scope → Tree → Option Nodes → Type 0
 AreArguments code n s (trees.ConstructorCall p es) (Some ns) = AreParts n s (items es) (listed code ns)
@@ -288,9 +292,9 @@ IsMaybeConstructor program code n c (Some k) (Some made) = IsConstructor program
 IsMaybeConstructor program code n c k made = ⊥
 
 pub record IsClassCode (program : Program) (code : Code) (n : Numbering) (c : ℕ) (made : ClassCode) : Type 0 where
-  pub defaults : made.defaults.items ≡ map (λ f. default_of f.type) (fields_of program.table c)
-  pub line : made.line.items ≡ line_of program.table c
-  pub initialisers : AreInitialisers program n (initialised_fields (declared_fields program c)) made.initialisers.items
+  pub defaults : values_in code made.defaults ≡ map (λ f. default_of f.type) (fields_of program.table c)
+  pub line : listed code made.line ≡ line_of program.table c
+  pub initialisers : AreInitialisers program code n (initialised_fields (declared_fields program c)) (listed code made.initialisers)
   pub constructor : IsMaybeConstructor program code n c (constructor_of program c) made.constructor
 
 abbrev pub IsMaybeMethod : Code → Numbering → Option Method → Option ℕ → Type 0
@@ -311,7 +315,7 @@ pub record AreTables (program : Program) (code : Code) (n : Numbering) : Type 0 
   pub methods : (k : ℕ) (m : MethodCode) → method_at code k ≡ Some m → IsMethodCode program code n (n.method k) m
   pub classes : (c : ℕ) (k : ClassCode) → class_at code c ≡ Some k → IsClassCode program code n c k
   -- the classes that a class's line has are there
-  pub lines : (c : ℕ) (k : ClassCode) → class_at code c ≡ Some k → All (λ d. IsSome (class_at code d)) k.line.items
+  pub lines : (c : ℕ) (k : ClassCode) → class_at code c ≡ Some k → All (λ d. IsSome (class_at code d)) (listed code k.line)
 
 -- Code of a program: each node is the resolved form of what it stands for, as an expression and as a statement.
 pub record IsCodeOf (program : Program) (code : Code) (n : Numbering) : Type 0 where

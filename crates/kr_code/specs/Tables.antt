@@ -4,11 +4,13 @@ use Rattle.std.specs.Prelude.{slice_get}
 use Rattle.std.proofs.Common.{get_or}
 use Rattle.std.specs.declared.vec.Vec.{Vec}
 use Rattle.std.specs.declared.alloc.Global.{Global}
+use Rattle.kr_value.specs.declared.value.Value.{Value}
 use Rattle.kr_value.specs.declared.object.Class as values
 use Rattle.kr_value.specs.declared.object.Class.TheVariants.{Object, Array}
 use Rattle.kr_code.specs.declared.code.Code.{Code}
 use Rattle.kr_code.specs.declared.code.Node.{Node}
 use Rattle.kr_code.specs.declared.code.Node.TheVariants as nodes
+use Rattle.kr_code.specs.declared.code.Initialiser.{Initialiser}
 use Rattle.kr_code.specs.declared.code.MethodCode.{MethodCode}
 use Rattle.kr_code.specs.declared.code.ClassCode.{ClassCode}
 use Rattle.kr_code.specs.declared.expression.Nodes.{Nodes}
@@ -35,9 +37,17 @@ abbrev pub declarator_of : Node → Option Declarator
 declarator_of (nodes.Declarator d) = Some d
 declarator_of node = None
 
+abbrev pub initialiser_of : Node → Option Initialiser
+initialiser_of (nodes.Initialiser x) = Some x
+initialiser_of node = None
+
 -- the nodes that follow one another
 abbrev pub listed : Code → Nodes → List ℕ
 listed code ns = take ns.count (drop ns.first code.links.items)
+
+-- values that follow one another
+abbrev pub values_in : Code → Nodes → List Value
+values_in code ns = take ns.count (drop ns.first code.values.items)
 
 -- ---- methods and classes
 

@@ -1,7 +1,15 @@
 // The code of a program, with its tables.
+ghost use Rattle.std.specs.Prelude.{◌≤◌, vec_len};
 
 use crate::{Declarator, Expression, Nodes, Statement};
 use kr_value::Value;
+
+/// A field with an initial value, as one that is stored.
+#[derive(Clone, Copy, Debug)]
+pub struct Initialiser {
+    pub field: u32,
+    pub value: u32,
+}
 
 /// A node.
 #[derive(Clone, Copy, Debug)]
@@ -9,6 +17,7 @@ pub enum Node {
     Expression(Expression),
     Statement(Statement),
     Declarator(Declarator),
+    Initialiser(Initialiser),
 }
 
 /// A method: how many parameters it has, whether it gives no value, and its statements.
@@ -27,30 +36,26 @@ pub struct Constructor {
     pub body: Nodes,
 }
 
-/// A field with an initial value, as one that is stored.
-#[derive(Clone, Copy, Debug)]
-pub struct Initialiser {
-    pub field: u32,
-    pub value: u32,
-}
-
 /// A class: what the fields of its objects begin with, the classes from it upwards, the initial values of the fields that it
 /// declares itself, and the constructor that it declares, if it does.
-#[derive(Debug, Drop)]
+#[derive(Clone, Copy, Debug)]
 pub struct ClassCode {
-    pub defaults: Vec<Value>,
-    pub line: Vec<u32>,
-    pub initialisers: Vec<Initialiser>,
+    /// Among the code's values.
+    pub defaults: Nodes,
+    /// The links are classes.
+    pub line: Nodes,
+    pub initialisers: Nodes,
     pub constructor: Option<Constructor>,
 }
 
-/// The nodes, the links of lists to their nodes, methods and classes by their numbers, and the tables: where the objects
+/// The nodes, the links of lists to their nodes, values, methods and classes by their numbers, and the tables: where the objects
 /// of a class have the field of a name, where they have a field that is stored, which method they run in place of one,
 /// and which classes and array types are instances of a type. The name with the number 0 is `length`.
 #[derive(Debug, Drop)]
 pub struct Code {
     pub nodes: Vec<Node>,
     pub links: Vec<u32>,
+    pub values: Vec<Value>,
     pub methods: Vec<MethodCode>,
     pub classes: Vec<ClassCode>,
     pub positions: Vec<Vec<Option<u32>>>,
@@ -58,4 +63,6 @@ pub struct Code {
     pub dispatch: Vec<Vec<Option<u32>>>,
     pub instances: Vec<Vec<bool>>,
     pub array_instances: Vec<Vec<bool>>,
+    /// A link has a number.
+    pub ghost small: { vec_len links ≤ 4294967295 },
 }

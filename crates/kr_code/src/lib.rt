@@ -6,6 +6,7 @@
 
 mod code;
 mod expression;
+mod lookups;
 mod statement;
 
 pub use code::{ClassCode, Code, Constructor, Initialiser, MethodCode, Node};

@@ -1,6 +1,12 @@
-//! The heap of a running program, as code: the members of its collections.
+//! The heap of a running program, as code: its objects with their classes and values, and the members of collections.
 #![tactic(auto)]
 
+mod heap;
 mod members;
+mod object;
 
+pub use heap::Heap;
 pub use members::Members;
+
+#[cfg(test)]
+mod tests;

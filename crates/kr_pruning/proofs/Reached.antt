@@ -143,7 +143,7 @@ module _ (problem : Problem) (w : IsWellFormed problem) (v : List ℕ) where
       go (inr l) [] f = inl (f ∙ append-nil (met_within problem v (suc k)))
       go (inr l) (x ∷ xs) f = inr (omega (arith, l, ap (λ (y : List DomainObject). length y) f, length-append (met_within problem v (suc k)) (x ∷ xs)))
 
-  settled : met_within problem v (suc N) ≡ met_within problem v N
+  pub settled : met_within problem v (suc N) ≡ met_within problem v N
   settled = go (settles N)
     where
       go : (met_within problem v (suc N) ≡ met_within problem v N) ⊎ (N < length (met_within problem v (suc N))) → met_within problem v (suc N) ≡ met_within problem v N

@@ -1,0 +1,152 @@
+// Looking things up in code.
+ghost use Rattle.std.specs.Prelude.{◌≡◌, ◌∷◌, [], None, false, MatchOption};
+ghost use Rattle.kr_code.specs.Tables.{node_at, expression_of, statement_of, declarator_of, initialiser_of, listed, method_at, class_at, row_items, cell, position_in, spot_in, method_in, is_instance};
+
+use crate::{
+    ClassCode, Code, Declarator, Expression, Initialiser, MethodCode, Node, Nodes, Statement,
+};
+use kr_value::Class;
+
+fn number_in(rows: &Vec<Vec<Option<u32>>>, row: u32, column: u32) -> Option<u32>
+    ensures { result ≡ cell None rows.now.items row column }
+{
+    match rows.get(row as usize) {
+        Some(numbers) => match numbers.get(column as usize) {
+            Some(number) => *number,
+            None => None,
+        },
+        None => None,
+    }
+}
+
+fn mark_in(rows: &Vec<Vec<bool>>, row: u32, column: u32) -> bool
+    ensures { result ≡ cell false rows.now.items row column }
+{
+    match rows.get(row as usize) {
+        Some(marks) => match marks.get(column as usize) {
+            Some(mark) => *mark,
+            None => false,
+        },
+        None => false,
+    }
+}
+
+impl Code {
+    fn node(&self, node: u32) -> Node
+        ensures { result ≡ node_at self.now node }
+    {
+        match self.nodes.get(node as usize) {
+            Some(found) => *found,
+            None => Node::Expression(Expression::Stuck),
+        }
+    }
+
+    /// The expression that is a node.
+    pub fn expression(&self, node: u32) -> Expression
+        ensures { result ≡ expression_of (node_at self.now node) }
+    {
+        match self.node(node) {
+            Node::Expression(expression) => expression,
+            _ => Expression::Stuck,
+        }
+    }
+
+    /// The statement that is a node.
+    pub fn statement(&self, node: u32) -> Statement
+        ensures { result ≡ statement_of (node_at self.now node) }
+    {
+        match self.node(node) {
+            Node::Statement(statement) => statement,
+            _ => Statement::Stuck,
+        }
+    }
+
+    /// The declarator that is a node.
+    pub fn declarator(&self, node: u32) -> Option<Declarator>
+        ensures { result ≡ declarator_of (node_at self.now node) }
+    {
+        match self.node(node) {
+            Node::Declarator(declarator) => Some(declarator),
+            _ => None,
+        }
+    }
+
+    /// The initial value of a field that is a node.
+    pub fn initialiser(&self, node: u32) -> Option<Initialiser>
+        ensures { result ≡ initialiser_of (node_at self.now node) }
+    {
+        match self.node(node) {
+            Node::Initialiser(initialiser) => Some(initialiser),
+            _ => None,
+        }
+    }
+
+    /// The first of some nodes, and the others.
+    pub fn split(&self, nodes: Nodes) -> Option<(u32, Nodes)>
+        ensures { MatchOption result (listed self.now nodes ≡ []) (λ p. listed self.now nodes ≡ p.0 ∷ listed self.now p.1) }
+    {
+        if nodes.count == 0 {
+            return None;
+        }
+        match self.links.get(nodes.first as usize) {
+            None => None,
+            Some(node) => Some((
+                *node,
+                Nodes {
+                    first: nodes.first + 1,
+                    count: nodes.count - 1,
+                },
+            )),
+        }
+    }
+
+    pub fn method(&self, method: u32) -> Option<MethodCode>
+        ensures { result ≡ method_at self.now method }
+    {
+        self.methods.get(method as usize).copied()
+    }
+
+    pub fn class(&self, class: u32) -> Option<ClassCode>
+        ensures { result ≡ class_at self.now class }
+    {
+        self.classes.get(class as usize).copied()
+    }
+
+    /// Where the objects of a class have the field of a name.
+    pub fn position(&self, name: u32, class: u32) -> Option<u32>
+        ensures { result ≡ position_in self.now name class }
+    {
+        number_in(&self.positions, name, class)
+    }
+
+    /// Where what is of a class has a field that is stored.
+    pub fn spot(&self, field: u32, class: Class) -> Option<u32>
+        ensures { result ≡ spot_in self.now field class }
+    {
+        match class {
+            Class::Object(number) => number_in(&self.spots, field, number),
+            _ => None,
+        }
+    }
+
+    /// The method that what is of a class runs in place of one.
+    pub fn method_in(&self, method: u32, class: Class) -> Option<u32>
+        ensures { result ≡ method_in self.now method class }
+    {
+        match class {
+            Class::Object(number) => number_in(&self.dispatch, method, number),
+            _ => None,
+        }
+    }
+
+    /// Whether what is of a class is an instance of a type.
+    pub fn is_instance(&self, type_number: u32, class: Class) -> bool
+        ensures { result ≡ is_instance self.now type_number class }
+    {
+        match class {
+            Class::Object(number) => mark_in(&self.instances, type_number, number),
+            Class::Array(number) => mark_in(&self.array_instances, type_number, number),
+            _ => false,
+        }
+    }
+}

@@ -1,0 +1,123 @@
+// The objects of a running program, by their numbers.
+ghost use Rattle.std.specs.Prelude.{◌≡◌, [], ◌∷◌, ◌++◌, length, ◌≤◌, take, OnOk, OnErr, IfOk};
+ghost use Rattle.kr_value.specs.Heaps.{object_in};
+ghost use Rattle.kr_heap.specs.Objects.{found, with_value, with_values};
+
+use crate::object::Object;
+use kr_base::NoMemory;
+use kr_value::{Class, Obj, Spot, Value};
+use std::alloc::Global;
+use std::marker::Model;
+
+/// A heap. Contracts see the list of its objects, each with its class and values.
+#[derive(Debug, Drop)]
+pub struct Heap {
+    objects: Vec<Object>,
+}
+
+impl Model for Heap {
+    ghost use Rattle.std.specs.Prelude.{List, map};
+    ghost use Rattle.kr_value.specs.Heaps.{HeapObject};
+    ghost use Rattle.kr_heap.specs.Shown.{shown};
+
+    ghost Value = { List HeapObject };
+
+    ghost view = { λ h. map shown h.objects.items };
+}
+
+impl Heap {
+    /// No objects. It takes no memory.
+    pub fn new(alloc: Global) -> Self
+        ensures { result ≡ [] }
+    {
+        Heap {
+            objects: Vec::new(alloc),
+        }
+    }
+
+    pub fn len(&self) -> usize
+        ensures { result ≡ length self.now }
+    {
+        self.objects.len()
+    }
+
+    /// What an object is of.
+    pub fn class_of(&self, object: Obj) -> Class
+        ensures { result ≡ (object_in self.now object).class }
+    {
+        match self.objects.get(object as usize) {
+            Some(found) => found.class,
+            None => Class::Object(0),
+        }
+    }
+
+    /// How many values an object has.
+    pub fn size_of(&self, object: Obj) -> usize
+        ensures { result ≡ length (object_in self.now object).values }
+    {
+        match self.objects.get(object as usize) {
+            Some(found) => found.values.len(),
+            None => 0,
+        }
+    }
+
+    /// What an object has at a spot; none where it has no such spot.
+    pub fn read(&self, object: Obj, spot: Spot) -> Option<Value>
+        ensures { result ≡ found (object_in self.now object) spot }
+    {
+        match self.objects.get(object as usize) {
+            Some(found) => found.read(spot),
+            None => None,
+        }
+    }
+
+    /// Gives an object another value in one of its fields or elements, where it has that.
+    pub fn write(&mut self, object: Obj, at: usize, value: Value)
+        ensures { self.new ≡ with_value self.old object at value }
+    {
+        if (object as usize) < self.objects.len() {
+            self.objects[object as usize].write(at, value);
+        }
+    }
+
+    /// A new object with these values, behind all others.
+    pub fn allocate(&mut self, class: Class, values: Vec<Value>) -> Result<Obj, NoMemory>
+        requires { length values.items ≤ 2147483647 }
+        ensures number { IfOk result (λ o. o ≡ length self.old) }
+        ensures added { OnOk result (self.new ≡ self.old ++ record { class = class; values = values.items } ∷ []) }
+        ensures unchanged { OnErr result (self.new ≡ self.old) }
+    {
+        let Ok(number) = u32::try_from(self.objects.len()) else {
+            return Err(NoMemory);
+        };
+        self.objects.push(Object { class, values })?;
+        Ok(number)
+    }
+
+    /// The first objects alone.
+    pub fn truncate(&mut self, count: usize)
+        ensures { self.new ≡ take count self.old }
+    {
+        self.objects.truncate(count);
+    }
+
+    /// An object's first values alone, as where an array gets shorter.
+    pub fn truncate_values(&mut self, object: Obj, count: usize)
+        ensures { self.new ≡ with_values self.old object (take count (object_in self.old object).values) }
+    {
+        if (object as usize) < self.objects.len() {
+            self.objects[object as usize].truncate(count);
+        }
+    }
+
+    /// One value more for an object, as where an array gets longer.
+    pub fn push_value(&mut self, object: Obj, value: Value) -> Result<(), NoMemory>
+        ensures added { OnOk result (self.new ≡ with_values self.old object ((object_in self.old object).values ++ value ∷ [])) }
+        ensures unchanged { OnErr result (self.new ≡ self.old) }
+    {
+        if (object as usize) < self.objects.len() {
+            self.objects[object as usize].push(value)?;
+        }
+        Ok(())
+    }
+}

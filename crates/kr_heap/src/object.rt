@@ -1,0 +1,63 @@
+// One object of a heap.
+ghost use Rattle.std.specs.Prelude.{◌≤◌, vec_len};
+
+use kr_base::NoMemory;
+use kr_value::{Class, Spot, Value};
+
+/// What it is of, and its fields, elements or members.
+#[derive(Debug, Drop)]
+pub struct Object {
+    pub class: Class,
+    pub values: Vec<Value>,
+    /// A length is an int.
+    pub ghost small: { vec_len values ≤ 2147483647 },
+}
+
+impl Object {
+    ghost use Rattle.std.specs.Prelude.{◌≡◌, [], ◌∷◌, ◌++◌, slice_set, take, OnOk, OnErr};
+    ghost use Rattle.kr_heap.specs.Objects.{found};
+    ghost use Rattle.kr_heap.specs.Shown.{shown};
+
+    /// What it has at a spot; none where it has no such spot.
+    pub fn read(&self, spot: Spot) -> Option<Value>
+        ensures { result ≡ found (shown self.now) spot }
+    {
+        match (self.class, spot) {
+            (Class::Object(_), Spot::Field(at)) => self.values.get(at as usize).copied(),
+            (Class::Array(_), Spot::Element(at)) => self.values.get(at as usize).copied(),
+            (Class::Array(_), Spot::Length) => match i32::try_from(self.values.len()) {
+                Ok(length) => Some(Value::Int(length)),
+                Err(_) => None,
+            },
+            _ => None,
+        }
+    }
+
+    pub fn write(&mut self, at: usize, value: Value)
+        ensures class { self.new.class ≡ self.old.class }
+        ensures values { self.new.values.items ≡ slice_set self.old.values.items at value }
+    {
+        if at < self.values.len() {
+            self.values[at] = value;
+        }
+    }
+
+    pub fn truncate(&mut self, count: usize)
+        ensures class { self.new.class ≡ self.old.class }
+        ensures values { self.new.values.items ≡ take count self.old.values.items }
+    {
+        self.values.truncate(count);
+    }
+
+    pub fn push(&mut self, value: Value) -> Result<(), NoMemory>
+        ensures class { self.new.class ≡ self.old.class }
+        ensures added { OnOk result (self.new.values.items ≡ self.old.values.items ++ value ∷ []) }
+        ensures unchanged { OnErr result (self.new.values.items ≡ self.old.values.items) }
+    {
+        if self.values.len() >= 2147483647 {
+            return Err(NoMemory);
+        }
+        self.values.push(value)?;
+        Ok(())
+    }
+}
