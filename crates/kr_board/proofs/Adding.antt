@@ -1,5 +1,5 @@
 -- One event that fits: its edit, and what the board keeps.
-use Rattle.std.proofs.Common.{◌≡◌, ℕ, ◌+◌, ◌-◌, ◌^◌, ◌<◌, ◌≤◌, List, [], ◌∷◌, ◌++◌, Bool, true, false, cond, length, refl, sym, ap, ◌∙◌, subst, arith, Vec, Global, vec_len, vec_capacity, Result, IsOk}
+use Rattle.std.proofs.Common.{◌≡◌, ℕ, ◌+◌, ◌-◌, ◌^◌, ◌<◌, ◌≤◌, List, [], ◌∷◌, ◌++◌, true, cond, length, sym, ap, ◌∙◌, subst, arith, Vec, Global, vec_len, vec_capacity, Result, IsOk}
 use Rattle.std.specs.Result.{is_ok}
 use Rattle.kr_survey.specs.Joins.{lists, joined}
 use Rattle.kr_core.specs.declared.event.Event.{Event}
@@ -12,7 +12,7 @@ use Rattle.kr_board.specs.declared.edits.Edit.{Edit}
 use Rattle.kr_board.specs.Edits.{edited, edit_of}
 use Rattle.kr_board.specs.Rooms.{IsWithin, IsAdded, IsSound}
 use Rattle.kr_board.proofs.Lists.{length-lists, when_ok, edit-beside, edit-within}
-use Rattle.kr_board.proofs.Sound.{join, aligned, Moves, moves, sound-moved}
+use Rattle.kr_board.proofs.Sound.{join, aligned, moves, sound-moved}
 
 pub lists_aligned : {R : Type 0} (core : State) (kept : List (Vec R Global)) (log : Vec Event Global) → IsSound core (lists kept) log → length kept ≡ length core.segments
 lists_aligned core kept log k = sym (length-lists kept) ∙ aligned core (lists kept) log k

@@ -1,6 +1,5 @@
 -- What a drain leaves and takes out, by the lists that were moved.
-use Rattle.std.proofs.Common.{◌≡◌, ℕ, suc, ◌+◌, List, [], ◌∷◌, length, take, drop, sym, ap, ◌∙◌, add-one, Vec, Global}
-use Rattle.kr_survey.specs.Joins.{joined}
+use Rattle.std.proofs.Common.{◌≡◌, ℕ, ◌+◌, List, [], ◌∷◌, length, take, drop, sym, ap, ◌∙◌, add-one, Vec, Global}
 use Rattle.kr_core.specs.declared.event.Event.{Event}
 use Rattle.kr_core.specs.States.{State}
 use Rattle.kr_core.specs.Steps.{gone}

@@ -1,15 +1,13 @@
 -- Rows taken out, and what a finished board lists.
-use Rattle.std.proofs.Common.{◌≡◌, ◌≢◌, ℕ, zero, suc, ◌+◌, ◌-◌, ◌^◌, ◌<◌, ◌≤◌, List, [], ◌∷◌, ◌++◌, Bool, true, false, ◌&&◌, not, cond, length, take, drop, refl, sym, ap, ◌∙◌, subst, arith, Vec, Global, Option, Some, None, length-append, append_assoc, add-one}
-use Rattle.std.specs.Prelude.{if◌then◌else◌, map}
+use Rattle.std.proofs.Common.{◌≡◌, ◌≢◌, ℕ, suc, ◌+◌, ◌<◌, ◌≤◌, List, [], ◌∷◌, ◌++◌, Bool, true, false, ◌&&◌, not, cond, length, take, drop, refl, sym, ap, ◌∙◌, subst, arith, Vec, Global, Option, Some, None, length-append, append_assoc}
+use Rattle.std.specs.Prelude.{if◌then◌else◌}
 use Rattle.std.specs.List.{sum_by, list_all}
 use Rattle.std.proofs.lemmas.List.Sums.{sum_by-cons}
 use Rattle.std.proofs.lemmas.List.{drop_at, take_at, append-nil}
 use Rattle.kr_base.specs.declared.span.Bound.{Bound}
 use Rattle.kr_base.specs.declared.span.Bound.TheVariants.{At, End}
-use Rattle.kr_base.specs.declared.span.Span.{Span}
 use Rattle.kr_base.specs.declared.entry.Entry.{Entry}
-use Rattle.kr_base.specs.Bounds.{less}
-use Rattle.kr_base.specs.Entries.{Ascends, within, entries_in}
+use Rattle.kr_base.specs.Entries.{within, entries_in}
 use Rattle.kr_base.proofs.Bounds.{irreflexive}
 use Rattle.kr_survey.specs.declared.part.Listing.{Listing}
 use Rattle.kr_survey.specs.Joins.{joined}
@@ -18,22 +16,19 @@ use Rattle.kr_core.specs.declared.segment.Segment.{Segment}
 use Rattle.kr_core.specs.declared.event.Event.{Event}
 use Rattle.kr_core.specs.declared.event.Event.TheVariants.{Drain}
 use Rattle.kr_core.specs.declared.event.Reply.{Reply}
-use Rattle.kr_core.specs.States.{State, capped, is_owned, is_closed, is_same, has_remainder, Each}
-use Rattle.kr_core.specs.Openings.{AreInside}
-use Rattle.kr_core.specs.Steps.{front, gone, fits, may_stop}
-use Rattle.kr_core.specs.Kept.{IsKept}
-use Rattle.kr_core.specs.Counts.{EndsSpent, IsSpentFlag, AllClosed, Counts}
+use Rattle.kr_core.specs.States.{State, capped, is_closed, is_same, Each}
+use Rattle.kr_core.specs.Steps.{front, gone, may_stop}
+use Rattle.kr_core.specs.Counts.{EndsSpent, IsSpentFlag, Counts}
 use Rattle.kr_core.specs.Rows.{drained}
 use Rattle.kr_core.specs.Beside.{fronts, emptied, gathered}
-use Rattle.kr_core.proofs.Bools.{and-right, not-true}
 use Rattle.kr_core.proofs.Spent.{within-none}
 use Rattle.kr_core.proofs.Chains.{IsLink, Chain}
 use Rattle.kr_core.proofs.Runs.{closed-mark}
 use Rattle.kr_core.proofs.Ends.{counting_law}
 use Rattle.kr_core.proofs.Rowing.{plus, rows_in, front-rows}
 use Rattle.kr_board.specs.Held.{Held}
-use Rattle.kr_board.specs.Boards.{rows_from, IsBoardOf, Adds, Stays, AreNext}
-use Rattle.kr_board.specs.Closing.{all_closed, mark_in, front_rows, cut_of, spent_key, IsListing, IsListingOf, Lists}
+use Rattle.kr_board.specs.Boards.{rows_from, Adds, Stays, AreNext}
+use Rattle.kr_board.specs.Closing.{all_closed, mark_in, front_rows, cut_of, IsListing, Lists}
 use Rattle.kr_board.specs.Rooms.{IsSound}
 use Rattle.kr_board.proofs.Sound.{join, size, sizes}
 use Rattle.kr_board.proofs.Staying.{holds, stays}

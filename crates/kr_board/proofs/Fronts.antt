@@ -1,5 +1,5 @@
 -- Lists moved out from the front.
-use Rattle.std.proofs.Common.{◌≡◌, ℕ, zero, suc, ◌+◌, ◌<◌, ◌≤◌, List, [], ◌∷◌, ◌++◌, length, get_or, set, take, drop, refl, sym, ap, ◌∙◌, subst, arith, add-one, cond, Vec, Global, vec_len, vec_capacity, Result, Ok, Err, IsOk}
+use Rattle.std.proofs.Common.{◌≡◌, ℕ, zero, suc, ◌+◌, ◌<◌, ◌≤◌, List, [], ◌∷◌, ◌++◌, length, get_or, set, take, drop, refl, sym, ap, ◌∙◌, arith, add-one, cond, Vec, Global, vec_len, vec_capacity, Result, Ok, Err, IsOk}
 use Rattle.std.specs.Prelude.{remove}
 use Rattle.std.specs.Result.{is_ok}
 use Rattle.kr_survey.specs.Joins.{lists}

@@ -6,6 +6,7 @@ pub mod Parting
 pub mod Whole
 pub mod Draining
 pub mod Releasing
+pub mod Disowning
 pub mod Reports
 pub mod Adding
 pub mod Taking

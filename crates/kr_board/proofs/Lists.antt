@@ -1,6 +1,6 @@
 -- Lists of vectors, and the edits of what is kept.
 use Rattle.std.proofs.Common.{◌≡◌, ℕ, zero, suc, ◌+◌, ◌-◌, ◌<◌, ◌≤◌, List, [], ◌∷◌, ◌++◌, Bool, true, false, length, get_or, set, take, drop, refl, sym, ap, ◌∙◌, subst, arith, cond, add-one, Vec, Global, vec_len, vec_capacity, Result, Ok, Err, OnOk, IsOk, ◌==◌, Option, Some, None}
-use Rattle.std.specs.Prelude.{insert, replicate, if◌then◌else◌, ◌&&◌, nat_lt, ◌^◌}
+use Rattle.std.specs.Prelude.{insert, if◌then◌else◌, ◌&&◌, nat_lt, ◌^◌}
 use Rattle.std.specs.Result.{is_ok}
 use Rattle.kr_base.specs.declared.span.Bound.{Bound}
 use Rattle.kr_survey.specs.Joins.{lists}
@@ -12,7 +12,7 @@ use Rattle.kr_core.specs.Steps.{fits, may_steal, may_report}
 use Rattle.kr_core.specs.Beside.{grown, parted, first_alone, beside}
 use Rattle.kr_core.proofs.Bools.{and-left}
 use Rattle.kr_board.specs.declared.edits.Edit.{Edit}
-use Rattle.kr_board.specs.declared.edits.Edit.TheVariants.{Nothing, Insert, Append, First}
+use Rattle.kr_board.specs.declared.edits.Edit.TheVariants.{Insert, Append}
 use Rattle.kr_board.specs.Edits.{added, edited, insert_behind, append_to, edit_of}
 use Rattle.kr_board.specs.Rooms.{HasRoomAt, IsWithin, IsAdded}
 

@@ -1,7 +1,6 @@
 -- What a scan gives is a part, and a part is possible.
-use Rattle.std.proofs.Common.{◌≡◌, ℕ, zero, suc, ◌+◌, ◌^◌, ◌<◌, ◌≤◌, List, [], ◌∷◌, ◌++◌, Bool, true, false, cond, length, take, refl, sym, ap, ◌∙◌, subst, arith, length-append, length-take}
+use Rattle.std.proofs.Common.{◌≡◌, ℕ, zero, suc, ◌^◌, ◌<◌, ◌≤◌, List, [], ◌∷◌, ◌++◌, Bool, true, false, cond, length, take, refl, sym, ap, ◌∙◌, subst, arith, length-append, length-take}
 use Rattle.std.specs.Prelude.{if◌then◌else◌, ◌||◌, ◌==◌}
-use Rattle.std.specs.List.{flat_map}
 use Rattle.std.proofs.lemmas.List.Concat.{flat_map-append}
 use Rattle.kr_base.specs.declared.span.Bound.{Bound}
 use Rattle.kr_base.specs.declared.span.Bound.TheVariants.{At}
@@ -15,7 +14,7 @@ use Rattle.kr_survey.specs.Scans.{row_of, rows_of, any_spent, last_key, walked, 
 use Rattle.kr_survey.proofs.Walks.{scan_law}
 use Rattle.kr_core.specs.States.{is_cut}
 use Rattle.kr_core.specs.Counts.{EndsSpent, IsSpentFlag}
-use Rattle.kr_board.specs.Parts.{IsPart, IsPossible, PartLaws, PartLaw}
+use Rattle.kr_board.specs.Parts.{IsPart, IsPossible, PartLaw}
 
 none-spent : {R : Type 0} (es : List (Entry R)) → any_spent es ≡ false → NoneSpent es
 none-spent [] h = tt

@@ -1,18 +1,15 @@
 -- Leases that are given back.
-use Rattle.std.proofs.Common.{◌≡◌, ◌≢◌, ℕ, zero, suc, ◌+◌, ◌-◌, ◌<◌, ◌≤◌, List, [], ◌∷◌, ◌++◌, Bool, true, false, not, ◌==◌, cond, length, take, drop, get_or, refl, sym, ap, ◌∙◌, subst, arith, Option, Some, None, append_assoc, Vec, Global, vec_len, vec_capacity, Result, IsOk}
+use Rattle.std.proofs.Common.{◌≡◌, ℕ, ◌+◌, ◌<◌, ◌≤◌, List, [], ◌∷◌, Bool, true, false, ◌==◌, cond, refl, ap, ◌∙◌, arith, Option, Some, None, Vec, Global, vec_len, vec_capacity, Result, IsOk}
 use Rattle.std.specs.Result.{is_ok}
-use Rattle.std.proofs.lemmas.List.{append-nil}
 use Rattle.std.proofs.lemmas.List.Sums.{sum_by-cons}
-use Rattle.std.proofs.lemmas.Bool.Decides.{nat_tests}
 use Rattle.kr_core.specs.declared.segment.Segment.{Segment}
 use Rattle.kr_core.specs.declared.event.Event.{Event}
 use Rattle.kr_core.specs.declared.event.Event.TheVariants.{GiveUp}
 use Rattle.kr_core.specs.declared.event.Reply.{Reply}
 use Rattle.kr_core.specs.declared.event.Reply.TheVariants.{Noted}
-use Rattle.kr_core.specs.States.{State, is_owned, is_owned_by, segment_of, change, Each}
+use Rattle.kr_core.specs.States.{State, is_owned, segment_of, change}
 use Rattle.kr_core.specs.Steps.{Step, fits, after, may_give_up, owned}
-use Rattle.kr_core.specs.Kept.{NumbersDiffer}
-use Rattle.kr_core.specs.Refusals.{FitsNowhere, IsRefused}
+use Rattle.kr_core.specs.Refusals.{IsRefused}
 use Rattle.kr_core.specs.declared.machine.CoreRefusal.{CoreRefusal}
 use Rattle.kr_core.specs.declared.machine.CoreRefusal.TheVariants.{Illegal, NoMemory}
 use Rattle.kr_core.proofs.Bools.{owner_known}

@@ -1,17 +1,16 @@
 -- Which reports are refused, and that the others fit.
-use Rattle.std.proofs.Common.{◌≡◌, ℕ, ◌<◌, ◌≤◌, List, Bool, true, false, ◌&&◌, not, cond, length, ◌+◌, ◌^◌, length-append, ◌∷◌, refl, sym, ap, ◌∙◌, subst, arith, Option, Some, None, [], Result, Ok, Err}
+use Rattle.std.proofs.Common.{◌≡◌, ℕ, ◌<◌, ◌≤◌, List, Bool, true, false, ◌&&◌, not, cond, length, length-append, ◌∷◌, refl, sym, ap, ◌∙◌, subst, arith, Option, Some, None, [], Result, Ok, Err}
 use Rattle.std.specs.Prelude.{if◌then◌else◌, nat_lt, nat_le, is_none, IfOk, OnOk}
 use Rattle.std.specs.List.{count_by}
 use Rattle.std.proofs.lemmas.List.Sums.{sum_by-cons, count_by-le-length}
 use Rattle.std.proofs.lemmas.Bool.Decides.{nat_tests}
 use Rattle.kr_base.specs.declared.span.Bound.{Bound}
 use Rattle.kr_base.specs.declared.span.Bound.TheVariants.{At, End}
-use Rattle.kr_base.specs.declared.span.Span.{Span}
 use Rattle.kr_base.specs.declared.entry.Mark.{Mark}
 use Rattle.kr_base.specs.declared.entry.Mark.TheVariants.{Valid, Invalid, Spent}
 use Rattle.kr_base.specs.declared.entry.Entry.{Entry}
 use Rattle.kr_base.specs.Bounds.{less}
-use Rattle.kr_base.specs.Entries.{Ascends, within, is_valid}
+use Rattle.kr_base.specs.Entries.{within, is_valid}
 use Rattle.kr_base.proofs.Bounds.{irreflexive, connected}
 use Rattle.kr_survey.specs.declared.part.Part.{Part}
 use Rattle.kr_survey.specs.Scans.{row_of, rows_of}

@@ -1,19 +1,17 @@
 -- What every board keeps, through each event.
-use Rattle.std.proofs.Common.{◌≡◌, ℕ, zero, suc, ◌+◌, ◌-◌, ◌^◌, ◌<◌, ◌≤◌, List, [], ◌∷◌, ◌++◌, Bool, true, false, not, length, refl, sym, ap, ◌∙◌, subst, arith, cond, ◌==◌, Vec, Global, vec_len, vec_capacity, length-append, Option, Some, None}
+use Rattle.std.proofs.Common.{◌≡◌, ℕ, suc, ◌+◌, ◌-◌, ◌^◌, ◌≤◌, List, [], ◌∷◌, ◌++◌, Bool, true, false, length, refl, sym, ap, ◌∙◌, subst, arith, cond, ◌==◌, Vec, Global, vec_len, vec_capacity, length-append}
 use Rattle.std.specs.Prelude.{map, if◌then◌else◌}
-use Rattle.std.specs.List.{count_by, sum_by}
-use Rattle.std.proofs.lemmas.List.Sums.{count_by-le-length, sum_by-cons}
-use Rattle.kr_base.specs.declared.span.Bound.{Bound}
+use Rattle.std.proofs.lemmas.List.Sums.{count_by-le-length}
 use Rattle.kr_survey.specs.Joins.{joined}
 use Rattle.kr_core.specs.declared.segment.Segment.{Segment}
 use Rattle.kr_core.specs.declared.event.Event.{Event}
 use Rattle.kr_core.specs.declared.event.Event.TheVariants.{Take, Steal, Report, GiveUp, Drain, StopAt, Look}
 use Rattle.kr_core.specs.declared.event.Reply.{Reply}
-use Rattle.kr_core.specs.States.{State, capped, is_owned, is_closed, segment_of, change}
-use Rattle.kr_core.specs.Steps.{Step, after, owned, lowered, stolen, scanned, left, stopped}
+use Rattle.kr_core.specs.States.{State, capped, is_owned, is_closed, change}
+use Rattle.kr_core.specs.Steps.{Step, after, scanned, left, stopped}
 use Rattle.kr_core.specs.Kept.{IsKept}
 use Rattle.kr_core.specs.Rows.{brought}
-use Rattle.kr_core.specs.Beside.{grown, parted, fronts, emptied, first_alone, beside, gathered}
+use Rattle.kr_core.specs.Beside.{grown, parted, emptied, first_alone, beside}
 use Rattle.kr_core.proofs.Rowing.{plus, rows_in, rows-beside}
 use Rattle.kr_core.proofs.Keeping.{step_keeps}
 use Rattle.kr_board.specs.Rooms.{owned_count, IsSound}

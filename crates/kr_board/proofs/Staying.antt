@@ -1,31 +1,27 @@
 -- A board stays its survey's.
-use Rattle.std.proofs.Common.{◌≡◌, ℕ, ◌+◌, ◌-◌, ◌^◌, ◌<◌, ◌≤◌, List, [], ◌∷◌, ◌++◌, Bool, true, false, ◌&&◌, not, ◌==◌, cond, length, take, drop, refl, sym, ap, ◌∙◌, subst, arith, Option, Some, None, length-append, append_assoc}
-use Rattle.std.specs.Prelude.{if◌then◌else◌, map}
-use Rattle.std.specs.List.{flat_map, sum_by, count_by}
+use Rattle.std.proofs.Common.{◌≡◌, ℕ, ◌+◌, List, [], ◌∷◌, ◌++◌, length, refl, sym, ap, ◌∙◌, subst, arith, Some, append_assoc}
 use Rattle.std.proofs.lemmas.List.{append-nil}
 use Rattle.std.proofs.lemmas.List.Concat.{flat_map-append}
-use Rattle.kr_base.specs.declared.span.Bound.{Bound}
 use Rattle.kr_base.specs.declared.span.Bound.TheVariants.{At}
 use Rattle.kr_base.specs.declared.span.Span.{Span}
 use Rattle.kr_base.specs.declared.entry.Entry.{Entry}
-use Rattle.kr_base.specs.Entries.{Ascends, within}
+use Rattle.kr_base.specs.Entries.{Ascends}
 use Rattle.kr_survey.specs.Scans.{rows_of}
-use Rattle.kr_core.specs.declared.segment.Segment.{Segment}
 use Rattle.kr_core.specs.declared.event.Event.{Event}
 use Rattle.kr_core.specs.declared.event.Event.TheVariants.{Take, Steal, Report, GiveUp, Drain, StopAt, Look}
 use Rattle.kr_core.specs.declared.event.Reply.{Reply}
-use Rattle.kr_core.specs.States.{State, segment_of}
+use Rattle.kr_core.specs.States.{State}
 use Rattle.kr_core.specs.Openings.{AreInside, opening, end_of}
-use Rattle.kr_core.specs.Steps.{Step, fits, after, replay}
+use Rattle.kr_core.specs.Steps.{replay}
 use Rattle.kr_core.specs.Counts.{IsHonest, HonestRuns}
 use Rattle.kr_core.specs.Rows.{drains, drained}
-use Rattle.kr_core.specs.Beside.{fronts, beside, gathered, Measures}
+use Rattle.kr_core.specs.Beside.{Measures}
 use Rattle.kr_core.proofs.Begins.{kept-opening}
 use Rattle.kr_core.proofs.Runs.{Holds, kept-honest}
 use Rattle.kr_core.proofs.Beside.{IsMeasure, Brings, taken_out, measures-step}
 use Rattle.kr_core.proofs.Logs.{honest_more, replay_more}
 use Rattle.kr_board.specs.Held.{Held}
-use Rattle.kr_board.specs.Boards.{KeepsRows, IsBoardOf, Adds, Stays}
+use Rattle.kr_board.specs.Boards.{IsBoardOf, Adds, Stays}
 use Rattle.kr_board.proofs.Sound.{join}
 
 pub measure : {R : Type 0} → IsMeasure {R = R} {M = List R} join [] rows_of

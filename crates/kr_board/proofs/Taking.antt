@@ -1,5 +1,5 @@
 -- What `take` says of its answer, by what was added.
-use Rattle.std.proofs.Common.{◌≡◌, ◌↔◌, ℕ, ◌+◌, ◌-◌, ◌^◌, ◌<◌, ◌≤◌, List, [], Bool, true, false, refl, sym, ap, ◌∙◌, subst, Option, Some, None, Result, Ok, Err}
+use Rattle.std.proofs.Common.{◌≡◌, ◌↔◌, ℕ, ◌-◌, ◌^◌, ◌<◌, List, [], true, false, refl, sym, ap, ◌∙◌, subst, Option, Some, None, Result, Ok, Err}
 use Rattle.std.specs.Prelude.{IfOk, OnOk, if◌then◌else◌, is_some}
 use Rattle.std.specs.List.{find}
 use Rattle.kr_core.specs.declared.segment.Segment.{Segment}
@@ -8,7 +8,7 @@ use Rattle.kr_core.specs.declared.event.Event.TheVariants.{Take, Steal, Look}
 use Rattle.kr_core.specs.declared.event.Lease.{Lease}
 use Rattle.kr_core.specs.declared.event.Reply.{Reply}
 use Rattle.kr_core.specs.declared.event.Reply.TheVariants.{Noted}
-use Rattle.kr_core.specs.States.{State, segment_of}
+use Rattle.kr_core.specs.States.{State}
 use Rattle.kr_core.specs.Steps.{IsLeased}
 use Rattle.kr_core.specs.Counts.{AllClosed}
 use Rattle.kr_board.specs.declared.board.taking.Taken.{Taken}

@@ -1,22 +1,19 @@
 -- The survey's rows are those drained, and then of each segment those kept and those to come.
-use Rattle.std.proofs.Common.{◌≡◌, ℕ, List, [], ◌∷◌, ◌++◌, Bool, true, false, refl, sym, ap, ◌∙◌, subst, Option, Some, None, append_assoc}
+use Rattle.std.proofs.Common.{◌≡◌, ℕ, List, [], ◌∷◌, ◌++◌, Bool, false, sym, ap, ◌∙◌, subst, Option, Some, None, append_assoc}
 use Rattle.std.proofs.lemmas.List.Concat.{flat_map-append}
 use Rattle.kr_base.specs.declared.span.Bound.{Bound}
 use Rattle.kr_base.specs.declared.span.Bound.TheVariants.{At}
-use Rattle.kr_base.specs.declared.span.Span.{Span}
 use Rattle.kr_base.specs.declared.entry.Entry.{Entry}
 use Rattle.kr_base.specs.Bounds.{less}
 use Rattle.kr_base.specs.Entries.{Ascends, within}
 use Rattle.kr_base.proofs.Bounds.{irreflexive, not_above}
 use Rattle.kr_survey.specs.Scans.{rows_of}
 use Rattle.kr_core.specs.declared.segment.Segment.{Segment}
-use Rattle.kr_core.specs.Openings.{AreInside, end_of}
 use Rattle.kr_core.specs.Beside.{Others, Measures}
 use Rattle.kr_core.proofs.Spent.{within-append, within-none}
-use Rattle.kr_core.proofs.Chains.{IsLink, Chain}
+use Rattle.kr_core.proofs.Chains.{Chain}
 use Rattle.kr_core.proofs.Steps.{chain-up}
-use Rattle.kr_board.specs.Held.{Held}
-use Rattle.kr_board.specs.Boards.{rows_from, IsBoardOf, HasAllRows, BoardLaw}
+use Rattle.kr_board.specs.Boards.{rows_from, BoardLaw}
 use Rattle.kr_board.proofs.Sound.{join}
 use Rattle.kr_board.proofs.Staying.{holds}
 

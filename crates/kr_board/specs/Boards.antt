@@ -10,7 +10,6 @@ use Rattle.kr_survey.specs.Scans.{rows_of}
 use Rattle.kr_core.specs.declared.segment.Segment.{Segment}
 use Rattle.kr_core.specs.declared.event.Event.{Event}
 use Rattle.kr_core.specs.declared.event.Reply.{Reply}
-use Rattle.kr_core.specs.States.{State}
 use Rattle.kr_core.specs.Openings.{AreInside, opening}
 use Rattle.kr_core.specs.Steps.{Step, replay}
 use Rattle.kr_core.specs.Counts.{HonestRuns}

@@ -1,5 +1,5 @@
 -- Giving up, draining, stopping, closing.
-use Rattle.std.specs.Prelude.{◌≡◌, ℕ, ◌+◌, List, [], ◌∷◌, ◌++◌, Bool, true, false, Option, Some, None, length, take, drop, if◌then◌else◌}
+use Rattle.std.specs.Prelude.{◌≡◌, ℕ, ◌+◌, List, [], ◌∷◌, Bool, true, false, Option, Some, None, length, drop, if◌then◌else◌}
 use Rattle.std.specs.List.{sum_by, list_all}
 use Rattle.kr_base.specs.declared.span.Bound.{Bound}
 use Rattle.kr_base.specs.declared.span.Bound.TheVariants.{At, End}
@@ -10,9 +10,8 @@ use Rattle.kr_survey.specs.declared.part.Listing.{Listing}
 use Rattle.kr_survey.specs.Joins.{joined}
 use Rattle.kr_survey.specs.Scans.{rows_of}
 use Rattle.kr_core.specs.declared.segment.Segment.{Segment}
-use Rattle.kr_core.specs.States.{State, capped, is_cut, is_closed}
+use Rattle.kr_core.specs.States.{State, capped, is_closed}
 use Rattle.kr_core.specs.Openings.{AreInside}
-use Rattle.kr_core.specs.Kept.{first_after}
 use Rattle.kr_core.specs.Counts.{EndsSpent}
 use Rattle.kr_core.specs.Rows.{drained}
 use Rattle.kr_core.specs.Beside.{fronts}
@@ -62,7 +61,16 @@ abbrev pub Lists : {R : Type 0} → Held R → Listing R → Type 0
 Lists {R} b l =
     (all : List (Entry R)) (span : Span) (cuts : List (List ℕ)) → Ascends all → AreInside cuts span → IsBoardOf all span cuts b → IsListingOf all span b l
 
--- a listing of all where the board is finished, else the board again
-abbrev pub Closes : {R : Type 0} → Held R → Closed R → Type 0
-Closes b (Listed l) = (all_closed b.core ≡ true) × IsListing b l × Lists b l
-Closes b (Unfinished again) = (all_closed b.core ≡ false) × (again ≡ b)
+abbrev pub is_listing : {R : Type 0} → Closed R → Bool
+is_listing (Listed l) = true
+is_listing (Unfinished again) = false
+
+-- a listing is the board's, and of every survey that it is of
+abbrev pub GivesListing : {R : Type 0} → Held R → Closed R → Type 0
+GivesListing b (Listed l) = IsListing b l × Lists b l
+GivesListing b (Unfinished again) = Unit {0}
+
+-- else the board is given back
+abbrev pub GivesBack : {R : Type 0} → Held R → Closed R → Type 0
+GivesBack b (Listed l) = Unit {0}
+GivesBack b (Unfinished again) = again ≡ b

@@ -4,5 +4,6 @@ pub mod Boards
 pub mod Taking
 pub mod Reporting
 pub mod Closing
+pub mod Releasing
 pub mod Edits
 pub mod Rooms

@@ -1,5 +1,5 @@
 -- What a report comes to.
-use Rattle.std.specs.Prelude.{◌≡◌, ℕ, List, [], Bool, not, Option, Some, None, is_none, length, if◌then◌else◌}
+use Rattle.std.specs.Prelude.{◌≡◌, not, Option, Some, None, is_none, length, if◌then◌else◌}
 use Rattle.kr_base.specs.declared.span.Bound.{Bound}
 use Rattle.kr_base.specs.declared.span.Bound.TheVariants.{At, End}
 use Rattle.kr_base.specs.Bounds.{less}

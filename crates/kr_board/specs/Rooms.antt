@@ -1,5 +1,5 @@
 -- Room for what is written later, and what every board keeps.
-use Rattle.std.specs.Prelude.{◌≡◌, ℕ, zero, suc, ◌+◌, ◌-◌, ◌^◌, ◌<◌, ◌≤◌, List, [], ◌∷◌, Bool, vec_len, vec_capacity, map, length, cond}
+use Rattle.std.specs.Prelude.{◌≡◌, ℕ, zero, suc, ◌+◌, ◌-◌, ◌^◌, ◌<◌, ◌≤◌, List, [], ◌∷◌, vec_len, vec_capacity, map, length}
 use Rattle.std.specs.List.{count_by}
 use Rattle.std.proofs.Common.{Vec, Global}
 use Rattle.kr_survey.specs.Joins.{joined}

@@ -13,11 +13,11 @@ use Rattle.kr_core.specs.declared.event.Event.{Event}
 use Rattle.kr_core.specs.declared.event.Event.TheVariants.{Take, Steal, Report, GiveUp, Drain, StopAt, Look}
 use Rattle.kr_core.specs.declared.event.Reply.{Reply}
 use Rattle.kr_core.specs.States.{State, is_closed, segment_of, change}
-use Rattle.kr_core.specs.Steps.{Step, fits, after, may_report, owned, lowered, stolen, scanned, left, stopped}
+use Rattle.kr_core.specs.Steps.{Step, may_report, owned, lowered, stolen, scanned, left, stopped}
 use Rattle.kr_core.specs.Beside.{grown, parted, fronts, emptied, first_alone, beside, gathered, Others, Measures}
 use Rattle.kr_core.proofs.Spent.{not_both, within-append, within-none}
-use Rattle.kr_core.proofs.Chains.{IsLink, Lacks, Chain, Front}
-use Rattle.kr_core.proofs.Steps.{Reaches, reaches}
+use Rattle.kr_core.proofs.Chains.{Chain}
+use Rattle.kr_core.proofs.Steps.{reaches}
 use Rattle.kr_core.proofs.Runs.{Holds, closed-mark}
 
 -- the operation joins what two lists of entries measure

@@ -10,7 +10,7 @@ use Rattle.kr_core.specs.declared.event.Event.TheVariants.{Take, Report, Drain}
 use Rattle.kr_core.specs.declared.event.Reply.TheVariants.{Lease as Leased, Go, Done, Noted}
 use Rattle.kr_core.specs.Counts.{IsHonest, HonestRuns}
 use Rattle.kr_core.specs.Openings.{opening}
-use Rattle.kr_core.specs.Examples.{k1, k2, k3, k4, entries, span, cuts, seg, st, lease, s0, s1, s2, s3, s4, s5, s6, s7, s8, s9, events, two, lines, Follow, last_two, WorkedRun}
+use Rattle.kr_core.specs.Examples.{k1, k2, k3, k4, entries, span, seg, st, lease, s0, s1, s2, s3, s4, s5, s6, s7, s8, s9, events, two, lines, Follow, last_two, WorkedRun}
 
 follow : Follow s0 lines
 unfolding less
@@ -147,8 +147,17 @@ worked = record {
   closed = (refl, tt);
   listed = refl;
   drained_one = refl;
+  taken_again = refl;
+  stolen_by = refl;
+  stolen_from = refl;
+  given_up = refl;
+  untouched_end = refl;
+  lowered_end = refl;
+  rest_end = refl;
+  spent_end = refl;
   past_a_lowered_bound = refl;
   not_the_owner = refl;
+  taken_already = refl;
   theft_from_closed = refl;
   fewer_rows = refl;
   whole = whole;

@@ -1,5 +1,5 @@
 -- A step keeps what every run keeps, from any state that has it.
-use Rattle.std.proofs.Common.{◌≡◌, ℕ, ◌<◌, List, [], ◌∷◌, Bool, true, false, refl, subst, Option, Some, None}
+use Rattle.std.proofs.Common.{◌≡◌, ℕ, ◌<◌, List, [], ◌∷◌, Bool, true, false, refl, Option, Some, None}
 use Rattle.kr_base.specs.declared.span.Bound.{Bound}
 use Rattle.kr_base.specs.Bounds.{less}
 use Rattle.kr_base.proofs.Bounds.{irreflexive}

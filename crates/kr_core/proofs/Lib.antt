@@ -13,5 +13,6 @@ pub mod Ends
 pub mod Logs
 pub mod Example
 pub mod Keeping
+pub mod Holding
 pub mod Beside
 pub mod Rowing

@@ -1,5 +1,5 @@
 -- Logs that grow by an event at their end, for whoever keeps one.
-use Rattle.std.proofs.Common.{◌≡◌, ℕ, List, [], ◌∷◌, ◌++◌, Bool, true, false, ◌&&◌, not, cond, refl, sym, ap, ◌∙◌, subst, Option, Some, None}
+use Rattle.std.proofs.Common.{◌≡◌, ℕ, List, [], ◌∷◌, ◌++◌, Bool, true, false, not, cond, refl, sym, ap, ◌∙◌, subst, Option, Some, None}
 use Rattle.std.specs.Prelude.{◌||◌, if◌then◌else◌, ◌+◌}
 use Rattle.std.specs.Option.{option_map}
 use Rattle.kr_base.specs.declared.span.Bound.{Bound}

@@ -1,12 +1,11 @@
 -- The rows of segments and the drained ones, by what is kept beside the segments: their numbers.
-use Rattle.std.proofs.Common.{◌≡◌, ℕ, ◌+◌, ◌-◌, ◌^◌, List, [], ◌∷◌, ◌++◌, Bool, true, false, ◌==◌, cond, length, refl, sym, ap, ◌∙◌, subst, arith, Option, Some, None}
+use Rattle.std.proofs.Common.{◌≡◌, ℕ, ◌+◌, List, [], ◌∷◌, ◌++◌, Bool, true, false, ◌==◌, cond, refl, sym, ap, ◌∙◌, subst, arith, Option, Some, None}
 use Rattle.std.specs.Prelude.{if◌then◌else◌, map}
-use Rattle.std.specs.List.{sum_by, count_by, flat_map}
+use Rattle.std.specs.List.{sum_by, flat_map}
 use Rattle.std.proofs.lemmas.List.Sums.{sum_by-cons, sum_by-append}
 use Rattle.std.proofs.lemmas.Bool.Decides.{nat_tests}
 use Rattle.kr_base.specs.declared.span.Bound.{Bound}
 use Rattle.kr_base.specs.declared.span.Bound.TheVariants.{At}
-use Rattle.kr_base.specs.declared.span.Span.{Span}
 use Rattle.kr_base.specs.declared.entry.Entry.{Entry}
 use Rattle.kr_base.specs.Bounds.{less}
 use Rattle.kr_base.specs.Entries.{Ascends, is_valid, within}
@@ -16,14 +15,14 @@ use Rattle.kr_core.specs.declared.event.Event.{Event}
 use Rattle.kr_core.specs.declared.event.Event.TheVariants.{Take, Steal, Report, GiveUp, Drain, StopAt, Look}
 use Rattle.kr_core.specs.declared.event.Reply.{Reply}
 use Rattle.kr_core.specs.States.{State, capped, is_closed, segment_of, change, Each}
-use Rattle.kr_core.specs.Openings.{AreInside, segments_at, end_of, opening}
+use Rattle.kr_core.specs.Openings.{segments_at, end_of, opening}
 use Rattle.kr_core.specs.Steps.{Step, fits, after, owned, lowered, stolen, scanned, front, left, stopped}
-use Rattle.kr_core.specs.Kept.{first_after, beginning}
-use Rattle.kr_core.specs.Counts.{TellsFrom, IsHonest, HonestRuns, counted}
+use Rattle.kr_core.specs.Kept.{first_after}
+use Rattle.kr_core.specs.Counts.{TellsFrom, IsHonest, HonestRuns}
 use Rattle.kr_core.specs.Beside.{grown, parted, fronts, emptied, first_alone, beside, gathered, Others, Measures}
-use Rattle.kr_core.specs.Rows.{brought, valid_in, drains, drained, HasOwnRows, HaveRows, IsRowed, RowsLaw}
+use Rattle.kr_core.specs.Rows.{brought, valid_in, drains, drained, HasOwnRows, HaveRows, RowsLaw}
 use Rattle.kr_core.proofs.Spent.{within-append, within-none}
-use Rattle.kr_core.proofs.Chains.{IsLink, Chain}
+use Rattle.kr_core.proofs.Chains.{Chain}
 use Rattle.kr_core.proofs.Runs.{Holds, kept-step}
 use Rattle.kr_core.proofs.Begins.{kept-opening}
 use Rattle.kr_core.proofs.Beside.{IsMeasure, IsMore, Brings, taken_out, measures-step}

@@ -1,6 +1,6 @@
 -- One run, worked by hand: two segments, a theft, a spent entry, a segment given up and taken again, a drain, a stop; what
 -- fits nowhere on the way; and a whole listing by one seat.
-use Rattle.std.specs.Prelude.{◌≡◌, ℕ, List, [], ◌∷◌, Bool, true, false, Option, Some, None}
+use Rattle.std.specs.Prelude.{◌≡◌, ℕ, List, [], ◌∷◌, Bool, true, false, Option, Some, None, take}
 use Rattle.kr_base.specs.declared.span.Bound.{Bound}
 use Rattle.kr_base.specs.declared.span.Bound.TheVariants.{At, End}
 use Rattle.kr_base.specs.declared.span.Span.{Span}
@@ -18,6 +18,7 @@ use Rattle.kr_core.specs.Openings.{AreInside, opening}
 use Rattle.kr_core.specs.Steps.{Step, fits, replay}
 use Rattle.kr_core.specs.Counts.{HonestRuns, AllClosed}
 use Rattle.kr_core.specs.Rows.{drained}
+use Rattle.kr_core.specs.Leases.{holder_of, ends_of, opening_end}
 
 abbrev pub k1 : List ℕ
 k1 = 0 ∷ 1 ∷ []
@@ -126,10 +127,22 @@ pub record WorkedRun : Type 0 where
   pub closed : AllClosed s9
   pub listed : entries_in (At []) (At k3) entries ≡ record { key = k1; mark = Valid 7 } ∷ record { key = k2; mark = Invalid } ∷ record { key = k3; mark = Spent } ∷ []
   pub drained_one : drained events ≡ 1
-  -- a report past a bound that a thief lowered, one by a seat that isn't the owner, a theft from a closed segment, and a
-  -- drain of fewer rows fit nowhere
+  -- who holds a segment: who took it last, who stole it, the victim still, nobody once it is given up
+  pub taken_again : holder_of 0 None events ≡ Some 3
+  pub stolen_by : holder_of 2 None events ≡ Some 2
+  pub stolen_from : holder_of 1 None events ≡ Some 1
+  pub given_up : holder_of 0 None (take 7 events) ≡ None
+  -- where they end after the theft: one that nobody touched, the victim, the rest
+  pub untouched_end : ends_of (opening_end span cuts) (take 4 events) 0 ≡ At k2
+  pub lowered_end : ends_of (opening_end span cuts) (take 4 events) 1 ≡ At k3
+  pub rest_end : ends_of (opening_end span cuts) (take 4 events) 2 ≡ End
+  -- and where a spent candidate ends one
+  pub spent_end : ends_of (opening_end span []) (Take 0 0 ∷ Report 0 0 (At k3) 1 3 true ∷ []) 0 ≡ At k3
+  -- a report past a bound that a thief lowered, one by a seat that isn't the owner, a taking of what is taken, a theft from a
+  -- closed segment, and a drain of fewer rows fit nowhere
   pub past_a_lowered_bound : fits s4 (Report 1 1 End 0 1 false) ≡ false
   pub not_the_owner : fits s4 (Report 2 1 (At k3) 0 1 true) ≡ false
+  pub taken_already : fits s1 (Take 5 0) ≡ false
   pub theft_from_closed : fits s5 (Steal 7 1 k3 3) ≡ false
   pub fewer_rows : fits s8 (Drain 0) ≡ false
   -- a whole listing by one seat, to the end of all

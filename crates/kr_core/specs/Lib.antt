@@ -8,4 +8,5 @@ pub mod Counts
 pub mod Beside
 pub mod Rows
 pub mod Logs
+pub mod Leases
 pub mod Examples

@@ -3,6 +3,7 @@ ghost use Rattle.kr_core.specs.Kept.{KeptLaw};
 ghost use Rattle.kr_core.specs.Counts.{CountingLaw};
 ghost use Rattle.kr_core.specs.Rows.{RowsLaw};
 ghost use Rattle.kr_core.specs.Logs.{ReplayLaw, GrowthLaw};
+ghost use Rattle.kr_core.specs.Leases.{OwnersLaw, LeasesLaw, ExclusiveLaw};
 ghost use Rattle.kr_core.specs.Examples.{WorkedRun};
 
 /// Whatever events step, in whatever order: segments adjoin from the first to the end, and their numbers differ.
@@ -28,6 +29,21 @@ pub fn replay_law()
 /// A log of honest events grows by an honest event at its end.
 pub fn growth_law<R>()
     ensures { GrowthLaw R }
+{}
+
+/// A segment's owner and its end are those that the log tells: who took it or stole it last, where it was cut last.
+pub fn owners_law()
+    ensures { OwnersLaw }
+{}
+
+/// What an event answers: a lease is the seat's, of the segment as it then stands.
+pub fn leases_law()
+    ensures { LeasesLaw }
+{}
+
+/// The seat of a lease may report and give up what it is of, and nobody else may, nor take it.
+pub fn exclusive_law()
+    ensures { ExclusiveLaw }
 {}
 
 /// A run of eleven events, worked by hand.

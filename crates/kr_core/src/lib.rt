@@ -13,7 +13,10 @@ mod opens;
 mod segment;
 
 pub use event::{Event, Lease, Reply};
-pub use laws::{counting_law, growth_law, kept_law, replay_law, rows_law, worked_run};
+pub use laws::{
+    counting_law, exclusive_law, growth_law, kept_law, leases_law, owners_law, replay_law,
+    rows_law, worked_run,
+};
 pub use machine::{Core, CoreRefusal};
 pub use segment::Segment;
 

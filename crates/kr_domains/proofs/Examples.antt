@@ -12,6 +12,7 @@ problems = record {
   of_nodes = refl;
   of_heirs = refl;
   of_array_types = refl;
+  of_named_types = refl;
   of_parameters = refl;
   nodes_taken = refl;
   heirs_taken = refl;

@@ -10,7 +10,8 @@ use Rattle.kr_fin.specs.declared.document.Item.{Item as FinItem}
 use Rattle.kr_fin.specs.declared.document.Item.TheVariants.{Number, Range, Truth as FinTruth, Name}
 use Rattle.kr_domains.specs.Names.{Meant, NoReference, Unknown, meant}
 use Rattle.kr_domains.specs.Names as names
-use Rattle.kr_domains.specs.Bounds.{Setting, integers, array_domain, meant_values, item_values, values_of, lengths_in, greatest, element_spots, field_spots}
+use Rattle.kr_problem.specs.Items.{integers}
+use Rattle.kr_domains.specs.Bounds.{Setting, array_domain, meant_values, item_values, values_of, lengths_in, greatest, element_spots, field_spots}
 
 plain_both : (xs ys : Domain) → ArePlain xs → ArePlain ys → ArePlain (xs ++ ys)
 plain_both [] ys a b = b

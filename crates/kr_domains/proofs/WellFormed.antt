@@ -8,7 +8,7 @@ use Rattle.kr_table.specs.Types.{JavaType}
 use Rattle.kr_table.specs.Table.{Heading, Field, Class, table_of, headings_of, classes_from, number_from, fields_of}
 use Rattle.kr_mean.specs.declared.mode.Mode.{Mode}
 use Rattle.kr_mean.specs.Problem.{Problem, ClassDomain, Domain, DomainObject, slots, no_slot, choices_in, domain_at, no_objects, objects_of_domain, objects_from, all_objects, parameter_slots, slots_of_object, object_choice, Objects, upto}
-use Rattle.kr_mean.specs.Program.{Program, program_of}
+use Rattle.kr_mean.specs.Program.{Program}
 use Rattle.kr_mean.specs.WellFormed.{IsWellFormed, ArePlain, AreSpots}
 use Rattle.std.proofs.Common.{length-append}
 use Rattle.kr_fin.specs.declared.document.FinDoc.{FinDoc}
@@ -16,7 +16,7 @@ use Rattle.kr_fin.specs.declared.document.NamedDomain.{NamedDomain}
 use Rattle.kr_fin.specs.declared.document.ArrayBound.{ArrayBound}
 use Rattle.kr_fin.specs.declared.document.Item.{Item as FinItem}
 use Rattle.kr_domains.specs.Names.{array_type}
-use Rattle.kr_domains.specs.Bounds.{Setting, setting_of, bounded, typed_bound, problem_in, root_of, given, values_of, lengths_of, values_given, field_spots, field_key, class_domain, class_domains, array_class_domain, element_spots, elements_key, greatest, domains_of, count_named, tested_parameters, parameter_key}
+use Rattle.kr_domains.specs.Bounds.{Setting, setting_of, bounded, typed_bound, problem_in, program_in, root_of, given, values_of, lengths_of, values_given, field_spots, field_key, class_domain, class_domains, array_class_domain, element_spots, elements_key, greatest, domains_of, count_named, tested_parameters, parameter_key}
 use Rattle.kr_domains.specs.Faults.{S1, S2, S3, faults_in, classes_S2, class_S2, array_S2, parameter_S2, no_field_domain, given_values, named_domains}
 use Rattle.kr_domains.specs.Laws.{WellFormedLaw}
 use Rattle.kr_domains.proofs.Each.{both_none, unbroken, none_each, each_in_both, each_of_both, each_before, each_mapped, each_flat, each_weaker, each_always, each_at, each_number}
@@ -311,5 +311,5 @@ counted files document = classes_and_headings files
 pub well_formed : WellFormedLaw
 well_formed files document mode e =
     let setting = setting_of files document in
-    well_formed_of (problem_in (program_of files) setting mode) setting mode (counted files document) (bounds_of files document) (is_of (program_of files) setting mode)
-    (rules_of (problem_in (program_of files) setting mode) setting mode e)
+    well_formed_of (problem_in (program_in (setting_of files document)) setting mode) setting mode (counted files document) (bounds_of files document) (is_of (program_in (setting_of files document)) setting mode)
+    (rules_of (problem_in (program_in (setting_of files document)) setting mode) setting mode e)

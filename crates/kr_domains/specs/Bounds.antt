@@ -1,6 +1,6 @@
 -- The problem of a program, a document and a mode: class domains in the order of the class table, and then the array types
 -- in the document's; of an object the inherited fields first.
-use Rattle.std.specs.Prelude.{ℕ, zero, suc, ◌+◌, ℤ, pos, negsuc, ◌+ℤ◌, ◌-ℤ◌, List, [], ◌∷◌, ◌++◌, length, map, flat_map, max, bytes_eq, codes, Option, Some, None, option_map, unwrap_or, if◌then◌else◌}
+use Rattle.std.specs.Prelude.{ℕ, zero, suc, ◌+◌, pos, List, [], ◌∷◌, ◌++◌, length, map, flat_map, max, bytes_eq, codes, Option, Some, None, option_map, unwrap_or, if◌then◌else◌}
 use Rattle.kr_ast.specs.Tree.{Tree}
 use Rattle.kr_table.specs.Types.{JavaType, is_same}
 use Rattle.kr_table.specs.Table.{Table, Heading, Field, Parameter, Method, Class, table_of, class_at, fields_of, method_named, number_of}
@@ -10,8 +10,9 @@ use Rattle.kr_value.specs.declared.object.Class.TheVariants.{Object, Array}
 use Rattle.kr_value.specs.declared.object.Spot.TheVariants.{Field as FieldSpot, Length, Element}
 use Rattle.kr_mean.specs.declared.mode.Mode.{Mode}
 use Rattle.kr_mean.specs.declared.mode.Mode.TheVariants.{List as Listing, Method as Testing}
-use Rattle.kr_mean.specs.Program.{Program, program_of}
+use Rattle.kr_mean.specs.Program.{Program, program_with}
 use Rattle.kr_mean.specs.Problem.{Problem, ClassDomain, Domain, Item, Plain, Objects, Spotted}
+use Rattle.kr_problem.specs.Items.{integers}
 use Rattle.kr_fin.specs.declared.document.FinDoc.{FinDoc}
 use Rattle.kr_fin.specs.declared.document.Count.{Count}
 use Rattle.kr_fin.specs.declared.document.ArrayBound.{ArrayBound}
@@ -68,19 +69,6 @@ abbrev pub class_name : Table → ℕ → Text
 class_name table c = unwrap_or (option_map (λ d. d.name) (class_at table.classes c)) []
 
 -- ---- values
-
--- so many integers, the first of them and on
-abbrev pub integers_from : ℤ → ℕ → List ℤ
-integers_from from zero = []
-integers_from from (suc count) = from ∷ integers_from (from +ℤ pos 1) count
-
-abbrev pub magnitude : ℤ → ℕ
-magnitude (pos n) = n
-magnitude (negsuc n) = 0
-
--- from the first to the last, both included
-abbrev pub integers : ℤ → ℤ → List ℤ
-integers from to = integers_from from (magnitude ((to -ℤ from) +ℤ pos 1))
 
 -- the class domain of an array type that the document bounds, counted from d on
 abbrev pub array_domain : ℕ → List (JavaType × ArrayBound) → JavaType → List Item
@@ -204,5 +192,9 @@ problem_in program setting mode = record {
   domains = domains_of setting;
 }
 
+-- the program with the array types that only the document names behind its own
+abbrev pub program_in : Setting → Program
+program_in setting = program_with setting.table setting.types
+
 abbrev pub problem_of : List Tree → FinDoc → Mode → Problem
-problem_of files document mode = problem_in (program_of files) (setting_of files document) mode
+problem_of files document mode = let setting = setting_of files document in problem_in (program_in setting) setting mode

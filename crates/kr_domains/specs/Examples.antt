@@ -5,6 +5,7 @@ use Rattle.kr_ast.specs.declared.node.BinaryOperator.TheVariants.{Equal}
 use Rattle.kr_ast.specs.Tree as trees
 use Rattle.kr_ast.specs.Tree.{Tree, Nil, Cons}
 use Rattle.kr_ast.specs.declared.node.Primitive.TheVariants.{Int as IntName, Boolean as BooleanName}
+use Rattle.kr_table.specs.Types.{JavaType, IntType, BooleanType, ArrayType}
 use Rattle.kr_value.specs.declared.value.Value.TheVariants.{Int, Bool as TruthValue, Null}
 use Rattle.kr_value.specs.declared.object.Class.TheVariants.{Object, Array}
 use Rattle.kr_value.specs.declared.object.Spot.TheVariants.{Field, Length, Element}
@@ -113,6 +114,10 @@ name n = Name n
 
 abbrev pub domains : List Tree → FinDoc → List ClassDomain
 domains classes document = (problem_of (files classes) document Listing).domains
+
+-- the array types of the problem's program, by their numbers
+abbrev pub array_types : List Tree → FinDoc → List JavaType
+array_types classes document = (problem_of (files classes) document Listing).program.arrays
 
 -- how many values each parameter of the method under test has
 abbrev pub parameters : List Tree → FinDoc → Text → List Domain
@@ -230,6 +235,8 @@ pub record Problems : Type 0 where
       ∷ record { name = codes "boolean[]"; class = Array 2; count = 1; spots = record { spot = Length; domain = int_items (0 ∷ []) } ∷ [] }
       ∷ record { name = codes "int[]"; class = Array 0; count = 2; spots = record { spot = Length; domain = int_items (1 ∷ []) } ∷ record { spot = Element 0; domain = int_items (7 ∷ []) } ∷ [] }
       ∷ record { name = codes "int[][]"; class = Array 1; count = 1; spots = record { spot = Length; domain = int_items (0 ∷ 2 ∷ []) } ∷ record { spot = Element 0; domain = Plain Null ∷ Objects 2 ∷ [] } ∷ record { spot = Element 1; domain = Plain Null ∷ Objects 2 ∷ [] } ∷ [] } ∷ []
+  -- the array types that only the document names have numbers behind the program's own
+  pub of_named_types : array_types with_arrays (of_arrays (Number (pos 0) ∷ []) (Number (pos 7) ∷ [])) ≡ ArrayType IntType ∷ ArrayType (ArrayType IntType) ∷ ArrayType BooleanType ∷ []
   pub of_parameters : parameters with_heir (with_params (given (codes "put.x") (Truth true ∷ []) ∷ [])) (codes "put") ≡ (Plain (TruthValue true) ∷ []) ∷ []
   pub nodes_taken : refused (node ∷ []) two_nodes Listing ≡ None
   pub heirs_taken : refused with_heir (of_heir one_heir (Number (pos 7) ∷ []) (name (codes "R") ∷ name (codes "Base") ∷ [])) Listing ≡ None

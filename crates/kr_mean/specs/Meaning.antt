@@ -66,11 +66,11 @@ choose v m n = stop Stuck
 
 -- ---- the parts of a node
 
--- what expressions and statements below a node do, and how many rounds its loop has at most
+-- what expressions and statements below a node do, and what a loop of a test and a body does
 pub record Parts : Type 0 where
   pub value : Scope → Tree → Run Value
   pub exec : Scope → Tree → Run Flow
-  pub rounds : ℕ
+  pub rounds : Run Value → Run Flow → Run Flow
 
 -- the values of arguments, left to right (15.7.4)
 abbrev pub values_of : Parts → Scope → List Tree → Run (List Value)
@@ -454,13 +454,13 @@ flow_of program parts s (trees.IfThen p e a) = do
 flow_of program parts s (trees.IfElse p e a b) = do
   v ← parts.value s e
   choose v (parts.exec s a) (parts.exec s b)
-flow_of program parts s (trees.While p e a) = rounds parts.rounds (parts.value s e) (parts.exec s a)
+flow_of program parts s (trees.While p e a) = parts.rounds (parts.value s e) (parts.exec s a)
 flow_of program parts s (trees.Do p a e) = do
   flow ← parts.exec s a
-  then_round flow (rounds parts.rounds (parts.value s e) (parts.exec s a))
+  then_round flow (parts.rounds (parts.value s e) (parts.exec s a))
 flow_of program parts s (trees.For p i e u a) = scoped (do
   flow ← all parts s (items i)
-  then_on flow (rounds parts.rounds (condition parts (after s i) e) (do
+  then_on flow (parts.rounds (condition parts (after s i) e) (do
     leads ← parts.exec (after s i) a
     then_update leads (updates parts (after s i) (items u)))))
 flow_of program parts s (trees.Break p) = give Broke
@@ -482,22 +482,38 @@ abbrev pub statement : Program → Parts → Scope → Tree → Run Flow
 statement program parts s (trees.Local p t ds) = all_declared parts (declaring_locals s t) (items ds)
 statement program parts s t = tick >> flow_of program parts s t
 
+-- what is below a node where no fuel is left
+abbrev pub spent : Parts
+spent = record { value = λ s e. stop OutOfFuel; exec = λ s t. stop OutOfFuel; rounds = λ test body. stop OutOfFuel }
+
 -- expressions and statements, nested at most n deep: each level takes a unit, so a bound of the fuel cuts nothing off
 unfoldable mutual
   pub eval : Program → ℕ → Scope → Tree → Run Value
   eval program zero s e = stop OutOfFuel
-  eval program (suc n) s e = tick >> value_of program (record { value = eval program n; exec = exec program n; rounds = n }) s e
+  eval program (suc n) s e = tick >> value_of program (record { value = eval program n; exec = exec program n; rounds = rounds n }) s e
 
   pub exec : Program → ℕ → Scope → Tree → Run Flow
-  exec program zero s t = stop OutOfFuel
-  exec program (suc n) s t = statement program (record { value = eval program n; exec = exec program n; rounds = n }) s t
+  exec program zero s t = statement program spent s t
+  exec program (suc n) s t = statement program (record { value = eval program n; exec = exec program n; rounds = rounds n }) s t
 
 abbrev pub parts_within : Program → ℕ → Parts
-parts_within program n = record { value = eval program n; exec = exec program n; rounds = n }
+parts_within program n = record { value = eval program n; exec = exec program n; rounds = rounds n }
 
 -- the meaning of an expression
 unfoldable pub value : Program → Scope → Tree → Run Value
 value program s e state = eval program state.fuel s e state
+
+-- the meaning of a statement
+unfoldable pub execute : Program → Scope → Tree → Run Flow
+execute program s t state = exec program state.fuel s t state
+
+-- the meaning of a loop
+unfoldable pub loop : Run Value → Run Flow → Run Flow
+loop test body state = rounds state.fuel test body state
+
+-- parts by their meanings, without a bound
+abbrev pub unbounded : Program → Parts
+unbounded program = record { value = value program; exec = execute program; rounds = loop }
 
 -- the meaning of a method's body, with the arguments
 unfoldable pub body_of : Program → Value → List Value → Method → Run Value

@@ -3,4 +3,4 @@
 
 mod rows;
 
-pub use rows::{worked_constructs, worked_examples, worked_listings};
+pub use rows::{worked_constructs, worked_examples, worked_listings, worked_tests};

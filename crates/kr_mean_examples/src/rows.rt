@@ -2,6 +2,7 @@
 ghost use Rattle.kr_mean_examples.specs.Constructs.{Constructs};
 ghost use Rattle.kr_mean_examples.specs.Listings.{Listings};
 ghost use Rattle.kr_mean_examples.specs.Examples.{Worked};
+ghost use Rattle.kr_mean_examples.specs.Tests.{Tests};
 
 /// Each construct of the language: what it gives, what it costs, and what it reads.
 #[tactic(auto, using(crate::proofs::Constructs::constructs))]
@@ -19,4 +20,10 @@ pub fn worked_listings()
 #[tactic(auto, using(crate::proofs::Examples::worked))]
 pub fn worked_examples()
     ensures { Worked }
+{}
+
+/// Each verdict of a test, and how objects are made.
+#[tactic(auto, using(crate::proofs::Tests::tests))]
+pub fn worked_tests()
+    ensures { Tests }
 {}

@@ -11,3 +11,5 @@ mod tests;
 
 pub use class_names::{Heads, superclasses};
 pub use headings::{Heading, NodeAt, tree_of};
+pub use lists::items;
+pub use names::Index;

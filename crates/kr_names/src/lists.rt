@@ -21,7 +21,7 @@ fn first(tree: &Tree, list: u32) -> Option<(u32, u32)>
 }
 
 /// The items of a list.
-pub(crate) fn items(alloc: Global, tree: &Tree, list: u32) -> Result<Vec<u32>, NoMemory>
+pub fn items(alloc: Global, tree: &Tree, list: u32) -> Result<Vec<u32>, NoMemory>
     requires { list < length tree.now.entries }
     ensures within { IfOk result (λ nodes. All (λ n. n < length tree.now.entries) nodes.items) }
     ensures shown { IfOk result (λ nodes. map (tree_in tree.now) nodes.items ≡ items (tree_in tree.now list)) }

@@ -9,7 +9,7 @@ use std::marker::Model;
 
 /// Where each of some names stands first among them.
 #[derive(Drop)]
-pub(crate) struct Index {
+pub struct Index {
     first: IndexMap<Vec<u8>, u32>,
 }
 
@@ -22,7 +22,7 @@ impl Model for Index {
 }
 
 impl Index {
-    pub(crate) fn new(alloc: Global) -> Self
+    pub fn new(alloc: Global) -> Self
         ensures { IsIndexOf [] result }
     {
         Index {
@@ -31,14 +31,14 @@ impl Index {
     }
 
     /// Where the name stands first.
-    pub(crate) fn find(&self, name: &[u8]) -> Option<u32>
+    pub fn find(&self, name: &[u8]) -> Option<u32>
         ensures { result ≡ place_of name.now self.now }
     {
         self.first.get(name).copied()
     }
 
     /// Notes that a name stands behind the others.
-    pub(crate) fn add(&mut self, alloc: Global, name: &[u8], at: u32) -> Result<(), NoMemory>
+    pub fn add(&mut self, alloc: Global, name: &[u8], at: u32) -> Result<(), NoMemory>
         ensures { IfOk result (λ none. (names : List (List ℕ)) → IsIndexOf names self.old → at ≡ length names → IsIndexOf (names ++ name.now ∷ []) self.new) }
     {
         if self.find(name).is_some() {

@@ -1,10 +1,10 @@
 -- What the operators give, worked by hand from the Java Language Specification 15.15 to 15.24, most of it at the edges of
 -- the ints.
-use Rattle.std.specs.Prelude.{◌≡◌, ℤ, pos, negsuc, Bool, true, false, Option, Some, None}
+use Rattle.std.specs.Prelude.{◌≡◌, ℤ, pos, negsuc, true, false, List, [], ◌∷◌, Option, Some, None}
 use Rattle.kr_ast.specs.declared.node.UnaryOperator.TheVariants.{Plus, Minus, Complement, Not}
 use Rattle.kr_ast.specs.declared.node.BinaryOperator.{BinaryOperator}
 use Rattle.kr_ast.specs.declared.node.BinaryOperator.TheVariants.{Multiply, Divide, Remainder, Add, Subtract, ShiftLeft, ShiftRight, ShiftRightUnsigned, Less, Greater, LessOrEqual, GreaterOrEqual, Equal, NotEqual, BitAnd, BitXor, BitOr, And, Or}
-use Rattle.kr_table.specs.Constants.{ConstantValue, Whole, Truth, Absent, unary_value, of_values, binary_value}
+use Rattle.kr_table.specs.Constants.{ConstantValue, Whole, Truth, Absent, unary_value, of_values, binary_value, chosen}
 
 -- -n
 abbrev pub minus_one : ℤ
@@ -19,8 +19,18 @@ greatest = pos 2147483647
 abbrev pub on_ints : BinaryOperator → ℤ → ℤ → Option ConstantValue
 on_ints o a b = of_values o (Whole a) (Whole b)
 
-abbrev pub on_truths : BinaryOperator → Bool → Bool → Option ConstantValue
-on_truths o a b = of_values o (Truth a) (Truth b)
+-- -5 with 3, 4 with 4, 3 with -5
+abbrev pub compared : BinaryOperator → List (Option ConstantValue)
+compared o = on_ints o (negsuc 4) (pos 3) ∷ on_ints o (pos 4) (pos 4) ∷ on_ints o (pos 3) (negsuc 4) ∷ []
+
+-- true with true, true with false, false with true, false with false
+abbrev pub on_truths : BinaryOperator → List (Option ConstantValue)
+on_truths o =
+    of_values o (Truth true) (Truth true)
+    ∷ of_values o (Truth true) (Truth false)
+    ∷ of_values o (Truth false) (Truth true)
+    ∷ of_values o (Truth false) (Truth false)
+    ∷ []
 
 abbrev pub int : ℤ → Option ConstantValue
 int z = Some (Whole z)
@@ -37,11 +47,15 @@ pub record WorkedOperators : Type 0 where
   pub minus : unary_value Minus (Whole (pos 5)) ≡ int (negsuc 4)
   pub minus_least : unary_value Minus (Whole least) ≡ int least
   pub complement : unary_value Complement (Whole (pos 7)) ≡ int (negsuc 7)
+  pub minus_negative : unary_value Minus (Whole (negsuc 4)) ≡ int (pos 5)
   pub complement_least : unary_value Complement (Whole least) ≡ int greatest
   pub «not» : unary_value Not (Truth true) ≡ fails
+  pub not_false : unary_value Not (Truth false) ≡ holds
   pub not_of_int : unary_value Not (Whole (pos 1)) ≡ None
   pub minus_of_truth : unary_value Minus (Truth true) ≡ None
   -- sums and products wrap
+  pub sum : on_ints Add (negsuc 6) (pos 3) ≡ int (negsuc 3)
+  pub difference : on_ints Subtract (pos 3) (negsuc 6) ≡ int (pos 10)
   pub over : on_ints Add greatest (pos 1) ≡ int least
   pub under : on_ints Subtract least (pos 1) ≡ int greatest
   pub least_less_itself : on_ints Subtract (pos 0) least ≡ int least
@@ -77,33 +91,34 @@ pub record WorkedOperators : Type 0 where
   pub unsigned_33 : on_ints ShiftRightUnsigned least (pos 33) ≡ int (pos 1073741824)
   pub unsigned_by_negative : on_ints ShiftRightUnsigned minus_one minus_one ≡ int (pos 1)
   -- comparisons know signs
-  pub less : on_ints Less minus_one (pos 0) ≡ holds
-  pub less_itself : on_ints Less (pos 4) (pos 4) ≡ fails
-  pub least_less : on_ints Less greatest least ≡ fails
-  pub greater : on_ints Greater (pos 0) least ≡ holds
-  pub at_most : on_ints LessOrEqual (negsuc 4) (negsuc 4) ≡ holds
-  pub at_most_less : on_ints LessOrEqual (negsuc 3) (negsuc 4) ≡ fails
-  pub at_least : on_ints GreaterOrEqual greatest least ≡ holds
-  pub equal : on_ints Equal least least ≡ holds
-  pub equal_sign : on_ints Equal (pos 1) minus_one ≡ fails
-  pub unequal : on_ints NotEqual (pos 1) minus_one ≡ holds
+  pub less : compared Less ≡ holds ∷ fails ∷ fails ∷ []
+  pub greater : compared Greater ≡ fails ∷ fails ∷ holds ∷ []
+  pub at_most : compared LessOrEqual ≡ holds ∷ holds ∷ fails ∷ []
+  pub at_least : compared GreaterOrEqual ≡ fails ∷ holds ∷ holds ∷ []
+  pub equal : compared Equal ≡ fails ∷ holds ∷ fails ∷ []
+  pub unequal : compared NotEqual ≡ holds ∷ fails ∷ holds ∷ []
+  pub edges : on_ints Less greatest least ≡ fails
+  pub negatives : on_ints Less (negsuc 4) (negsuc 3) ≡ holds
+  pub same_digits : on_ints Equal (pos 1) (negsuc 1) ≡ fails
   -- bit by bit
   pub both : on_ints BitAnd (pos 12) (pos 10) ≡ int (pos 8)
   pub both_negative : on_ints BitAnd minus_one least ≡ int least
   pub either : on_ints BitOr (pos 12) least ≡ int (negsuc 2147483635)
+  pub either_positive : on_ints BitOr (pos 12) (pos 10) ≡ int (pos 14)
   pub differing : on_ints BitXor (pos 12) (pos 10) ≡ int (pos 6)
   pub differing_negative : on_ints BitXor minus_one greatest ≡ int least
   pub and_of_ints : on_ints And (pos 1) (pos 1) ≡ None
   pub or_of_ints : on_ints Or (pos 1) (pos 1) ≡ None
   -- booleans
-  pub truths_equal : on_truths Equal false false ≡ holds
-  pub truths_unequal : on_truths NotEqual false false ≡ fails
-  pub truths_both : on_truths BitAnd true false ≡ fails
-  pub truths_differ : on_truths BitXor true false ≡ holds
-  pub truths_either : on_truths BitOr true false ≡ holds
-  pub truths_and : on_truths And true true ≡ holds
-  pub truths_or : on_truths Or false false ≡ fails
-  pub truths_less : on_truths Less false true ≡ None
+  pub truths_equal : on_truths Equal ≡ holds ∷ fails ∷ fails ∷ holds ∷ []
+  pub truths_unequal : on_truths NotEqual ≡ fails ∷ holds ∷ holds ∷ fails ∷ []
+  pub truths_both : on_truths BitAnd ≡ holds ∷ fails ∷ fails ∷ fails ∷ []
+  pub truths_differ : on_truths BitXor ≡ fails ∷ holds ∷ holds ∷ fails ∷ []
+  pub truths_either : on_truths BitOr ≡ holds ∷ holds ∷ holds ∷ fails ∷ []
+  pub truths_and : on_truths And ≡ holds ∷ fails ∷ fails ∷ fails ∷ []
+  pub truths_or : on_truths Or ≡ holds ∷ holds ∷ holds ∷ fails ∷ []
+  pub truths_less : on_truths Less ≡ None ∷ None ∷ None ∷ None ∷ []
+  pub truths_added : on_truths Add ≡ None ∷ None ∷ None ∷ None ∷ []
   -- null, and operands that don't fit together
   pub nulls_equal : of_values Equal Absent Absent ≡ holds
   pub nulls_unequal : of_values NotEqual Absent Absent ≡ fails
@@ -118,3 +133,9 @@ pub record WorkedOperators : Type 0 where
   pub and_right : binary_value And (Some (Truth true)) (Some (Truth false)) ≡ fails
   pub both_needed : binary_value BitAnd (Some (Truth false)) None ≡ None
   pub left_needed : binary_value Or None (Some (Truth true)) ≡ None
+  -- of `?:` only the arm that is chosen counts
+  pub chosen_first : chosen (Some (Truth true)) (int (pos 1)) None ≡ int (pos 1)
+  pub chosen_second : chosen (Some (Truth false)) None (int (pos 2)) ≡ int (pos 2)
+  pub chosen_without : chosen (Some (Truth true)) None (int (pos 2)) ≡ None
+  pub condition_needed : chosen None (int (pos 1)) (int (pos 1)) ≡ None
+  pub condition_of_int : chosen (Some (Whole (pos 1))) (int (pos 1)) (int (pos 1)) ≡ None

@@ -30,7 +30,7 @@ use Rattle.kr_mean.specs.Steps.{Stop, Trapped, Stuck, Local, Old, State, Outcome
 use Rattle.kr_mean.specs.Operators.{value_of_constant, is_division, constant_result, of_references, operated, operated_alone}
 use Rattle.kr_mean.specs.Meaning.{choose, make_array, create_array, parts_within, run_method, eval, value}
 use Rattle.kr_mean.specs.Code.{Node, code, code_of_method}
-use Rattle.kr_pruning.proofs.Respects.{Any, Same, Each, OnOption, AllOf, Logic, IsCode, evals, parts_alike, runs_method}
+use Rattle.kr_bounds.proofs.Respects.{Any, Same, Each, OnOption, AllOf, Logic, IsCode, evals, parts_alike, runs_method}
 
 -- ---- two lists of reads
 

@@ -35,7 +35,7 @@ use Rattle.kr_pruning.proofs.Spaces.{objects_long, objects_get}
 use Rattle.kr_pruning.proofs.Places.{spot_slots, spot_none, this_slots, parameter_slots_are, kind, class_at, extent_of, extent, extent_within, heap_long, heap_class, heap_width, heap_field, heap_past, heap_length, heap_element}
 use Rattle.kr_pruning.proofs.Walked.{length_renamed}
 use Rattle.kr_pruning.proofs.Named.{name_in, heap_name, heap_name_at, heap_name_fixes, heap_name_within, heap_name_apart, on, on_this, on_parameter, on_spot, AgreeAt, choice_renamed}
-use Rattle.kr_pruning.proofs.Respects.{Same, Each, AllOf, all_front, all_back, all_parts, MayWrite, IsCode}
+use Rattle.kr_bounds.proofs.Respects.{Same, Each, AllOf, all_front, all_back, all_parts, MayWrite, IsCode}
 use Rattle.kr_pruning.proofs.Goes.{Forked, renamed_value, renamed_place, KnownValue, Knows, KnownPlace, Setting, Related, LocalLike, HeapLike, Like, SaidLike, Reaches, Meets, Goes, bind_meets, collects, value_goes, method_goes}
 use Rattle.kr_pruning.proofs.SlotForks.{SlotForks, slots_then, slots_same, slots_map}
 

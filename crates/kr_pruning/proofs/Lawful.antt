@@ -19,7 +19,7 @@ use Rattle.kr_pruning.proofs.Numbering.{object, count_at, parameters, first_slot
 use Rattle.kr_pruning.proofs.Spaces.{block_of, is_space}
 use Rattle.kr_pruning.proofs.Places.{extent, extent_within}
 use Rattle.kr_pruning.proofs.Named.{on, on_this, on_parameter, on_spot, AgreeAt}
-use Rattle.kr_pruning.proofs.Respects.{AllOf}
+use Rattle.kr_bounds.proofs.Respects.{AllOf}
 use Rattle.kr_pruning.proofs.Goes.{KnownValue}
 use Rattle.kr_pruning.proofs.SlotForks.{SlotForks, slots_then, slots_map, slots_with, slots_agreed, slots_always, slots_distinct, all_map, all_from, all_has}
 use Rattle.kr_pruning.proofs.Verdicts.{verdicts_same}

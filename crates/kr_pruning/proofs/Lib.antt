@@ -11,8 +11,6 @@ pub mod Inverses
 pub mod Compositions
 pub mod Representatives
 pub mod Isomorphic
-pub mod Overriders
-pub mod Respects
 pub mod Goes
 pub mod Numbering
 pub mod Spaces

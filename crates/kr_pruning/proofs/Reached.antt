@@ -15,7 +15,7 @@ use Rattle.kr_pruning.proofs.Numbers.{no_lacks}
 use Rattle.kr_pruning.proofs.Numbering.{object, nobody, count_at, parameters, first_slot, parameter_slot, object_slot, object_at_number}
 use Rattle.kr_pruning.proofs.Spaces.{block_of, plain_choice}
 use Rattle.kr_pruning.proofs.Places.{one_object, extent, extent_within, slots_in_are, same_objects, same_object}
-use Rattle.kr_pruning.proofs.Respects.{AllOf}
+use Rattle.kr_bounds.proofs.Respects.{AllOf}
 use Rattle.kr_pruning.proofs.Goes.{KnownValue}
 use Rattle.kr_pruning.proofs.SlotForks.{all_has, all_from}
 use Rattle.kr_pruning.proofs.Walked.{Valid, objects_there, met_valid, walked, adds}
@@ -143,7 +143,7 @@ module _ (problem : Problem) (w : IsWellFormed problem) (v : List ℕ) where
       go (inr l) [] f = inl (f ∙ append-nil (met_within problem v (suc k)))
       go (inr l) (x ∷ xs) f = inr (omega (arith, l, ap (λ (y : List DomainObject). length y) f, length-append (met_within problem v (suc k)) (x ∷ xs)))
 
-  settled : met_within problem v (suc N) ≡ met_within problem v N
+  pub settled : met_within problem v (suc N) ≡ met_within problem v N
   settled = go (settles N)
     where
       go : (met_within problem v (suc N) ≡ met_within problem v N) ⊎ (N < length (met_within problem v (suc N))) → met_within problem v (suc N) ≡ met_within problem v N

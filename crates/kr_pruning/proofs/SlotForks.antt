@@ -5,7 +5,7 @@ use Rattle.std.proofs.lemmas.List.Elements.{filter-append}
 use Rattle.std.proofs.lemmas.Bool.{eq-eqb, eqb-true}
 use Rattle.kr_mean.specs.Heaps.{distinct}
 use Rattle.kr_pruning.proofs.Membership.{Has, bool_cases}
-use Rattle.kr_pruning.proofs.Respects.{AllOf}
+use Rattle.kr_bounds.proofs.Respects.{AllOf}
 
 -- The next slot is the same, up to names, and known, as long as the two agree on those before; where they agree to the
 -- end, `same` holds.

@@ -29,7 +29,7 @@ use Rattle.kr_mean.specs.WellFormed.{IsWellFormed}
 use Rattle.kr_pruning.proofs.Membership.{Has}
 use Rattle.kr_pruning.proofs.Numbering.{object, count_at, width_at, parameters, first_slot, number_of_object}
 use Rattle.kr_pruning.proofs.Places.{class_at, extent_of, extent, heap_long, heap_class, values_of_class, heap_values}
-use Rattle.kr_pruning.proofs.Respects.{Each, AllOf, MayWrite, IsCode}
+use Rattle.kr_bounds.proofs.Respects.{Each, AllOf, MayWrite, IsCode}
 use Rattle.kr_pruning.proofs.SlotForks.{all_has}
 use Rattle.kr_pruning.proofs.Goes.{Forked, renamed_value, renamed_place, KnownValue, Knows, KnownPlace, Setting, Related, SlotLike, LocalLike, OldLike, ObjectLike, HeapLike, Like, SaidLike, Reaches, Meets, Goes, bind_goes, plain_like, value_goes, method_goes, MayStore, MayPut}
 use Rattle.kr_pruning.proofs.Reached.{IsMet, this_known, parameter_known, field_known, field_walked, root_walked}

@@ -17,7 +17,7 @@ use Rattle.kr_pruning.proofs.Numbering.{object, count_at, width_at, parameters, 
 use Rattle.kr_pruning.proofs.Spaces.{block_of}
 use Rattle.kr_pruning.proofs.Places.{class_at, extent_of, extent, extent_within, slots_in_are, same_objects, same_object}
 use Rattle.kr_pruning.proofs.Named.{name_in, name_apart, heap_name, renamed_object, on, on_this, on_parameter, on_spot, AgreeAt, choice_renamed}
-use Rattle.kr_pruning.proofs.Respects.{AllOf}
+use Rattle.kr_bounds.proofs.Respects.{AllOf}
 use Rattle.kr_pruning.proofs.Goes.{renamed_value}
 use Rattle.kr_pruning.proofs.SlotForks.{SlotForks, slots_then, slots_same, slots_map, slots_known, all_map, all_append, all_distinct, added, distinct_append, distinct_renamed}
 

@@ -4,7 +4,7 @@ ghost use Rattle.std.specs.List.{list_all};
 ghost use Rattle.kr_core.specs.States.{is_closed, is_cut};
 ghost use Rattle.kr_core.specs.Steps.{Step, fits};
 ghost use Rattle.kr_board.specs.Boards.{Adds, Stays, AreNext};
-ghost use Rattle.kr_board.specs.Closing.{front_rows, first_mark, mark_in, Closes, spent_key};
+ghost use Rattle.kr_board.specs.Closing.{all_closed, front_rows, first_mark, mark_in, is_listing, GivesListing, GivesBack, spent_key};
 
 use super::{Board, make_log_room};
 use crate::edits::take_front;
@@ -137,9 +137,11 @@ impl<R: Drop> Board<R> {
         }
     }
 
-    /// The listing, where no segment has an owner or something left to scan. It takes no memory.
+    /// The listing, where no segment has an owner or something left to scan, else the board again. It takes no memory.
     pub fn close(self) -> Closed<R>
-        ensures { Closes self result }
+        ensures finished { is_listing result ≡ all_closed self.core }
+        ensures listing { GivesListing self result }
+        ensures unfinished { GivesBack self result }
     {
         if !self.is_finished() {
             return Closed::Unfinished(self);

@@ -1,8 +1,9 @@
 // Leases that are given back.
-ghost use Rattle.std.specs.Prelude.{◌≡◌, ◌↔◌, [], true, false};
+ghost use Rattle.std.specs.Prelude.{◌≡◌, ◌↔◌, ◌<◌, [], true, false, length};
 ghost use Rattle.kr_core.specs.States.{segment_of};
 ghost use Rattle.kr_core.specs.Steps.{Step, fits, may_give_up};
 ghost use Rattle.kr_board.specs.Boards.{Adds, Stays};
+ghost use Rattle.kr_board.specs.Releasing.{IsReleased, IsReleasedAt};
 
 use super::Board;
 use kr_core::{Core, Event, Lease, Reply};
@@ -44,6 +45,17 @@ impl<R: Drop> Board<R> {
         GivenUp::Released
     }
 
+    /// Gives every owned segment back, one event for each. It takes no memory.
+    pub fn release_all(&mut self)
+        ensures released { IsReleased self.old self.new }
+        ensures stays { Stays self.old self.new }
+    {
+        let count = self.core.segments().len();
+        for i in 0..count {
+            self.release_at(i);
+        }
+    }
+
     // A segment that the seat owns has no owner then. Its place in the log was made when it was taken.
     fn release(&mut self, seat: u32, segment: u64)
         requires { fits self.old.core (Event.GiveUp seat segment) ≡ true }
@@ -51,5 +63,18 @@ impl<R: Drop> Board<R> {
     {
         give_up_in(&mut self.core, seat, segment);
         let _ = self.log.push(Event::GiveUp { seat, segment });
+    }
+
+    // The same of the segment at a place, if it has an owner.
+    fn release_at(&mut self, i: usize)
+        requires { i < length self.old.core.segments }
+        ensures { IsReleasedAt i self.old self.new }
+    {
+        let segment = &self.core.segments()[i];
+        let number = segment.number;
+        match segment.owner {
+            None => {}
+            Some(seat) => self.release(seat, number),
+        }
     }
 }

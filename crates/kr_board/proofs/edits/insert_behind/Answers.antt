@@ -1,4 +1,4 @@
-use Rattle.std.proofs.Common.{◌≤◌, ◌+◌, ◌∙◌, ap, length, arith, List, Vec, Global}
+use Rattle.std.proofs.Common.{◌≤◌, ◌+◌, ◌∙◌, ap, length, arith, List}
 use Rattle.std.specs.Prelude.{insert}
 use Rattle.kr_survey.specs.Joins.{lists}
 use Rattle.kr_board.proofs.Lists.{lists-insert, when_ok}

@@ -1,12 +1,10 @@
-use Rattle.std.proofs.Common.{◌≡◌, ◌+◌, ◌-◌, ◌^◌, ◌≤◌, ◌++◌, ◌∷◌, [], ◌∙◌, true, refl, sym, ap, subst, arith, length, List, Vec, Global, vec_len, vec_capacity}
+use Rattle.std.proofs.Common.{◌≡◌, ◌+◌, ◌-◌, ◌^◌, ◌≤◌, ◌++◌, ◌∷◌, [], ◌∙◌, true, sym, ap, subst, arith, length, List, vec_len, vec_capacity}
 use Rattle.kr_survey.specs.Joins.{lists, joined}
 use Rattle.kr_core.specs.declared.segment.Segment.{Segment}
 use Rattle.kr_core.specs.declared.event.Event.{Event}
 use Rattle.kr_core.specs.Steps.{fits}
-use Rattle.kr_core.specs.Beside.{beside}
 use Rattle.kr_board.specs.Held.{Held}
 use Rattle.kr_board.specs.Boards.{Adds}
-use Rattle.kr_board.proofs.Sound.{join}
 use Rattle.kr_board.proofs.Adding.{within_there, within_same, kept_there, Grows, pushed_len, pushed_items, added_sound}
 use Rattle.kr_board.proofs.board.Board.add.Goals as goal
 

@@ -1,15 +1,13 @@
-use Rattle.std.proofs.Common.{◌≡◌, ◌≢◌, ◌+◌, ◌<◌, ◌≤◌, ◌-◌, ◌^◌, ◌++◌, ◌∷◌, [], ◌∙◌, ℕ, suc, List, ap, sym, subst, arith, length, refl, take, drop, add-one, vec_len, vec_capacity}
+use Rattle.std.proofs.Common.{◌≡◌, ◌+◌, ◌≤◌, ◌++◌, ◌∷◌, [], ◌∙◌, ℕ, List, ap, sym, subst, arith, length, refl, vec_len, vec_capacity}
 use Rattle.kr_survey.specs.Joins.{lists, joined}
 use Rattle.kr_core.specs.declared.segment.Segment.{Segment}
 use Rattle.kr_core.specs.declared.event.Event.{Event}
 use Rattle.kr_core.specs.declared.event.Event.TheVariants.{Drain}
 use Rattle.kr_core.specs.declared.event.Reply.TheVariants.{Noted}
-use Rattle.kr_core.specs.Steps.{gone}
-use Rattle.kr_core.specs.Beside.{fronts, emptied, beside}
+use Rattle.kr_core.specs.Beside.{fronts}
 use Rattle.kr_board.specs.Held.{Held}
 use Rattle.kr_board.specs.Boards.{Adds}
 use Rattle.kr_board.specs.Closing.{front_rows}
-use Rattle.kr_board.proofs.Sound.{join, aligned}
 use Rattle.kr_board.proofs.Adding.{lists_aligned, Grows, pushed_len, pushed_items, added_sound}
 use Rattle.kr_board.proofs.Draining.{gone-fewer, front-count, are_next, drain_stays}
 use Rattle.kr_board.proofs.Drained.{drained_left, drained_front}

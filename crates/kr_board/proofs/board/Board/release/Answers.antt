@@ -1,4 +1,4 @@
-use Rattle.std.proofs.Common.{◌≡◌, ◌++◌, ◌∷◌, [], refl, subst}
+use Rattle.std.proofs.Common.{[], refl, subst}
 use Rattle.kr_survey.specs.Joins.{lists}
 use Rattle.kr_core.specs.declared.event.Event.TheVariants.{GiveUp}
 use Rattle.kr_core.specs.declared.event.Reply.TheVariants.{Noted}

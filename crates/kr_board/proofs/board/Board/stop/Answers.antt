@@ -1,7 +1,5 @@
-use Rattle.std.proofs.Common.{◌≡◌, ◌∙◌, List, ℕ, ap, sym}
-use Rattle.kr_base.specs.declared.span.Bound.{Bound}
+use Rattle.std.proofs.Common.{◌≡◌, ◌∙◌, ap}
 use Rattle.kr_base.specs.declared.span.Bound.TheVariants.{At}
-use Rattle.kr_core.specs.declared.segment.Segment.{Segment}
 use Rattle.kr_board.specs.Held.{Held}
 use Rattle.kr_board.specs.Closing.{mark_in}
 use Rattle.kr_board.proofs.Draining.{stop_fits}

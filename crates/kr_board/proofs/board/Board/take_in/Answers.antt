@@ -1,4 +1,4 @@
-use Rattle.std.proofs.Common.{◌≡◌, ◌-◌, ◌≤◌, ◌∙◌, List, ap, sym, subst, arith, length}
+use Rattle.std.proofs.Common.{◌≡◌, ◌∙◌, List, ap, arith, length}
 use Rattle.std.specs.List.{sum_by}
 use Rattle.kr_survey.specs.Joins.{joined, lists}
 use Rattle.kr_core.specs.declared.segment.Segment.{Segment}

@@ -1,4 +1,4 @@
-use Rattle.std.proofs.Common.{◌∙◌, sym, ap}
+use Rattle.std.proofs.Common.{◌∙◌, sym}
 use Rattle.kr_core.specs.States.{segment_of}
 use Rattle.kr_board.proofs.Reports.{moved_there, overrun_there, fits_there}
 use Rattle.kr_board.proofs.board.reporting.refusal.Goals as goal

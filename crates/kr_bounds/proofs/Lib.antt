@@ -1,0 +1,3 @@
+pub mod Overriders
+pub mod Respects
+pub mod Bounds

@@ -1,0 +1,22 @@
+-- One step of the walk.
+use Rattle.std.specs.Prelude.{◌≡◌, ℕ, ◌==◌, Bool, true, false, List, ◌++◌, Option, Some, None, if◌then◌else◌}
+use Rattle.std.proofs.Common.{get_or}
+use Rattle.kr_mean.specs.Problem.{Problem, DomainObject, heap_number}
+use Rattle.kr_mean.specs.Heaps.{choice_at, slots_in}
+
+-- one number more is marked
+abbrev pub IsMarked : List Bool → ℕ → List Bool → Type 0
+IsMarked old n new = (m : ℕ) → get_or new m false ≡ (if m == n then true else get_or old m false)
+
+-- an object that wasn't met is met, and its slots stand behind all others
+abbrev pub IsMeeting : Problem → List ℕ → DomainObject → Bool → List Bool → List ℕ → List Bool → List ℕ → Type 0
+IsMeeting problem v o true met order new_met new_order = (new_met ≡ met) × (new_order ≡ order)
+IsMeeting problem v o false met order new_met new_order = IsMarked met (heap_number problem o) new_met × (new_order ≡ order ++ slots_in problem v o)
+
+abbrev pub IsVisitOf : Problem → List ℕ → Option DomainObject → List Bool → List ℕ → List Bool → List ℕ → Type 0
+IsVisitOf problem v None met order new_met new_order = (new_met ≡ met) × (new_order ≡ order)
+IsVisitOf problem v (Some o) met order new_met new_order = IsMeeting problem v o (get_or met (heap_number problem o) false) met order new_met new_order
+
+-- what a visit of a slot leaves
+abbrev pub IsVisit : Problem → List ℕ → ℕ → List Bool → List ℕ → List Bool → List ℕ → Type 0
+IsVisit problem v s met order new_met new_order = IsVisitOf problem v (choice_at problem v s).object met order new_met new_order

@@ -1,0 +1,5 @@
+pub mod Places
+pub mod Rules
+pub mod Sorting
+pub mod Orders
+pub mod Listed

@@ -1,0 +1,4 @@
+pub mod Added
+pub mod Classes
+pub mod Upwards
+pub mod Names

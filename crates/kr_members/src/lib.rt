@@ -1,0 +1,17 @@
+//! The members of classes: of each class its own fields and constants, methods and constructors, by the nodes of their
+//! trees, and what names mean in a class and on the line of its ancestors.
+#![tactic(auto)]
+
+mod fields;
+mod lines;
+mod lists;
+mod meant;
+mod members;
+mod methods;
+mod queries;
+#[cfg(test)]
+mod tests;
+
+pub use fields::Field;
+pub use members::{ClassMembers, Members};
+pub use methods::{Constructor, Method};

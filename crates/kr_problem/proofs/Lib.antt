@@ -1,0 +1,7 @@
+pub mod Both
+pub mod Pieces
+pub mod Slots
+pub mod Choices
+pub mod Layouts
+pub mod Starts
+pub mod Objects

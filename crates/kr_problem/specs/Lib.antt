@@ -1,0 +1,5 @@
+pub mod Items
+pub mod Stretches
+pub mod Bounds
+pub mod Tables
+pub mod Layouts

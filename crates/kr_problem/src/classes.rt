@@ -1,0 +1,20 @@
+// Class domains.
+
+use kr_fin::{Listed, Text};
+use kr_value::{Class, Spot};
+
+/// Where an object has a value, and the number of the domain that the value is of.
+#[derive(Clone, Copy, Debug, PartialEq, Eq)]
+pub struct Spotted {
+    pub spot: Spot,
+    pub domain: u32,
+}
+
+/// The objects of one class or array type: its name, what they are of, how many there are, and where each has values.
+#[derive(Debug, Drop)]
+pub struct ClassDomain {
+    pub name: Text,
+    pub class: Class,
+    pub count: u32,
+    pub spots: Listed<Spotted>,
+}

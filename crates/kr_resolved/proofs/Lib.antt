@@ -1,0 +1,6 @@
+pub mod Agreeing
+pub mod Lookups
+pub mod Calls
+pub mod Expressions
+pub mod Statements
+pub mod Resolved

@@ -1,0 +1,7 @@
+pub mod Heaps
+pub mod Steps
+pub mod Collections
+pub mod Vectors
+pub mod Pure
+pub mod Premises
+pub mod KeepTypes

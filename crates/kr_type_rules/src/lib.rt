@@ -1,0 +1,36 @@
+//! The typing rules as code: what a rule says of a node, from what is known of its parts and its scope.
+#![tactic(auto)]
+
+mod arguments;
+mod calls;
+mod collections;
+mod declarations;
+mod known;
+mod members;
+mod notes;
+mod objects;
+mod operators;
+mod relations;
+mod statements;
+mod writes;
+
+pub use arguments::arguments_fit;
+pub use calls::{call_rule, method_rule, static_rule};
+pub use collections::collection_rule;
+pub use declarations::{
+    constant_initial_rule, field_initial_rule, local_rule, result_value_rule, return_rule,
+    type_of_node,
+};
+pub use known::{Known, Typed, Verdict};
+pub use members::{
+    access_rule, constant_rule, element_rule, field_name_rule, field_type, value_of, variable_of,
+};
+pub use notes::{Fault, Note, conclude, earlier, plain};
+pub use objects::{method_meant, object_call_rule, super_rule};
+pub use operators::{
+    cast_rule, choice_rule, diamond_rule, instance_rule, number_rule, operator_rule, type_rule,
+    unary_rule,
+};
+pub use relations::{are_related, is_assignable, takes};
+pub use statements::{condition_rule, contract_rule, jump_rule, old_rule};
+pub use writes::{assignment_rule, compound_rule, step_rule};
