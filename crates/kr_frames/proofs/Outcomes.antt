@@ -23,7 +23,7 @@ use Rattle.kr_world.specs.Worlds.{state_of, Agrees}
 use Rattle.kr_frames.specs.declared.frame.Frame.{Frame}
 use Rattle.kr_frames.specs.declared.frame.Frame.TheVariants as frames
 use Rattle.kr_frames.specs.declared.task.Task.{Task}
-use Rattle.kr_frames.specs.Frames.{continued, restored, cut_to, misled, got, tested, led, done, applied, upwards, onto, out_value, out_flow, out_unit}
+use Rattle.kr_frames.specs.Frames.{continued, restored, cut_to, got, tested, led, done, applied, upwards, onto, out_value, out_flow, out_unit}
 use Rattle.kr_frames.specs.Leads.{Leads, HasEnded}
 
 -- ---- reads that stand before

@@ -1,10 +1,8 @@
 -- The outcome of the whole run, from what a part of it has come to and the frames that wait.
-use Rattle.std.specs.Prelude.{◌≡◌, ℕ, Bool, true, false, List, [], ◌∷◌, length, map, take, reverse, Option, Some, None, Result, Ok, Err, pos}
-use Rattle.kr_ast.specs.declared.node.BinaryOperator.{BinaryOperator}
+use Rattle.std.specs.Prelude.{ℕ, true, false, List, [], ◌∷◌, map, take, reverse}
 use Rattle.kr_value.specs.declared.value.Value.{Value}
-use Rattle.kr_value.specs.declared.value.Value.TheVariants.{Int, Bool as Truth, Null}
-use Rattle.kr_mean.specs.Steps as steps
-use Rattle.kr_mean.specs.Steps.{Stop, Stuck, State, Outcome, Run, go_on, say, give, stop, ◌>>=◌, ◌>>◌, tick, get_this, assign, within, element, class_or_null, class_of}
+use Rattle.kr_value.specs.declared.value.Value.TheVariants.{Bool as Truth, Null}
+use Rattle.kr_mean.specs.Steps.{Stuck, State, Outcome, Run, go_on, say, give, stop, ◌>>=◌, ◌>>◌, get_this, assign, within, element, class_or_null, class_of}
 use Rattle.kr_mean.specs.Operators.{operated, operated_alone, gives_old}
 use Rattle.kr_mean.specs.Meaning as meaning
 use Rattle.kr_mean.specs.Meaning.{then_on, then_round, then_update, returned, completed, choose, stepped, change_from}
