@@ -10,3 +10,7 @@ with_one f None = rules.fine
 abbrev pub with_two : (JavaType → JavaType → rules.Verdict) → Option JavaType → Option JavaType → rules.Verdict
 with_two f (Some a) (Some b) = f a b
 with_two f a b = rules.fine
+
+abbrev pub with_three : (JavaType → JavaType → JavaType → rules.Verdict) → Option JavaType → Option JavaType → Option JavaType → rules.Verdict
+with_three f (Some a) (Some b) (Some c) = f a b c
+with_three f a b c = rules.fine

@@ -2,6 +2,7 @@
 //! kinds of nodes, from what is kept of their parts; the pass over a tree is not there yet.
 #![tactic(auto)]
 
+mod choices;
 mod contracts;
 mod creations;
 mod elements;
@@ -12,6 +13,7 @@ mod parts;
 #[cfg(test)]
 mod tests;
 
+pub use choices::{choice_note, condition_note};
 pub use contracts::{contract_note, old_note};
 pub use creations::{array_creation_rule, creation_rule, super_constructor_rule};
 pub use elements::element_note;
