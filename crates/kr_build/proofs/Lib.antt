@@ -1,3 +1,4 @@
 pub mod Meetings
 pub mod Walking
 pub mod Rows
+pub mod Examples

@@ -3,6 +3,8 @@
 
 mod heap;
 mod objects;
+#[cfg(test)]
+mod tests;
 mod walk;
 
 pub use heap::build;
