@@ -1,6 +1,6 @@
 -- Members whose name stands before them.
 use Rattle.std.proofs.Common.{◌≡◌, refl, sym, ap, ◌∙◌, ℕ, zero, suc, ◌+◌, ◌<◌, Bool, true, false, ◌||◌, not, List, [], ◌∷◌, ◌++◌, length, map, take, get_or, append-nil, append_assoc, zero-add, nat_eq, bytes_eq, cond, arith}
-use Rattle.std.specs.Prelude.{Option, Some, None, find, is_some, option_map}
+use Rattle.std.specs.Prelude.{Option, Some, find, is_some}
 use Rattle.std.specs.List.{position_from}
 use Rattle.std.proofs.lemmas.List.{map-append, take_more, take-map}
 use Rattle.kr_base.specs.declared.place.Place.{Place}
@@ -106,7 +106,3 @@ found_among name n (x ∷ xs) =
     some_or (bytes_eq (name x) n) x (find (λ y. bytes_eq (name y) n) xs)
     ∙ ap (λ b. b || is_some (find (λ y. bytes_eq (name y) n) xs)) (turned (name x) n)
     ∙ ap (λ b. bytes_eq n (name x) || b) (found_among name n xs)
-
-pub some_shown : {A B : Type 0} (v : A → B) (o : Option A) (r : Option B) → option_map v o ≡ r → is_some o ≡ is_some r
-some_shown v None r e = ap is_some e
-some_shown v (Some x) r e = ap is_some e

@@ -1,7 +1,7 @@
 -- The first rules decide, and superclasses are classes of the table.
-use Rattle.std.proofs.Common.{◌≡◌, refl, sym, ap, ◌∙◌, subst, ℕ, zero, suc, ◌+◌, ◌<◌, ◌≤◌, List, [], ◌∷◌, ◌++◌, length, map, take, get_or, if◌then◌else◌, Bool, true, false, arith}
+use Rattle.std.proofs.Common.{◌≡◌, refl, sym, ap, ◌∙◌, subst, ℕ, zero, suc, ◌<◌, ◌≤◌, List, [], ◌∷◌, length, map, get_or, if◌then◌else◌, Bool, true, false, arith}
 use Rattle.std.specs.Prelude.{Option, Some, None, option_and_then, unwrap_or}
-use Rattle.std.proofs.lemmas.List.{get_or-map, length-map, map-append, take_more}
+use Rattle.std.proofs.lemmas.List.{get_or-map, length-map}
 use Rattle.kr_ast.specs.Arena.{Arena, root}
 use Rattle.kr_ast.specs.Tree as trees
 use Rattle.kr_ast.specs.Tree.{Tree, Nil}
@@ -10,10 +10,11 @@ use Rattle.kr_table.specs.Rules.{Fault, C1, C2, C3, C4, C5, C6, C7, C8, class_fa
 use Rattle.kr_names.specs.declared.class_names.Heads.{Heads}
 use Rattle.kr_names.specs.Shown.{AreHeads, heading_shown, superclass_in}
 use Rattle.kr_names.proofs.ClassNumbers.{some_below}
-use Rattle.kr_classes.specs.Faults.{AreBelow, AreSuperclasses, first_of_rule, table_in}
+use Rattle.kr_classes.specs.Faults.{AreBelow, AreSuperclasses, first_of_rule, no_class, table_in}
 use Rattle.kr_classes.specs.Refusals.{names_fault}
 use Rattle.kr_classes.specs.MemberRules.{members_fault}
-use Rattle.kr_classes.proofs.ByClass.{at_index, class_read, classes_in, long, no_class}
+use Rattle.kr_members.proofs.Classes.{classes_in}
+use Rattle.kr_classes.proofs.ByClass.{at_index, class_read, long}
 
 front : (a b c : Option Fault) (os : List (Option Fault)) (f : Fault) → first_of (a ∷ b ∷ c ∷ []) ≡ Some f → first_of (a ∷ b ∷ c ∷ os) ≡ Some f
 front (Some g) b c os f e = e
@@ -38,27 +39,6 @@ pub by_members : (t : Table) → names_fault t ≡ None → class_fault t ≡ me
 unfolding class_fault
 by_members t e =
     behind (least (C1 t)) (first_of_rule C2 t) (first_of_rule C3 t) (first_of_rule C4 t ∷ first_of_rule C5 t ∷ first_of_rule C6 t ∷ first_of_rule C7 t ∷ first_of_rule C8 t ∷ []) e
-
-found_here : (o : Option Fault) (os : List (Option Fault)) (g : Fault) → o ≡ Some g → first_of (o ∷ os) ≡ Some g
-found_here o os g e = ap (λ p. first_of (p ∷ os)) e
-
-found_later : (o : Option Fault) (os ps : List (Option Fault)) (g : Fault) → first_of (o ∷ os) ≡ None → (first_of os ≡ None → first_of ps ≡ Some g) → first_of (o ∷ ps) ≡ Some g
-found_later None os ps g n h = h n
-found_later (Some f) os ps g n h = absurd (cc (n))
-
-both_none : (os : List (Option Fault)) (o : Option Fault) → first_of os ≡ None → o ≡ None → first_of (os ++ o ∷ []) ≡ None
-both_none [] o n e = ap (λ p. first_of (p ∷ [])) e
-both_none (None ∷ os) o n e = both_none os o n e
-both_none (Some f ∷ os) o n e = absurd (cc (n))
-
--- the first of several faults, of which those before are none
-pub first_found : {A : Type 0} (f : A → Option Fault) (xs : List A) (i : ℕ) (d : A) (g : Fault) → i < length xs → first_of (map f (take i xs)) ≡ None → f (get_or xs i d) ≡ Some g → first_of (map f xs) ≡ Some g
-first_found f [] i d g l n e = absurd (omega (arith, l))
-first_found f (x ∷ xs) zero d g l n e = found_here (f x) (map f xs) g e
-first_found f (x ∷ xs) (suc i) d g l n e = found_later (f x) (map f (take i xs)) (map f xs) g n (λ m. first_found f xs i d g (omega (arith, l)) m e)
-
-pub none_found : {A : Type 0} (f : A → Option Fault) (xs : List A) (i : ℕ) (d : A) → i < length xs → first_of (map f (take i xs)) ≡ None → f (get_or xs i d) ≡ None → first_of (map f (take (i + 1) xs)) ≡ None
-none_found f xs i d l n e = ap (λ ys. first_of (map f ys)) (take_more xs i d l) ∙ ap first_of (map-append f (take i xs) (get_or xs i d ∷ [])) ∙ both_none (map f (take i xs)) (f (get_or xs i d)) n e
 
 no_heading : Heading
 no_heading = record { name = []; place = record { file = 0; line = 0; col = 0 }; outer = None; extended = Nil; members = [] }

@@ -59,6 +59,14 @@ abbrev pub IsVerdictWithin : TypeList → Verdict → Type 0
 IsVerdictWithin l (verdicts.Fits t) = IsTypedWithin l t
 IsVerdictWithin l (verdicts.Breaks r) = Unit {0}
 
+abbrev pub IsKnownWithin : TypeList → Known → Type 0
+IsKnownWithin l (known.One t) = IsTypedWithin l t
+IsKnownWithin l known.Absent = Unit {0}
+IsKnownWithin l (known.More first rest) = first < count l
+
+abbrev pub IsNoteWithin : TypeList → Note → Type 0
+IsNoteWithin l n = IsKnownWithin l n.known
+
 -- in every scope of the program, the verdict is what the rule says
 abbrev pub Says : Members → TypeList → Within → Verdict → (Scope → rules.Verdict) → Type 0
 Says members l here v rule = (files : List Arena) (g : Setting) (bs : List Binding) → AreMembers files members → g.table ≡ table_in files → verdict_shown l v ≡ rule (scope_in g bs here)

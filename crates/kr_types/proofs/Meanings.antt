@@ -1,11 +1,11 @@
 -- What classes and names mean.
-use Rattle.std.proofs.Common.{◌≡◌, refl, sym, ap, ◌∙◌, ℕ, List, map}
-use Rattle.std.specs.Prelude.{Option, Some, None, unwrap_or}
+use Rattle.std.proofs.Common.{◌≡◌, sym, ap, ◌∙◌, ℕ, List, map}
+use Rattle.std.specs.Prelude.{Option, Some, unwrap_or}
 use Rattle.kr_base.specs.declared.place.Place.{Place}
 use Rattle.kr_ast.specs.Arena.{Arena, root, tree_in}
 use Rattle.kr_ast.specs.Tree as trees
 use Rattle.kr_ast.specs.Tree.{Tree}
-use Rattle.kr_table.specs.Table.{Field, headings_of, number_of, table_of}
+use Rattle.kr_table.specs.Table.{Field, headings_of, number_of}
 use Rattle.kr_table.specs.Constants.{Known, field_meant}
 use Rattle.kr_typing.specs.Rules.{Verdict, name_rule}
 use Rattle.kr_typing.specs.Scopes.{Scope, FieldName, field_or_none, meant, meant_by}

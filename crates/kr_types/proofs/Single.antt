@@ -1,10 +1,9 @@
 -- The parameters of the one constructor of a class.
-use Rattle.std.proofs.Common.{◌≡◌, refl, sym, ap, ◌∙◌, subst, ℕ, zero, suc, ◌<◌, Bool, true, false, List, [], ◌∷◌, length, map, append-nil, arith}
+use Rattle.std.proofs.Common.{◌≡◌, refl, sym, ap, ◌∙◌, ℕ, ◌<◌, Bool, List, [], ◌∷◌, length, map, append-nil, arith}
 use Rattle.std.specs.Prelude.{Some, flat_map, slice_get}
 use Rattle.std.proofs.lemmas.List.{length-map}
 use Rattle.kr_ast.specs.Arena.{Arena, tree_in}
 use Rattle.kr_table.specs.Types.{JavaType}
-use Rattle.kr_table.specs.Table as table
 use Rattle.kr_table.specs.Table.{Table, items, parameters_in, constructor_parameters}
 use Rattle.kr_typing.specs.Rules.{arguments_fit, is_none_of}
 use Rattle.kr_typing.specs.Scopes.{Scope}

@@ -6,7 +6,8 @@ use Rattle.kr_names.specs.Shown.{heading_shown}
 use Rattle.kr_members.proofs.Upwards.{kept_count}
 use Rattle.kr_classes.specs.Faults.{no_class, table_in}
 use Rattle.kr_classes.specs.MemberRules.{member_number, rule_of}
-use Rattle.kr_classes.proofs.ByClass.{all_in, classes_in, long, more_in}
+use Rattle.kr_members.proofs.Classes.{classes_in}
+use Rattle.kr_classes.proofs.ByClass.{all_in, long, more_in}
 use Rattle.kr_classes.proofs.member_rules.first_place.Goals as goal
 
 pub place_in_class-requires-clause-class : goal.place_in_class-requires-clause-class

@@ -1,4 +1,4 @@
-use Rattle.std.proofs.Common.{◌≡◌, ◌∙◌, ap}
+use Rattle.std.proofs.Common.{◌∙◌, ap}
 use Rattle.kr_typing.specs.Rules.{ask, fine}
 use Rattle.kr_scopes.specs.Settings.{scope_in}
 use Rattle.kr_types.proofs.creations.super_constructor_rule.Goals as goal

@@ -1,4 +1,4 @@
-use Rattle.std.proofs.Common.{◌≡◌, ◌∙◌, refl, sym, ap, subst, [], length, arith}
+use Rattle.std.proofs.Common.{◌≡◌, ◌∙◌, refl, sym, ap, subst, [], arith}
 use Rattle.std.specs.Prelude.{Option, Some, option_map}
 use Rattle.kr_ast.specs.Arena.{Arena}
 use Rattle.kr_table.specs.Table.{Field}

@@ -1,0 +1,56 @@
+-- Expressions without broken nodes have types.
+use Rattle.std.specs.Prelude.{◌≡◌, ℕ, Bool, true, false, List, [], ◌∷◌, Some}
+use Rattle.kr_ast.specs.Tree as trees
+use Rattle.kr_ast.specs.Tree.{Tree}
+use Rattle.kr_table.specs.Types.{JavaType, is_known}
+use Rattle.kr_table.specs.Table.{Table, field_named, method_named}
+use Rattle.kr_typing.specs.Scopes.{Scope, Local}
+use Rattle.kr_typing.specs.Typing.{judged, type_in}
+use Rattle.kr_typing.specs.Laws.{IsType}
+
+-- what stands behind `new`: a type, or a collection's with `<>`
+abbrev pub IsCreated : Tree → Type 0
+IsCreated (trees.DiamondType p h) = Unit {0}
+IsCreated t = IsType t
+
+-- Expressions as the grammar derives them, or lists of them: operands, receivers and arguments are expressions.
+abbrev pub Shaped : Bool → Tree → Type 0
+Shaped true trees.Nil = Unit {0}
+Shaped true (trees.Cons a b) = Shaped false a × Shaped true b
+Shaped true t = ⊥
+Shaped false (trees.Number p n) = Unit {0}
+Shaped false (trees.Truth p b) = Unit {0}
+Shaped false (trees.Null p) = Unit {0}
+Shaped false (trees.This p) = Unit {0}
+Shaped false (trees.Variable p n) = Unit {0}
+Shaped false (trees.FieldAccess p e n) = Shaped false e
+Shaped false (trees.ArrayAccess p a i) = Shaped false a × Shaped false i
+Shaped false (trees.Call p n es) = Shaped true es
+Shaped false (trees.MethodCall p e n es) = Shaped false e × Shaped true es
+Shaped false (trees.SuperCall p n es) = Shaped true es
+Shaped false (trees.Unary p o e) = Shaped false e
+Shaped false (trees.Step p o e) = Shaped false e
+Shaped false (trees.Binary p o a b) = Shaped false a × Shaped false b
+Shaped false (trees.Conditional p c a b) = Shaped false c × Shaped false a × Shaped false b
+Shaped false (trees.Assignment p a b) = Shaped false a × Shaped false b
+Shaped false (trees.CompoundAssignment p o a b) = Shaped false a × Shaped false b
+Shaped false (trees.Result p) = Unit {0}
+Shaped false (trees.Old p e) = Shaped false e
+Shaped false (trees.ObjectCreation p t es) = IsCreated t × Shaped true es
+Shaped false (trees.ArrayCreation p t e) = IsType t × Shaped false e
+Shaped false (trees.InstanceOf p e t) = Shaped false e × IsType t
+Shaped false (trees.Cast p t e) = IsType t × Shaped false e
+Shaped false t = ⊥
+
+abbrev pub AreKnown : List Local → Type 0
+AreKnown [] = Unit {0}
+AreKnown (l ∷ ls) = (is_known l.type ≡ true) × AreKnown ls
+
+-- the types that are written in a program are known: rule T1
+pub record AreTypesKnown (table : Table) : Type 0 where
+  pub fields : (c : ℕ) (n : List ℕ) (f : _) → field_named table c n ≡ Some f → is_known f.type ≡ true
+  pub results : (c : ℕ) (n : List ℕ) (m : _) → method_named table c n ≡ Some m → is_known m.result ≡ true
+
+-- In a scope whose names have known types, an expression without broken nodes has a type.
+abbrev pub TypedLaw : Type 0
+TypedLaw = (s : Scope) (e : Tree) → AreTypesKnown s.table → AreKnown s.locals → is_known s.result ≡ true → Shaped false e → (judged s e).faults ≡ [] → (t : JavaType) × (type_in (judged s e).typed ≡ Some t)
