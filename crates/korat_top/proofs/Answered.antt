@@ -1,7 +1,7 @@
 -- The answer to a command, from what was found of its files.
 use Rattle.std.proofs.Common.{◌≡◌, ◌∙◌, ℕ, ◌<◌, List, [], ◌∷◌, refl, sym, ap, subst, arith, get_or}
 use Rattle.std.specs.Prelude.{Some, Ok, Err, length}
-use Rattle.kr_base.specs.declared.span.Bound.TheVariants.{At, End}
+use Rattle.kr_base.specs.declared.span.Bound.TheVariants.{At}
 use Rattle.kr_base.specs.Entries.{entries_in}
 use Rattle.kr_ast.specs.Tree.{Tree, Nil}
 use Rattle.kr_table.specs.Table.{table_of}
@@ -14,13 +14,15 @@ use Rattle.korat_top.specs.declared.refusal.InputFile.{InputFile}
 use Rattle.korat_top.specs.declared.refusal.InputFile.TheVariants as input
 use Rattle.korat_top.specs.declared.command.Purpose.{Purpose}
 use Rattle.korat_top.specs.declared.command.Purpose.TheVariants as purposes
-use Rattle.korat_top.specs.Texts.{checked_text}
+use Rattle.kr_report.specs.Reports.{Answer, line_answer, listing_answer}
+use Rattle.kr_report.specs.Texts.{checked_text}
 use Rattle.korat_top.specs.Refusals.{Inputs, Refusal, status_of_file}
-use Rattle.korat_top.specs.Orders.{command_for, report_for}
+use Rattle.korat_top.specs.Orders.{command_for, range_of, report_for}
 use Rattle.korat_top.specs.Steps.{Held, Checked, checking, Reads, AllTold}
-use Rattle.korat_top.specs.Answer.{Answer, ListFiles, CheckFiles, NO_LIMIT, IsAnswer, IsTold, refused, served, inputs_of, line_answer, listing_answer, refusal_answer, report_of}
-use Rattle.korat_top.specs.OneFieldListing.{one_field_answer}
-use Rattle.korat_top.proofs.Listings.{problem_at, tree_at, summarized}
+use Rattle.kr_args.specs.Reading.{Range}
+use Rattle.korat_top.specs.Answer.{ListFiles, CheckFiles, IsAnswer, IsTold, refused, served, inputs_of, refusal_answer, report_of}
+use Rattle.korat_top.specs.Cells.{listing_for}
+use Rattle.korat_top.proofs.Listings.{problem_at, tree_at, listed_for}
 
 -- a refusal ends with 3 or 4
 pub refused_low : (file : InputFile) → status_of_file file < 6
@@ -31,11 +33,11 @@ pub refused_no_usage : (file : InputFile) → status_of_file file ≡ 2 → ⊥
 refused_no_usage input.Finitization e = omega (arith, e)
 refused_no_usage (input.Source n) e = omega (arith, e)
 
-list_report : (inputs : Inputs) (trees : List Tree) (class : OneField) (range : Finitization) (tree : Tree) → OneFieldLaw → trees ≡ tree ∷ [] → IsOneField tree class → IsWithinLimits range
-    → report_of (ListFiles inputs) (record { trees = trees; class = class; range = range }) ≡ one_field_answer class range
-list_report inputs trees class range tree law e is within =
-    ap (λ (ts : List Tree). listing_answer (problem_at (get_or ts 0 Nil) range) NO_LIMIT (entries_in (At []) End (all_entries (problem_at (get_or ts 0 Nil) range)))) e
-    ∙ summarized tree is.is_shaped.0 class range law is.is_shaped.1 is.compares is.in_range within
+list_report : (asked : Range) (inputs : Inputs) (trees : List Tree) (class : OneField) (range : Finitization) (tree : Tree) → OneFieldLaw → trees ≡ tree ∷ [] → IsOneField tree class → IsWithinLimits range
+    → report_of (ListFiles inputs asked) (record { trees = trees; class = class; range = range }) ≡ listing_for asked class range
+list_report asked inputs trees class range tree law e is within =
+    ap (λ (ts : List Tree). listing_answer (problem_at (get_or ts 0 Nil) range) asked.limit (entries_in (At asked.from) asked.to (all_entries (problem_at (get_or ts 0 Nil) range)))) e
+    ∙ listed_for tree is.is_shaped.0 class range asked law is.is_shaped.1 is.compares is.in_range within
 
 -- what is counted of a problem
 abbrev counted : Problem → Answer
@@ -53,17 +55,12 @@ check_report inputs trees class range tree e is =
 
 reported : (purpose : Purpose) (inputs : Inputs) (trees : List Tree) (class : OneField) (range : Finitization) (tree : Tree) → OneFieldLaw → trees ≡ tree ∷ [] → IsOneField tree class → IsWithinLimits range
     → report_of (command_for purpose inputs) (record { trees = trees; class = class; range = range }) ≡ report_for purpose class range
-reported purposes.List inputs trees class range tree law e is within = list_report inputs trees class range tree law e is within
+reported (purposes.List asked) inputs trees class range tree law e is within = list_report (range_of asked) inputs trees class range tree law e is within
 reported purposes.Check inputs trees class range tree law e is within = check_report inputs trees class range tree e is
 
 pub inputs_are : (purpose : Purpose) (inputs : Inputs) → inputs_of (command_for purpose inputs) ≡ inputs
-inputs_are purposes.List inputs = refl
+inputs_are (purposes.List asked) inputs = refl
 inputs_are purposes.Check inputs = refl
-
--- a report is no usage fault, and its status is 0
-pub report_status : (purpose : Purpose) (class : OneField) (range : Finitization) → (report_for purpose class range).status ≡ 0
-report_status purposes.List class range = refl
-report_status purposes.Check class range = refl
 
 -- the report of a class of one field
 pub listed : (held : Held) (purpose : Purpose) (inputs : Inputs) (checked : Checked) (class : OneField) (range : Finitization) → OneFieldLaw → checking held inputs (Ok checked) → checked.class ≡ class → checked.range ≡ range
@@ -78,14 +75,14 @@ listed held purpose inputs checked class range law h c r =
 
 -- a refusal
 pub refused_for : (held : Held) (purpose : Purpose) (inputs : Inputs) (refusal : Refusal) → checking held inputs (Err refusal) → IsAnswer held (Some (command_for purpose inputs)) (refusal_answer inputs refusal)
-refused_for held purposes.List inputs refusal h = refused refusal h
+refused_for held (purposes.List asked) inputs refusal h = refused refusal h
 refused_for held purposes.Check inputs refusal h = refused refusal h
 
 -- the files of a command
 pub told_for : (held : Held) (purpose : Purpose) (inputs : Inputs) → IsTold held (Some (command_for purpose inputs)) → AllTold held inputs
-told_for held purposes.List inputs told = told
+told_for held (purposes.List asked) inputs told = told
 told_for held purposes.Check inputs told = told
 
 pub reads_for : (held : Held) (purpose : Purpose) (inputs : Inputs) (file : List ℕ) → Reads held inputs file → Reads held (inputs_of (command_for purpose inputs)) file
-reads_for held purposes.List inputs file r = r
+reads_for held (purposes.List asked) inputs file r = r
 reads_for held purposes.Check inputs file r = r

@@ -4,11 +4,12 @@ use Rattle.std.specs.Prelude.{Option, Some, None, Result, Ok, Err, is_ok, if◌t
 use Rattle.std.proofs.lemmas.Bool.Decides.{leb_tells}
 use Rattle.kr_base.specs.Causes.{Rose}
 use Rattle.kr_base.specs.Told.{Added, Stopped, Writes}
-use Rattle.korat_top.specs.Texts.{read_fault_text, memory_text, usage_text}
-use Rattle.korat_top.specs.Answer.{Answer, Command, IsAnswer, IsTold, inputs_of, bytes_of, line_answer, usage}
+use Rattle.kr_report.specs.Texts.{read_fault_text, memory_text, usage_text}
+use Rattle.kr_report.specs.Reports.{Answer, bytes_of, line_answer}
+use Rattle.kr_report.specs.Endings.{front_of, MayBegin, EndsListing}
+use Rattle.korat_top.specs.Answer.{Command, IsAnswer, IsTold, inputs_of, usage}
 use Rattle.korat_top.specs.Steps.{Held, Reads}
-use Rattle.korat_top.specs.Ends.{IsFront, front_of, MayTell, EndsFor, IsComplete}
-use Rattle.korat_top.specs.Listed.{MayBegin, EndsListing}
+use Rattle.korat_top.specs.Ends.{IsFront, MayTell, EndsFor, IsComplete}
 
 -- an answer's status
 pub given_end : {F K : Type 0} (held : F → Held) (read_faults : F → ℕ) (last : F → Option (List ℕ)) (taken : K → Option (List ℕ)) (faults : K → ℕ) (command : Command) (files files' : F) (out out' : K) (status : ℕ) (answer : Answer)
@@ -126,18 +127,39 @@ may_tell : (held : Held) (asked : Option Command) (answer : Answer) (text : List
 may_tell held asked answer text is (inl e) = inl (answer, is, e)
 may_tell held asked answer text is (inr m) = inr (inr (front_of answer m.0, inr (answer, is, m.0, refl), m.1))
 
+-- a line that is put
+pub line_listing : {K T E : Type 0} (taken : K → Option (List ℕ)) (faults : K → ℕ) (a b : K) (text : List ℕ) (status : ℕ) (r : Result T E) → Writes taken faults a b text r → status ≡ (if is_ok r then 0 else 7)
+    → EndsListing taken faults (line_answer 0 text) a b status
+line_listing taken faults a b text status (Ok v) x e = record {
+  known = inl e;
+  whole = λ _. (e, x);
+  fault = λ f. absurd (omega (arith, e, f));
+  memory = λ f. absurd (omega (arith, e, f));
+}
+line_listing taken faults a b text status (Err v) x e = record {
+  known = inr (inr (inl e));
+  whole = λ f. absurd (omega (arith, e, f));
+  fault = λ _. (text, inl refl, x);
+  memory = λ f. absurd (omega (arith, e, f));
+}
+
 -- a listing that ended
 pub end_listing : {F K : Type 0} (held : F → Held) (read_faults : F → ℕ) (last : F → Option (List ℕ)) (taken : K → Option (List ℕ)) (faults : K → ℕ) (command : Command) (files files' : F) (out out' : K) (status : ℕ) (answer : Answer)
-    → (IsTold (held files) (Some command) → IsAnswer (held files) (Some command) answer) → answer.status ≡ 0 → read_faults files' ≡ read_faults files → EndsListing taken faults answer out out' status
+    → (IsTold (held files) (Some command) → IsAnswer (held files) (Some command) answer) → read_faults files' ≡ read_faults files → EndsListing taken faults answer out out' status
     → EndsFor held read_faults last taken faults (Some command) files files' out out' status
-end_listing {F} {K} held read_faults last taken faults command files files' out out' status answer told zero reads x = by_case x.known
+end_listing {F} {K} held read_faults last taken faults command files files' out out' status answer told reads x = by_case x.known
   where
-    by_case : (status ≡ 0) ⊎ (status ≡ 7) ⊎ (status ≡ 8) → EndsFor held read_faults last taken faults (Some command) files files' out out' status
-    by_case (inl e) = given_end held read_faults last taken faults command files files' out out' status answer told (e ∙ sym zero) (λ f. omega (arith, e, f)) (omega (arith, e)) reads (x.whole e)
+    by_case : (status ≡ 0) ⊎ (status ≡ 5) ⊎ (status ≡ 7) ⊎ (status ≡ 8) → EndsFor held read_faults last taken faults (Some command) files files' out out' status
+    by_case (inl e) =
+        let w = x.whole (omega (arith, e)) in
+        given_end held read_faults last taken faults command files files' out out' status answer told w.0 (λ f. omega (arith, e, f)) (omega (arith, e)) reads w.1
     by_case (inr (inl e)) =
+        let w = x.whole (omega (arith, e)) in
+        given_end held read_faults last taken faults command files files' out out' status answer told w.0 (λ f. omega (arith, e, f)) (omega (arith, e)) reads w.1
+    by_case (inr (inr (inl e))) =
         let f = x.fault e in
         fault_end held read_faults last taken faults (Some command) files files' out out' status f.0 (λ t. may_tell (held files) (Some command) answer f.0 (told t) f.1) f.2 e
-    by_case (inr (inr e)) =
+    by_case (inr (inr (inr e))) =
         let m = x.memory e in
         memory_end held read_faults last taken faults (Some command) files files' out out' status (front_of answer m.0) (λ t. inr (answer, told t, m.0, refl)) reads m.1 e
 

@@ -14,8 +14,8 @@ use Rattle.kr_mean.specs.Meaning.{eval, exec, value, body_of}
 use Rattle.kr_mean.specs.Runs.{end_on, read_slots, order_of}
 use Rattle.kr_mean.specs.Entries.{mark_of, all_of, all_entries}
 use Rattle.kr_mean_examples.specs.Examples.{cell, two_ints, two_nodes, two_subclasses, arrays}
-use Rattle.korat_top.specs.Texts.{structure_text}
-use Rattle.korat_top.specs.Answer.{listing_answer}
+use Rattle.kr_report.specs.Texts.{structure_text}
+use Rattle.kr_report.specs.Reports.{listing_answer}
 use Rattle.korat_top.specs.Examples.{lines_of, told, report_of, WorkedLines}
 
 two_nodes_lines : lines_of two_nodes ≡ codes "0.0 R#0{next=null}\n" ∷ codes "0.1 R#0{next=R#0}\n" ∷ codes "0.2.0 R#0{next=R#1} R#1{next=null}\n" ∷ codes "0.2.1 R#0{next=R#1} R#1{next=R#0}\n" ∷ codes "0.2.2 R#0{next=R#1} R#1{next=R#1}\n" ∷ []

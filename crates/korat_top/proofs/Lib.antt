@@ -1,8 +1,7 @@
 pub mod Shapes
 pub mod Texts
-pub mod Rows
 pub mod Listings
-pub mod Endings
+pub mod Candidates
 pub mod Calls
 pub mod Outcomes
 pub mod Told

@@ -19,12 +19,13 @@ use Rattle.kr_fin.specs.Order.{rule_code as fin_code}
 use Rattle.kr_pruning.specs.OneField.{one_field_tree}
 use Rattle.korat_top.specs.OneField.{OneField, IsOneField}
 use Rattle.korat_top.specs.Finitization.{Finitization, IsFinitization}
-use Rattle.korat_top.specs.Texts.{usage_text}
+use Rattle.kr_report.specs.Texts.{usage_text}
+use Rattle.kr_report.specs.Reports.{Answer, line_answer}
 use Rattle.korat_top.specs.declared.refusal.InputFile.{InputFile}
 use Rattle.korat_top.specs.declared.refusal.InputFile.TheVariants as input
 use Rattle.korat_top.specs.Refusals.{Inputs, Refusal, at_place, of_finitization}
 use Rattle.korat_top.specs.Steps.{Held, Checked, and_then, each, made, reading, lexing, parsing, growing, stating, forming, bounding, from_class, from_document, from_trees, from_texts, checking}
-use Rattle.korat_top.specs.Answer.{Answer, Command, IsAnswer, usage, refused, served, line_answer, inputs_of, refusal_answer, report_of}
+use Rattle.korat_top.specs.Answer.{Command, IsAnswer, usage, refused, served, inputs_of, refusal_answer, report_of}
 use Rattle.korat_top.specs.Ends.{OneAnswer}
 use Rattle.korat_top.proofs.Outcomes.{HasOne, one_then, one_each}
 

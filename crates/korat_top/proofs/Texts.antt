@@ -27,9 +27,6 @@ unlike_not left right answer is wrong =
     from_not true e = refl
     from_not false e = absurd (cc)
 
--- five texts, one after another
-grouped : (a b c d e : List ℕ) → a ++ (b ++ (c ++ (d ++ (e ++ [])))) ≡ a ++ b ++ c ++ d ++ e
-grouped a b c d e = simp (append_assoc, append-nil)
-
-pub five_pieces : (a b c d e x y : List ℕ) → x ≡ b → y ≡ d → a ++ (x ++ (c ++ (y ++ (e ++ [])))) ≡ a ++ b ++ c ++ d ++ e
-five_pieces a b c d e x y p q = ap (λ t. a ++ (t ++ (c ++ (y ++ (e ++ []))))) p ∙ (ap (λ t. a ++ (b ++ (c ++ (t ++ (e ++ []))))) q ∙ grouped a b c d e)
+-- six pieces, one after another
+pub six_pieces : (a b c d e f : List ℕ) → a ++ b ++ c ++ d ++ e ++ f ≡ a ++ (b ++ (c ++ (d ++ (e ++ (f ++ [])))))
+six_pieces a b c d e f = simp (append_assoc, append-nil)

@@ -7,7 +7,7 @@ use Rattle.korat_top.specs.declared.refusal.InputFile.TheVariants as input
 use Rattle.kr_base.specs.Causes.{Rose}
 use Rattle.korat_top.specs.declared.refusal.Stop.{Stop}
 use Rattle.korat_top.specs.declared.refusal.Stop.TheVariants.{Read, Refused, Memory}
-use Rattle.korat_top.specs.declared.find.Found.{Found}
+use Rattle.korat_top.specs.declared.found.Found.{Found}
 use Rattle.korat_top.specs.Refusals.{Inputs, Refusal, too_long, name_of, refusal_of}
 use Rattle.korat_top.specs.Steps.{Held, LIMIT, Checked, and_then, each, reading, from_texts, checking, ReadsIn, Reads, AllTold}
 use Rattle.korat_top.specs.Found.{telling, telling_source, HasRead, HasReadAll, Judges, Finds}

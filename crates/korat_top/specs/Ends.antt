@@ -1,10 +1,12 @@
 -- How a call ends: by its status, what was written and why.
-use Rattle.std.specs.Prelude.{◌≡◌, ℕ, ◌<◌, ◌≤◌, ◌⊎◌, List, [], ◌++◌, take, Option, Some, None}
+use Rattle.std.specs.Prelude.{◌≡◌, ℕ, ◌<◌, ◌≤◌, ◌⊎◌, List, [], ◌++◌, Option, Some, None}
 use Rattle.kr_base.specs.Causes.{Rose}
 use Rattle.kr_base.specs.Told.{Added, Stopped}
-use Rattle.korat_top.specs.Texts.{read_fault_text, memory_text}
+use Rattle.kr_report.specs.Texts.{read_fault_text, memory_text}
+use Rattle.kr_report.specs.Reports.{Answer, bytes_of}
+use Rattle.kr_report.specs.Endings.{front_of}
 use Rattle.korat_top.specs.Steps.{Held, Reads}
-use Rattle.korat_top.specs.Answer.{Answer, Command, IsAnswer, IsTold, inputs_of, bytes_of, lines}
+use Rattle.korat_top.specs.Answer.{Command, IsAnswer, IsTold, inputs_of}
 
 -- The words' answer was given: its status, and exactly its bytes.
 pub record Gives {K : Type 0} (held : Held) (taken : K → Option (List ℕ)) (faults : K → ℕ) (asked : Option Command) (out out' : K) (status : ℕ) : Type 0 where
@@ -23,10 +25,6 @@ pub record TellsReadFault {F K : Type 0} (held : F → Held) (read_faults : F �
   pub named : last files' ≡ Some name
   pub cause : Rose (read_faults files) (read_faults files')
   pub written : Added taken faults out out' (read_fault_text name)
-
--- rows of the answer, from the first one on
-abbrev pub front_of : Answer → ℕ → List ℕ
-front_of answer n = lines (take n answer.rows)
 
 -- some rows of the answer, from the first one on, or none
 abbrev pub IsFront : Held → Option Command → List ℕ → Type 0

@@ -5,9 +5,11 @@ use Rattle.kr_base.specs.Entries.{entries_in}
 use Rattle.kr_mean.specs.Problem.{Problem}
 use Rattle.kr_mean.specs.Entries.{all_entries}
 use Rattle.kr_mean_examples.specs.Examples.{cell, two_ints, two_nodes, two_subclasses, arrays}
-use Rattle.korat_top.specs.Texts.{row_text}
+use Rattle.kr_report.specs.Texts.{row_text}
 use Rattle.kr_args.specs.Worked.{files, with_files}
-use Rattle.korat_top.specs.Answer.{Answer, ListFiles, CheckFiles, asked_of, bytes_of, rows_in, listing_answer}
+use Rattle.kr_report.specs.Reports.{Answer, bytes_of, rows_in, listing_answer}
+use Rattle.kr_args.specs.Worked as words
+use Rattle.korat_top.specs.Answer.{ListFiles, CheckFiles, asked_of}
 
 -- the lines of all rows of a problem
 abbrev pub lines_of : Problem → List (List ℕ)
@@ -37,9 +39,9 @@ pub record WorkedLines : Type 0 where
 -- words with the command that is served for them: none where they give none, or one that is not served
 pub record WorkedCommands : Type 0 where
   pub no_words : asked_of [] ≡ None
-  pub listing : asked_of (with_files (codes "list") []) ≡ Some (ListFiles (files (codes "f") (codes "a" ∷ [])))
-  pub greatest : asked_of (with_files (codes "list") (codes "--limit" ∷ codes "4294967295" ∷ [])) ≡ Some (ListFiles (files (codes "f") (codes "a" ∷ [])))
-  pub limited : asked_of (with_files (codes "list") (codes "--limit=3" ∷ [])) ≡ None
-  pub parted : asked_of (codes "list" ∷ codes "--from" ∷ codes "0.2" ∷ codes "f" ∷ codes "a" ∷ codes "--to" ∷ codes "1" ∷ []) ≡ None
+  pub listing : asked_of (with_files (codes "list") []) ≡ Some (ListFiles (files (codes "f") (codes "a" ∷ [])) (words.range [] End 4294967295))
+  pub greatest : asked_of (with_files (codes "list") (codes "--limit" ∷ codes "4294967295" ∷ [])) ≡ Some (ListFiles (files (codes "f") (codes "a" ∷ [])) (words.range [] End 4294967295))
+  pub limited : asked_of (with_files (codes "list") (codes "--limit=3" ∷ [])) ≡ Some (ListFiles (files (codes "f") (codes "a" ∷ [])) (words.range [] End 3))
+  pub parted : asked_of (codes "list" ∷ codes "--from" ∷ codes "0.2" ∷ codes "f" ∷ codes "a" ∷ codes "--to" ∷ codes "1" ∷ []) ≡ Some (ListFiles (files (codes "f") (codes "a" ∷ [])) (words.range (0 ∷ 2 ∷ []) (At (1 ∷ [])) 4294967295))
   pub checking : asked_of (codes "check" ∷ codes "f" ∷ codes "a" ∷ codes "b" ∷ []) ≡ Some (CheckFiles (files (codes "f") (codes "a" ∷ codes "b" ∷ [])))
   pub demo : asked_of (codes "demo" ∷ codes "12" ∷ []) ≡ None

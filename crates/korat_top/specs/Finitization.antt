@@ -66,9 +66,13 @@ abbrev pub count_of : ℤ → ℕ
 count_of (pos n) = n
 count_of (negsuc n) = 0
 
+-- how many values a range has
+abbrev pub range_count : Finitization → ℕ
+range_count fin = count_of ((fin.to -ℤ fin.from) +ℤ pos 1)
+
 -- the values of the range, in order
 abbrev pub values_of : Finitization → List ℤ
-values_of fin = values_between fin.from (count_of ((fin.to -ℤ fin.from) +ℤ pos 1))
+values_of fin = values_between fin.from (range_count fin)
 
 -- ---- What the program's values stand for
 

@@ -10,7 +10,7 @@ use Rattle.korat_top.specs.declared.refusal.InputFile.{InputFile}
 use Rattle.korat_top.specs.declared.refusal.InputFile.TheVariants as input
 use Rattle.korat_top.specs.declared.refusal.Stop.{Stop}
 use Rattle.korat_top.specs.declared.refusal.Stop.TheVariants.{Read, Refused, Memory}
-use Rattle.korat_top.specs.declared.find.Found.{Found}
+use Rattle.korat_top.specs.declared.found.Found.{Found}
 
 -- ---- What is read
 

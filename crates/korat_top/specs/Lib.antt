@@ -3,14 +3,13 @@ pub use Rattle.kr_base.specs.Told
 pub use Rattle.kr_io.specs.Reads
 pub mod OneField
 pub mod Finitization
-pub mod Texts
 pub mod Refusals
 pub mod Steps
 pub mod Answer
 pub mod Ends
 pub mod Starts
-pub mod OneFieldListing
 pub mod Orders
 pub mod Found
-pub mod Listed
+pub mod Cells
+pub mod Scanning
 pub mod Examples

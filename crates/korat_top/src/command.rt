@@ -1,21 +1,29 @@
 // The command that the words give.
 ghost use Rattle.std.specs.Prelude.{◌≡◌, ◌≤◌, IfOk, IfSome, Some, option_map, length};
 ghost use Rattle.kr_args.specs.Reading.{task_of};
-ghost use Rattle.korat_top.specs.Answer.{asked_of, is_whole, served_of};
-ghost use Rattle.korat_top.specs.Orders.{command_in, range_of};
+ghost use Rattle.korat_top.specs.Answer.{asked_of, served_of};
+ghost use Rattle.korat_top.specs.Orders.{command_in};
 
 use kr_args::command;
-use kr_args::forms::{ArgRefusal, Ask, Command};
-use kr_base::{Bound, NoMemory, Words};
+use kr_args::forms::{ArgRefusal, Command};
+use kr_base::{Bound, Cut, NoMemory, Words};
 use std::alloc::Global;
 
 /// How many sources a call may have.
 const MAX_SOURCES: usize = 16;
 
+/// What is listed: the keys above `from` and not above `to`, and how many rows at most.
+#[derive(Drop)]
+pub(crate) struct Range {
+    pub(crate) from: Cut,
+    pub(crate) to: Bound,
+    pub(crate) limit: u32,
+}
+
 /// What is done with files of which none is refused.
-#[derive(Clone, Copy, Debug, PartialEq, Eq)]
+#[derive(Drop)]
 pub(crate) enum Purpose {
-    List,
+    List(Range),
     Check,
 }
 
@@ -27,17 +35,6 @@ pub(crate) struct Order {
     pub(crate) sources: Words,
 }
 
-/// Whether all keys are asked for, and no limit.
-fn is_whole(ask: &Ask) -> bool
-    ensures { result ≡ is_whole (range_of ask.now) }
-{
-    let is_end = match ask.to {
-        Bound::End => true,
-        Bound::At(_) => false,
-    };
-    ask.from.numbers().is_empty() && is_end && ask.limit == u32::MAX
-}
-
 /// The order that a command is, if it is served.
 fn served(command: Command) -> Option<Order>
     ensures means { option_map command_in result ≡ served_of (Some (task_of command)) }
@@ -45,11 +42,15 @@ fn served(command: Command) -> Option<Order>
 {
     match command {
         Command::List(ask) => {
-            if ask.sources.len() > MAX_SOURCES || !is_whole(&ask) {
+            if ask.sources.len() > MAX_SOURCES {
                 return None;
             }
             Some(Order {
-                purpose: Purpose::List,
+                purpose: Purpose::List(Range {
+                    from: ask.from,
+                    to: ask.to,
+                    limit: ask.limit,
+                }),
                 fin: ask.fin,
                 sources: ask.sources,
             })

@@ -9,6 +9,7 @@ ghost use Rattle.korat_top.specs.Found.{HasRead, HasReadAll, IsLater, Meets, Jud
 
 use crate::MAX_FILE_BYTES;
 use crate::finitization::{Finitization, read_finitization};
+use crate::found::Found;
 use crate::one_field::{OneField, read_one_field};
 use crate::refusal::{InputFile, Refusal, Stop};
 use crate::sources::Texts;
@@ -19,13 +20,6 @@ use kr_io::{Files, ReadRefusal};
 use kr_lex::{LexRefusal, Tokens, lex};
 use kr_parse::{ParseRefusal, parse};
 use std::alloc::Global;
-
-/// What there is to report.
-#[derive(Drop)]
-pub(crate) struct Found {
-    pub(crate) class: OneField,
-    pub(crate) range: Finitization,
-}
 
 /// Where a source begins.
 fn source_start(number: u32) -> Place

@@ -1,12 +1,13 @@
 //! The whole tool as one call.
 #![tactic(auto)]
 
+mod cells;
 mod command;
 mod find;
 mod finitization;
+mod found;
 mod given;
 mod laws;
-mod listing;
 mod one_field;
 mod refusal;
 mod report;

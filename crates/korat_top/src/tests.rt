@@ -176,7 +176,7 @@ fn listings(rt: HostRuntime) -> Result<(), Fail> {
 #[test]
 fn words(rt: HostRuntime) -> Result<(), Fail> {
     let alloc = rt.alloc();
-    let table: [(&[&str], u8, &str); 24] = [
+    let table: [(&[&str], u8, &str); 26] = [
         (&["list", "fin.toml", "Cell.java"], 0, LISTED),
         (
             &["list", "five.toml", "Cell.java"],
@@ -221,8 +221,18 @@ fn words(rt: HostRuntime) -> Result<(), Fail> {
         ),
         (
             &["list", "fin.toml", "Cell.java", "--from", "0.1"],
-            2,
-            USAGE_FAULT,
+            0,
+            "0.2 Cell#0{v=2}\nvalid 1 tried 1\n",
+        ),
+        (
+            &["list", "--to", "0.1", "fin.toml", "Cell.java"],
+            0,
+            "0.1 Cell#0{v=1}\nvalid 1 tried 2\n",
+        ),
+        (
+            &["list", "fin.toml", "Cell.java", "--limit", "1"],
+            0,
+            "0.1 Cell#0{v=1}\nmore 0.1\n",
         ),
         (&["test", "fin.toml", "Cell.java"], 2, USAGE_FAULT),
         (&["demo", "3"], 2, USAGE_FAULT),

@@ -1,27 +1,29 @@
 // The call.
-ghost use Rattle.std.specs.Prelude.{◌≡◌, ◌≤◌, ◌≤ℤ◌, ◌-ℤ◌, ◌<ℤ◌, pos, Some, is_ok, if◌then◌else◌, length};
+ghost use Rattle.std.specs.Prelude.{◌≡◌, ◌<◌, ◌≤◌, Some, IfOk, is_ok, if◌then◌else◌, length};
+ghost use Rattle.kr_report.specs.Endings.{EndsListing};
 ghost use Rattle.korat_top.specs.Answer.{asked_of};
-ghost use Rattle.korat_top.specs.OneFieldListing.{one_field_answer};
-ghost use Rattle.korat_top.specs.Orders.{command_for, command_in, report_for};
-ghost use Rattle.korat_top.specs.Ends.{EndsFor, IsComplete};
 ghost use Rattle.korat_top.specs.OneField.{one_field_of};
 ghost use Rattle.korat_top.specs.Finitization.{finitization_of};
-ghost use Rattle.korat_top.specs.Listed.{EndsListing};
+ghost use Rattle.korat_top.specs.Cells.{listing_for};
+ghost use Rattle.korat_top.specs.Orders.{command_for, command_in, range_of, report_for};
+ghost use Rattle.korat_top.specs.Ends.{EndsFor, IsComplete};
+ghost use Rattle.korat_top.specs.Scanning.{ScansFound};
 
-use crate::command::{Order, Purpose, order_of};
-use crate::find::{Found, find};
-use crate::finitization::Finitization;
-use crate::listing::{Halt, count, put_range};
-use crate::one_field::OneField;
+use crate::cells::Cells;
+use crate::command::{Order, Purpose, Range, order_of};
+use crate::find::find;
+use crate::found::Found;
 use crate::refusal::Stop;
-use crate::report::{
-    name_of, put_checked, put_listed, put_out_of_memory, put_read_fault, put_refused,
-    put_usage_fault, status_of,
-};
+use crate::report::{name_of, put_refused, status_of};
 use kr_base::{Failed, NoMemory, Sink, Words};
 use kr_io::{Files, Gate};
 use kr_pruning::one_field_law;
+use kr_report::{put_checked, put_listing, put_out_of_memory, put_read_fault, put_usage_fault};
+use kr_scan::Scan;
+use kr_steps::Steps;
 use std::alloc::Global;
+use std::marker::Brand;
+use std::sync::ledger::{Blank, Ledger};
 
 /// A status once its text is written, or that of a write fault.
 fn once_written(written: Result<(), Failed>, status: u8) -> u8
@@ -30,27 +32,48 @@ fn once_written(written: Result<(), Failed>, status: u8) -> u8
     if written.is_ok() { status } else { 7 }
 }
 
-/// Lists a range.
-fn list_range<K: Sink>(alloc: Global, class: &OneField, range: Finitization, out: &mut K) -> u8
-    requires order { range.from ≤ℤ range.to }
-    requires few { (range.to -ℤ range.from) <ℤ pos 65536 }
-    ensures { EndsListing K.taken K.faults (one_field_answer (one_field_of class.now) (finitization_of range)) out.old out.new result }
+/// The scan of what was found, over a range of keys.
+fn scan_of<'f, L: Ledger>(
+    alloc: Global,
+    found: &'f Found,
+    range: &Range,
+    runs: &mut Steps<L>,
+) -> Result<Scan<Cells<'f>>, NoMemory>
+    ensures { IfOk result (λ scan. ScansFound found.now range.now scan) }
 {
-    match put_range(alloc, class, range, out) {
-        Ok(valid) => once_written(put_listed(valid, count(range) as u64, out), 0),
-        Err(Halt::Sink) => 7,
-        Err(Halt::Memory) => once_written(put_out_of_memory(out), 8),
+    let upto = range.to.try_clone()?;
+    match Scan::new(alloc, Cells::new(found), range.from.numbers(), upto, runs) {
+        Ok(scan) => Ok(scan),
+        Err(NoMemory) => Err(NoMemory),
     }
 }
 
-/// Reports of a class of one field.
-fn report<K: Sink>(alloc: Global, purpose: Purpose, found: &Found, out: &mut K) -> u8
-    requires order { found.now.range.from ≤ℤ found.now.range.to }
-    requires few { (found.now.range.to -ℤ found.now.range.from) <ℤ pos 65536 }
-    ensures { EndsListing K.taken K.faults (report_for purpose (one_field_of found.now.class) (finitization_of found.now.range)) out.old out.new result }
+/// Lists what was found.
+fn list<K: Sink, L: Ledger>(
+    alloc: Global,
+    found: &Found,
+    range: &Range,
+    out: &mut K,
+    blank: Blank,
+) -> u8
+    requires ledger { blank.name ≡ L.name }
+    requires parts { blank.parts ≡ L.parts }
+    requires some { 0 < L.parts }
+    ensures { EndsListing K.taken K.faults (listing_for (range_of range.now) (one_field_of found.now.class) (finitization_of found.now.range)) out.old out.new result }
+{
+    let mut runs = Steps::<L>::start(blank);
+    match scan_of(alloc, found, range, &mut runs) {
+        Ok(scan) => put_listing(alloc, scan, found, range.limit, out, &mut runs),
+        Err(NoMemory) => once_written(put_out_of_memory(out), 8),
+    }
+}
+
+/// Reports of what was found.
+fn report<K: Sink>(alloc: Global, purpose: &Purpose, found: &Found, out: &mut K) -> u8
+    ensures { EndsListing K.taken K.faults (report_for purpose.now (one_field_of found.now.class) (finitization_of found.now.range)) out.old out.new result }
 {
     match purpose {
-        Purpose::List => list_range(alloc, &found.class, found.range, out),
+        Purpose::List(range) => list::<K, Brand>(alloc, found, range, out, Blank::new(1)),
         Purpose::Check => once_written(put_checked(1, 2, out), 0),
     }
 }
@@ -58,14 +81,14 @@ fn report<K: Sink>(alloc: Global, purpose: Purpose, found: &Found, out: &mut K) 
 /// Serves a command over the files that it names.
 fn serve<F: Files, K: Sink>(
     alloc: Global,
-    purpose: Purpose,
+    purpose: &Purpose,
     fin: &str,
     sources: &Words,
     files: &mut F,
     out: &mut K,
 ) -> u8
     requires { length sources.now ≤ 16 }
-    ensures { EndsFor F.held F.faults F.last K.taken K.faults (Some (command_for purpose (record { fin = fin.now; sources = sources.now }))) files.old files.new out.old out.new result }
+    ensures { EndsFor F.held F.faults F.last K.taken K.faults (Some (command_for purpose.now (record { fin = fin.now; sources = sources.now }))) files.old files.new out.old out.new result }
 {
     one_field_law();
     match find(alloc, fin, sources, files) {
@@ -88,7 +111,7 @@ fn serve_order<F: Files, K: Sink>(alloc: Global, order: &Order, files: &mut F, o
 {
     serve(
         alloc,
-        order.purpose,
+        &order.purpose,
         order.fin.as_str(),
         &order.sources,
         files,

@@ -136,6 +136,7 @@ impl<R: Runner + Drop> Search<R> {
         ensures found { IfOk result (λ next. Answers (R.space self.old.runner) (R.order self.old.runner) (R.ending self.old.runner)
             self.old.cut (R.vector self.new.runner) self.new.cut next) }
         ensures runs { IfOk result (λ next. runs.new + self.old.ahead ≡ runs.old + count_of next + self.new.ahead) }
+        ensures ahead { IfOk result (λ next. self.new.ahead ≡ 0) }
         ensures err { OnErr result (self.new.cut ≡ self.old.cut) }
     {
         self.runner.laws();

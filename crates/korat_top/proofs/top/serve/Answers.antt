@@ -4,7 +4,7 @@ use Rattle.korat_top.specs.Answer.{refusal_answer}
 use Rattle.korat_top.specs.OneField.{one_field_of}
 use Rattle.korat_top.specs.Finitization.{finitization_of}
 use Rattle.korat_top.specs.Orders.{command_for, report_for}
-use Rattle.korat_top.proofs.Answered.{listed, refused_for, told_for, reads_for, report_status, refused_low, refused_no_usage}
+use Rattle.korat_top.proofs.Answered.{listed, refused_for, told_for, reads_for, refused_low, refused_no_usage}
 use Rattle.korat_top.proofs.Calls.{put_answer, put_read_fault, put_memory, end_listing}
 use Rattle.korat_top.proofs.top.serve.Goals as goal
 
@@ -14,9 +14,9 @@ returns-in-Ok g c =
     let class = one_field_of c.in-Ok.found.class in
     let range = finitization_of c.in-Ok.found.range in
     let found = c.in-Ok.ensures.found in
-    end_listing g.F.Files.held g.F.Files.faults g.F.Files.last g.K.Sink.taken g.K.Sink.faults (command_for c.args.purpose inputs) c.args.files.now c.find.new.files
-    c.args.out.now c.report.new.out c.report.result (report_for c.args.purpose class range)
-    (λ told. let x = found.1 (told_for (g.F.Files.held c.args.files.now) c.args.purpose inputs told) in listed (g.F.Files.held c.args.files.now) c.args.purpose inputs x.0 class range c.one_field_law.ensures x.1 x.2.0 x.2.1) (report_status c.args.purpose class range)
+    end_listing g.F.Files.held g.F.Files.faults g.F.Files.last g.K.Sink.taken g.K.Sink.faults (command_for c.args.purpose.now inputs) c.args.files.now c.find.new.files
+    c.args.out.now c.report.new.out c.report.result (report_for c.args.purpose.now class range)
+    (λ told. let x = found.1 (told_for (g.F.Files.held c.args.files.now) c.args.purpose.now inputs told) in listed (g.F.Files.held c.args.files.now) c.args.purpose.now inputs x.0 class range c.one_field_law.ensures x.1 x.2.0 x.2.1)
     c.in-Ok.ensures.count c.report.ensures
 
 pub returns-in-Err-Refused : goal.returns-in-Err-Refused
@@ -24,9 +24,9 @@ returns-in-Err-Refused g c =
     let inputs : Inputs = record { fin = c.args.fin.now; sources = c.args.sources.now } in
     let refusal = refusal_of c.in-Err-Refused.refusal in
     let found = rw c.in-Err-Refused.field-0-is at c.in-Err-Refused.ensures.found in
-    put_answer g.F.Files.held g.F.Files.faults g.F.Files.last g.K.Sink.taken g.K.Sink.faults (command_for c.args.purpose inputs) c.args.files.now c.find.new.files
+    put_answer g.F.Files.held g.F.Files.faults g.F.Files.last g.K.Sink.taken g.K.Sink.faults (command_for c.args.purpose.now inputs) c.args.files.now c.find.new.files
     c.args.out.now c.put_refused.new.out c.once_written.result (refusal_answer inputs refusal) c.put_refused.result
-    (λ told. refused_for (g.F.Files.held c.args.files.now) c.args.purpose inputs refusal (found (told_for (g.F.Files.held c.args.files.now) c.args.purpose inputs told))) (refused_no_usage refusal.file) (refused_low refusal.file) (rw c.in-Err-Refused.field-0-is at c.in-Err-Refused.ensures.count) (rw c.in-Err-Refused.refusal-is at c.put_refused.ensures)
+    (λ told. refused_for (g.F.Files.held c.args.files.now) c.args.purpose.now inputs refusal (found (told_for (g.F.Files.held c.args.files.now) c.args.purpose.now inputs told))) (refused_no_usage refusal.file) (refused_low refusal.file) (rw c.in-Err-Refused.field-0-is at c.in-Err-Refused.ensures.count) (rw c.in-Err-Refused.refusal-is at c.put_refused.ensures)
     (rw (c.status_of.ensures, c.in-Err-Refused.refusal-is) at c.once_written.ensures)
 
 pub returns-in-Err-Read : goal.returns-in-Err-Read
@@ -34,9 +34,9 @@ returns-in-Err-Read g c =
     let inputs : Inputs = record { fin = c.args.fin.now; sources = c.args.sources.now } in
     let failed = rw c.in-Err-Read.field-0-is at c.in-Err-Read.ensures.found in
     let written = rw (c.name_of.ensures, c.in-Err-Read.file-is) at c.put_read_fault.ensures in
-    put_read_fault g.F.Files.held g.F.Files.faults g.F.Files.last g.K.Sink.taken g.K.Sink.faults (command_for c.args.purpose inputs) c.args.files.now c.find.new.files
+    put_read_fault g.F.Files.held g.F.Files.faults g.F.Files.last g.K.Sink.taken g.K.Sink.faults (command_for c.args.purpose.now inputs) c.args.files.now c.find.new.files
     c.args.out.now c.put_read_fault.new.out c.once_written-in-Err-Read.result (name_of inputs c.in-Err-Read.file) c.put_read_fault.result
-    (reads_for (g.F.Files.held c.args.files.now) c.args.purpose inputs (name_of inputs c.in-Err-Read.file) failed.read) failed.named failed.cause written c.once_written-in-Err-Read.ensures
+    (reads_for (g.F.Files.held c.args.files.now) c.args.purpose.now inputs (name_of inputs c.in-Err-Read.file) failed.read) failed.named failed.cause written c.once_written-in-Err-Read.ensures
 
 pub returns-in-Err-Memory : goal.returns-in-Err-Memory
 returns-in-Err-Memory g c =

@@ -1,0 +1,5 @@
+pub mod Texts
+pub mod Marks
+pub mod Progress
+pub mod Returns
+pub mod Endings

@@ -1,0 +1,33 @@
+-- Texts that are put in pieces.
+use Rattle.std.proofs.Common.{◌≡◌, ℕ, List, [], ◌++◌, sym, ap, ◌∙◌, append_assoc, append-nil}
+use Rattle.std.specs.Prelude.{codes, Option, None}
+use Rattle.kr_base.specs.Cuts.{cut_text}
+use Rattle.kr_mean.specs.Problem.{Problem}
+use Rattle.kr_mean.specs.Runs.{tested_method, key_of}
+use Rattle.kr_mean.specs.Verdicts.{verdict_by, verdict_of}
+use Rattle.kr_mean.specs.Entries.{row_of, structure_of}
+use Rattle.kr_mean.specs.declared.kind.Verdict.{Verdict}
+use Rattle.kr_mean.specs.declared.mode.Mode.TheVariants.{List as Listing}
+use Rattle.kr_report.specs.Texts.{structure_text, verdict_text, row_text}
+
+-- five texts, one after another
+grouped : (a b c d e : List ℕ) → a ++ (b ++ (c ++ (d ++ (e ++ [])))) ≡ a ++ b ++ c ++ d ++ e
+grouped a b c d e = simp (append_assoc, append-nil)
+
+pub five_pieces : (a b c d e x y : List ℕ) → x ≡ b → y ≡ d → a ++ (x ++ (c ++ (y ++ (e ++ [])))) ≡ a ++ b ++ c ++ d ++ e
+five_pieces a b c d e x y p q = ap (λ t. a ++ (t ++ (c ++ (y ++ (e ++ []))))) p ∙ (ap (λ t. a ++ (b ++ (c ++ (t ++ (e ++ []))))) q ∙ grouped a b c d e)
+
+-- a listing has no verdicts
+pub no_verdict : (problem : Problem) (v : List ℕ) → problem.mode ≡ Listing → verdict_of problem v ≡ None
+unfolding verdict_of
+no_verdict problem v e = ap (λ m. verdict_by problem v (tested_method problem m)) e
+
+-- so its rows are a key and a structure
+pub row_is : (problem : Problem) (v : List ℕ) → problem.mode ≡ Listing
+    → ((cut_text (key_of problem v) ++ codes " ") ++ structure_text problem (structure_of problem v)) ++ codes "\n" ≡ row_text problem (row_of problem v)
+row_is problem v e =
+    let key = cut_text (key_of problem v) ++ codes " " in
+    let structure = structure_text problem (structure_of problem v) in
+    let none : verdict_text (verdict_of problem v) ≡ [] = ap verdict_text (no_verdict problem v e) in
+    let same : key ++ verdict_text (verdict_of problem v) ≡ key = ap (λ t. key ++ t) none ∙ append-nil key in
+    ap (λ t. (t ++ structure) ++ codes "\n") (sym same)

@@ -1,0 +1,11 @@
+//! What a call reports: the lines of a listing, streamed as its entries are found, and the other lines that end a call.
+#![tactic(auto)]
+
+mod lines;
+mod listing;
+mod row;
+mod structures;
+
+pub use lines::{put_checked, put_out_of_memory, put_read_fault, put_usage_fault};
+pub use listing::put_listing;
+pub use structures::Structures;
