@@ -66,7 +66,7 @@ inputs_are purposes.Check inputs = refl
 pub listed : (held : Held) (purpose : Purpose) (inputs : Inputs) (checked : Checked) (class : OneField) (range : Finitization) → OneFieldLaw → checking held inputs (Ok checked) → checked.class ≡ class → checked.range ≡ range
     → IsAnswer held (Some (command_for purpose inputs)) (report_for purpose class range)
 listed held purpose inputs checked class range law h c r =
-    let formed = h.2.2.2.2 in
+    let formed = h.2.2.2.2.2 in
     let bounded = formed.2 in
     let this = reported purpose inputs h.2.2.0 formed.0 bounded.0 formed.1.0 law formed.1.1 formed.1.2 bounded.1.is_within in
     let that : report_of (command_for purpose inputs) checked ≡ report_for purpose checked.class checked.range = subst (λ (x : Checked). report_of (command_for purpose inputs) x ≡ report_for purpose x.class x.range) bounded.2 this in

@@ -14,6 +14,11 @@ use Rattle.kr_parse.specs.declared.refusal.ParseRule.{ParseRule}
 use Rattle.kr_parse.specs.Rules.{rule_code as parse_code}
 use Rattle.kr_parse.specs.Refusals.{IsParsed, IsUnparsed, OneRefusal, ParsedUnbroken}
 use Rattle.kr_laws.specs.Laws.{OneTree}
+use Rattle.kr_table.specs.Table.{Table, table_of}
+use Rattle.kr_table.specs.Rules.{Fault as ClassFault, class_fault}
+use Rattle.kr_classes.specs.declared.refusal.ClassRule.{ClassRule}
+use Rattle.kr_classes.specs.declared.refusal.ClassRule.TheVariants as classes
+use Rattle.kr_classes.specs.Refusals.{rule_number, rule_code as class_code}
 use Rattle.kr_fin.specs.declared.refusal.Fault.{Fault}
 use Rattle.kr_fin.specs.Order.{rule_code as fin_code}
 use Rattle.kr_pruning.specs.OneField.{one_field_tree}
@@ -24,7 +29,7 @@ use Rattle.kr_report.specs.Reports.{Answer, line_answer}
 use Rattle.korat_top.specs.declared.refusal.InputFile.{InputFile}
 use Rattle.korat_top.specs.declared.refusal.InputFile.TheVariants as input
 use Rattle.korat_top.specs.Refusals.{Inputs, Refusal, at_place, of_finitization}
-use Rattle.korat_top.specs.Steps.{Held, Checked, and_then, each, made, reading, lexing, parsing, growing, stating, forming, bounding, from_class, from_document, from_trees, from_texts, checking}
+use Rattle.korat_top.specs.Steps.{Held, Checked, and_then, each, made, reading, lexing, parsing, growing, classing, stating, forming, bounding, from_class, from_document, from_trees, from_grown, from_texts, checking}
 use Rattle.korat_top.specs.Answer.{Command, IsAnswer, usage, refused, served, inputs_of, refusal_answer, report_of}
 use Rattle.korat_top.specs.Ends.{OneAnswer}
 use Rattle.korat_top.proofs.Outcomes.{HasOne, one_then, one_each}
@@ -103,6 +108,35 @@ one_parsing laws tokens (Err r) (Err t) x y =
 one_growing : Laws → (n : ℕ) (bytes : List ℕ) → HasOne (growing n bytes)
 one_growing laws n bytes = one_then (lexing n bytes) parsing (one_lexing laws n bytes) (one_parsing laws)
 
+same_class_rule : (a b : ClassRule) → rule_number a ≡ rule_number b → a ≡ b
+same_class_rule a b e = from_number a ∙ (ap rule_at e ∙ sym (from_number b))
+  where
+    rule_at : ℕ → ClassRule
+    rule_at n = if n == 1 then classes.RepeatedClass else (if n == 2 then classes.UnknownSuperclass else (if n == 3 then classes.OwnAncestor else (if n == 4 then classes.RepeatedMember else (if n == 5 then classes.OtherParameters else (if n == 6 then classes.ObjectMethod else (if n == 7 then classes.OtherResult else classes.TooMany))))))
+
+    from_number : (a : ClassRule) → a ≡ rule_at (rule_number a)
+    from_number classes.RepeatedClass = refl
+    from_number classes.UnknownSuperclass = refl
+    from_number classes.OwnAncestor = refl
+    from_number classes.RepeatedMember = refl
+    from_number classes.OtherParameters = refl
+    from_number classes.ObjectMethod = refl
+    from_number classes.OtherResult = refl
+    from_number classes.TooMany = refl
+
+one_classing : (trees : List Tree) → HasOne (classing trees)
+one_classing trees (Ok a) (Ok b) x y = ap Ok (x.0 ∙ sym y.0)
+one_classing trees (Ok a) (Err t) x y = let differ = sym (subst (λ (u : Table). class_fault u ≡ None) x.0 x.1) ∙ y.2 in absurd (cc (differ))
+one_classing trees (Err r) (Ok b) x y = let differ = sym (subst (λ (u : Table). class_fault u ≡ None) y.0 y.1) ∙ x.2 in absurd (cc (differ))
+one_classing trees (Err r) (Err t) x y =
+    let one : ClassFault = record { place = x.0; rule = rule_number x.1 } in
+    let other : ClassFault = record { place = y.0; rule = rule_number y.1 } in
+    let same : Some one ≡ Some other = sym x.2 ∙ y.2 in
+    let faults : one ≡ other = cc (same) in
+    let places : x.0 ≡ y.0 = ap (λ (f : ClassFault). f.place) faults in
+    let numbers : rule_number x.1 ≡ rule_number y.1 = ap (λ (f : ClassFault). f.rule) faults in
+    ap Err (x.3 ∙ (ap (λ p. at_place p (class_code x.1)) places ∙ (ap (λ c. at_place y.0 (class_code c)) (same_class_rule x.1 y.1 numbers) ∙ sym y.3)))
+
 one_stating : (fin : List ℕ) → HasOne (stating fin)
 one_stating fin (Ok a) (Ok b) x y = let same = sym x ∙ y in cc (same)
 one_stating fin (Ok a) (Err t) x y = let differ = sym x ∙ y.1 in absurd (cc (differ))
@@ -163,8 +197,11 @@ one_from_document fin trees = one_then (forming trees) (λ class. from_class fin
 one_from_trees : (fin : List ℕ) (trees : List Tree) → HasOne (from_trees fin trees)
 one_from_trees fin trees = one_then (stating fin) (λ document. from_document fin trees) (one_stating fin) (λ document. one_from_document fin trees)
 
+one_from_grown : (fin : List ℕ) (trees : List Tree) → HasOne (from_grown fin trees)
+one_from_grown fin trees = one_then (classing trees) (λ table. from_trees fin trees) (one_classing trees) (λ table. one_from_trees fin trees)
+
 one_from_texts : Laws → (fin : List ℕ) (sources : List (List ℕ)) → HasOne (from_texts fin sources)
-one_from_texts laws fin sources = one_then (each growing 0 sources) (λ trees. from_trees fin trees) (one_each growing (one_growing laws) 0 sources) (λ trees. one_from_trees fin trees)
+one_from_texts laws fin sources = one_then (each growing 0 sources) (λ trees. from_grown fin trees) (one_each growing (one_growing laws) 0 sources) (λ trees. one_from_grown fin trees)
 
 one_checking : Laws → (held : Held) (inputs : Inputs) → HasOne (checking held inputs)
 one_checking laws held inputs =

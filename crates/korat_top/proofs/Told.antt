@@ -1,7 +1,8 @@
 -- What was read, as far as bytes are told, is what the files hold where they are told.
 use Rattle.std.proofs.Common.{◌≡◌, ℕ, ◌+◌, ◌<◌, ◌≤◌, ◌⊎◌, inl, inr, List, [], ◌∷◌, ◌++◌, length, take, drop, get_or, zero, suc, refl, sym, ap, ◌∙◌, subst, arith}
-use Rattle.std.specs.Prelude.{Option, Some, None, IfSome, IsSome, Result, Ok, Err, All, slice_index_or}
+use Rattle.std.specs.Prelude.{Option, Some, None, IfSome, IsSome, Result, Ok, Err, All, map, slice_index_or}
 use Rattle.std.proofs.lemmas.List.{length-take, take_all}
+use Rattle.kr_ast.specs.Arena.{Arena, root}
 use Rattle.korat_top.specs.declared.refusal.InputFile.{InputFile}
 use Rattle.korat_top.specs.declared.refusal.InputFile.TheVariants as input
 use Rattle.kr_base.specs.Causes.{Rose}
@@ -9,7 +10,7 @@ use Rattle.korat_top.specs.declared.refusal.Stop.{Stop}
 use Rattle.korat_top.specs.declared.refusal.Stop.TheVariants.{Read, Refused, Memory}
 use Rattle.korat_top.specs.declared.found.Found.{Found}
 use Rattle.korat_top.specs.Refusals.{Inputs, Refusal, too_long, name_of, refusal_of}
-use Rattle.korat_top.specs.Steps.{Held, LIMIT, Checked, and_then, each, reading, from_texts, checking, ReadsIn, Reads, AllTold}
+use Rattle.korat_top.specs.Steps.{Held, LIMIT, Checked, and_then, each, growing, reading, from_texts, checking, ReadsIn, Reads, AllTold}
 use Rattle.korat_top.specs.Found.{telling, telling_source, HasRead, HasReadAll, Judges, Finds}
 use Rattle.korat_top.proofs.Outcomes.{split_at, each_refused, stops_next}
 
@@ -97,6 +98,13 @@ as_many held n [] [] h = refl
 as_many held n [] (t ∷ texts) h = absurd h
 as_many held n (f ∷ names) [] h = absurd h
 as_many held n (f ∷ names) (t ∷ texts) h = let rest = as_many held (n + 1) names texts h.1 in omega (arith, rest)
+
+-- as many trees as texts
+pub grown_many : (n : ℕ) (texts : List (List ℕ)) (trees : List Arena) → each growing n texts (Ok (map root trees)) → length trees ≡ length texts
+grown_many n [] [] h = refl
+grown_many n [] (t ∷ trees) h = absurd h
+grown_many n (f ∷ texts) [] h = absurd h
+grown_many n (f ∷ texts) (t ∷ trees) h = let rest = grown_many (n + 1) texts trees h.1 in omega (arith, rest)
 
 each_whole : (held : Held) (n : ℕ) (names texts : List (List ℕ)) → each (telling_source held) n names (Ok texts) → ((file : List ℕ) → ReadsIn held names file → IsSome (held file))
     → each (λ k name. reading held (input.Source k) name) n names (Ok texts)

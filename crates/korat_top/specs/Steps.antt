@@ -1,5 +1,5 @@
 -- The steps that the files of a command go through, in their order. The first that refuses a file decides.
-use Rattle.std.specs.Prelude.{◌≡◌, ℕ, ◌+◌, ◌<◌, ◌≤◌, ◌⊎◌, List, [], ◌∷◌, length, Option, Some, Result, Ok, Err, IfSome, IsSome, codes}
+use Rattle.std.specs.Prelude.{◌≡◌, ℕ, ◌+◌, ◌<◌, ◌≤◌, ◌⊎◌, List, [], ◌∷◌, length, Option, Some, None, Result, Ok, Err, IfSome, IsSome, codes}
 use Rattle.kr_base.specs.declared.place.Place.{Place}
 use Rattle.kr_lex.specs.declared.refusal.LexRule.{LexRule}
 use Rattle.kr_lex.specs.Lexemes.{Lexemes}
@@ -10,6 +10,10 @@ use Rattle.kr_ast.specs.Tree.{Tree}
 use Rattle.kr_parse.specs.declared.refusal.ParseRule.{ParseRule}
 use Rattle.kr_parse.specs.Rules.{rule_code as parse_code}
 use Rattle.kr_parse.specs.Refusals.{IsParsed, IsUnparsed}
+use Rattle.kr_table.specs.Table.{Table, table_of}
+use Rattle.kr_table.specs.Rules.{class_fault}
+use Rattle.kr_classes.specs.declared.refusal.ClassRule.{ClassRule}
+use Rattle.kr_classes.specs.Refusals.{rule_number, rule_code as class_code}
 use Rattle.kr_fin.specs.declared.document.FinDoc.{FinDoc}
 use Rattle.kr_fin.specs.declared.refusal.Fault.{Fault}
 use Rattle.kr_fin.specs.Order.{rule_code as fin_code}
@@ -70,6 +74,11 @@ parsing tokens (Err r) = (place : Place) × (rule : ParseRule) × IsUnparsed tok
 abbrev pub growing : ℕ → List ℕ → Result Tree Refusal → Type 0
 growing n bytes = and_then (lexing n bytes) parsing
 
+-- the class table of the sources, which breaks no class rule
+abbrev pub classing : List Tree → Result Table Refusal → Type 0
+classing trees (Ok table) = (table ≡ table_of trees) × (class_fault table ≡ None)
+classing trees (Err r) = (place : Place) × (rule : ClassRule) × (class_fault (table_of trees) ≡ Some (record { place = place; rule = rule_number rule })) × (r ≡ at_place place (class_code rule))
+
 -- the document that the finitization is
 abbrev pub stating : List ℕ → Result FinDoc Refusal → Type 0
 stating fin (Ok document) = meaning fin ≡ Ok document
@@ -102,8 +111,11 @@ from_document fin trees = and_then (forming trees) (λ class. from_class fin tre
 abbrev pub from_trees : List ℕ → List Tree → Result Checked Refusal → Type 0
 from_trees fin trees = and_then (stating fin) (λ document. from_document fin trees)
 
+abbrev pub from_grown : List ℕ → List Tree → Result Checked Refusal → Type 0
+from_grown fin trees = and_then (classing trees) (λ table. from_trees fin trees)
+
 abbrev pub from_texts : List ℕ → List (List ℕ) → Result Checked Refusal → Type 0
-from_texts fin sources = and_then (each growing 0 sources) (λ trees. from_trees fin trees)
+from_texts fin sources = and_then (each growing 0 sources) (λ trees. from_grown fin trees)
 
 -- all steps, the finitization read first
 abbrev pub checking : Held → Inputs → Result Checked Refusal → Type 0

@@ -1,10 +1,11 @@
 // The work for a command, before anything is written: its files are read, and then judged.
 ghost use Rattle.std.specs.Prelude.{◌≡◌, ◌<◌, ◌≤◌, All, IfOk, length, map};
 ghost use Rattle.kr_ast.specs.Arena.{root};
+ghost use Rattle.kr_table.specs.Table.{table_of};
 ghost use Rattle.korat_top.specs.OneField.{one_field_of};
 ghost use Rattle.korat_top.specs.Finitization.{finitization_of};
 ghost use Rattle.korat_top.specs.Refusals.{refusal_of, too_long as too_long_of, source_start as start_of};
-ghost use Rattle.korat_top.specs.Steps.{LIMIT, lexing, parsing, growing, stating, forming, bounding, from_texts, from_trees, from_document, each};
+ghost use Rattle.korat_top.specs.Steps.{LIMIT, lexing, parsing, growing, classing, stating, forming, bounding, from_texts, from_grown, from_trees, from_document, each};
 ghost use Rattle.korat_top.specs.Found.{HasRead, HasReadAll, IsLater, Meets, Judges, Finds, CountStays};
 
 use crate::MAX_FILE_BYTES;
@@ -15,6 +16,7 @@ use crate::refusal::{InputFile, Refusal, Stop};
 use crate::sources::Texts;
 use kr_ast::Tree;
 use kr_base::{NoMemory, Place, Words};
+use kr_classes::{ClassRefusal, classes};
 use kr_fin::{FinDoc, FinRefusal, read_fin};
 use kr_io::{Files, ReadRefusal};
 use kr_lex::{LexRefusal, Tokens, lex};
@@ -141,6 +143,20 @@ fn trees_of(alloc: Global, texts: &Texts) -> Result<Vec<Tree>, Stop>
     Ok(trees)
 }
 
+/// Sees to it that the classes break no class rule.
+fn class_rules(alloc: Global, trees: &[Tree]) -> Result<(), Stop>
+    requires few { length trees.now ≤ 16 }
+    ensures { Meets (classing (map root trees.now)) (λ done. table_of (map root trees.now)) result }
+{
+    match classes(alloc, trees) {
+        Ok(_) => Ok(()),
+        Err(ClassRefusal::Broken { place, rule }) => {
+            Err(Stop::Refused(Refusal::at(alloc, place, rule.code())))
+        }
+        Err(ClassRefusal::NoMemory) => Err(Stop::Memory),
+    }
+}
+
 /// The class of one field that the sources are.
 fn class_of(alloc: Global, trees: &[Tree]) -> Result<OneField, Stop>
     ensures { Meets (forming (map root trees.now)) one_field_of result }
@@ -201,6 +217,14 @@ fn judge_trees(alloc: Global, fin: &[u8], trees: &[Tree]) -> Result<Found, Stop>
     judge_document(alloc, fin, trees)
 }
 
+fn judge_grown(alloc: Global, fin: &[u8], trees: &[Tree]) -> Result<Found, Stop>
+    requires few { length trees.now ≤ 16 }
+    ensures { Judges (from_grown fin.now (map root trees.now)) result }
+{
+    class_rules(alloc, trees)?;
+    judge_trees(alloc, fin, trees)
+}
+
 /// Judges what was read.
 fn judge(alloc: Global, fin: &[u8], texts: &Texts) -> Result<Found, Stop>
     requires few { length texts.now ≤ 16 }
@@ -208,7 +232,7 @@ fn judge(alloc: Global, fin: &[u8], texts: &Texts) -> Result<Found, Stop>
     ensures { Judges (from_texts fin.now texts.now) result }
 {
     let trees = trees_of(alloc, texts)?;
-    judge_trees(alloc, fin, &trees)
+    judge_grown(alloc, fin, trees.as_slice())
 }
 
 /// Reads the files of a command, the finitization first, and judges them.

@@ -360,7 +360,7 @@ fn several_sources(rt: HostRuntime) -> Result<(), Fail> {
         (&["Long.java", "none.java"], 3, "Long.java:1:1: B1\n"),
         (&["L.java", "none.java"], 6, "read fault none.java\n"),
         (&["none.java", "Long.java"], 6, "read fault none.java\n"),
-        (&["A.java", "A.java"], 3, "A.java:1:1: N0\n"),
+        (&["A.java", "A.java"], 3, "A.java:1:7: C1\n"),
     ];
     for (sources, status, text) in table {
         let (ended, out) = called(alloc, sources, &files)?;
