@@ -1,9 +1,13 @@
 //! Judges a finitization beside a program. So far: which types the names of a finitization mean.
 #![tactic(auto)]
 
+mod meaning;
 mod peeling;
+#[cfg(test)]
+mod tests;
 mod wrapping;
 mod written;
 
+pub use meaning::{Meaning, meaning_of};
 pub use wrapping::Wrapping;
 pub use written::{array_type, type_number};

@@ -1,0 +1,64 @@
+// Which types texts mean where there are no classes.
+
+use crate::{Meaning, Wrapping, array_type, meaning_of, type_number};
+use kr_names::Heads;
+use kr_type_numbers::{TypeForm, Types};
+use std::alloc::Global;
+use std::test::Fail;
+
+// The type of the elements of an array type.
+fn element(types: &Types, number: u32) -> Option<u32> {
+    if (number as usize) < types.len() {
+        match types.form(number) {
+            TypeForm::Array(element) => Some(element),
+            _ => None,
+        }
+    } else {
+        None
+    }
+}
+
+#[test]
+fn types(rt: HostRuntime) -> Result<(), Fail> {
+    let alloc = rt.alloc();
+    let heads = Heads::read(alloc, [].as_slice())?;
+    let mut types = Types::new(alloc)?;
+    assert!(rt; type_number(alloc, &mut types, &heads, b"int".as_slice())? == Some(types.int()));
+    assert!(rt;
+        type_number(alloc, &mut types, &heads, b"boolean".as_slice())? == Some(types.boolean())
+    );
+    for text in [
+        "",
+        "[]",
+        "Node",
+        "HashSet<int>",
+        "HashSet<",
+        "LinkedList<>",
+        "int []",
+        "int[",
+        "A.B[]",
+    ] {
+        assert!(rt;
+            type_number(alloc, &mut types, &heads, text.as_bytes())?.is_none(),
+            "{text}"
+        );
+    }
+    let ints = array_type(alloc, &mut types, &heads, b"int[]".as_slice())?;
+    assert!(rt; ints.is_some());
+    let twice = array_type(alloc, &mut types, &heads, b"int[][]".as_slice())?;
+    let Some(number) = twice else {
+        return Err(Fail::new("no type"));
+    };
+    assert!(rt; element(&types, number) == ints);
+    assert!(rt; array_type(alloc, &mut types, &heads, b"int[]".as_slice())? == ints);
+    assert!(rt; array_type(alloc, &mut types, &heads, b"int".as_slice())?.is_none());
+    assert!(rt; array_type(alloc, &mut types, &heads, b"HashSet<int[]>".as_slice())?.is_none());
+    assert!(rt; array_type(alloc, &mut types, &heads, b"HashSet<int[]>[]".as_slice())?.is_some());
+    assert!(rt; meaning_of(alloc, &mut types, &heads, b"null".as_slice())? == Meaning::Null);
+    assert!(rt;
+        meaning_of(alloc, &mut types, &heads, b"int[][]".as_slice())? == Meaning::Arrays(number)
+    );
+    assert!(rt; meaning_of(alloc, &mut types, &heads, b"Node".as_slice())? == Meaning::Unknown);
+    assert!(rt; Wrapping::Array != Wrapping::Set);
+    Ok(())
+}
