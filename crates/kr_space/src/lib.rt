@@ -1,7 +1,9 @@
 //! Judges a finitization beside a program. So far: which types the names of a finitization mean.
 #![tactic(auto)]
 
+mod least;
 mod meaning;
+mod names;
 mod peeling;
 #[cfg(test)]
 mod tests;
