@@ -1,6 +1,7 @@
 //! Judges a finitization beside a program. So far: which types the names of a finitization mean.
 #![tactic(auto)]
 
+mod domains;
 mod least;
 mod meaning;
 mod names;

@@ -18,7 +18,7 @@ use kr_type_numbers::Types;
 use std::alloc::Global;
 
 /// A table's key, a dot and a name.
-fn item_of(alloc: Global, table: &str, name: &str) -> Result<String, NoMemory>
+pub(crate) fn item_of(alloc: Global, table: &str, name: &str) -> Result<String, NoMemory>
     ensures { IfOk result (λ item. string_bytes item ≡ table.now ++ name.now) }
 {
     let mut item = String::from_str(alloc, table)?;

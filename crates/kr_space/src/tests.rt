@@ -1,6 +1,7 @@
 // Which types texts mean where there are no classes.
 
 use crate::{Meaning, Wrapping, array_type, meaning_of, type_number};
+use kr_ast::Tree;
 use kr_names::Heads;
 use kr_type_numbers::{TypeForm, Types};
 use std::alloc::Global;
@@ -21,7 +22,8 @@ fn element(types: &Types, number: u32) -> Option<u32> {
 #[test]
 fn types(rt: HostRuntime) -> Result<(), Fail> {
     let alloc = rt.alloc();
-    let heads = Heads::read(alloc, [].as_slice())?;
+    let trees: Vec<Tree> = Vec::new(alloc);
+    let heads = Heads::read(alloc, trees.as_slice())?;
     let mut types = Types::new(alloc)?;
     assert!(rt; type_number(alloc, &mut types, &heads, b"int".as_slice())? == Some(types.int()));
     assert!(rt;
