@@ -24,6 +24,9 @@ is_owner_unknown hs key = if is_elements key then is_none (array_type hs (owner_
 abbrev pub owners_unknown : List Heading → List NamedDomain → List Fault
 owners_unknown hs domains = flat_map (λ d. break_if (is_owner_unknown hs d.key) UnknownName (of_fields d.key)) domains
 
--- the domains of a table whose values have a name that stands for nothing
+-- a domain that has a name that stands for nothing among its values
+abbrev pub value_unknown : Setting → List ℕ → NamedDomain → List Fault
+value_unknown setting table d = break_if (list_any (names_unknown setting) d.domain) UnknownName (table ++ d.key)
+
 abbrev pub values_unknown : Setting → List ℕ → List NamedDomain → List Fault
-values_unknown setting table domains = flat_map (λ d. break_if (list_any (names_unknown setting) d.domain) UnknownName (table ++ d.key)) domains
+values_unknown setting table domains = flat_map (value_unknown setting table) domains

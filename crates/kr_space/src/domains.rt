@@ -9,7 +9,7 @@ ghost use Rattle.kr_domains.specs.Bounds.{Setting};
 ghost use Rattle.kr_domains.specs.Faults.{is_elements as names_elements, name_part as part_behind, names_unknown, owner_part as part_before};
 ghost use Rattle.kr_domains.specs.Order.{lesser};
 ghost use Rattle.kr_space.specs.Meanings.{is_nothing};
-ghost use Rattle.kr_space.specs.Rules.{is_owner_unknown, owners_unknown};
+ghost use Rattle.kr_space.specs.Rules.{is_owner_unknown, owners_unknown, value_unknown, values_unknown};
 
 use crate::least::Least;
 use crate::meaning::{Meaning, meaning_of};
@@ -156,4 +156,42 @@ fn has_unknown(
         }
     }
     Ok(false)
+}
+
+/// No value of a domain is a name that stands for nothing.
+fn value_names_of(
+    least: &mut Least,
+    types: &mut Types,
+    trees: &[Tree],
+    heads: &Heads,
+    table: &str,
+    domain: &NamedDomain,
+) -> Result<(), NoMemory>
+    requires { AreHeads trees.now heads.now }
+    ensures { OnOk result ((setting : Setting) → setting.table.headings ≡ headings_of (map root trees.now) → least.new ≡ fold lesser least.old (value_unknown setting table.now domain.now)) }
+{
+    if has_unknown(least.alloc(), types, trees, heads, domain.domain.as_slice())? {
+        let item = item_of(least.alloc(), table, domain.key.as_str())?;
+        least.note(SpaceRule::UnknownName, item.as_str())
+    } else {
+        Ok(())
+    }
+}
+
+/// No value of a table's domains is a name that stands for nothing.
+pub(crate) fn value_names(
+    least: &mut Least,
+    types: &mut Types,
+    trees: &[Tree],
+    heads: &Heads,
+    table: &str,
+    domains: &[NamedDomain],
+) -> Result<(), NoMemory>
+    requires { AreHeads trees.now heads.now }
+    ensures { OnOk result ((setting : Setting) → setting.table.headings ≡ headings_of (map root trees.now) → least.new ≡ fold lesser least.old (values_unknown setting table.now domains.now)) }
+{
+    for domain in domains {
+        value_names_of(least, types, trees, heads, table, domain)?;
+    }
+    Ok(())
 }

@@ -80,4 +80,11 @@ impl Least {
     pub(crate) fn alloc(&self) -> Global {
         self.alloc
     }
+
+    pub(crate) fn into_fault(self) -> Option<Fault>
+        ensures { result ≡ self }
+    {
+        let Least { alloc: _, fault } = self;
+        fault
+    }
 }

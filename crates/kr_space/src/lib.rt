@@ -8,9 +8,11 @@ mod names;
 mod peeling;
 #[cfg(test)]
 mod tests;
+mod unknown;
 mod wrapping;
 mod written;
 
 pub use meaning::{Meaning, meaning_of};
+pub use unknown::unknown_name;
 pub use wrapping::Wrapping;
 pub use written::{array_type, type_number};
