@@ -5,12 +5,12 @@ use Rattle.std.proofs.lemmas.List.{length-map, take_more, take_all}
 use Rattle.std.proofs.Math.ListN.{get_or-map}
 use Rattle.kr_base.specs.declared.place.Place.{Place}
 use Rattle.kr_ast.specs.Arena.{Arena, root, tree_in}
-use Rattle.kr_ast.specs.Tree.{Nil}
-use Rattle.kr_table.specs.Table.{Class, Heading, class_at, table_of, headings_of, classes_from, class_of, ancestors, is_among}
+use Rattle.kr_table.specs.Table.{Class, Heading, class_at, headings_of, classes_from, class_of, ancestors, is_among}
 use Rattle.kr_table.specs.Rules.{Fault, C2, C3, each_class, extended_at, break_if, sooner, least}
 use Rattle.kr_names.specs.declared.headings.Heading.{Heading as Kept}
 use Rattle.kr_names.specs.declared.class_names.Heads.{Heads}
 use Rattle.kr_names.specs.Shown.{AreHeads, heading_shown, file_at}
+use Rattle.kr_members.proofs.Classes.{classes_in}
 use Rattle.kr_classes.specs.Faults.{ClassRule, AreSuperclasses, IsFirstIn, IsFirstOf, fault_at, first_of_rule, superclass_at, table_in}
 use Rattle.kr_classes.proofs.Sooner.{least_append}
 
@@ -46,10 +46,6 @@ class_read all k [] i d h l = absurd (omega (arith, l))
 class_read all k (x ∷ hs) zero d h l = ap (λ n. class_of all n x) (omega arith)
 class_read all k (x ∷ hs) (suc i) d h l = class_read all (k + 1) hs i d h (omega (arith, l)) ∙ ap (λ n. class_of all n (get_or hs i h)) (omega arith)
 
-pub classes_in : (files : List Arena) → (table_in files).classes ≡ classes_from (headings_of (map root files)) 0 (headings_of (map root files))
-unfolding table_of
-classes_in files = refl
-
 length-map-of : (files : List Arena) (xs : List Kept) → map (heading_shown files) xs ≡ headings_of (map root files) → length (headings_of (map root files)) ≡ length xs
 length-map-of files xs s = ap length (sym s) ∙ length-map xs (heading_shown files)
 
@@ -71,9 +67,6 @@ class_kept files xs x i d s l e =
     ap (λ ds. get_or ds i d) (classes_in files)
     ∙ class_read hs 0 hs i d (heading_shown files x) (omega (arith, l, n))
     ∙ ap (class_of hs (0 + i)) (ap (λ ys. get_or ys i (heading_shown files x)) (sym s) ∙ get_or-map (heading_shown files) xs i x ∙ ap (heading_shown files) (sym e))
-
-pub no_class : Class
-no_class = record { name = []; place = record { file = 0; line = 0; col = 0 }; outer = None; extended = Nil; super = None; fields = []; methods = []; constructors = [] }
 
 -- a rule's first place with one class more
 pub more_in : (n : ℕ) (rule : ClassRule) (files : List Arena) (xs : List Kept) (i : ℕ) (d : Class) (first place new : Option Place) → map (heading_shown files) xs ≡ headings_of (map root files) → i < length xs

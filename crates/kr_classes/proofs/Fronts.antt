@@ -10,9 +10,11 @@ use Rattle.kr_table.specs.Rules.{Fault, C1, C2, C3, C4, C5, C6, C7, C8, class_fa
 use Rattle.kr_names.specs.declared.class_names.Heads.{Heads}
 use Rattle.kr_names.specs.Shown.{AreHeads, heading_shown, superclass_in}
 use Rattle.kr_names.proofs.ClassNumbers.{some_below}
-use Rattle.kr_classes.specs.Faults.{AreBelow, AreSuperclasses, first_of_rule, table_in}
+use Rattle.kr_classes.specs.Faults.{AreBelow, AreSuperclasses, first_of_rule, no_class, table_in}
 use Rattle.kr_classes.specs.Refusals.{names_fault}
-use Rattle.kr_classes.proofs.ByClass.{at_index, class_read, classes_in, long, no_class}
+use Rattle.kr_classes.specs.MemberRules.{members_fault}
+use Rattle.kr_members.proofs.Classes.{classes_in}
+use Rattle.kr_classes.proofs.ByClass.{at_index, class_read, long}
 
 front : (a b c : Option Fault) (os : List (Option Fault)) (f : Fault) → first_of (a ∷ b ∷ c ∷ []) ≡ Some f → first_of (a ∷ b ∷ c ∷ os) ≡ Some f
 front (Some g) b c os f e = e
@@ -25,6 +27,18 @@ pub by_names : (t : Table) (f : Fault) → names_fault t ≡ Some f → class_fa
 unfolding class_fault
 by_names t f e =
     front (least (C1 t)) (first_of_rule C2 t) (first_of_rule C3 t) (first_of_rule C4 t ∷ first_of_rule C5 t ∷ first_of_rule C6 t ∷ first_of_rule C7 t ∷ first_of_rule C8 t ∷ []) f e
+
+behind : (a b c : Option Fault) (os : List (Option Fault)) → first_of (a ∷ b ∷ c ∷ []) ≡ None → first_of (a ∷ b ∷ c ∷ os) ≡ first_of os
+behind (Some g) b c os e = absurd (cc (e))
+behind None (Some g) c os e = absurd (cc (e))
+behind None None (Some g) os e = absurd (cc (e))
+behind None None None os e = refl
+
+-- where none of the rules on names is broken those on members decide
+pub by_members : (t : Table) → names_fault t ≡ None → class_fault t ≡ members_fault t
+unfolding class_fault
+by_members t e =
+    behind (least (C1 t)) (first_of_rule C2 t) (first_of_rule C3 t) (first_of_rule C4 t ∷ first_of_rule C5 t ∷ first_of_rule C6 t ∷ first_of_rule C7 t ∷ first_of_rule C8 t ∷ []) e
 
 no_heading : Heading
 no_heading = record { name = []; place = record { file = 0; line = 0; col = 0 }; outer = None; extended = Nil; members = [] }

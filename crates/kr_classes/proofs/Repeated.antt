@@ -14,7 +14,7 @@ use Rattle.kr_names.specs.declared.headings.Heading.{Heading as Kept}
 use Rattle.kr_names.specs.Shown.{heading_shown, file_at}
 use Rattle.kr_classes.proofs.ByClass.{class_kept}
 
-onto : List (List ℕ) → List (List ℕ) → List (List ℕ)
+unfoldable pub onto : List (List ℕ) → List (List ℕ) → List (List ℕ)
 onto base [] = base
 onto base (n ∷ ns) = onto (n ∷ base) ns
 
@@ -30,7 +30,7 @@ either true false = refl
 either false true = refl
 either false false = refl
 
-among_onto : (m : List ℕ) (base ns : List (List ℕ)) → is_name_among m (onto base ns) ≡ is_name_among m ns || is_name_among m base
+pub among_onto : (m : List ℕ) (base ns : List (List ℕ)) → is_name_among m (onto base ns) ≡ is_name_among m ns || is_name_among m base
 unfolding onto
 among_onto m base [] = refl
 among_onto m base (n ∷ ns) = among_onto m (n ∷ base) ns ∙ swap (bytes_eq m n) (is_name_among m ns) (is_name_among m base)
@@ -63,7 +63,7 @@ unfolding names
 is_there k [] n = refl
 is_there k (h ∷ hs) n = some_or (bytes_eq h.name n) k (number_from (k + 1) hs n) ∙ ap (λ b. b || is_some (number_from (k + 1) hs n)) (turned h.name n) ∙ ap (λ b. bytes_eq n h.name || b) (is_there (k + 1) hs n)
 
-itself : (n : List ℕ) → bytes_eq n n ≡ true
+pub itself : (n : List ℕ) → bytes_eq n n ≡ true
 itself n = grind (arith, bytes_eq-Decides n n)
 
 less_is_other : (j k : ℕ) → j < k → nat_eq j k ≡ false

@@ -1,8 +1,9 @@
 -- The first place at which a class rule on names is broken.
-use Rattle.std.specs.Prelude.{◌≡◌, ℕ, ◌-◌, ◌<◌, ◌||◌, not, List, [], ◌∷◌, length, map, take, codes, Option, Some, None, slice_index_or}
+use Rattle.std.specs.Prelude.{◌≡◌, ℕ, ◌-◌, ◌<◌, ◌||◌, not, List, [], ◌∷◌, length, map, take, flat_map, codes, Option, Some, None, slice_index_or}
 use Rattle.kr_base.specs.declared.place.Place.{Place}
 use Rattle.kr_ast.specs.Arena.{Arena, root}
-use Rattle.kr_table.specs.Table.{Table, Class, super_of, table_of, line_within, ancestors, is_among, is_number, number_of}
+use Rattle.kr_ast.specs.Tree.{Nil}
+use Rattle.kr_table.specs.Table.{Table, Class, Field, Method, super_of, table_of, line_within, ancestors, is_among, is_number, number_of, own_fields}
 use Rattle.kr_table.specs.Rules.{Fault, break_if, each_class, is_name_among, least}
 use Rattle.kr_names.specs.declared.class_names.Heads.{Heads}
 use Rattle.kr_names.specs.Shown.{AreHeads}
@@ -57,3 +58,23 @@ collections = codes "HashSet" ∷ codes "LinkedList" ∷ []
 -- a class has the name of a collection, or that of a class before it
 abbrev pub repeats : ClassRule
 repeats t c d = break_if (is_name_among d.name collections || not (is_number (number_of t.headings d.name) (Some c))) 1 d.place
+
+-- ---- members
+
+-- a class that isn't there
+abbrev pub no_class : Class
+no_class = record { name = []; place = record { file = 0; line = 0; col = 0 }; outer = None; extended = Nil; super = None; fields = []; methods = []; constructors = [] }
+
+-- a class of the table by its number
+abbrev pub class_in : Table → ℕ → Class
+class_in t c = slice_index_or t.classes c no_class
+
+-- the names of the fields and constants that a class inherits
+abbrev pub inherited_names : Table → ℕ → List (List ℕ)
+inherited_names t c = map (λ f. f.name) (flat_map (own_fields t) (ancestors t c))
+
+abbrev pub field_places : List Field → List (List ℕ × Place)
+field_places fs = map (λ f. (f.name, f.place)) fs
+
+abbrev pub method_places : List Method → List (List ℕ × Place)
+method_places ms = map (λ m. (m.name, m.place)) ms

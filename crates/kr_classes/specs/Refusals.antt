@@ -5,7 +5,7 @@ use Rattle.kr_table.specs.Table.{Table}
 use Rattle.kr_table.specs.Rules.{Fault, C1, C2, C3, class_fault, first_of, least}
 use Rattle.kr_names.specs.Shown.{AreHeads}
 use Rattle.kr_classes.specs.declared.refusal.ClassRule.{ClassRule as Rule}
-use Rattle.kr_classes.specs.declared.refusal.ClassRule.TheVariants.{RepeatedClass, UnknownSuperclass, OwnAncestor}
+use Rattle.kr_classes.specs.declared.refusal.ClassRule.TheVariants.{RepeatedClass, UnknownSuperclass, OwnAncestor, RepeatedMember, OtherParameters, ObjectMethod, OtherResult, TooMany}
 use Rattle.kr_classes.specs.declared.refusal.ClassRefusal.{ClassRefusal}
 use Rattle.kr_classes.specs.declared.refusal.ClassRefusal.TheVariants.{Broken, NoMemory}
 use Rattle.kr_classes.specs.declared.hierarchy.Hierarchy.{Hierarchy}
@@ -15,11 +15,21 @@ abbrev pub rule_code : Rule → List ℕ
 rule_code RepeatedClass = codes "C1"
 rule_code UnknownSuperclass = codes "C2"
 rule_code OwnAncestor = codes "C3"
+rule_code RepeatedMember = codes "C4"
+rule_code OtherParameters = codes "C5"
+rule_code ObjectMethod = codes "C6"
+rule_code OtherResult = codes "C7"
+rule_code TooMany = codes "C8"
 
 abbrev pub rule_number : Rule → ℕ
 rule_number RepeatedClass = 1
 rule_number UnknownSuperclass = 2
 rule_number OwnAncestor = 3
+rule_number RepeatedMember = 4
+rule_number OtherParameters = 5
+rule_number ObjectMethod = 6
+rule_number OtherResult = 7
+rule_number TooMany = 8
 
 -- the first fault of the rules on names and on what classes extend
 abbrev pub names_fault : Table → Option Fault

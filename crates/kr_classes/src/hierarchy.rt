@@ -7,9 +7,8 @@ ghost use Rattle.kr_classes.specs.Faults.{AreBelow, AreSuperclasses, table_in};
 ghost use Rattle.kr_classes.specs.Refusals.{IsHierarchy, IsRefusal, names_fault, rule_number};
 
 use crate::name_rules::{first_own_ancestor, first_repeated_name, first_unknown_superclass};
-use crate::refusal::{ClassRefusal, ClassRule};
+use crate::refusal::{ClassRefusal, ClassRule, Found};
 use kr_ast::Tree;
-use kr_base::Place;
 use kr_names::{Heads, superclasses};
 use std::alloc::Global;
 
@@ -18,13 +17,6 @@ use std::alloc::Global;
 pub struct Hierarchy {
     pub(crate) heads: Heads,
     pub(crate) supers: Vec<Option<u32>>,
-}
-
-/// A broken rule and its place.
-#[derive(Clone, Copy)]
-struct Found {
-    place: Place,
-    rule: ClassRule,
 }
 
 /// The first broken rule of those on names and on what classes extend.

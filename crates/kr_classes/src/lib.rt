@@ -1,13 +1,21 @@
-//! The class rules on the names of classes and on what they extend.
+//! The class rules, and the class table of files that break none: what the names of classes mean, their members, the types
+//! that nodes name, and the values of constants.
 #![tactic(auto)]
 
+mod class_table;
+mod field_rules;
 mod hierarchy;
+mod member_rules;
+mod method_rules;
 mod name_rules;
+mod overridden;
+mod overriding;
 mod places;
 mod refusal;
 #[cfg(test)]
 mod tests;
 
+pub use class_table::{ClassTable, classes};
 pub use hierarchy::{Hierarchy, hierarchy_of};
 pub use name_rules::{first_own_ancestor, first_repeated_name, first_unknown_superclass};
 pub use refusal::{ClassRefusal, ClassRule};

@@ -1,6 +1,6 @@
 // The first of the places where a rule is broken.
 ghost use Rattle.std.specs.Prelude.{◌≡◌, ℕ};
-ghost use Rattle.kr_table.specs.Rules.{is_earlier as comes_before, sooner};
+ghost use Rattle.kr_table.specs.Rules.{break_if, is_earlier as comes_before, least, sooner};
 ghost use Rattle.kr_classes.specs.Faults.{fault_at};
 
 use kr_base::Place;
@@ -27,4 +27,11 @@ pub(crate) fn earlier(first: Option<Place>, place: Option<Place>) -> Option<Plac
         (_, None) => first,
         (Some(f), Some(p)) => { if is_earlier(p, f) { Some(p) } else { Some(f) } }
     }
+}
+
+/// The place where a rule is broken.
+pub(crate) fn if_broken(broken: bool, place: Place) -> Option<Place>
+    ensures { (rule : ℕ) → fault_at rule result ≡ least (break_if broken rule place) }
+{
+    if broken { Some(place) } else { None }
 }

@@ -14,6 +14,23 @@ pub enum ClassRule {
     UnknownSuperclass,
     /// C3: a class is its own ancestor.
     OwnAncestor,
+    /// C4: a field has the name of one before it or of an inherited one, or a class has two constructors.
+    RepeatedMember,
+    /// C5: a method has the name of one before it, or an inherited name and other types of parameters.
+    OtherParameters,
+    /// C6: a method has the name of one that every object has.
+    ObjectMethod,
+    /// C7: an overriding method differs in `static`, or its result doesn't fit.
+    OtherResult,
+    /// C8: there are more than 64 classes, or more than 32 instance fields in one.
+    TooMany,
+}
+
+/// A broken rule and its place.
+#[derive(Clone, Copy)]
+pub(crate) struct Found {
+    pub(crate) place: Place,
+    pub(crate) rule: ClassRule,
 }
 
 impl ClassRule {
@@ -25,6 +42,11 @@ impl ClassRule {
             ClassRule::RepeatedClass => "C1",
             ClassRule::UnknownSuperclass => "C2",
             ClassRule::OwnAncestor => "C3",
+            ClassRule::RepeatedMember => "C4",
+            ClassRule::OtherParameters => "C5",
+            ClassRule::ObjectMethod => "C6",
+            ClassRule::OtherResult => "C7",
+            ClassRule::TooMany => "C8",
         }
     }
 }

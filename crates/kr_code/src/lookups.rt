@@ -1,11 +1,13 @@
 // Looking things up in code.
-ghost use Rattle.std.specs.Prelude.{◌≡◌, ◌∷◌, [], None, false, MatchOption};
-ghost use Rattle.kr_code.specs.Tables.{node_at, expression_of, statement_of, declarator_of, initialiser_of, listed, method_at, class_at, row_items, cell, position_in, spot_in, method_in, is_instance};
+ghost use Rattle.std.specs.Prelude.{◌≡◌, ◌∷◌, [], None, false, IfOk, MatchOption};
+ghost use Rattle.kr_code.specs.Tables.{node_at, expression_of, statement_of, declarator_of, initialiser_of, listed, values_in, method_at, class_at, row_items, cell, position_in, spot_in, method_in, is_instance};
 
 use crate::{
     ClassCode, Code, Declarator, Expression, Initialiser, MethodCode, Node, Nodes, Statement,
 };
-use kr_value::Class;
+use kr_base::NoMemory;
+use kr_value::{Class, Value};
+use std::alloc::Global;
 
 fn number_in(rows: &Vec<Vec<Option<u32>>>, row: u32, column: u32) -> Option<u32>
     ensures { result ≡ cell None rows.now.items row column }
@@ -148,5 +150,15 @@ impl Code {
             Class::Array(number) => mark_in(&self.array_instances, type_number, number),
             _ => false,
         }
+    }
+
+    /// Values that follow one another.
+    pub fn copy_values(&self, alloc: Global, nodes: Nodes) -> Result<Vec<Value>, NoMemory>
+        ensures { IfOk result (λ values. values.items ≡ values_in self.now nodes) }
+    {
+        let first = (nodes.first as usize).min(self.values.len());
+        let rest = &self.values[first..];
+        let count = (nodes.count as usize).min(rest.len());
+        Ok(rest[..count].to_vec(alloc)?)
     }
 }

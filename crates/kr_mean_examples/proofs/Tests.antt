@@ -3,6 +3,8 @@ use Rattle.std.proofs.Common.{◌≡◌, refl}
 use Rattle.std.specs.Prelude.{pos, [], ◌∷◌, codes, Some, Ok}
 use Rattle.kr_ast.specs.declared.node.BinaryOperator.TheVariants.{Add, Divide, And}
 use Rattle.kr_ast.specs.Tree as trees
+use Rattle.kr_ast.specs.Tree.{Nil}
+use Rattle.kr_mean_examples.specs.Constructs.{list_of}
 use Rattle.kr_table.specs.Table.{table_of}
 use Rattle.kr_table.specs.Constants.{values_of, is_constant, evaluated}
 use Rattle.kr_typing.specs.Typing.{judged}
@@ -14,7 +16,7 @@ use Rattle.kr_mean.specs.Heaps.{heap_of}
 use Rattle.kr_mean.specs.Steps.{bind}
 use Rattle.kr_mean.specs.Meaning.{eval, exec, value, body_of}
 use Rattle.kr_mean.specs.Verdicts.{verdict_of}
-use Rattle.kr_mean_examples.specs.Tests.{Tests, tested, of_new, number, yes, no, equal, result, old_at, give_back, assign, v, x, next_v}
+use Rattle.kr_mean_examples.specs.Tests.{Tests, tested, of_new, name, number, yes, no, equal, result, old_at, give_back, assign, local, v, x, next_v}
 
 passes : tested yes (equal result (trees.Binary nowhere Add v x) ∷ []) (give_back (trees.Binary nowhere Add v x) ∷ []) 100 ≡ Some Pass
 unfolding table_of values_of is_constant evaluated judged heap_of bind eval exec value body_of verdict_of
@@ -92,6 +94,10 @@ body_spent : tested yes [] (trees.While nowhere yes (trees.Empty nowhere) ∷ []
 unfolding table_of values_of is_constant evaluated judged heap_of bind eval exec value body_of verdict_of
 body_spent = refl
 
+block_ends : tested yes (equal result (number 0) ∷ []) (trees.Block nowhere (list_of (local (codes "a") (number 7) ∷ [])) ∷ local (codes "b") Nil ∷ give_back (name (codes "b")) ∷ []) 100 ≡ Some Pass
+unfolding table_of values_of is_constant evaluated judged heap_of bind eval exec value body_of verdict_of
+block_ends = refl
+
 initial_value_after_super : of_new (codes "c") ≡ (Ok (Int (pos 5)), 8, [])
 unfolding table_of values_of is_constant evaluated judged heap_of bind eval exec value body_of verdict_of
 initial_value_after_super = refl
@@ -121,6 +127,7 @@ tests = record {
   old_exact = old_exact;
   old_one_short = old_one_short;
   body_spent = body_spent;
+  block_ends = block_ends;
   initial_value_after_super = initial_value_after_super;
   statements_last = statements_last;
 }

@@ -53,6 +53,9 @@ assign n e = trees.ExpressionStatement nowhere (trees.Assignment nowhere (name n
 abbrev pub int : Tree
 int = trees.PrimitiveType nowhere primitives.Int
 
+abbrev pub local : List ℕ → Tree → Tree
+local n initial = trees.Local nowhere int (list_of (trees.Declarator nowhere n initial ∷ []))
+
 abbrev pub field : Tree → List ℕ → Tree → Tree
 field type n initial = trees.Field nowhere false false type (list_of (trees.Declarator nowhere n initial ∷ []))
 
@@ -127,6 +130,8 @@ pub record Tests : Type 0 where
   pub old_exact : tested yes (equal (old_at 1 v) (number 5) ∷ []) (give_back (number 0) ∷ []) 10 ≡ Some Pass
   pub old_one_short : tested yes (equal (old_at 1 v) (number 5) ∷ []) (give_back (number 0) ∷ []) 9 ≡ Some Spent
   pub body_spent : tested yes [] (trees.While nowhere yes (trees.Empty nowhere) ∷ []) 100 ≡ Some Spent
+  -- a block's locals end with it, so the next one begins at its default
+  pub block_ends : tested yes (equal result (number 0) ∷ []) (trees.Block nowhere (list_of (local (codes "a") (number 7) ∷ [])) ∷ local (codes "b") Nil ∷ give_back (name (codes "b")) ∷ []) 100 ≡ Some Pass
   -- the superclass's constructor is done before the initial values, and those before the constructor's own statements
   pub initial_value_after_super : of_new (codes "c") ≡ (Ok (Int (pos 5)), 8, [])
   pub statements_last : of_new (codes "b") ≡ (Ok (Int (pos 7)), 8, [])

@@ -13,5 +13,6 @@ mod queries;
 mod tests;
 
 pub use fields::Field;
+pub use lists::add_found;
 pub use members::{ClassMembers, Members};
 pub use methods::{Constructor, Method};

@@ -1,7 +1,7 @@
 // What is found on the line of a class and its ancestors, the nearest first.
 ghost use Rattle.std.specs.Prelude.{◌≡◌, ◌++◌, List, Some, None, IfOk, IfSome, map, flat_map, All, option_map, option_to_list};
 ghost use Rattle.kr_ast.specs.Arena.{Arena};
-ghost use Rattle.kr_table.specs.Table.{field_named, fields_of, is_below, is_instance, line_of, method_named, own_fields};
+ghost use Rattle.kr_table.specs.Table.{ancestors, field_named, field_on, fields_of, is_below, is_instance, line_of, line_within, method_named, method_on, own_fields};
 ghost use Rattle.kr_members.specs.Shown.{IsField, IsMethod, field_shown, method_shown, table_in};
 ghost use Rattle.kr_members.specs.Kept.{AreMembers};
 
@@ -41,13 +41,12 @@ impl Members {
         false
     }
 
-    /// The field or constant of a name, the nearest on the line.
-    pub fn field_named(&self, class: u32, name: &[u8]) -> Option<Field>
+    /// The field or constant of a name, the nearest of so many classes upwards.
+    fn field_upwards(&self, from: Option<u32>, steps: usize, name: &[u8]) -> Option<Field>
         ensures stands { (files : List Arena) → AreMembers files self.now → IfSome result (IsField files) }
-        ensures shown { (files : List Arena) → AreMembers files self.now → option_map (field_shown files) result ≡ field_named (table_in files) class name.now }
+        ensures shown { (files : List Arena) → AreMembers files self.now → option_map (field_shown files) result ≡ field_on (table_in files) (line_within steps (table_in files) from) name.now }
     {
-        let mut at = Some(class);
-        let steps = self.len() + 1;
+        let mut at = from;
         for step in 0..steps {
             match at {
                 None => return None,
@@ -63,13 +62,28 @@ impl Members {
         None
     }
 
-    /// The method of a name, the nearest on the line.
-    pub fn method_named(&self, class: u32, name: &[u8]) -> Option<Method>
-        ensures stands { (files : List Arena) → AreMembers files self.now → IfSome result (IsMethod files) }
-        ensures shown { (files : List Arena) → AreMembers files self.now → option_map (method_shown files) result ≡ method_named (table_in files) class name.now }
+    /// The field or constant of a name, the nearest on the line.
+    pub fn field_named(&self, class: u32, name: &[u8]) -> Option<Field>
+        ensures stands { (files : List Arena) → AreMembers files self.now → IfSome result (IsField files) }
+        ensures shown { (files : List Arena) → AreMembers files self.now → option_map (field_shown files) result ≡ field_named (table_in files) class name.now }
     {
-        let mut at = Some(class);
-        let steps = self.len() + 1;
+        self.field_upwards(Some(class), self.len() + 1, name)
+    }
+
+    /// The field or constant of a name that a class inherits.
+    pub fn inherited_field(&self, class: u32, name: &[u8]) -> Option<Field>
+        ensures stands { (files : List Arena) → AreMembers files self.now → IfSome result (IsField files) }
+        ensures shown { (files : List Arena) → AreMembers files self.now → option_map (field_shown files) result ≡ field_on (table_in files) (ancestors (table_in files) class) name.now }
+    {
+        self.field_upwards(self.superclass(class), self.len(), name)
+    }
+
+    /// The method of a name, the nearest of so many classes upwards.
+    fn method_upwards(&self, from: Option<u32>, steps: usize, name: &[u8]) -> Option<Method>
+        ensures stands { (files : List Arena) → AreMembers files self.now → IfSome result (IsMethod files) }
+        ensures shown { (files : List Arena) → AreMembers files self.now → option_map (method_shown files) result ≡ method_on (table_in files) (line_within steps (table_in files) from) name.now }
+    {
+        let mut at = from;
         for step in 0..steps {
             match at {
                 None => return None,
@@ -83,6 +97,22 @@ impl Members {
             }
         }
         None
+    }
+
+    /// The method of a name, the nearest on the line.
+    pub fn method_named(&self, class: u32, name: &[u8]) -> Option<Method>
+        ensures stands { (files : List Arena) → AreMembers files self.now → IfSome result (IsMethod files) }
+        ensures shown { (files : List Arena) → AreMembers files self.now → option_map (method_shown files) result ≡ method_named (table_in files) class name.now }
+    {
+        self.method_upwards(Some(class), self.len() + 1, name)
+    }
+
+    /// The method of a name that a class inherits.
+    pub fn inherited_method(&self, class: u32, name: &[u8]) -> Option<Method>
+        ensures stands { (files : List Arena) → AreMembers files self.now → IfSome result (IsMethod files) }
+        ensures shown { (files : List Arena) → AreMembers files self.now → option_map (method_shown files) result ≡ method_on (table_in files) (ancestors (table_in files) class) name.now }
+    {
+        self.method_upwards(self.superclass(class), self.len(), name)
     }
 
     /// A class and its ancestors.

@@ -4,7 +4,7 @@ ghost use Rattle.std.specs.Prelude.{◌≡◌, ◌++◌, IfOk, option_to_list};
 use kr_base::NoMemory;
 
 /// Adds what was found, if anything.
-pub(crate) fn add_found<T: Copy>(items: &mut Vec<T>, found: Option<T>) -> Result<(), NoMemory>
+pub fn add_found<T: Copy>(items: &mut Vec<T>, found: Option<T>) -> Result<(), NoMemory>
     ensures { IfOk result (λ none. items.new.items ≡ items.old.items ++ option_to_list found) }
 {
     match found {

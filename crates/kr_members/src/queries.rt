@@ -1,5 +1,6 @@
 // What the class table says of a class by its number: its superclass, its outer class, its own members, its line.
 ghost use Rattle.std.specs.Prelude.{◌≡◌, List, Some, None, IfSome, length, map, flat_map, All, find, bytes_eq, option_and_then, option_map, option_to_list, option_copied, slice_get};
+ghost use Rattle.std.specs.List.{position_from};
 ghost use Rattle.kr_ast.specs.Arena.{Arena};
 ghost use Rattle.kr_table.specs.Table.{class_at, own_fields, own_methods, super_of};
 ghost use Rattle.kr_table.specs.Constants.{outer_class};
@@ -10,6 +11,7 @@ ghost use Rattle.kr_members.specs.Kept.{AreMembers, class_count};
 use crate::fields::Field;
 use crate::members::{ClassMembers, Members};
 use crate::methods::{Constructor, Method};
+use kr_base::Place;
 
 impl ClassMembers {
     /// The first of its fields with this name.
@@ -99,6 +101,36 @@ impl Members {
         match self.class(class) {
             None => &[],
             Some(members) => members.constructors.as_slice(),
+        }
+    }
+
+    /// The place of a class's name.
+    pub fn place(&self, class: u32) -> Option<Place>
+        ensures { (files : List Arena) → AreMembers files self.now → result ≡ option_map (λ d. d.place) (class_at (table_in files).classes class) }
+    {
+        match self.class(class) {
+            None => None,
+            Some(members) => Some(members.heading.place),
+        }
+    }
+
+    /// Which of a class's own fields and constants is the first of a name.
+    pub fn own_field_number(&self, class: u32, name: &[u8]) -> Option<u32>
+        ensures { (files : List Arena) → AreMembers files self.now → result ≡ position_from (bytes_eq name.now) 0 (map (λ f. f.name) (own_fields (table_in files) class)) }
+    {
+        match self.class(class) {
+            None => None,
+            Some(members) => members.field_index.find(name),
+        }
+    }
+
+    /// Which of a class's own methods is the first of a name.
+    pub fn own_method_number(&self, class: u32, name: &[u8]) -> Option<u32>
+        ensures { (files : List Arena) → AreMembers files self.now → result ≡ position_from (bytes_eq name.now) 0 (map (λ m. m.name) (own_methods (table_in files) class)) }
+    {
+        match self.class(class) {
+            None => None,
+            Some(members) => members.method_index.find(name),
         }
     }
 

@@ -5,6 +5,7 @@ use Rattle.kr_soundness.specs.Fits.{IsOf}
 use Rattle.kr_soundness.specs.Triples.{Fixed}
 use Rattle.kr_soundness.specs.KeepTypes.{KeepTypes}
 use Rattle.kr_soundness.proofs.Steps.{safe_map, safe_tick, safe_this, safe_local, safe_declare, safe_assign, safe_result, safe_old, safe_within, safe_scoped, safe_see, safe_load_field, safe_store, safe_store_new, safe_length, safe_element, safe_store_element, safe_make}
+use Rattle.kr_soundness.proofs.Operators.{safe_operated, safe_operated_alone, safe_create_array}
 use Rattle.kr_soundness.proofs.Collections.{safe_add, safe_contains, safe_remove, safe_size, safe_is_empty, safe_remove_first}
 
 pub keep_types : (program : Program) (fixed : Fixed) → KeepTypes program fixed
@@ -32,4 +33,7 @@ keep_types program fixed = record {
   gives_size = safe_size program fixed;
   gives_is_empty = safe_is_empty program fixed;
   removes_first = safe_remove_first program fixed;
+  operates = safe_operated program fixed;
+  operates_alone = safe_operated_alone program fixed;
+  creates_array = safe_create_array program fixed;
 }

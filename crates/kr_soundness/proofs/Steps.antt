@@ -26,14 +26,14 @@ use Rattle.kr_soundness.proofs.Heaps.{extends_self, extends_twice, value_more, v
 
 -- ---- types of objects
 
-abbrev IsObjectType : JavaType → Type 0
+abbrev pub IsObjectType : JavaType → Type 0
 IsObjectType (ClassType c) = Unit {0}
 IsObjectType (ArrayType t) = Unit {0}
 IsObjectType (SetType t) = is_element t ≡ true
 IsObjectType (ListType t) = is_element t ≡ true
 IsObjectType t = ⊥
 
-object_type : (program : Program) (types : List JavaType) (t : JavaType) (o : HeapObject) → IsObjectOf program types t o → IsObjectType t
+pub object_type : (program : Program) (types : List JavaType) (t : JavaType) (o : HeapObject) → IsObjectOf program types t o → IsObjectType t
 object_type program types (ClassType c) o h = tt
 object_type program types (ArrayType t) o h = tt
 object_type program types (SetType t) o h = h.1
@@ -340,7 +340,7 @@ module _ (program : Program) (fixed : Fixed) where
   index_below (negsuc i) n k e = absurd (cc (e))
 
   -- an object is no int
-  no_int : (types : List JavaType) (s : State) (o : ℕ) → IsHeapOf program types s.heap → IsOf program.table types IntType (Reference o) → ⊥
+  pub no_int : (types : List JavaType) (s : State) (o : ℕ) → IsHeapOf program types s.heap → IsOf program.table types IntType (Reference o) → ⊥
   no_int types s o h i = go (type_at types o) (type_known types s o IntType h i) (object_type program types (type_at types o) (object_in s.heap o) (object_found program types types s.heap o h i.0))
     where
       go : (u : JavaType) → Assigned program.table u IntType → IsObjectType u → ⊥

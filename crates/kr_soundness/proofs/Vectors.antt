@@ -37,7 +37,7 @@ bytes_same n = (bytes_eq-Decides n n).1 refl
 both_hold : (a b : Bool) → a ≡ true → b ≡ true → (a && b) ≡ true
 both_hold a b e f = rw (e, f) refl
 
-type_same : (t : JavaType) → is_same t t ≡ true
+pub type_same : (t : JavaType) → is_same t t ≡ true
 type_same IntType = refl
 type_same BooleanType = refl
 type_same NullType = refl

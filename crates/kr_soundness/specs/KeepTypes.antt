@@ -1,20 +1,26 @@
 -- Types while a program runs: each step keeps them.
-use Rattle.std.specs.Prelude.{◌≡◌, ℕ, ◌<◌, ◌≤◌, true, List, [], ◌∷◌, ◌++◌, length, Option, Some, codes, pos}
+use Rattle.std.specs.Prelude.{◌≡◌, ℕ, ◌<◌, ◌≤◌, true, false, List, [], ◌∷◌, ◌++◌, length, Option, Some, codes, pos}
 use Rattle.kr_base.specs.declared.place.Place.{Place}
+use Rattle.kr_ast.specs.declared.node.BinaryOperator.{BinaryOperator}
+use Rattle.kr_ast.specs.declared.node.UnaryOperator.{UnaryOperator}
+use Rattle.kr_table.specs.Arrays.{array_number}
 use Rattle.kr_value.specs.declared.value.Value.{Value}
 use Rattle.kr_value.specs.declared.value.Value.TheVariants.{Int, Ref as Reference}
 use Rattle.kr_value.specs.declared.object.Class.{Class}
 use Rattle.kr_value.specs.declared.object.Spot.TheVariants.{Length}
 use Rattle.kr_table.specs.Types.{JavaType, IntType, BooleanType, ClassType, ArrayType, ListType, is_reference}
 use Rattle.kr_table.specs.Table.{Field, is_below}
-use Rattle.kr_mean.specs.Program.{Program}
-use Rattle.kr_mean.specs.Steps.{Run, tick, get_this, read_local, declare, assign, get_result, get_old, within, scoped, class_or_null, load, load_field, store, store_new, element, store_element, make, collect}
-use Rattle.kr_mean.specs.Meaning.{Flow}
+use Rattle.kr_mean.specs.Program.{Program, default_of}
+use Rattle.kr_typing.specs.Scopes.{Scope}
+use Rattle.kr_typing.specs.Rules.{Fits, Value as Typed, operator_rule, unary_rule}
+use Rattle.kr_mean.specs.Steps.{Run, say, tick, get_this, read_local, declare, assign, get_result, get_old, within, scoped, class_or_null, load, load_field, store, store_new, element, store_element, make, collect}
+use Rattle.kr_mean.specs.Operators.{operated, operated_alone}
+use Rattle.kr_mean.specs.Meaning.{Flow, create_array}
 use Rattle.kr_soundness.specs.Fits.{IsOf, AreOf, IsObjectOf, type_at}
 use Rattle.kr_soundness.specs.Triples.{Fixed, IsThis, Extends, Safe, Gives, Keeps, type_of_local, type_of_old}
-use Rattle.kr_soundness.specs.Steps.{HasField, IsSeen, Collection, type_with}
+use Rattle.kr_soundness.specs.Steps.{HasField, IsSeen, Collection, type_with, is_junction}
 
--- Each step of the meaning on values of its types: it isn't stuck, and what it gives and leaves is of its types.
+-- Each step of the meaning on values of its types, operators among them: it isn't stuck, and what it gives and leaves is of its types.
 pub record KeepTypes (program : Program) (fixed : Fixed) : Type 0 where
   -- the frame
   pub ticks : (types : List JavaType) (this : Option ℕ) (ls : List JavaType) → Safe program fixed types this ls tick (Keeps ls)
@@ -47,6 +53,12 @@ pub record KeepTypes (program : Program) (fixed : Fixed) : Type 0 where
   pub gives_size : (types : List JavaType) (this : Option ℕ) (ls : List JavaType) (k : Collection) (t : JavaType) (v : Value) → IsOf program.table types (type_with k t) v → Safe program fixed types this ls (collect (codes "size") v []) (Gives program ls IntType)
   pub gives_is_empty : (types : List JavaType) (this : Option ℕ) (ls : List JavaType) (k : Collection) (t : JavaType) (v : Value) → IsOf program.table types (type_with k t) v → Safe program fixed types this ls (collect (codes "isEmpty") v []) (Gives program ls BooleanType)
   pub removes_first : (types : List JavaType) (this : Option ℕ) (ls : List JavaType) (t : JavaType) (v : Value) → IsOf program.table types (ListType t) v → Safe program fixed types this ls (collect (codes "removeFirst") v []) (Gives program ls t)
+  -- operators on operands as the typing rules ask them, and new arrays
+  pub operates : (types : List JavaType) (this : Option ℕ) (ls : List JavaType) (s : Scope) (o : BinaryOperator) (a b t : JavaType) (v w : Value) → is_junction o ≡ false → operator_rule s o a b ≡ Fits (Typed t) → IsOf program.table types a v → IsOf program.table types b w
+      → Safe program fixed types this ls (say (operated o v w)) (Gives program ls t)
+  pub operates_alone : (types : List JavaType) (this : Option ℕ) (ls : List JavaType) (o : UnaryOperator) (a t : JavaType) (v : Value) → unary_rule o a ≡ Fits (Typed t) → IsOf program.table types a v → Safe program fixed types this ls (say (operated_alone o v)) (Gives program ls t)
+  pub creates_array : (types : List JavaType) (this : Option ℕ) (ls : List JavaType) (t : JavaType) (k : ℕ) (v : Value) → array_number program.arrays (ArrayType t) ≡ Some k → IsOf program.table [] t (default_of t) → IsOf program.table types IntType v
+      → Safe program fixed types this ls (create_array program t v) (Gives program ls (ArrayType t))
 
 abbrev pub StepsLaw : Type 0
 StepsLaw = (program : Program) (fixed : Fixed) → KeepTypes program fixed

@@ -1,6 +1,8 @@
 -- What the classes of a program have, as far as types speak of it; and what a class says of an object's type.
-use Rattle.std.specs.Prelude.{◌≡◌, ℕ, ◌<◌, true, List, length, map, Option, Some, None}
+use Rattle.std.specs.Prelude.{Bool, false, ◌≡◌, ℕ, ◌<◌, true, List, length, map, Option, Some, None}
 use Rattle.std.proofs.Common.{get_or}
+use Rattle.kr_ast.specs.declared.node.BinaryOperator.{BinaryOperator}
+use Rattle.kr_ast.specs.declared.node.BinaryOperator.TheVariants.{And, Or}
 use Rattle.kr_value.specs.declared.value.Value.{Value}
 use Rattle.kr_value.specs.declared.value.Value.TheVariants.{Null, Ref as Reference}
 use Rattle.kr_value.specs.declared.object.Class.{Class}
@@ -48,3 +50,9 @@ type_with Lists t = ListType t
 abbrev pub class_with : Collection → Class
 class_with Sets = Set
 class_with Lists = ListClass
+
+-- the operators that look at the second operand only where the first leaves it open
+abbrev pub is_junction : BinaryOperator → Bool
+is_junction And = true
+is_junction Or = true
+is_junction o = false

@@ -10,7 +10,7 @@ use Rattle.kr_scopes.specs.Settings.{Setting, type_there}
 use Rattle.kr_type_numbers.specs.Types.{TypeList, IsTypeNumber}
 use Rattle.kr_type_numbers.specs.Numbers.{named_type}
 
-headings_are : (files : List Arena) → (table_in files).headings ≡ headings_of (map root files)
+pub headings_are : (files : List Arena) → (table_in files).headings ≡ headings_of (map root files)
 unfolding table_of
 headings_are files = refl
 

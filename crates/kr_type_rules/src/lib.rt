@@ -31,6 +31,6 @@ pub use operators::{
     cast_rule, choice_rule, diamond_rule, instance_rule, number_rule, operator_rule, type_rule,
     unary_rule,
 };
-pub use relations::{are_related, is_assignable, takes};
+pub use relations::{are_related, is_assignable, is_int, takes};
 pub use statements::{condition_rule, contract_rule, jump_rule, old_rule};
-pub use writes::{assignment_rule, compound_rule, step_rule};
+pub use writes::{assignment_rule, compound_rule, is_code, step_rule};

@@ -24,7 +24,7 @@ fn is_variable(types: &Types, target: Typed) -> bool
 }
 
 /// Whether it is code, and no contract.
-pub(crate) fn is_code(part: Part) -> bool
+pub fn is_code(part: Part) -> bool
     ensures { result ≡ rules.is_code (part_of part) }
 {
     match part {

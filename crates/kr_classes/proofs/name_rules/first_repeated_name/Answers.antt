@@ -3,8 +3,8 @@ use Rattle.std.specs.Prelude.{None}
 use Rattle.kr_ast.specs.Arena.{Arena, name_in}
 use Rattle.kr_names.specs.declared.headings.Heading.{Heading}
 use Rattle.kr_names.specs.Shown.{file_at}
-use Rattle.kr_classes.specs.Faults.{repeats}
-use Rattle.kr_classes.proofs.ByClass.{more_in, all_in, same_item, no_class}
+use Rattle.kr_classes.specs.Faults.{no_class, repeats}
+use Rattle.kr_classes.proofs.ByClass.{more_in, all_in, same_item}
 use Rattle.kr_classes.proofs.Repeated.{repeated_here, first_repeated}
 use Rattle.kr_classes.proofs.name_rules.first_repeated_name.Goals as goal
 

@@ -1,37 +1,12 @@
-use Rattle.std.proofs.Common.{◌≡◌, ◌∙◌, sym, ◌<◌, ◌+◌, ◌-◌, true, false, bytes_eq, arith}
-use Rattle.std.specs.Prelude.{is_some}
-use Rattle.kr_table.specs.Table as table
-use Rattle.kr_table.specs.Table.{line_within, own_methods}
-use Rattle.kr_members.specs.Shown.{method_shown, table_in}
-use Rattle.kr_members.specs.Kept.{class_count}
-use Rattle.kr_members.proofs.Upwards.{above, absent, ended, nearest, nowhere, present}
+use Rattle.std.proofs.Common.{ap, ◌∙◌, ◌+◌, add-one}
+use Rattle.std.specs.Prelude.{Some}
+use Rattle.kr_table.specs.Table.{method_on, line_within}
+use Rattle.kr_members.specs.Shown.{table_in}
 use Rattle.kr_members.proofs.members.Members.method_named.Goals as goal
 
-pub returns-in-None-clause-shown : goal.returns-in-None-clause-shown
-returns-in-None-clause-shown c = λ files h.
+pub returns-clause-shown : goal.returns-clause-shown
+returns-clause-shown c = λ files h.
     let t = table_in files in
-    let left = class_count c.args.self.now + 1 - c.loop-step.step in
-    nowhere (own_methods t) (λ (f : table.Method). bytes_eq f.name c.args.name.now) (line_within left t c.loop-step.at) (ended left t c.loop-step.at c.in-None.is)
-    ∙ c.loop-step.invariant files h
-
-pub returns-then-is_some-clause-shown : goal.returns-then-is_some-clause-shown
-returns-then-is_some-clause-shown c = λ files h.
-    let t = table_in files in
-    let n = class_count c.args.self.now + 1 in
-    let l : c.loop-step.step < n = omega (arith, c.len-steps.ensures.count) in
-    let shown = c.own_method-found.ensures.shown files h in
-    let some : is_some c.own_method-found.result ≡ true = sym c.is_some.ensures ∙ c.if-is_some.true in
-    shown
-    ∙ nearest (own_methods t) (λ (f : table.Method). bytes_eq f.name c.args.name.now) t n c.loop-step.step c.in-Some.here c.loop-step.at l c.in-Some.is (present (method_shown files) c.own_method-found.result _ shown some)
-    ∙ c.loop-step.invariant files h
-
-pub loop-step-preserved : goal.loop-step-preserved
-loop-step-preserved c = λ files h.
-    let t = table_in files in
-    let n = class_count c.args.self.now + 1 in
-    let l : c.loop-step.step < n = omega (arith, c.len-steps.ensures.count) in
-    let shown = c.own_method-found.ensures.shown files h in
-    let none : is_some c.own_method-found.result ≡ false = sym c.is_some.ensures ∙ c.if-is_some.false in
-    above (own_methods t) (λ (f : table.Method). bytes_eq f.name c.args.name.now) t n c.loop-step.step c.in-Some.here c.loop-step.at c.superclass-at.result l c.in-Some.is (c.superclass-at.ensures files h)
-    (absent (method_shown files) c.own_method-found.result _ shown none)
-    ∙ c.loop-step.invariant files h
+    c.method_upwards.ensures.shown files h
+    ∙ ap (λ n. method_on t (line_within (n + 1) t (Some c.args.class)) c.args.name.now) (c.len.ensures.all files h)
+    ∙ ap (λ n. method_on t (line_within n t (Some c.args.class)) c.args.name.now) (add-one _)

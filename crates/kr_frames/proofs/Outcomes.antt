@@ -1,0 +1,237 @@
+-- How outcomes go through frames.
+use Rattle.std.proofs.Common.{◌≡◌, ℕ, List, [], ◌∷◌, ◌++◌, Result, Ok, Err, refl, sym, ap, ◌∙◌}
+use Rattle.std.specs.Prelude.{reverse}
+use Rattle.std.proofs.lemmas.List.{append_assoc, append-nil}
+use Rattle.kr_value.specs.declared.value.Value.{Value}
+use Rattle.kr_value.specs.Heaps.{HeapObject}
+use Rattle.kr_mean.specs.Places.{SlotPlace}
+use Rattle.kr_mean.specs.Steps.{Stop, State, Outcome, Run, after_reads, go_on, bind, give}
+use Rattle.kr_mean.specs.Meaning as meaning
+use Rattle.kr_mean.specs.Meaning.{returned, completed}
+use Rattle.kr_code.specs.declared.code.Code.{Code}
+use Rattle.kr_code.specs.Doing.{Doing, IsMeaning, values_at}
+use Rattle.kr_code.specs.Tables.{listed}
+use Rattle.kr_code.specs.Steps.{store_initial}
+use Rattle.kr_world.specs.declared.world.Local.{Local}
+use Rattle.kr_world.specs.declared.world.World.{World}
+use Rattle.kr_world.specs.declared.world.End.{End}
+use Rattle.kr_world.specs.declared.world.Halt.{Halt}
+use Rattle.kr_world.specs.declared.world.Halt.TheVariants.{Ended, Memory}
+use Rattle.kr_world.specs.Noting.{noting, noted_once, with_read}
+use Rattle.kr_world.specs.Shown.{stop_of}
+use Rattle.kr_world.specs.Worlds.{state_of, Agrees}
+use Rattle.kr_frames.specs.declared.frame.Frame.{Frame}
+use Rattle.kr_frames.specs.declared.frame.Frame.TheVariants as frames
+use Rattle.kr_frames.specs.declared.task.Task.{Task}
+use Rattle.kr_frames.specs.Frames.{continued, restored, cut_to, got, tested, led, done, applied, upwards, onto, out_value, out_flow, out_unit}
+use Rattle.kr_frames.specs.Leads.{Leads, HasEnded}
+
+-- ---- reads that stand before
+
+pub reads_twice : {A : Type 0} (a b : List SlotPlace) (o : Outcome A) → after_reads a (after_reads b o) ≡ after_reads (a ++ b) o
+reads_twice {A} a b o = ap (λ (rs : List SlotPlace). mk rs) (sym (append_assoc a b o.reads))
+  where
+    mk : List SlotPlace → Outcome A
+    mk rs = record { said = o.said; after = o.after; reads = rs }
+
+pub continued_reads : {A B : Type 0} (rs : List SlotPlace) (o : Outcome A) (f : A → Run B) → continued (after_reads rs o) f ≡ after_reads rs (continued o f)
+continued_reads {A} {B} rs o f = go o.said
+  where
+    go : (r : Result A Stop) → go_on r o.after (rs ++ o.reads) f ≡ after_reads rs (go_on r o.after o.reads f)
+    go (Ok a) = sym (reads_twice rs o.reads (f a o.after))
+    go (Err e) = refl
+
+mutual
+  pub value_reads : (code : Code) (d : Doing) (fs : List Frame) (rs : List SlotPlace) (o : Outcome Value) → out_value code d fs (after_reads rs o) ≡ after_reads rs (out_value code d fs o)
+  value_reads code d [] rs o = refl
+  value_reads code d (frames.Value f ∷ fs) rs o = ap (out_value code d fs) (continued_reads rs o (got code d f)) ∙ value_reads code d fs rs (continued o (got code d f))
+  value_reads code d (frames.Test f ∷ fs) rs o = ap (out_flow code d fs) (continued_reads rs o (tested code d f)) ∙ flow_reads code d fs rs (continued o (tested code d f))
+  value_reads code d (frames.Arguments goal ns vs ∷ fs) rs o =
+      ap (λ (q : Outcome (List Value)). out_value code d fs (continued q (λ ws. applied code d goal (onto (reverse vs.items) ws)))) (continued_reads rs o (λ v. bind (values_at d (listed code ns)) (λ ws. give (v ∷ ws))))
+      ∙ ap (out_value code d fs) (continued_reads rs (continued o (λ v. bind (values_at d (listed code ns)) (λ ws. give (v ∷ ws)))) (λ ws. applied code d goal (onto (reverse vs.items) ws)))
+      ∙ value_reads code d fs rs (continued (continued o (λ v. bind (values_at d (listed code ns)) (λ ws. give (v ∷ ws)))) (λ ws. applied code d goal (onto (reverse vs.items) ws)))
+  value_reads code d (frames.UpArguments up ns vs ∷ fs) rs o =
+      ap (λ (q : Outcome (List Value)). out_unit code d fs (continued q (λ ws. upwards code d up (onto (reverse vs.items) ws)))) (continued_reads rs o (λ v. bind (values_at d (listed code ns)) (λ ws. give (v ∷ ws))))
+      ∙ ap (out_unit code d fs) (continued_reads rs (continued o (λ v. bind (values_at d (listed code ns)) (λ ws. give (v ∷ ws)))) (λ ws. upwards code d up (onto (reverse vs.items) ws)))
+      ∙ unit_reads code d fs rs (continued (continued o (λ v. bind (values_at d (listed code ns)) (λ ws. give (v ∷ ws)))) (λ ws. upwards code d up (onto (reverse vs.items) ws)))
+  value_reads code d (frames.UpEnter up ns ∷ fs) rs o = ap (out_unit code d fs) (continued_reads rs o (λ v. bind (values_at d (listed code ns)) (upwards code d up))) ∙ unit_reads code d fs rs (continued o (λ v. bind (values_at d (listed code ns)) (upwards code d up)))
+  value_reads code d (frames.Store field object ∷ fs) rs o = ap (out_unit code d fs) (continued_reads rs o (store_initial code field object)) ∙ unit_reads code d fs rs (continued o (store_initial code field object))
+  value_reads code d (frames.Flow f ∷ fs) rs o = continued_reads rs o _
+  value_reads code d (frames.Unit f ∷ fs) rs o = continued_reads rs o _
+  value_reads code d (frames.Scope n ∷ fs) rs o = continued_reads rs o _
+  value_reads code d (frames.Leave void this locals ∷ fs) rs o = continued_reads rs o _
+  value_reads code d (frames.Complete ∷ fs) rs o = continued_reads rs o _
+  value_reads code d (frames.Back this locals ∷ fs) rs o = continued_reads rs o _
+  value_reads code d (frames.Made object ∷ fs) rs o = continued_reads rs o _
+
+  pub flow_reads : (code : Code) (d : Doing) (fs : List Frame) (rs : List SlotPlace) (o : Outcome meaning.Flow) → out_flow code d fs (after_reads rs o) ≡ after_reads rs (out_flow code d fs o)
+  flow_reads code d [] rs o = continued_reads rs o _
+  flow_reads code d (frames.Flow f ∷ fs) rs o = ap (out_flow code d fs) (continued_reads rs o (led code d f)) ∙ flow_reads code d fs rs (continued o (led code d f))
+  flow_reads code d (frames.Scope n ∷ fs) rs o = flow_reads code d fs rs (cut_to n o)
+  flow_reads code d (frames.Leave void this locals ∷ fs) rs o =
+      ap (λ (q : Outcome Value). out_value code d fs (restored this locals.items q)) (continued_reads rs o (returned void)) ∙ value_reads code d fs rs (restored this locals.items (continued o (returned void)))
+  flow_reads code d (frames.Complete ∷ fs) rs o = ap (out_unit code d fs) (continued_reads rs o completed) ∙ unit_reads code d fs rs (continued o completed)
+  flow_reads code d (frames.Value f ∷ fs) rs o = continued_reads rs o _
+  flow_reads code d (frames.Test f ∷ fs) rs o = continued_reads rs o _
+  flow_reads code d (frames.Arguments goal ns vs ∷ fs) rs o = continued_reads rs o _
+  flow_reads code d (frames.UpArguments up ns vs ∷ fs) rs o = continued_reads rs o _
+  flow_reads code d (frames.UpEnter up ns ∷ fs) rs o = continued_reads rs o _
+  flow_reads code d (frames.Store field object ∷ fs) rs o = continued_reads rs o _
+  flow_reads code d (frames.Unit f ∷ fs) rs o = continued_reads rs o _
+  flow_reads code d (frames.Back this locals ∷ fs) rs o = continued_reads rs o _
+  flow_reads code d (frames.Made object ∷ fs) rs o = continued_reads rs o _
+
+  pub unit_reads : (code : Code) (d : Doing) (fs : List Frame) (rs : List SlotPlace) (o : Outcome (Unit {0})) → out_unit code d fs (after_reads rs o) ≡ after_reads rs (out_unit code d fs o)
+  unit_reads code d [] rs o = continued_reads rs o _
+  unit_reads code d (frames.Unit f ∷ fs) rs o = ap (out_unit code d fs) (continued_reads rs o (λ u. done code d f)) ∙ unit_reads code d fs rs (continued o (λ u. done code d f))
+  unit_reads code d (frames.Back this locals ∷ fs) rs o = unit_reads code d fs rs (restored this locals.items o)
+  unit_reads code d (frames.Made object ∷ fs) rs o = ap (out_value code d fs) (continued_reads rs o (λ u. give object)) ∙ value_reads code d fs rs (continued o (λ u. give object))
+  unit_reads code d (frames.Value f ∷ fs) rs o = continued_reads rs o _
+  unit_reads code d (frames.Test f ∷ fs) rs o = continued_reads rs o _
+  unit_reads code d (frames.Flow f ∷ fs) rs o = continued_reads rs o _
+  unit_reads code d (frames.Scope n ∷ fs) rs o = continued_reads rs o _
+  unit_reads code d (frames.Leave void this locals ∷ fs) rs o = continued_reads rs o _
+  unit_reads code d (frames.Complete ∷ fs) rs o = continued_reads rs o _
+  unit_reads code d (frames.Arguments goal ns vs ∷ fs) rs o = continued_reads rs o _
+  unit_reads code d (frames.UpArguments up ns vs ∷ fs) rs o = continued_reads rs o _
+  unit_reads code d (frames.UpEnter up ns ∷ fs) rs o = continued_reads rs o _
+  unit_reads code d (frames.Store field object ∷ fs) rs o = continued_reads rs o _
+
+pub noted_behind : (seen a b : List SlotPlace) → noted_once seen (a ++ b) ≡ noted_once (noted_once seen a) b
+noted_behind seen [] b = refl
+noted_behind seen (p ∷ a) b = noted_behind (with_read seen p) a b
+
+-- ---- a step that gives something
+
+pub outcome_is : {A : Type 0} (seen new : List SlotPlace) (o : Outcome A) (a : A) (s : State) → noting seen o ≡ record { said = Ok a; after = s; reads = new } → o ≡ after_reads o.reads (give a s)
+outcome_is {A} seen new o a s h =
+    ap (λ (r : Result A Stop). mk r o.after o.reads) (ap (λ (q : Outcome A). q.said) h)
+    ∙ ap (λ (t : State). mk (Ok a) t o.reads) (ap (λ (q : Outcome A). q.after) h)
+    ∙ ap (λ (rs : List SlotPlace). mk (Ok a) s rs) (sym (append-nil o.reads))
+  where
+    mk : Result A Stop → State → List SlotPlace → Outcome A
+    mk r t rs = record { said = r; after = t; reads = rs }
+
+pub noted_on : (seen new : List SlotPlace) (rs : List SlotPlace) (o : Outcome Value) → noted_once seen rs ≡ new → noting seen (after_reads rs o) ≡ noting new o
+noted_on seen new rs o h = ap mk (noted_behind seen rs o.reads ∙ ap (λ (ps : List SlotPlace). noted_once ps o.reads) h)
+  where
+    mk : List SlotPlace → Outcome Value
+    mk ps = record { said = o.said; after = o.after; reads = ps }
+
+pub gave : {A : Type 0} (out : Outcome A → Outcome Value) (law : (rs : List SlotPlace) (o : Outcome A) → out (after_reads rs o) ≡ after_reads rs (out o)) (seen new : List SlotPlace) (o : Outcome A) (a : A) (s : State) → noting seen o ≡ record { said = Ok a; after = s; reads = new } → noting seen (out o) ≡ noting new (out (give a s))
+gave {A} out law seen new o a s h =
+    ap (λ (q : Outcome Value). noting seen q) (ap out (outcome_is seen new o a s h) ∙ law o.reads (give a s))
+    ∙ noted_on seen new o.reads (out (give a s)) (ap (λ (q : Outcome A). q.reads) h)
+
+pub gave_value : (code : Code) (d : Doing) (fs : List Frame) (seen new : List SlotPlace) (o : Outcome Value) (v : Value) (s : State) → noting seen o ≡ record { said = Ok v; after = s; reads = new } → noting seen (out_value code d fs o) ≡ noting new (out_value code d fs (give v s))
+gave_value code d fs seen new o v s h = gave (out_value code d fs) (value_reads code d fs) seen new o v s h
+
+pub gave_unit : (code : Code) (d : Doing) (fs : List Frame) (seen new : List SlotPlace) (o : Outcome (Unit {0})) (s : State) → noting seen o ≡ record { said = Ok tt; after = s; reads = new } → noting seen (out_unit code d fs o) ≡ noting new (out_unit code d fs (give tt s))
+gave_unit code d fs seen new o s h = gave (out_unit code d fs) (unit_reads code d fs) seen new o tt s h
+
+-- ---- a run that has ended
+
+-- the outcome has this end, heap, fuel and reads
+pub record Ends {A : Type 0} (e : Stop) (h : List HeapObject) (n : ℕ) (rs : List SlotPlace) (o : Outcome A) : Type 0 where
+  pub said : o.said ≡ Err e
+  pub heap : o.after.heap ≡ h
+  pub fuel : o.after.fuel ≡ n
+  pub reads : o.reads ≡ rs
+
+pub ends_on : {A B : Type 0} (e : Stop) (heap : List HeapObject) (fuel : ℕ) (reads : List SlotPlace) (o : Outcome A) (f : A → Run B) → Ends e heap fuel reads o → Ends e heap fuel reads (continued o f)
+ends_on {A} {B} e heap fuel reads o f x =
+    let is : continued o f ≡ record { said = Err e; after = o.after; reads = o.reads } = ap (λ (r : Result A Stop). go_on r o.after o.reads f) x.said in
+    record {
+      said = ap (λ (q : Outcome B). q.said) is;
+      heap = ap (λ (q : Outcome B). q.after.heap) is ∙ x.heap;
+      fuel = ap (λ (q : Outcome B). q.after.fuel) is ∙ x.fuel;
+      reads = ap (λ (q : Outcome B). q.reads) is ∙ x.reads;
+    }
+
+module _ (code : Code) (d : Doing) (e : Stop) (heap : List HeapObject) (fuel : ℕ) (reads : List SlotPlace) where
+  pub ends_restored : {A : Type 0} (this : Value) (locals : List Local) (o : Outcome A) → Ends e heap fuel reads o → Ends e heap fuel reads (restored this locals o)
+  ends_restored this locals o x = record { said = x.said; heap = x.heap; fuel = x.fuel; reads = x.reads }
+
+  pub ends_cut : {A : Type 0} (n : ℕ) (o : Outcome A) → Ends e heap fuel reads o → Ends e heap fuel reads (cut_to n o)
+  ends_cut n o x = record { said = x.said; heap = x.heap; fuel = x.fuel; reads = x.reads }
+
+  mutual
+    pub value_ends : (fs : List Frame) (o : Outcome Value) → Ends e heap fuel reads o → Ends e heap fuel reads (out_value code d fs o)
+    value_ends [] o x = x
+    value_ends (frames.Value f ∷ fs) o x = value_ends fs (continued o (got code d f)) (ends_on e heap fuel reads o (got code d f) x)
+    value_ends (frames.Test f ∷ fs) o x = flow_ends fs (continued o (tested code d f)) (ends_on e heap fuel reads o (tested code d f) x)
+    value_ends (frames.Arguments goal ns vs ∷ fs) o x = value_ends fs _ (ends_on e heap fuel reads _ _ (ends_on e heap fuel reads o _ x))
+    value_ends (frames.UpArguments up ns vs ∷ fs) o x = unit_ends fs _ (ends_on e heap fuel reads _ _ (ends_on e heap fuel reads o _ x))
+    value_ends (frames.UpEnter up ns ∷ fs) o x = unit_ends fs _ (ends_on e heap fuel reads o (λ v. bind (values_at d (listed code ns)) (upwards code d up)) x)
+    value_ends (frames.Store field object ∷ fs) o x = unit_ends fs _ (ends_on e heap fuel reads o (store_initial code field object) x)
+    value_ends (frames.Flow f ∷ fs) o x = ends_on e heap fuel reads o _ x
+    value_ends (frames.Unit f ∷ fs) o x = ends_on e heap fuel reads o _ x
+    value_ends (frames.Scope n ∷ fs) o x = ends_on e heap fuel reads o _ x
+    value_ends (frames.Leave void this locals ∷ fs) o x = ends_on e heap fuel reads o _ x
+    value_ends (frames.Complete ∷ fs) o x = ends_on e heap fuel reads o _ x
+    value_ends (frames.Back this locals ∷ fs) o x = ends_on e heap fuel reads o _ x
+    value_ends (frames.Made object ∷ fs) o x = ends_on e heap fuel reads o _ x
+
+    pub flow_ends : (fs : List Frame) (o : Outcome meaning.Flow) → Ends e heap fuel reads o → Ends e heap fuel reads (out_flow code d fs o)
+    flow_ends [] o x = ends_on e heap fuel reads o _ x
+    flow_ends (frames.Flow f ∷ fs) o x = flow_ends fs _ (ends_on e heap fuel reads o (led code d f) x)
+    flow_ends (frames.Scope n ∷ fs) o x = flow_ends fs _ (ends_cut n o x)
+    flow_ends (frames.Leave void this locals ∷ fs) o x = value_ends fs _ (ends_restored this locals.items (continued o (returned void)) (ends_on e heap fuel reads o (returned void) x))
+    flow_ends (frames.Complete ∷ fs) o x = unit_ends fs _ (ends_on e heap fuel reads o completed x)
+    flow_ends (frames.Value f ∷ fs) o x = ends_on e heap fuel reads o _ x
+    flow_ends (frames.Test f ∷ fs) o x = ends_on e heap fuel reads o _ x
+    flow_ends (frames.Arguments goal ns vs ∷ fs) o x = ends_on e heap fuel reads o _ x
+    flow_ends (frames.UpArguments up ns vs ∷ fs) o x = ends_on e heap fuel reads o _ x
+    flow_ends (frames.UpEnter up ns ∷ fs) o x = ends_on e heap fuel reads o _ x
+    flow_ends (frames.Store field object ∷ fs) o x = ends_on e heap fuel reads o _ x
+    flow_ends (frames.Unit f ∷ fs) o x = ends_on e heap fuel reads o _ x
+    flow_ends (frames.Back this locals ∷ fs) o x = ends_on e heap fuel reads o _ x
+    flow_ends (frames.Made object ∷ fs) o x = ends_on e heap fuel reads o _ x
+
+    pub unit_ends : (fs : List Frame) (o : Outcome (Unit {0})) → Ends e heap fuel reads o → Ends e heap fuel reads (out_unit code d fs o)
+    unit_ends [] o x = ends_on e heap fuel reads o _ x
+    unit_ends (frames.Unit f ∷ fs) o x = unit_ends fs _ (ends_on e heap fuel reads o (λ u. done code d f) x)
+    unit_ends (frames.Back this locals ∷ fs) o x = unit_ends fs _ (ends_restored this locals.items o x)
+    unit_ends (frames.Made object ∷ fs) o x = value_ends fs _ (ends_on e heap fuel reads o (λ u. give object) x)
+    unit_ends (frames.Value f ∷ fs) o x = ends_on e heap fuel reads o _ x
+    unit_ends (frames.Test f ∷ fs) o x = ends_on e heap fuel reads o _ x
+    unit_ends (frames.Flow f ∷ fs) o x = ends_on e heap fuel reads o _ x
+    unit_ends (frames.Scope n ∷ fs) o x = ends_on e heap fuel reads o _ x
+    unit_ends (frames.Leave void this locals ∷ fs) o x = ends_on e heap fuel reads o _ x
+    unit_ends (frames.Complete ∷ fs) o x = ends_on e heap fuel reads o _ x
+    unit_ends (frames.Arguments goal ns vs ∷ fs) o x = ends_on e heap fuel reads o _ x
+    unit_ends (frames.UpArguments up ns vs ∷ fs) o x = ends_on e heap fuel reads o _ x
+    unit_ends (frames.UpEnter up ns ∷ fs) o x = ends_on e heap fuel reads o _ x
+    unit_ends (frames.Store field object ∷ fs) o x = ends_on e heap fuel reads o _ x
+
+-- what ends a part ends the run
+pub has_ended : {A : Type 0} (out : Outcome A → Outcome Value) (law : (e : Stop) (heap : List HeapObject) (fuel : ℕ) (reads : List SlotPlace) (o : Outcome A) → Ends e heap fuel reads o → Ends e heap fuel reads (out o)) (e : End) (w : World) (seen : List SlotPlace) (o : Outcome A) → noting seen o ≡ record { said = Err (stop_of e); after = state_of w; reads = w.reads } → HasEnded e w (noting seen (out o))
+has_ended {A} out law e w seen o h =
+    let x = law (stop_of e) w.heap w.fuel o.reads o (record { said = ap (λ (q : Outcome A). q.said) h; heap = ap (λ (q : Outcome A). q.after.heap) h; fuel = ap (λ (q : Outcome A). q.after.fuel) h; reads = refl }) in
+    record { said = x.said; heap = x.heap; fuel = x.fuel; reads = ap (noted_once seen) x.reads ∙ ap (λ (q : Outcome A). q.reads) h }
+
+-- ---- both, for what the machine answers
+
+pub value_halts : (code : Code) (h : Halt) (fs gs : List Frame) (w : World) (seen : List SlotPlace) (o : Outcome Value) → Agrees {A = Value} (Err h) w seen o → Leads code (Err h) gs w seen (λ d. out_value code d fs o)
+value_halts code (Ended e) fs gs w seen o a = λ d m. has_ended (out_value code d fs) (λ s heap fuel reads q x. value_ends code d s heap fuel reads fs q x) e w seen o a
+value_halts code Memory fs gs w seen o a = tt
+
+pub unit_halts : (code : Code) (h : Halt) (fs gs : List Frame) (w : World) (seen : List SlotPlace) (o : Outcome (Unit {0})) → Agrees {A = Unit {0}} (Err h) w seen o → Leads code (Err h) gs w seen (λ d. out_unit code d fs o)
+unit_halts code (Ended e) fs gs w seen o a = λ d m. has_ended (out_unit code d fs) (λ s heap fuel reads q x. unit_ends code d s heap fuel reads fs q x) e w seen o a
+unit_halts code Memory fs gs w seen o a = tt
+
+pub flow_halts : (code : Code) (h : Halt) (fs gs : List Frame) (w : World) (seen : List SlotPlace) (o : Outcome meaning.Flow) → Agrees {A = meaning.Flow} (Err h) w seen o → Leads code (Err h) gs w seen (λ d. out_flow code d fs o)
+flow_halts code (Ended e) fs gs w seen o a = λ d m. has_ended (out_flow code d fs) (λ s heap fuel reads q x. flow_ends code d s heap fuel reads fs q x) e w seen o a
+flow_halts code Memory fs gs w seen o a = tt
+
+-- the same by another way
+pub leads_same : (code : Code) (r : Result Task Halt) (fs : List Frame) (w : World) (seen seen' : List SlotPlace) (o o' : Doing → Outcome Value) → ((d : Doing) → IsMeaning code d → noting seen (o d) ≡ noting seen' (o' d)) → Leads code r fs w seen' o' → Leads code r fs w seen o
+leads_same code (Ok task) fs w seen seen' o o' e h = λ d m. e d m ∙ h d m
+leads_same code (Err (Ended x)) fs w seen seen' o o' e h =
+    λ d m. let y = h d m in let is = e d m in record {
+      said = ap (λ (q : Outcome Value). q.said) is ∙ y.said;
+      heap = ap (λ (q : Outcome Value). q.after.heap) is ∙ y.heap;
+      fuel = ap (λ (q : Outcome Value). q.after.fuel) is ∙ y.fuel;
+      reads = ap (λ (q : Outcome Value). q.reads) is ∙ y.reads;
+    }
+leads_same code (Err Memory) fs w seen seen' o o' e h = tt

@@ -1,0 +1,271 @@
+// Creation: the constructors of a line of classes, and the initial values of fields.
+ghost use Rattle.std.specs.Prelude.{◌≡◌, ◌∷◌, [], map, OnOk, IfErr};
+ghost use Rattle.kr_frames.specs.declared.frame.Frame.TheVariants as frames;
+ghost use Rattle.kr_world.specs.declared.world.Halt.TheVariants.{Memory};
+ghost use Rattle.kr_code.specs.Tables.{class_at, listed};
+ghost use Rattle.kr_code.specs.Doing.{create as create_step, constructed, constructed_in, super_values, initialised as initialised_step};
+ghost use Rattle.kr_frames.specs.Frames.{out_value, out_unit, done, upwards};
+ghost use Rattle.kr_frames.specs.Leads.{Leads};
+ghost use Rattle.kr_mean.specs.Steps.{Stuck, bind, within, stop as stop_step};
+ghost use Rattle.kr_world.specs.Shown.{local_of};
+ghost use Rattle.kr_world.specs.Worlds.{state_of};
+
+use crate::calls::plain_locals;
+use crate::step::{push, unit};
+use kr_code::{ClassCode, Code, Constructor, Nodes};
+use kr_frames::{Frame, Stack, Task, UnitFrame, Up};
+use kr_value::Value;
+use kr_world::{Action, End, Halt, Local, World, new_object};
+use std::alloc::Global;
+use std::mem;
+
+/// A new object of a class.
+#[tactic(auto, unfolding(kr_mean::specs::Steps::bind))]
+pub fn create(
+    alloc: Global,
+    code: &Code,
+    world: &mut World,
+    stack: &mut Stack,
+    class: u32,
+    arguments: Vec<Value>,
+) -> Result<Task, Halt>
+    ensures { Leads code.now result stack.new world.new world.old.reads (λ d. out_value code.now d stack.old (create_step code.now d class arguments.items (class_at code.now class) (state_of world.old))) }
+{
+    match code.class(class) {
+        None => return Ok(Task::Act(Action::End(End::Stuck))),
+        Some(found) => match new_object(alloc, code, world, class, found.defaults) {
+            Err(halt) => return Err(halt),
+            Ok(object) => {
+                push(stack, Frame::Made(object))?;
+                return Ok(Task::Construct(found.line, object, arguments));
+            }
+        },
+    }
+}
+
+/// Nothing that has a meaning, in place of something that gives nothing.
+#[tactic(auto, unfolding(kr_mean::specs::Steps::bind))]
+pub fn stop_unit(code: &Code, world: &World, stack: &mut Stack) -> Result<Task, Halt>
+    ensures { Leads code.now result stack.new world.now world.now.reads (λ d. out_unit code.now d stack.old (stop_step Stuck (state_of world.now))) }
+{
+    push(stack, Frame::Store(0, Value::Null))?;
+    Ok(Task::Act(Action::End(End::Stuck)))
+}
+
+/// Something is done with an object as `this` and without locals, and then they are as before.
+fn enter(world: &mut World, stack: &mut Stack, alloc: Global, object: Value) -> Result<(), Halt>
+    ensures pushed { OnOk result (stack.new ≡ frames.Back world.old.this world.old.locals ∷ stack.old) }
+    ensures state { OnOk result (state_of world.new ≡ record (state_of world.old) { this_value = object; locals = [] }) }
+    ensures reads { OnOk result (world.new.reads ≡ world.old.reads) }
+    ensures memory { IfErr result (λ halt. halt ≡ Memory) }
+{
+    let this = world.this;
+    let before = mem::replace(&mut world.locals, Vec::new(alloc));
+    world.this = object;
+    push(stack, Frame::Back(this, before))
+}
+
+/// Something is done with an object as `this` and with arguments, and then they are as before.
+fn enter_with(
+    world: &mut World,
+    stack: &mut Stack,
+    object: Value,
+    locals: Vec<Local>,
+) -> Result<(), Halt>
+    ensures pushed { OnOk result (stack.new ≡ frames.Back world.old.this world.old.locals ∷ stack.old) }
+    ensures state { OnOk result (state_of world.new ≡ record (state_of world.old) { this_value = object; locals = map local_of locals.items }) }
+    ensures reads { OnOk result (world.new.reads ≡ world.old.reads) }
+    ensures memory { IfErr result (λ halt. halt ≡ Memory) }
+{
+    let this = world.this;
+    let before = mem::replace(&mut world.locals, locals);
+    world.this = object;
+    push(stack, Frame::Back(this, before))
+}
+
+/// The class's constructor, where it declares none.
+#[tactic(auto, using(crate::proofs::Machine::runs), unfolding(kr_mean::specs::Steps::bind))]
+fn construct_plain(
+    alloc: Global,
+    code: &Code,
+    world: &mut World,
+    stack: &mut Stack,
+    initialisers: Nodes,
+    object: Value,
+    arguments: &Vec<Value>,
+    others: Nodes,
+) -> Result<Task, Halt>
+    ensures { Leads code.now result stack.new world.new world.old.reads (λ d. out_unit code.now d stack.old (within object 0 arguments.now.items (bind (constructed code.now d (listed code.now others) object []) (λ u. initialised_step code.now d object (listed code.now initialisers))) (state_of world.old))) }
+{
+    if arguments.len() != 0 {
+        return stop_unit(code, world, stack);
+    }
+    let Ok(locals) = plain_locals(alloc, arguments) else {
+        return Err(Halt::Memory);
+    };
+    enter_with(world, stack, object, locals)?;
+    unit(stack, UnitFrame::Initialise(initialisers, object))?;
+    Ok(Task::Construct(others, object, Vec::new(alloc)))
+}
+
+/// The constructor that a class declares, with its arguments.
+#[tactic(auto, using(crate::proofs::Machine::runs, crate::proofs::Machine::assoc, crate::proofs::Machine::given_then), unfolding(kr_mean::specs::Steps::bind))]
+fn construct_declared(
+    alloc: Global,
+    code: &Code,
+    world: &mut World,
+    stack: &mut Stack,
+    constructor: Constructor,
+    up: Up,
+    arguments: &Vec<Value>,
+) -> Result<Task, Halt>
+    ensures { Leads code.now result stack.new world.new world.old.reads (λ d. out_unit code.now d stack.old (within up.object constructor.parameters arguments.now.items (bind (super_values code.now d constructor.call) (upwards code.now d up)) (state_of world.old))) }
+{
+    if arguments.len() != constructor.parameters as usize {
+        return stop_unit(code, world, stack);
+    }
+    let Ok(locals) = plain_locals(alloc, arguments) else {
+        return Err(Halt::Memory);
+    };
+    enter_with(world, stack, up.object, locals)?;
+    match constructor.call {
+        None => {
+            unit(
+                stack,
+                UnitFrame::Behind(up.object, up.initialisers, up.body),
+            )?;
+            Ok(Task::Construct(up.line, up.object, Vec::new(alloc)))
+        }
+        Some(nodes) => {
+            push(stack, Frame::UpEnter(up, nodes))?;
+            Ok(Task::Act(Action::Tick))
+        }
+    }
+}
+
+/// The constructor of one class, which is there or not.
+#[tactic(auto, unfolding(kr_mean::specs::Steps::bind))]
+fn construct_in(
+    alloc: Global,
+    code: &Code,
+    world: &mut World,
+    stack: &mut Stack,
+    class: Option<ClassCode>,
+    object: Value,
+    arguments: &Vec<Value>,
+    others: Nodes,
+) -> Result<Task, Halt>
+    ensures { Leads code.now result stack.new world.new world.old.reads (λ d. out_unit code.now d stack.old (constructed_in code.now d class object arguments.now.items (constructed code.now d (listed code.now others) object) (state_of world.old))) }
+{
+    match class {
+        None => stop_unit(code, world, stack),
+        Some(found) => match found.constructor {
+            None => construct_plain(
+                alloc,
+                code,
+                world,
+                stack,
+                found.initialisers,
+                object,
+                arguments,
+                others,
+            ),
+            Some(constructor) => {
+                let up = Up {
+                    line: others,
+                    object,
+                    initialisers: found.initialisers,
+                    body: constructor.body,
+                };
+                construct_declared(alloc, code, world, stack, constructor, up, arguments)
+            }
+        },
+    }
+}
+
+/// Behind the last class of a line nothing takes arguments.
+fn construct_last(
+    code: &Code,
+    world: &World,
+    stack: &mut Stack,
+    object: Value,
+    arguments: &Vec<Value>,
+) -> Result<Task, Halt>
+    ensures { Leads code.now result stack.new world.now world.now.reads (λ d. out_unit code.now d stack.old (constructed code.now d [] object arguments.now.items (state_of world.now))) }
+{
+    if arguments.len() == 0 {
+        return Ok(Task::Done);
+    }
+    stop_unit(code, world, stack)
+}
+
+/// The constructors of a line of classes.
+#[tactic(auto, unfolding(kr_mean::specs::Steps::bind))]
+pub fn construct(
+    alloc: Global,
+    code: &Code,
+    world: &mut World,
+    stack: &mut Stack,
+    line: Nodes,
+    object: Value,
+    arguments: &Vec<Value>,
+) -> Result<Task, Halt>
+    ensures { Leads code.now result stack.new world.new world.old.reads (λ d. out_unit code.now d stack.old (constructed code.now d (listed code.now line) object arguments.now.items (state_of world.old))) }
+{
+    match code.split(line) {
+        None => construct_last(code, world, stack, object, arguments),
+        Some((class, others)) => {
+            let found = code.class(class);
+            construct_in(alloc, code, world, stack, found, object, arguments, others)
+        }
+    }
+}
+
+/// The initial values of fields, one after another.
+#[tactic(auto, unfolding(kr_mean::specs::Steps::bind))]
+pub fn initialise(
+    code: &Code,
+    world: &World,
+    stack: &mut Stack,
+    nodes: Nodes,
+    object: Value,
+) -> Result<Task, Halt>
+    ensures { Leads code.now result stack.new world.now world.now.reads (λ d. out_unit code.now d stack.old (initialised_step code.now d object (listed code.now nodes) (state_of world.now))) }
+{
+    match code.split(nodes) {
+        None => Ok(Task::Done),
+        Some((node, others)) => match code.initialiser(node) {
+            None => stop_unit(code, world, stack),
+            Some(initialiser) => {
+                unit(stack, UnitFrame::Initialise(others, object))?;
+                push(stack, Frame::Store(initialiser.field, object))?;
+                Ok(Task::Evaluate(initialiser.value))
+            }
+        },
+    }
+}
+
+/// Something is done, and a frame waited for it.
+#[tactic(auto, unfolding(kr_mean::specs::Steps::bind))]
+pub fn take_unit(
+    alloc: Global,
+    code: &Code,
+    world: &mut World,
+    stack: &mut Stack,
+    frame: UnitFrame,
+) -> Result<Task, Halt>
+    ensures { Leads code.now result stack.new world.new world.old.reads (λ d. out_unit code.now d stack.old (done code.now d frame (state_of world.old))) }
+{
+    match frame {
+        UnitFrame::Behind(object, initialisers, body) => {
+            unit(stack, UnitFrame::Body(body))?;
+            enter(world, stack, alloc, object)?;
+            Ok(Task::Initialise(initialisers, object))
+        }
+        UnitFrame::Body(body) => {
+            push(stack, Frame::Complete)?;
+            Ok(Task::All(body))
+        }
+        UnitFrame::Initialise(nodes, object) => Ok(Task::Initialise(nodes, object)),
+    }
+}

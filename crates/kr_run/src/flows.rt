@@ -1,0 +1,42 @@
+// A statement has led on, and comes to a frame.
+ghost use Rattle.kr_frames.specs.Frames.{out_flow, led, flow_of};
+ghost use Rattle.kr_frames.specs.Leads.{Leads};
+ghost use Rattle.kr_world.specs.Worlds.{state_of};
+
+use kr_code::Code;
+use kr_frames::{Flow, FlowFrame, Stack, Task};
+use kr_world::{Halt, World};
+
+/// A flow that leads on.
+#[tactic(auto, unfolding(kr_mean::specs::Steps::bind))]
+pub fn take_flow(
+    code: &Code,
+    world: &World,
+    stack: &Stack,
+    frame: FlowFrame,
+    flow: Flow,
+) -> Result<Task, Halt>
+    ensures { Leads code.now result stack.now world.now world.now.reads (λ d. out_flow code.now d stack.now (led code.now d frame (flow_of flow) (state_of world.now))) }
+{
+    match frame {
+        FlowFrame::Rest(others) => match flow {
+            Flow::Next => Ok(Task::All(others)),
+            _ => Ok(Task::Led(flow)),
+        },
+        FlowFrame::Again(turn) => match flow {
+            Flow::Next => Ok(Task::Repeat(turn)),
+            Flow::Continued => Ok(Task::Repeat(turn)),
+            Flow::Broke => Ok(Task::Led(Flow::Next)),
+            _ => Ok(Task::Led(flow)),
+        },
+        FlowFrame::Update(updates) => match flow {
+            Flow::Next => Ok(Task::Update(updates)),
+            Flow::Continued => Ok(Task::Update(updates)),
+            _ => Ok(Task::Led(flow)),
+        },
+        FlowFrame::First(turn) => match flow {
+            Flow::Next => Ok(Task::Repeat(turn)),
+            _ => Ok(Task::Led(flow)),
+        },
+    }
+}

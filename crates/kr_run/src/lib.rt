@@ -1,0 +1,18 @@
+//! The machine that runs resolved code: a task at a time, with a stack of its own, so that no code is nested too deep for it.
+//! What it answers, leaves and has read is what the code means.
+#![tactic(auto)]
+
+mod calls;
+mod create;
+mod expressions;
+mod flows;
+mod lists;
+mod run;
+mod statements;
+mod step;
+mod values;
+
+pub use run::evaluate;
+
+#[cfg(test)]
+mod tests;

@@ -1,0 +1,452 @@
+// The machine: one task after another, until the run ends.
+ghost use Rattle.std.specs.Prelude.{◌≡◌, ◌∷◌};
+ghost use Rattle.kr_code.specs.Doing.{statement_done, flow_of as statement_flow};
+ghost use Rattle.kr_code.specs.Steps.{store_initial as store_step};
+ghost use Rattle.kr_code.specs.Tables.{node_at, statement_of};
+ghost use Rattle.kr_frames.specs.declared.frame.Change.TheVariants as changes;
+ghost use Rattle.kr_frames.specs.Frames.{resumed, out_value, out_flow, out_unit, flow_of, altered, restored, cut_to};
+ghost use Rattle.kr_mean.specs.Meaning.{returned, completed};
+ghost use Rattle.kr_mean.specs.Operators.{step_operator as operator_of_step};
+ghost use Rattle.kr_world.specs.Actions.{acted};
+ghost use Rattle.kr_frames.specs.Leads.{Leads};
+ghost use Rattle.kr_mean.specs.Steps.{bind, give, tick};
+ghost use Rattle.kr_run.specs.Answers.{StepsTo, Answers};
+ghost use Rattle.kr_world.specs.Worlds.{state_of};
+
+use crate::calls::apply;
+use crate::create::{construct, initialise, stop_unit, take_unit};
+use crate::expressions::enter_expression;
+use crate::flows::take_flow;
+use crate::lists::{
+    all, declare, repeat, take_argument, take_up_argument, up_values, update, values,
+};
+use crate::statements::enter_statement;
+use crate::step::{Step, value};
+use crate::values::{stop, take_test, take_value};
+use kr_ast::{BinaryOperator, StepOperator};
+use kr_code::{Code, Statement};
+use kr_frames::{Change, Flow, Frame, Stack, Task, ValueFrame};
+use kr_mean::Kind;
+use kr_value::Value;
+use kr_world::{Action, Cell, End, Halt, Local, World, act, store_initial};
+use std::alloc::Global;
+
+/// A unit of fuel, and then the expression.
+#[tactic(auto, unfolding(kr_mean::specs::Steps::bind))]
+fn evaluate_node(
+    alloc: Global,
+    code: &Code,
+    world: &mut World,
+    stack: &mut Stack,
+    node: u32,
+) -> Result<Task, Halt>
+    ensures { Leads code.now result stack.new world.new world.old.reads (λ d. out_value code.now d stack.old (d.value node (state_of world.old))) }
+{
+    match act(alloc, code, Action::Tick, world) {
+        Err(halt) => Err(halt),
+        Ok(_) => {
+            let expression = code.expression(node);
+            enter_expression(alloc, code, world, stack, expression)
+        }
+    }
+}
+
+/// A unit of fuel, and then the statement, unless it declares.
+#[tactic(auto, unfolding(kr_mean::specs::Steps::bind))]
+fn tick_statement(
+    alloc: Global,
+    code: &Code,
+    world: &mut World,
+    stack: &mut Stack,
+    statement: Statement,
+) -> Result<Task, Halt>
+    ensures { Leads code.now result stack.new world.new world.old.reads (λ d. out_flow code.now d stack.old (bind tick (λ u. statement_flow code.now d statement) (state_of world.old))) }
+{
+    match act(alloc, code, Action::Tick, world) {
+        Err(halt) => Err(halt),
+        Ok(_) => enter_statement(code, world, stack, statement),
+    }
+}
+
+/// A statement with its unit.
+#[tactic(auto, unfolding(kr_mean::specs::Steps::bind))]
+fn execute_statement(
+    alloc: Global,
+    code: &Code,
+    world: &mut World,
+    stack: &mut Stack,
+    statement: Statement,
+) -> Result<Task, Halt>
+    ensures { Leads code.now result stack.new world.new world.old.reads (λ d. out_flow code.now d stack.old (statement_done code.now d statement (state_of world.old))) }
+{
+    match statement {
+        Statement::Declare(nodes) => Ok(Task::Declare(nodes)),
+        Statement::Stuck => tick_statement(alloc, code, world, stack, statement),
+        Statement::Empty => tick_statement(alloc, code, world, stack, statement),
+        Statement::Block(_) => tick_statement(alloc, code, world, stack, statement),
+        Statement::Evaluate(_) => tick_statement(alloc, code, world, stack, statement),
+        Statement::IfThen { .. } => tick_statement(alloc, code, world, stack, statement),
+        Statement::IfElse { .. } => tick_statement(alloc, code, world, stack, statement),
+        Statement::While { .. } => tick_statement(alloc, code, world, stack, statement),
+        Statement::Do { .. } => tick_statement(alloc, code, world, stack, statement),
+        Statement::For { .. } => tick_statement(alloc, code, world, stack, statement),
+        Statement::Break => tick_statement(alloc, code, world, stack, statement),
+        Statement::Continue => tick_statement(alloc, code, world, stack, statement),
+        Statement::Leave => tick_statement(alloc, code, world, stack, statement),
+        Statement::Return(_) => tick_statement(alloc, code, world, stack, statement),
+    }
+}
+
+/// A node as a statement.
+fn execute_node(
+    alloc: Global,
+    code: &Code,
+    world: &mut World,
+    stack: &mut Stack,
+    node: u32,
+) -> Result<Task, Halt>
+    ensures { Leads code.now result stack.new world.new world.old.reads (λ d. out_flow code.now d stack.old (d.exec node (state_of world.old))) }
+{
+    let statement = code.statement(node);
+    execute_statement(alloc, code, world, stack, statement)
+}
+
+fn step_operator(operator: StepOperator) -> BinaryOperator
+    ensures { result ≡ operator_of_step operator }
+{
+    match operator {
+        StepOperator::IncrementBefore => BinaryOperator::Add,
+        StepOperator::IncrementBehind => BinaryOperator::Add,
+        StepOperator::DecrementBefore => BinaryOperator::Subtract,
+        StepOperator::DecrementBehind => BinaryOperator::Subtract,
+    }
+}
+
+/// The right operand comes next, then the operator, and then the write.
+#[tactic(auto, using(crate::proofs::Machine::compounds), unfolding(kr_mean::specs::Steps::bind))]
+fn alter_compound(
+    code: &Code,
+    world: &World,
+    stack: &mut Stack,
+    operator: BinaryOperator,
+    node: u32,
+    cell: Cell,
+    old: Value,
+) -> Result<Task, Halt>
+    ensures { Leads code.now result stack.new world.now world.now.reads (λ d. out_value code.now d stack.old (altered code.now d (changes.Compound operator node) cell old (state_of world.now))) }
+{
+    value(stack, ValueFrame::Write(cell))?;
+    value(stack, ValueFrame::Right(operator, old))?;
+    Ok(Task::Evaluate(node))
+}
+
+/// A variable changes from its value.
+#[tactic(auto, unfolding(kr_mean::specs::Steps::bind))]
+fn alter(
+    code: &Code,
+    world: &World,
+    stack: &mut Stack,
+    change: Change,
+    cell: Cell,
+    old: Value,
+) -> Result<Task, Halt>
+    ensures { Leads code.now result stack.new world.now world.now.reads (λ d. out_value code.now d stack.old (altered code.now d change cell old (state_of world.now))) }
+{
+    match change {
+        Change::Step(operator) => {
+            value(stack, ValueFrame::Stepped(operator, cell, old))?;
+            Ok(Task::Act(Action::Binary(step_operator(operator), old, Value::Int(1))))
+        }
+        Change::Compound(operator, node) => {
+            alter_compound(code, world, stack, operator, node, cell, old)
+        }
+    }
+}
+
+/// A field gets its initial value.
+#[tactic(auto, unfolding(kr_mean::specs::Steps::bind))]
+fn store(
+    code: &Code,
+    world: &mut World,
+    stack: &Stack,
+    field: u32,
+    object: Value,
+    given: Value,
+) -> Result<Task, Halt>
+    ensures { Leads code.now result stack.now world.new world.old.reads (λ d. out_unit code.now d stack.now (store_step code.now field object given (state_of world.old))) }
+{
+    match store_initial(code, world, field, object, given) {
+        Ok(()) => Ok(Task::Done),
+        Err(halt) => Err(halt),
+    }
+}
+
+/// A value comes to a frame.
+#[tactic(auto, unfolding(kr_mean::specs::Steps::bind))]
+fn value_frame(
+    alloc: Global,
+    code: &Code,
+    world: &mut World,
+    stack: &mut Stack,
+    frame: Frame,
+    given: Value,
+) -> Result<Task, Halt>
+    ensures { Leads code.now result stack.new world.new world.old.reads (λ d. out_value code.now d (frame ∷ stack.old) (give given (state_of world.old))) }
+{
+    match frame {
+        Frame::Value(waiting) => return take_value(alloc, code, world, stack, waiting, given),
+        Frame::Test(waiting) => return take_test(code, world, stack, waiting, given),
+        Frame::Arguments(goal, others, found) => {
+            return take_argument(code, world, stack, goal, others, found, given);
+        }
+        Frame::UpArguments(up, others, found) => {
+            return take_up_argument(code, world, stack, up, others, found, given);
+        }
+        Frame::UpEnter(up, nodes) => return Ok(Task::UpValues(up, nodes, Vec::new(alloc))),
+        Frame::Store(field, object) => return store(code, world, stack, field, object, given),
+        _ => return Err(Halt::Ended(End::Stuck)),
+    }
+}
+
+/// A method's body ends.
+#[tactic(auto, unfolding(kr_mean::specs::Steps::bind))]
+fn leave(
+    code: &Code,
+    world: &mut World,
+    stack: &Stack,
+    is_void: bool,
+    this: Value,
+    locals: Vec<Local>,
+    flow: Flow,
+) -> Result<Task, Halt>
+    ensures { Leads code.now result stack.now world.new world.old.reads (λ d. out_value code.now d stack.now (restored this locals.items (returned is_void (flow_of flow) (state_of world.old)))) }
+{
+    world.this = this;
+    world.locals = locals;
+    match (is_void, flow) {
+        (true, Flow::Next) => Ok(Task::Got(Value::Null)),
+        (true, Flow::Left) => Ok(Task::Got(Value::Null)),
+        (false, Flow::Next) => Ok(Task::Act(Action::End(End::Trapped(Kind::NoReturn)))),
+        (false, Flow::Gave(given)) => Ok(Task::Got(given)),
+        _ => Ok(Task::Act(Action::End(End::Stuck))),
+    }
+}
+
+/// A constructor's body ends.
+#[tactic(auto, unfolding(kr_mean::specs::Steps::bind))]
+fn complete(code: &Code, world: &World, stack: &mut Stack, flow: Flow) -> Result<Task, Halt>
+    ensures { Leads code.now result stack.new world.now world.now.reads (λ d. out_unit code.now d stack.old (completed (flow_of flow) (state_of world.now))) }
+{
+    match flow {
+        Flow::Next => Ok(Task::Done),
+        Flow::Left => Ok(Task::Done),
+        _ => stop_unit(code, world, stack),
+    }
+}
+
+/// The locals of a block end.
+#[tactic(auto, using(crate::proofs::Machine::locals_cut), unfolding(kr_mean::specs::Steps::bind))]
+fn end_scope(
+    code: &Code,
+    world: &mut World,
+    stack: &Stack,
+    count: usize,
+    flow: Flow,
+) -> Result<Task, Halt>
+    ensures { Leads code.now result stack.now world.new world.old.reads (λ d. out_flow code.now d stack.now (cut_to count (give (flow_of flow) (state_of world.old)))) }
+{
+    world.locals.truncate(count);
+    Ok(Task::Led(flow))
+}
+
+/// A statement's end comes to a frame.
+#[tactic(auto, unfolding(kr_mean::specs::Steps::bind))]
+fn flow_frame(
+    code: &Code,
+    world: &mut World,
+    stack: &mut Stack,
+    frame: Frame,
+    flow: Flow,
+) -> Result<Task, Halt>
+    ensures { Leads code.now result stack.new world.new world.old.reads (λ d. out_flow code.now d (frame ∷ stack.old) (give (flow_of flow) (state_of world.old))) }
+{
+    match frame {
+        Frame::Flow(waiting) => return take_flow(code, world, stack, waiting, flow),
+        Frame::Scope(count) => return end_scope(code, world, stack, count, flow),
+        Frame::Leave(is_void, this, locals) => {
+            return leave(code, world, stack, is_void, this, locals, flow);
+        }
+        Frame::Complete => return complete(code, world, stack, flow),
+        _ => return Err(Halt::Ended(End::Stuck)),
+    }
+}
+
+/// What gives nothing is done, and a frame waits for it.
+#[tactic(auto, unfolding(kr_mean::specs::Steps::bind))]
+fn unit_frame(
+    alloc: Global,
+    code: &Code,
+    world: &mut World,
+    stack: &mut Stack,
+    frame: Frame,
+) -> Result<Task, Halt>
+    ensures { Leads code.now result stack.new world.new world.old.reads (λ d. out_unit code.now d (frame ∷ stack.old) (give tt (state_of world.old))) }
+{
+    match frame {
+        Frame::Unit(waiting) => return take_unit(alloc, code, world, stack, waiting),
+        Frame::Back(this, locals) => {
+            world.this = this;
+            world.locals = locals;
+            return Ok(Task::Done);
+        }
+        Frame::Made(object) => return Ok(Task::Got(object)),
+        _ => return Err(Halt::Ended(End::Stuck)),
+    }
+}
+
+/// A step of the meaning.
+#[tactic(auto, unfolding(kr_mean::specs::Steps::bind))]
+fn act_on(
+    alloc: Global,
+    code: &Code,
+    world: &mut World,
+    stack: &Stack,
+    action: Action,
+) -> Result<Task, Halt>
+    ensures { Leads code.now result stack.now world.new world.old.reads (λ d. out_value code.now d stack.now (acted code.now action (state_of world.old))) }
+{
+    match act(alloc, code, action, world) {
+        Ok(given) => Ok(Task::Got(given)),
+        Err(halt) => Err(halt),
+    }
+}
+
+/// What a task leads to, but for what comes to a frame.
+#[tactic(auto, unfolding(kr_mean::specs::Steps::bind))]
+fn do_task(
+    alloc: Global,
+    code: &Code,
+    world: &mut World,
+    stack: &mut Stack,
+    task: Task,
+) -> Result<Task, Halt>
+    ensures { Leads code.now result stack.new world.new world.old.reads (λ d. resumed code.now d stack.old task (state_of world.old)) }
+{
+    match task {
+        Task::Evaluate(node) => return evaluate_node(alloc, code, world, stack, node),
+        Task::Execute(node) => return execute_node(alloc, code, world, stack, node),
+        Task::Act(action) => return act_on(alloc, code, world, stack, action),
+        Task::Alter(change, cell, old) => return alter(code, world, stack, change, cell, old),
+        Task::Values(goal, nodes, found) => {
+            return values(code, world, stack, goal, nodes, found);
+        }
+        Task::UpValues(up, nodes, found) => {
+            return up_values(code, world, stack, up, nodes, found);
+        }
+        Task::Apply(goal, found) => return apply(alloc, code, world, stack, goal, found),
+        Task::All(nodes) => return all(code, world, stack, nodes),
+        Task::Declare(nodes) => return declare(code, world, stack, nodes),
+        Task::Update(nodes) => return update(code, world, stack, nodes),
+        Task::Repeat(turn) => return repeat(code, world, stack, turn),
+        Task::Construct(line, object, found) => {
+            return construct(alloc, code, world, stack, line, object, &found);
+        }
+        Task::Initialise(nodes, object) => {
+            return initialise(code, world, stack, nodes, object);
+        }
+        Task::Got(given) => return Ok(Task::Got(given)),
+        Task::Led(flow) => return Ok(Task::Led(flow)),
+        Task::Done => return Ok(Task::Done),
+    }
+}
+
+/// A value comes to the topmost frame, or the run has it.
+fn give_value(
+    alloc: Global,
+    code: &Code,
+    world: &mut World,
+    stack: &mut Stack,
+    given: Value,
+) -> Result<Step, Halt>
+    ensures { StepsTo code.now result stack.new world.new world.old.reads (λ d. out_value code.now d stack.old (give given (state_of world.old))) }
+{
+    match stack.pop() {
+        None => return Ok(Step::Finished(given)),
+        Some(frame) => match value_frame(alloc, code, world, stack, frame, given) {
+            Ok(task) => return Ok(Step::More(task)),
+            Err(halt) => return Err(halt),
+        },
+    }
+}
+
+/// A statement's end comes to the topmost frame.
+#[tactic(auto, unfolding(kr_mean::specs::Steps::bind))]
+fn give_flow(code: &Code, world: &mut World, stack: &mut Stack, flow: Flow) -> Result<Task, Halt>
+    ensures { Leads code.now result stack.new world.new world.old.reads (λ d. out_flow code.now d stack.old (give (flow_of flow) (state_of world.old))) }
+{
+    match stack.pop() {
+        None => return Err(Halt::Ended(End::Stuck)),
+        Some(frame) => return flow_frame(code, world, stack, frame, flow),
+    }
+}
+
+/// What gives nothing is done.
+#[tactic(auto, unfolding(kr_mean::specs::Steps::bind))]
+fn give_nothing(
+    alloc: Global,
+    code: &Code,
+    world: &mut World,
+    stack: &mut Stack,
+) -> Result<Task, Halt>
+    ensures { Leads code.now result stack.new world.new world.old.reads (λ d. out_unit code.now d stack.old (give tt (state_of world.old))) }
+{
+    match stack.pop() {
+        None => return Err(Halt::Ended(End::Stuck)),
+        Some(frame) => return unit_frame(alloc, code, world, stack, frame),
+    }
+}
+
+/// One step.
+fn step(
+    alloc: Global,
+    code: &Code,
+    world: &mut World,
+    stack: &mut Stack,
+    task: Task,
+) -> Result<Step, Halt>
+    ensures { StepsTo code.now result stack.new world.new world.old.reads (λ d. resumed code.now d stack.old task (state_of world.old)) }
+{
+    match task {
+        Task::Got(given) => return give_value(alloc, code, world, stack, given),
+        Task::Led(flow) => match give_flow(code, world, stack, flow) {
+            Ok(next) => return Ok(Step::More(next)),
+            Err(halt) => return Err(halt),
+        },
+        Task::Done => match give_nothing(alloc, code, world, stack) {
+            Ok(next) => return Ok(Step::More(next)),
+            Err(halt) => return Err(halt),
+        },
+        other => match do_task(alloc, code, world, stack, other) {
+            Ok(next) => return Ok(Step::More(next)),
+            Err(halt) => return Err(halt),
+        },
+    }
+}
+
+/// Runs a node as an expression: what it gives, or how the run ends. The world is left as the run leaves it, and every
+/// first read is noted.
+pub fn evaluate(alloc: Global, code: &Code, world: &mut World, node: u32) -> Result<Value, Halt>
+    ensures { Answers code.now result world.new world.old.reads (λ d. d.value node (state_of world.old)) }
+{
+    let mut stack = Stack::new(alloc);
+    let mut task = Task::Evaluate(node);
+    'steps: for _ in 0..u64::MAX {
+        match step(alloc, code, world, &mut stack, task) {
+            Err(Halt::Ended(end)) => return Err(Halt::Ended(end)),
+            Err(Halt::Memory) => return Err(Halt::Memory),
+            Ok(Step::Finished(given)) => return Ok(given),
+            Ok(Step::More(next)) => task = next,
+        }
+    }
+    Err(Halt::Memory)
+}

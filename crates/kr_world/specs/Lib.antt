@@ -1,0 +1,6 @@
+pub mod Noting
+pub mod Shown
+pub mod Worlds
+pub mod Actions
+pub mod Ends
+pub mod Elements

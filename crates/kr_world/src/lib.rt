@@ -1,0 +1,15 @@
+//! What a run of code changes, and the steps on it, each exactly a step of the language's meaning: `this` and the locals, the
+//! heap, the fuel that is left, and the places of candidates that were read, each once, in the order of their first reads.
+#![tactic(auto)]
+
+mod action;
+mod memory;
+mod names;
+mod operators;
+mod reads;
+mod world;
+
+pub use action::{Action, Cell, act};
+pub use memory::{new_object, store_initial};
+pub use reads::{Reads, SlotPlace};
+pub use world::{End, Halt, Local, Old, World};

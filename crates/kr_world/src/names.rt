@@ -1,0 +1,126 @@
+// Fuel, `this`, locals, and what contracts name.
+ghost use Rattle.std.specs.Prelude.{◌≡◌};
+ghost use Rattle.std.specs.Prelude.{Ok, map, option_map, slice_get};
+ghost use Rattle.kr_table.specs.Constants.{is_same_place};
+ghost use Rattle.kr_mean.specs.Places.{Parameter};
+ghost use Rattle.kr_mean.specs.Steps.{give, bind, local_at, place_reads, tick as tick_step, declare as declare_step, assign as assign_step, read_local as read_step, get_result, get_old};
+ghost use Rattle.kr_world.specs.Shown.{local_of};
+ghost use Rattle.kr_value.specs.declared.value.Value.TheVariants.{Null};
+ghost use Rattle.kr_world.specs.Worlds.{state_of, Agrees};
+
+use crate::{End, Halt, Local, SlotPlace, World};
+use kr_base::Place;
+use kr_value::Value;
+
+/// One unit of fuel.
+#[tactic(auto, unfolding(kr_mean::specs::Steps::bind))]
+pub fn tick(world: &mut World) -> Result<Value, Halt>
+    ensures { Agrees result world.new world.old.reads (bind tick_step (λ u. give Null) (state_of world.old)) }
+{
+    if world.fuel == 0 {
+        return Err(Halt::Ended(End::OutOfFuel));
+    }
+    world.fuel -= 1;
+    Ok(Value::Null)
+}
+
+/// One unit of fuel, and a new local.
+#[tactic(auto, unfolding(kr_mean::specs::Steps::bind))]
+pub fn declare(world: &mut World, value: Value) -> Result<Value, Halt>
+    ensures { Agrees result world.new world.old.reads (bind tick_step (λ u. bind (declare_step value) (λ w. give Null)) (state_of world.old)) }
+{
+    if world.fuel == 0 {
+        return Err(Halt::Ended(End::OutOfFuel));
+    }
+    world.fuel -= 1;
+    let local = Local {
+        value,
+        parameter: None,
+    };
+    if world.locals.push(local).is_err() {
+        return Err(Halt::Memory);
+    }
+    Ok(Value::Null)
+}
+
+/// Gives a local another value, and then what is to be given.
+#[tactic(auto, unfolding(kr_mean::specs::Steps::bind))]
+pub fn assign(world: &mut World, local: u32, value: Value, given: Value) -> Result<Value, Halt>
+    ensures { Agrees result world.new world.old.reads (bind (assign_step local value) (λ u. give given) (state_of world.old)) }
+{
+    if (local as usize) < world.locals.len() {
+        world.locals[local as usize] = Local {
+            value,
+            parameter: None,
+        };
+        return Ok(given);
+    }
+    Err(Halt::Ended(End::Stuck))
+}
+
+fn found_in(locals: &Vec<Local>, local: u32) -> Option<Local>
+    ensures { result ≡ slice_get locals.now.items local }
+{
+    locals.get(local as usize).copied()
+}
+
+fn local_in(locals: &Vec<Local>, local: u32) -> Option<Local>
+    ensures { option_map local_of result ≡ local_at (map local_of locals.now.items) local }
+{
+    found_in(locals, local)
+}
+
+fn note_parameter(world: &mut World, parameter: Option<u32>) -> Result<(), Halt>
+    ensures { Agrees result world.new world.old.reads (record { said = Ok tt; after = state_of world.old; reads = place_reads (option_map Parameter parameter) }) }
+{
+    match parameter {
+        None => Ok(()),
+        Some(number) => {
+            if world.reads.note(SlotPlace::Parameter(number)).is_err() {
+                return Err(Halt::Memory);
+            }
+            Ok(())
+        }
+    }
+}
+
+/// The value of a local, which is read where a candidate gives it.
+pub fn read_local(world: &mut World, local: u32) -> Result<Value, Halt>
+    ensures { Agrees result world.new world.old.reads (read_step local (state_of world.old)) }
+{
+    match local_in(&world.locals, local) {
+        None => Err(Halt::Ended(End::Stuck)),
+        Some(found) => match note_parameter(world, found.parameter) {
+            Err(halt) => Err(halt),
+            Ok(()) => Ok(found.value),
+        },
+    }
+}
+
+/// What the method under test has given.
+pub fn result(world: &World) -> Result<Value, Halt>
+    ensures { Agrees result world.now world.now.reads (get_result (state_of world.now)) }
+{
+    match world.result {
+        Some(value) => Ok(value),
+        None => Err(Halt::Ended(End::Stuck)),
+    }
+}
+
+fn is_same_place(a: Place, b: Place) -> bool
+    ensures { result ≡ is_same_place a b }
+{
+    a.file == b.file && a.line == b.line && a.col == b.col
+}
+
+/// The value of an `\old`.
+pub fn old(world: &World, place: Place) -> Result<Value, Halt>
+    ensures { Agrees result world.now world.now.reads (get_old place (state_of world.now)) }
+{
+    for old in &world.olds {
+        if is_same_place(old.place, place) {
+            return Ok(old.value);
+        }
+    }
+    Err(Halt::Ended(End::Stuck))
+}

@@ -1,0 +1,107 @@
+// Operators on values.
+ghost use Rattle.std.specs.Prelude.{◌≡◌};
+ghost use Rattle.kr_mean.specs.Steps.{say};
+ghost use Rattle.kr_mean.specs.Operators as meaning;
+ghost use Rattle.kr_operators.specs.Shown.{constant_shown, shown};
+ghost use Rattle.kr_world.specs.Ends.{IsSaid};
+ghost use Rattle.kr_world.specs.Worlds.{state_of, Agrees};
+
+use crate::{End, Halt, World};
+use kr_ast::{BinaryOperator, UnaryOperator};
+use kr_mean::Kind;
+use kr_operators::{Constant, of_booleans, of_ints, unary};
+use kr_value::Value;
+
+fn value_of(constant: Constant) -> Value
+    ensures { result ≡ meaning.value_of_constant (constant_shown constant) }
+{
+    match constant {
+        Constant::Int(number) => Value::Int(number),
+        Constant::Boolean(truth) => Value::Bool(truth),
+        Constant::Null => Value::Null,
+    }
+}
+
+fn is_division(operator: BinaryOperator) -> bool
+    ensures { result ≡ meaning.is_division operator }
+{
+    match operator {
+        BinaryOperator::Divide => true,
+        BinaryOperator::Remainder => true,
+        _ => false,
+    }
+}
+
+fn is_same_object(operator: BinaryOperator, same: bool) -> Result<Value, End>
+    ensures { IsSaid result (meaning.of_references operator same) }
+{
+    match operator {
+        BinaryOperator::Equal => Ok(Value::Bool(same)),
+        BinaryOperator::NotEqual => Ok(Value::Bool(!same)),
+        _ => Err(End::Stuck),
+    }
+}
+
+fn said(is_division: bool, found: Option<Constant>) -> Result<Value, End>
+    ensures { IsSaid result (meaning.constant_result is_division (shown found)) }
+{
+    match found {
+        Some(constant) => Ok(value_of(constant)),
+        None => {
+            if is_division {
+                Err(End::Trapped(Kind::ArithmeticException))
+            } else {
+                Err(End::Stuck)
+            }
+        }
+    }
+}
+
+fn binary(operator: BinaryOperator, left: Value, right: Value) -> Result<Value, End>
+    ensures { IsSaid result (meaning.operated operator left right) }
+{
+    match (left, right) {
+        (Value::Int(a), Value::Int(b)) => said(is_division(operator), of_ints(operator, a, b)),
+        (Value::Bool(a), Value::Bool(b)) => said(false, of_booleans(operator, a, b)),
+        (Value::Null, Value::Null) => is_same_object(operator, true),
+        (Value::Null, Value::Ref(_)) => is_same_object(operator, false),
+        (Value::Ref(_), Value::Null) => is_same_object(operator, false),
+        (Value::Ref(o), Value::Ref(p)) => is_same_object(operator, o == p),
+        _ => Err(End::Stuck),
+    }
+}
+
+fn alone(operator: UnaryOperator, value: Value) -> Result<Value, End>
+    ensures { IsSaid result (meaning.operated_alone operator value) }
+{
+    match value {
+        Value::Int(a) => said(false, unary(operator, Constant::Int(a))),
+        Value::Bool(a) => said(false, unary(operator, Constant::Boolean(a))),
+        _ => Err(End::Stuck),
+    }
+}
+
+/// Two operands.
+pub fn operated(
+    world: &World,
+    operator: BinaryOperator,
+    left: Value,
+    right: Value,
+) -> Result<Value, Halt>
+    ensures { Agrees result world.now world.now.reads (say (meaning.operated operator left right) (state_of world.now)) }
+{
+    match binary(operator, left, right) {
+        Ok(value) => Ok(value),
+        Err(end) => Err(Halt::Ended(end)),
+    }
+}
+
+/// One operand.
+pub fn operated_alone(world: &World, operator: UnaryOperator, value: Value) -> Result<Value, Halt>
+    ensures { Agrees result world.now world.now.reads (say (meaning.operated_alone operator value) (state_of world.now)) }
+{
+    match alone(operator, value) {
+        Ok(value) => Ok(value),
+        Err(end) => Err(Halt::Ended(end)),
+    }
+}
