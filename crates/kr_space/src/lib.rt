@@ -6,6 +6,8 @@ mod least;
 mod meaning;
 mod names;
 mod peeling;
+#[cfg(test)]
+mod tests;
 mod unknown;
 mod wrapping;
 mod written;
