@@ -1,1 +1,3 @@
 pub mod Wrapped
+pub mod Meanings
+pub mod NameRule
