@@ -1,7 +1,7 @@
 #!/usr/bin/env bash
 # Times the built program on sources of 1 MiB, the longest that it takes, which are read, cut into tokens, parsed and
-# then refused: `SOURCE:1:1: N0`, status 3. So nearly all of the time is the lexer's and the parser's; where the source
-# is one comment, the lexer's alone. The others are many fields, many methods with some statements each, one expression
+# then refused by a class rule, a typing rule or a rule of the finitization. So much of the time is the lexer's and the
+# parser's; where the source is one comment, the lexer's alone. The others are many fields, many methods with some statements each, one expression
 # of a token a byte, and contracts: one long line, and many of them in one line. For each it prints the call's line and
 # status, the best wall time of several runs, MB/s over the whole call, and peak memory. It judges nothing and never
 # fails.

@@ -143,6 +143,22 @@ line_listing taken faults a b text status (Err v) x e = record {
   memory = λ f. absurd (omega (arith, e, f));
 }
 
+-- want of memory before the first row
+pub memory_listing : {K T E : Type 0} (taken : K → Option (List ℕ)) (faults : K → ℕ) (a b : K) (answer : Answer) (status : ℕ) (r : Result T E) → Writes taken faults a b memory_text r → status ≡ (if is_ok r then 8 else 7)
+    → EndsListing taken faults answer a b status
+memory_listing taken faults a b answer status (Ok v) x e = record {
+  known = inr (inr (inr e));
+  whole = λ f. absurd (omega (arith, e, f));
+  fault = λ f. absurd (omega (arith, e, f));
+  memory = λ _. (0, x);
+}
+memory_listing taken faults a b answer status (Err v) x e = record {
+  known = inr (inr (inl e));
+  whole = λ f. absurd (omega (arith, e, f));
+  fault = λ _. (memory_text, inr (0, refl), x);
+  memory = λ f. absurd (omega (arith, e, f));
+}
+
 -- a listing that ended
 pub end_listing : {F K : Type 0} (held : F → Held) (read_faults : F → ℕ) (last : F → Option (List ℕ)) (taken : K → Option (List ℕ)) (faults : K → ℕ) (command : Command) (files files' : F) (out out' : K) (status : ℕ) (answer : Answer)
     → (IsTold (held files) (Some command) → IsAnswer (held files) (Some command) answer) → read_faults files' ≡ read_faults files → EndsListing taken faults answer out out' status

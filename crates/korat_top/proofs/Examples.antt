@@ -1,6 +1,6 @@
 -- The lines of the small problems, as the checker computes them.
 use Rattle.std.proofs.Common.{◌≡◌, refl}
-use Rattle.std.specs.Prelude.{[], ◌∷◌, codes}
+use Rattle.std.specs.Prelude.{true, false, [], ◌∷◌, map, codes, Some, None}
 use Rattle.std.specs.Fmt.{digits}
 use Rattle.kr_base.specs.Bounds.{less}
 use Rattle.kr_mean.specs.Space.{space_of}
@@ -13,9 +13,13 @@ use Rattle.kr_mean.specs.Verdicts.{verdict_of}
 use Rattle.kr_mean.specs.Meaning.{eval, exec, value, body_of}
 use Rattle.kr_mean.specs.Runs.{end_on, read_slots, order_of}
 use Rattle.kr_mean.specs.Entries.{mark_of, all_of, all_entries}
-use Rattle.kr_mean_examples.specs.Examples.{cell, two_ints, two_nodes, two_subclasses, arrays}
-use Rattle.kr_report.specs.Texts.{structure_text}
-use Rattle.kr_report.specs.Reports.{listing_answer}
+use Rattle.kr_value.specs.declared.value.Value.TheVariants.{Bool as Truth}
+use Rattle.kr_mean.specs.declared.kind.Kind.TheVariants.{NullPointerException, ArithmeticException, NoReturn}
+use Rattle.kr_mean.specs.declared.kind.Verdict.TheVariants.{Pass, Ensures, RepOk, Trap, CheckTrap, Spent as OutOfFuel}
+use Rattle.kr_mean_examples.specs.Examples.{cell, two_ints, two_nodes, two_subclasses, arrays, later_first}
+use Rattle.kr_mean_examples.specs.Listings.{loops, plus}
+use Rattle.kr_report.specs.Texts.{structure_text, value_text, verdict_text, tested_text}
+use Rattle.kr_report.specs.Reports.{listing_answer, is_failing}
 use Rattle.korat_top.specs.Examples.{lines_of, told, report_of, WorkedLines}
 
 two_nodes_lines : lines_of two_nodes ≡ codes "0.0 R#0{next=null}\n" ∷ codes "0.1 R#0{next=R#0}\n" ∷ codes "0.2.0 R#0{next=R#1} R#1{next=null}\n" ∷ codes "0.2.1 R#0{next=R#1} R#1{next=R#0}\n" ∷ codes "0.2.2 R#0{next=R#1} R#1{next=R#1}\n" ∷ []
@@ -54,6 +58,42 @@ cell_without_fuel : report_of (cell 0 5) [] 9 ≡ told 5 (codes "spent 0.0\n")
 unfolding digits less space_of heap_of walk table_of values_of is_constant evaluated judged bind eval exec value body_of verdict_of end_on read_slots order_of mark_of all_of all_entries structure_text listing_answer
 cell_without_fuel = refl
 
+later_first_report : report_of later_first [] 9 ≡ told 0 (codes "0.1.0 R#0{a=7,b=1}\n0.1.1 R#0{a=9,b=1}\nvalid 2 tried 3\n")
+unfolding digits less space_of heap_of walk table_of values_of is_constant evaluated judged bind eval exec value body_of verdict_of end_on read_slots order_of mark_of all_of all_entries structure_text listing_answer
+later_first_report = refl
+
+rows_before_spent : report_of loops [] 9 ≡ told 5 (codes "0.0 Cell#0{v=0}\nspent 0.1\n")
+unfolding digits less space_of heap_of walk table_of values_of is_constant evaluated judged bind eval exec value body_of verdict_of end_on read_slots order_of mark_of all_of all_entries structure_text listing_answer
+rows_before_spent = refl
+
+spent_at_the_limit : report_of loops [] 1 ≡ told 5 (codes "0.0 Cell#0{v=0}\nspent 0.1\n")
+unfolding digits less space_of heap_of walk table_of values_of is_constant evaluated judged bind eval exec value body_of verdict_of end_on read_slots order_of mark_of all_of all_entries structure_text listing_answer
+spent_at_the_limit = refl
+
+behind_spent : report_of loops (0 ∷ 1 ∷ []) 9 ≡ told 0 (codes "0.2 Cell#0{v=2}\nvalid 1 tried 1\n")
+unfolding digits less space_of heap_of walk table_of values_of is_constant evaluated judged bind eval exec value body_of verdict_of end_on read_slots order_of mark_of all_of all_entries structure_text listing_answer
+behind_spent = refl
+
+plus_report : report_of plus [] 9 ≡ told 0 (codes "0.1.0 pass (x=1) Cell#0{v=0}\nvalid 1 failing 0 tried 2\n")
+unfolding digits less space_of heap_of walk table_of values_of is_constant evaluated judged bind eval exec value body_of verdict_of end_on read_slots order_of mark_of all_of all_entries structure_text listing_answer
+plus_report = refl
+
+booleans : map (value_text two_ints) (Truth true ∷ Truth false ∷ []) ≡ codes "true" ∷ codes "false" ∷ []
+unfolding digits less space_of heap_of walk table_of values_of is_constant evaluated judged bind eval exec value body_of verdict_of end_on read_slots order_of mark_of all_of all_entries structure_text listing_answer
+booleans = refl
+
+verdicts : map verdict_text (Some Pass ∷ Some (Ensures 12) ∷ Some RepOk ∷ Some (Trap NullPointerException) ∷ Some (CheckTrap ArithmeticException) ∷ Some OutOfFuel ∷ []) ≡ codes "pass " ∷ codes "ensures 12 " ∷ codes "repOk " ∷ codes "trap NullPointerException " ∷ codes "check-trap ArithmeticException " ∷ codes "spent " ∷ []
+unfolding digits less space_of heap_of walk table_of values_of is_constant evaluated judged bind eval exec value body_of verdict_of end_on read_slots order_of mark_of all_of all_entries structure_text listing_answer
+verdicts = refl
+
+failing : map is_failing (None ∷ Some Pass ∷ Some (Ensures 1) ∷ Some RepOk ∷ Some (Trap NoReturn) ∷ Some (CheckTrap NoReturn) ∷ Some OutOfFuel ∷ []) ≡ false ∷ false ∷ true ∷ true ∷ true ∷ true ∷ true ∷ []
+unfolding digits less space_of heap_of walk table_of values_of is_constant evaluated judged bind eval exec value body_of verdict_of end_on read_slots order_of mark_of all_of all_entries structure_text listing_answer
+failing = refl
+
+tested_last_line : tested_text 4 2 4 ≡ codes "valid 4 failing 2 tried 4\n"
+unfolding digits less space_of heap_of walk table_of values_of is_constant evaluated judged bind eval exec value body_of verdict_of end_on read_slots order_of mark_of all_of all_entries structure_text listing_answer
+tested_last_line = refl
+
 pub worked : WorkedLines
 worked = record {
   two_nodes_lines = two_nodes_lines;
@@ -65,4 +105,13 @@ worked = record {
   cell_at_the_limit = cell_at_the_limit;
   cell_resumed = cell_resumed;
   cell_without_fuel = cell_without_fuel;
+  later_first_report = later_first_report;
+  rows_before_spent = rows_before_spent;
+  spent_at_the_limit = spent_at_the_limit;
+  behind_spent = behind_spent;
+  plus_report = plus_report;
+  booleans = booleans;
+  verdicts = verdicts;
+  failing = failing;
+  tested_last_line = tested_last_line;
 }

@@ -1,7 +1,5 @@
-pub mod Shapes
+pub mod Small
 pub mod Texts
-pub mod Listings
-pub mod Candidates
 pub mod Calls
 pub mod Outcomes
 pub mod Told

@@ -1,6 +1,6 @@
 -- Words and files have at most one answer.
-use Rattle.std.proofs.Common.{◌≡◌, ℕ, ◌<◌, ◌≤◌, ◌⊎◌, List, [], ◌∷◌, length, refl, sym, ap, ◌∙◌, subst, inl, inr, arith}
-use Rattle.std.specs.Prelude.{Option, Some, None, Result, Ok, Err, ◌==◌, if◌then◌else◌}
+use Rattle.std.proofs.Common.{◌≡◌, ℕ, ◌<◌, ◌≤◌, ◌⊎◌, List, length, refl, sym, ap, ◌∙◌, subst, inl, inr, arith, rules}
+use Rattle.std.specs.Prelude.{Option, Some, None, Result, Ok, Err, ◌==◌, if◌then◌else◌, Bool, false, codes, nat_lt}
 use Rattle.kr_base.specs.declared.place.Place.{Place}
 use Rattle.kr_lex.specs.declared.refusal.LexRule.{LexRule}
 use Rattle.kr_lex.specs.declared.refusal.LexRule.TheVariants as rules
@@ -10,26 +10,27 @@ use Rattle.kr_lex.specs.Rules.{rule_code as lex_code}
 use Rattle.kr_lex.specs.Spells.{AreTokens, OneListLaw}
 use Rattle.kr_lex.specs.Broken.{IsFirstBroken, rank, UnbrokenLaw}
 use Rattle.kr_ast.specs.Tree.{Tree}
-use Rattle.kr_parse.specs.declared.refusal.ParseRule.{ParseRule}
 use Rattle.kr_parse.specs.Rules.{rule_code as parse_code}
-use Rattle.kr_parse.specs.Refusals.{IsParsed, IsUnparsed, OneRefusal, ParsedUnbroken}
+use Rattle.kr_parse.specs.Refusals.{OneRefusal, ParsedUnbroken}
 use Rattle.kr_laws.specs.Laws.{OneTree}
-use Rattle.kr_table.specs.Table.{Table, table_of}
+use Rattle.kr_table.specs.Table.{Table}
 use Rattle.kr_table.specs.Rules.{Fault as ClassFault, class_fault}
 use Rattle.kr_classes.specs.declared.refusal.ClassRule.{ClassRule}
 use Rattle.kr_classes.specs.declared.refusal.ClassRule.TheVariants as classes
 use Rattle.kr_classes.specs.Refusals.{rule_number, rule_code as class_code}
+use Rattle.kr_fin.specs.declared.document.FinDoc.{FinDoc}
 use Rattle.kr_fin.specs.declared.refusal.Fault.{Fault}
+use Rattle.kr_domains.specs.declared.refusal.Fault.{Fault as SpaceFault}
+use Rattle.kr_domains.specs.Order.{rule_code as space_code}
 use Rattle.kr_fin.specs.Order.{rule_code as fin_code}
-use Rattle.kr_pruning.specs.OneField.{one_field_tree}
-use Rattle.korat_top.specs.OneField.{OneField, IsOneField}
-use Rattle.korat_top.specs.Finitization.{Finitization, IsFinitization}
+use Rattle.kr_mean.specs.Problem.{Problem}
+use Rattle.kr_table.specs.Rules.{is_earlier, less_or}
 use Rattle.kr_report.specs.Texts.{usage_text}
 use Rattle.kr_report.specs.Reports.{Answer, line_answer}
 use Rattle.korat_top.specs.declared.refusal.InputFile.{InputFile}
 use Rattle.korat_top.specs.declared.refusal.InputFile.TheVariants as input
-use Rattle.korat_top.specs.Refusals.{Inputs, Refusal, at_place, of_finitization}
-use Rattle.korat_top.specs.Steps.{Held, Checked, and_then, each, made, reading, lexing, parsing, growing, classing, stating, forming, bounding, from_class, from_document, from_trees, from_grown, from_texts, checking}
+use Rattle.korat_top.specs.Refusals.{Inputs, Refusal, at_place, type_code, of_finitization}
+use Rattle.korat_top.specs.Steps.{Held, each, made, reading, lexing, parsing, growing, classing, stating, typing, spacing, purifying, from_problem, from_document, from_trees, from_table, from_grown, from_texts, checking}
 use Rattle.korat_top.specs.Answer.{Command, IsAnswer, usage, refused, served, inputs_of, refusal_answer, report_of}
 use Rattle.korat_top.specs.Ends.{OneAnswer}
 use Rattle.korat_top.proofs.Outcomes.{HasOne, one_then, one_each}
@@ -137,6 +138,15 @@ one_classing trees (Err r) (Err t) x y =
     let numbers : rule_number x.1 ≡ rule_number y.1 = ap (λ (f : ClassFault). f.rule) faults in
     ap Err (x.3 ∙ (ap (λ p. at_place p (class_code x.1)) places ∙ (ap (λ c. at_place y.0 (class_code c)) (same_class_rule x.1 y.1 numbers) ∙ sym y.3)))
 
+one_typing : (trees : List Tree) → HasOne (typing trees)
+one_typing trees (Ok a) (Ok b) x y = refl
+one_typing trees (Ok a) (Err t) x y = let differ = sym x ∙ y.1 in absurd (cc (differ))
+one_typing trees (Err r) (Ok b) x y = let differ = sym y ∙ x.1 in absurd (cc (differ))
+one_typing trees (Err r) (Err t) x y =
+    let same = sym x.1 ∙ y.1 in
+    let faults : x.0 ≡ y.0 = cc (same) in
+    ap Err (x.2 ∙ (ap (λ (f : ClassFault). at_place f.place (type_code f.rule)) faults ∙ sym y.2))
+
 one_stating : (fin : List ℕ) → HasOne (stating fin)
 one_stating fin (Ok a) (Ok b) x y = let same = sym x ∙ y in cc (same)
 one_stating fin (Ok a) (Err t) x y = let differ = sym x ∙ y.1 in absurd (cc (differ))
@@ -146,59 +156,67 @@ one_stating fin (Err r) (Err t) x y =
     let faults : x.0 ≡ y.0 = cc (same) in
     ap Err (x.2 ∙ (ap (λ (f : Fault). of_finitization (fin_code f.rule) f.item) faults ∙ sym y.2))
 
-one_class : (tree : Tree) (c d : OneField) → IsOneField tree c → IsOneField tree d → c ≡ d
-one_class tree c d x y =
-    let same : one_field_tree x.is_shaped.0 c.class_name c.field_name c.test c.number ≡ one_field_tree y.is_shaped.0 d.class_name d.field_name d.test d.number = sym x.is_shaped.1 ∙ y.is_shaped.1 in
-    let class_names : c.class_name ≡ d.class_name = cc (same) in
-    let field_names : c.field_name ≡ d.field_name = cc (same) in
-    let tests : c.test ≡ d.test = cc (same) in
-    let numbers : c.number ≡ d.number = cc (same) in
-    ap (λ n. let r : OneField = record { class_name = n; field_name = c.field_name; test = c.test; number = c.number } in r) class_names
-    ∙ (ap (λ n. let r : OneField = record { class_name = d.class_name; field_name = n; test = c.test; number = c.number } in r) field_names
-    ∙ (ap (λ o. let r : OneField = record { class_name = d.class_name; field_name = d.field_name; test = o; number = c.number } in r) tests
-    ∙ ap (λ n. let r : OneField = record { class_name = d.class_name; field_name = d.field_name; test = d.test; number = n } in r) numbers))
+one_spacing : (trees : List Tree) (document : FinDoc) → HasOne (spacing trees document)
+one_spacing trees document (Ok a) (Ok b) x y = let same = sym x ∙ y in cc (same)
+one_spacing trees document (Ok a) (Err t) x y = let differ = sym x ∙ y.1 in absurd (cc (differ))
+one_spacing trees document (Err r) (Ok b) x y = let differ = sym x.1 ∙ y in absurd (cc (differ))
+one_spacing trees document (Err r) (Err t) x y =
+    let same = sym x.1 ∙ y.1 in
+    let faults : x.0 ≡ y.0 = cc (same) in
+    ap Err (x.2 ∙ (ap (λ (f : SpaceFault). of_finitization (space_code f.rule) f.item) faults ∙ sym y.2))
 
-one_forming : (trees : List Tree) → HasOne (forming trees)
-one_forming trees (Ok c) (Ok d) x y =
-    let same : (x.0 ∷ []) ≡ y.0 ∷ [] = sym x.1 ∙ y.1 in
-    let tree : x.0 ≡ y.0 = cc (same) in
-    ap Ok (one_class y.0 c d (subst (λ (t : Tree). IsOneField t c) tree x.2) y.2)
-one_forming trees (Ok c) (Err t) x y = absurd (y.0 x.0 c x.1 x.2)
-one_forming trees (Err r) (Ok d) x y = absurd (x.0 y.0 d y.1 y.2)
-one_forming trees (Err r) (Err t) x y = ap Err (x.1 ∙ sym y.1)
+-- of two places of which neither is earlier
+one_place : (a b : Place) → is_earlier a b ≡ false → is_earlier b a ≡ false → a ≡ b
+one_place a b x y =
+    let files = level a.file b.file (less_or a.line b.line (nat_lt a.col b.col)) (less_or b.line a.line (nat_lt b.col a.col)) x y in
+    let lines = level a.line b.line (nat_lt a.col b.col) (nat_lt b.col a.col) files.1 files.2 in
+    let columns : a.col ≡ b.col = neither a.col b.col lines.1 lines.2 in
+    ap (λ n. let p : Place = record { file = n; line = a.line; col = a.col } in p) files.0
+    ∙ (ap (λ n. let p : Place = record { file = b.file; line = n; col = a.col } in p) lines.0
+    ∙ ap (λ n. let p : Place = record { file = b.file; line = b.line; col = n } in p) columns)
+  where
+    level : (m n : ℕ) (r s : Bool) → less_or m n r ≡ false → less_or n m s ≡ false → (m ≡ n) × (r ≡ false) × (s ≡ false)
+    level m n r s x y = (same m n r s x y, first m n r s x y, second m n r s x y)
+      where
+        same : (m n : ℕ) (r s : Bool) → less_or m n r ≡ false → less_or n m s ≡ false → m ≡ n
+        same m n r s x y = grind (arith, rules)
 
-one_range : (bytes : List ℕ) (form : OneField) (f g : Finitization) → IsFinitization bytes form f → IsFinitization bytes form g → f ≡ g
-one_range bytes form f g x y =
-    let same : Some _ ≡ Some _ = sym x.is_parsed ∙ y.is_parsed in
-    let fuels : f.fuel ≡ g.fuel = cc (same) in
-    let froms : f.from ≡ g.from = cc (same) in
-    let tos : f.to ≡ g.to = cc (same) in
-    ap (λ n. let r : Finitization = record { fuel = n; from = f.from; to = f.to } in r) fuels
-    ∙ (ap (λ z. let r : Finitization = record { fuel = g.fuel; from = z; to = f.to } in r) froms
-    ∙ ap (λ z. let r : Finitization = record { fuel = g.fuel; from = g.from; to = z } in r) tos)
+        first : (m n : ℕ) (r s : Bool) → less_or m n r ≡ false → less_or n m s ≡ false → r ≡ false
+        first m n r s x y = grind (arith, rules)
 
-one_bounding : (fin : List ℕ) (class : OneField) → HasOne (bounding fin class)
-one_bounding fin class (Ok f) (Ok g) x y = ap Ok (one_range fin class f g x y)
-one_bounding fin class (Ok f) (Err t) x y = absurd (y.0 f x)
-one_bounding fin class (Err r) (Ok g) x y = absurd (x.0 g y)
-one_bounding fin class (Err r) (Err t) x y = ap Err (x.1 ∙ sym y.1)
+        second : (m n : ℕ) (r s : Bool) → less_or m n r ≡ false → less_or n m s ≡ false → s ≡ false
+        second m n r s x y = grind (arith, rules)
+
+    neither : (m n : ℕ) → nat_lt m n ≡ false → nat_lt n m ≡ false → m ≡ n
+    neither m n x y = grind (arith, rules)
+
+one_purifying : (problem : Problem) → HasOne (purifying problem)
+one_purifying problem (Ok a) (Ok b) x y = refl
+one_purifying problem (Ok a) (Err t) x y = absurd (x y.1.node y.1.impure)
+one_purifying problem (Err r) (Ok b) x y = absurd (y x.1.node x.1.impure)
+one_purifying problem (Err r) (Err t) x y =
+    let same = one_place x.0 y.0 (y.1.first x.1.node x.0 x.1.impure x.1.at) (x.1.first y.1.node y.0 y.1.impure y.1.at) in
+    ap Err (x.2 ∙ (ap (λ (p : Place). at_place p (codes "I1")) same ∙ sym y.2))
 
 one_made : {A : Type 0} (a : A) → HasOne (made a)
 one_made a (Ok b) (Ok c) x y = ap Ok (sym x ∙ y)
 one_made a (Ok b) (Err t) x y = absurd y
 one_made a (Err r) z x y = absurd x
 
-one_from_class : (fin : List ℕ) (trees : List Tree) (class : OneField) → HasOne (from_class fin trees class)
-one_from_class fin trees class = one_then (bounding fin class) (λ range. made (record { trees = trees; class = class; range = range })) (one_bounding fin class) (λ range. one_made (record { trees = trees; class = class; range = range }))
+one_from_problem : (problem : Problem) → HasOne (from_problem problem)
+one_from_problem problem = one_then (purifying problem) (λ done. made problem) (one_purifying problem) (λ done. one_made problem)
 
-one_from_document : (fin : List ℕ) (trees : List Tree) → HasOne (from_document fin trees)
-one_from_document fin trees = one_then (forming trees) (λ class. from_class fin trees class) (one_forming trees) (λ class. one_from_class fin trees class)
+one_from_document : (trees : List Tree) (document : FinDoc) → HasOne (from_document trees document)
+one_from_document trees document = one_then (spacing trees document) from_problem (one_spacing trees document) one_from_problem
 
 one_from_trees : (fin : List ℕ) (trees : List Tree) → HasOne (from_trees fin trees)
-one_from_trees fin trees = one_then (stating fin) (λ document. from_document fin trees) (one_stating fin) (λ document. one_from_document fin trees)
+one_from_trees fin trees = one_then (stating fin) (λ document. from_document trees document) (one_stating fin) (λ document. one_from_document trees document)
+
+one_from_table : (fin : List ℕ) (trees : List Tree) → HasOne (from_table fin trees)
+one_from_table fin trees = one_then (typing trees) (λ done. from_trees fin trees) (one_typing trees) (λ done. one_from_trees fin trees)
 
 one_from_grown : (fin : List ℕ) (trees : List Tree) → HasOne (from_grown fin trees)
-one_from_grown fin trees = one_then (classing trees) (λ table. from_trees fin trees) (one_classing trees) (λ table. one_from_trees fin trees)
+one_from_grown fin trees = one_then (classing trees) (λ table. from_table fin trees) (one_classing trees) (λ table. one_from_table fin trees)
 
 one_from_texts : Laws → (fin : List ℕ) (sources : List (List ℕ)) → HasOne (from_texts fin sources)
 one_from_texts laws fin sources = one_then (each growing 0 sources) (λ trees. from_grown fin trees) (one_each growing (one_growing laws) 0 sources) (λ trees. one_from_grown fin trees)
@@ -212,18 +230,18 @@ one_checking laws held inputs =
 -- ---- one answer
 
 -- what a command answers, by what comes of the steps
-abbrev AnswerBy : Command → Result Checked Refusal → Answer
-AnswerBy command (Ok checked) = report_of command checked
+abbrev AnswerBy : Command → Result Problem Refusal → Answer
+AnswerBy command (Ok problem) = report_of command problem
 AnswerBy command (Err refusal) = refusal_answer (inputs_of command) refusal
 
 abbrev Seen : Held → Option Command → Answer → Type 0
 Seen held None a = a ≡ line_answer 2 usage_text
-Seen held (Some command) a = (x : Result Checked Refusal) × checking held (inputs_of command) x × (a ≡ AnswerBy command x)
+Seen held (Some command) a = (x : Result Problem Refusal) × checking held (inputs_of command) x × (a ≡ AnswerBy command x)
 
 seen : (held : Held) (asked : Option Command) (a : Answer) → IsAnswer held asked a → Seen held asked a
 seen held asked a usage = refl
 seen held asked a (refused refusal h) = (Err refusal, h, refl)
-seen held asked a (served checked h) = (Ok checked, h, refl)
+seen held asked a (served problem h) = (Ok problem, h, refl)
 
 one_seen : Laws → (held : Held) (asked : Option Command) (a b : Answer) → Seen held asked a → Seen held asked b → a ≡ b
 one_seen laws held None a b x y = x ∙ sym y

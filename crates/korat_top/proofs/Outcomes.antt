@@ -1,12 +1,12 @@
 -- How steps follow each other, and that each has one outcome.
-use Rattle.std.proofs.Common.{◌≡◌, ℕ, zero, suc, ◌+◌, ◌<◌, ◌≤◌, ◌⊎◌, inl, inr, List, [], ◌∷◌, ◌++◌, length, take, drop, get_or, drop-cons, refl, sym, ap, ◌∙◌, subst, arith}
+use Rattle.std.proofs.Common.{◌≡◌, ℕ, zero, suc, ◌+◌, ◌<◌, ◌≤◌, inl, inr, List, [], ◌∷◌, ◌++◌, length, take, drop, get_or, drop-cons, refl, sym, ap, ◌∙◌, subst, arith}
 use Rattle.std.proofs.lemmas.List.{length-take, take_all, take-append-drop}
 use Rattle.std.specs.Prelude.{Result, Ok, Err}
 use Rattle.korat_top.specs.declared.refusal.Stop.{Stop}
 use Rattle.korat_top.specs.declared.refusal.Stop.TheVariants.{Read, Refused, Memory}
 use Rattle.korat_top.specs.Refusals.{Refusal, refusal_of}
 use Rattle.korat_top.specs.Steps.{and_then, each}
-use Rattle.korat_top.specs.Found.{StopsBy}
+use Rattle.korat_top.specs.Found.{Meets, StopsBy}
 
 -- ---- a step over items in order
 
@@ -79,6 +79,11 @@ pub stops_next : {A B : Type 0} (first : Result A Refusal → Type 0) (next : A 
 stops_next first next a (Refused r) f h = inr (a, f, h)
 stops_next first next a (Read file) f h = absurd h
 stops_next first next a Memory f h = tt
+
+-- what is judged behind a step
+pub meets_next : {A B V : Type 0} (first : Result A Refusal → Type 0) (next : A → Result B Refusal → Type 0) (seen : V → B) (a : A) (r : Result V Stop) → first (Ok a) → Meets (next a) seen r → Meets (and_then first next) seen r
+meets_next first next seen a (Ok v) h j = (a, h, j)
+meets_next first next seen a (Err stop) h j = stops_next first next a stop h j
 
 pub stops_each : {A B : Type 0} (step : ℕ → A → Result B Refusal → Type 0) (items : List A) (i : ℕ) (d : A) (made : List B) (stop : Stop)
     → i < length items → each step 0 (take i items) (Ok made) → StopsBy (step i (get_or items i d)) stop → StopsBy (each step 0 items) stop

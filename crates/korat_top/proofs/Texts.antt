@@ -1,5 +1,5 @@
 -- Texts of ASCII, and texts that differ.
-use Rattle.std.proofs.Common.{◌≡◌, ◌<◌, ◌≤◌, ◌⊎◌, inl, inr, ℕ, Bool, true, false, List, [], ◌++◌, length, get_or, refl, sym, ap, ◌∙◌, append_assoc, append-nil, arith, All, IsTrue, not}
+use Rattle.std.proofs.Common.{◌≡◌, ◌<◌, ◌≤◌, ◌⊎◌, inl, inr, ℕ, Bool, true, false, List, [], ◌++◌, length, get_or, refl, sym, ◌∙◌, append_assoc, append-nil, arith, All, IsTrue, not}
 use Rattle.std.proofs.lemmas.Bool.{cases_lt}
 use Rattle.std.proofs.lemmas.Bool.Decides.{nat_tests}
 use Rattle.std.proofs.lemmas.List.{get_or_past}

@@ -1,18 +1,20 @@
 -- What was read, as far as bytes are told, is what the files hold where they are told.
-use Rattle.std.proofs.Common.{◌≡◌, ℕ, ◌+◌, ◌<◌, ◌≤◌, ◌⊎◌, inl, inr, List, [], ◌∷◌, ◌++◌, length, take, drop, get_or, zero, suc, refl, sym, ap, ◌∙◌, subst, arith}
+use Rattle.std.proofs.Common.{◌≡◌, ℕ, ◌+◌, ◌<◌, ◌≤◌, inl, inr, List, [], ◌∷◌, ◌++◌, length, take, drop, get_or, zero, suc, refl, sym, ap, ◌∙◌, subst, arith}
 use Rattle.std.specs.Prelude.{Option, Some, None, IfSome, IsSome, Result, Ok, Err, All, map, slice_index_or}
 use Rattle.std.proofs.lemmas.List.{length-take, take_all}
 use Rattle.kr_ast.specs.Arena.{Arena, root}
+use Rattle.kr_posed.specs.Posed.{posed}
 use Rattle.korat_top.specs.declared.refusal.InputFile.{InputFile}
 use Rattle.korat_top.specs.declared.refusal.InputFile.TheVariants as input
 use Rattle.kr_base.specs.Causes.{Rose}
 use Rattle.korat_top.specs.declared.refusal.Stop.{Stop}
 use Rattle.korat_top.specs.declared.refusal.Stop.TheVariants.{Read, Refused, Memory}
-use Rattle.korat_top.specs.declared.found.Found.{Found}
-use Rattle.korat_top.specs.Refusals.{Inputs, Refusal, too_long, name_of, refusal_of}
-use Rattle.korat_top.specs.Steps.{Held, LIMIT, Checked, and_then, each, growing, reading, from_texts, checking, ReadsIn, Reads, AllTold}
-use Rattle.korat_top.specs.Found.{telling, telling_source, HasRead, HasReadAll, Judges, Finds}
-use Rattle.korat_top.proofs.Outcomes.{split_at, each_refused, stops_next}
+use Rattle.kr_mean.specs.Problem.{Problem}
+use Rattle.kr_posed.specs.declared.problem.Problem as posing
+use Rattle.korat_top.specs.Refusals.{Inputs, Refusal, name_of, refusal_of}
+use Rattle.korat_top.specs.Steps.{Held, LIMIT, each, growing, reading, from_texts, checking, ReadsIn, Reads, AllTold}
+use Rattle.korat_top.specs.Found.{telling, telling_source, HasRead, HasReadAll, Meets, Finds}
+use Rattle.korat_top.proofs.Outcomes.{split_at, each_refused}
 
 -- ---- one read, of at most one byte more than is taken
 
@@ -144,9 +146,9 @@ source_long held inputs fin r h s told = inr (
 )
 
 -- what is judged of the files that were read
-pub judged : (held : Held) (inputs : Inputs) (fin : List ℕ) (texts : List (List ℕ)) (x : Result Checked Refusal) → telling held input.Finitization inputs.fin (Ok fin) → each (telling_source held) 0 inputs.sources (Ok texts)
+pub judged : (held : Held) (inputs : Inputs) (fin : List ℕ) (texts : List (List ℕ)) (x : Result Problem Refusal) → telling held input.Finitization inputs.fin (Ok fin) → each (telling_source held) 0 inputs.sources (Ok texts)
     → from_texts fin texts x → AllTold held inputs → checking held inputs x
-judged held inputs fin texts (Ok checked) h s j told = (
+judged held inputs fin texts (Ok problem) h s j told = (
   fin,
   read_whole held input.Finitization inputs.fin fin h (told inputs.fin (inl refl)),
   (texts, each_whole held 0 inputs.sources texts s (rest_told held inputs fin h told), j),
@@ -186,19 +188,12 @@ sources_stopped held faults last inputs files before after fin (Read failed) f s
 }
 sources_stopped held faults last inputs files before after fin Memory f same count h = tt
 
--- what is judged behind a step
-pub judges_next : {A : Type 0} (first : Result A Refusal → Type 0) (next : A → Result Checked Refusal → Type 0) (a : A) (r : Result Found Stop) → first (Ok a) → Judges (next a) r → Judges (and_then first next) r
-judges_next first next a (Ok found) h j = (j.0, (j.1.0, (a, h, j.1.1), j.1.2))
-judges_next first next a (Err stop) h j = stops_next first next a stop h j
-
 -- all files were read, and judged
-pub judged_found : {F : Type 0} (held : F → Held) (faults : F → ℕ) (last : F → Option (List ℕ)) (inputs : Inputs) (files before after : F) (fin : List ℕ) (texts : List (List ℕ)) (r : Result Found Stop)
+pub judged_found : {F : Type 0} (held : F → Held) (faults : F → ℕ) (last : F → Option (List ℕ)) (inputs : Inputs) (files before after : F) (fin : List ℕ) (texts : List (List ℕ)) (r : Result posing.Problem Stop)
     → telling (held files) input.Finitization inputs.fin (Ok fin) → ((name : List ℕ) → held before name ≡ held files name) → each (telling_source (held before)) 0 inputs.sources (Ok texts)
-    → Judges (from_texts fin texts) r → Finds held faults last inputs files after r
-judged_found held faults last inputs files before after fin texts (Ok found) f same e j = (
-  j.0,
-  λ told. (j.1.0, judged (held files) inputs fin texts (Ok j.1.0) f (each_before (held files) (held before) 0 inputs.sources (Ok texts) same e) j.1.1 told, j.1.2),
-)
+    → Meets (from_texts fin texts) posed r → Finds held faults last inputs files after r
+judged_found held faults last inputs files before after fin texts (Ok found) f same e j = λ told.
+    judged (held files) inputs fin texts (Ok (posed found)) f (each_before (held files) (held before) 0 inputs.sources (Ok texts) same e) j told
 judged_found held faults last inputs files before after fin texts (Err (Refused r)) f same e j = λ told.
     judged (held files) inputs fin texts (Err (refusal_of r)) f (each_before (held files) (held before) 0 inputs.sources (Ok texts) same e) j told
 judged_found held faults last inputs files before after fin texts (Err (Read failed)) f same e j = absurd j

@@ -1,18 +1,14 @@
 -- What a call answers over what its files hold.
 use Rattle.std.specs.Prelude.{ℕ, Bool, List, length, nat_le, Option, Some, None, Ok, Err, if◌then◌else◌}
-use Rattle.std.proofs.Common.{get_or}
 use Rattle.kr_base.specs.declared.span.Bound.TheVariants.{At}
 use Rattle.kr_base.specs.Entries.{entries_in}
-use Rattle.kr_ast.specs.Tree.{Nil}
 use Rattle.kr_args.specs.Reading.{Task, Lists, Checks, Demos, Range, command_of}
 use Rattle.kr_mean.specs.Problem.{Problem, slots}
 use Rattle.kr_mean.specs.Entries.{all_entries}
-use Rattle.kr_pruning.specs.OneField.{one_object}
 use Rattle.kr_report.specs.Reports.{Answer, line_answer, listing_answer}
 use Rattle.kr_report.specs.Texts.{usage_text, checked_text}
-use Rattle.korat_top.specs.Finitization.{values_of}
 use Rattle.korat_top.specs.Refusals.{Inputs, Refusal, status_of_file, line_of}
-use Rattle.korat_top.specs.Steps.{Held, Checked, checking, AllTold}
+use Rattle.korat_top.specs.Steps.{Held, checking, AllTold}
 
 -- ---- commands
 
@@ -45,32 +41,28 @@ asked_of words = served_of (command_of words)
 
 -- ---- the answer
 
--- the program that the source's tree is, with the finitization's values
-abbrev pub problem_of : Checked → Problem
-problem_of checked = one_object (get_or checked.trees 0 Nil) (values_of checked.range) checked.range.fuel
-
 abbrev pub refusal_answer : Inputs → Refusal → Answer
 refusal_answer inputs refusal = line_answer (status_of_file refusal.file) (line_of inputs refusal)
 
 -- the report of the entries above a key and not above a bound, with so many rows at most
-abbrev pub listing_of : Range → Checked → Answer
-listing_of range checked = listing_answer (problem_of checked) range.limit (entries_in (At range.from) range.to (all_entries (problem_of checked)))
+abbrev pub listing_of : Range → Problem → Answer
+listing_of range problem = listing_answer problem range.limit (entries_in (At range.from) range.to (all_entries problem))
 
 -- how many classes and slots there are
-abbrev pub counts_of : Checked → Answer
-counts_of checked = line_answer 0 (checked_text (length (problem_of checked).program.table.classes) (length (slots (problem_of checked))))
+abbrev pub counts_of : Problem → Answer
+counts_of problem = line_answer 0 (checked_text (length problem.program.table.classes) (length (slots problem)))
 
--- what a command reports of files of which none is refused
-abbrev pub report_of : Command → Checked → Answer
-report_of (ListFiles inputs range) checked = listing_of range checked
-report_of (CheckFiles inputs) checked = counts_of checked
+-- what a command reports of the problem of files of which none is refused
+abbrev pub report_of : Command → Problem → Answer
+report_of (ListFiles inputs range) problem = listing_of range problem
+report_of (CheckFiles inputs) problem = counts_of problem
 
 -- The answer to a command, or to words that give none, over what the files hold: the first refusal, in the order of the
 -- steps; else the report.
 pub data IsAnswer (held : Held) : Option Command → Answer → Type 0 where
   usage : IsAnswer held None (line_answer 2 usage_text)
   refused : {command : Command} (refusal : Refusal) → checking held (inputs_of command) (Err refusal) → IsAnswer held (Some command) (refusal_answer (inputs_of command) refusal)
-  served : {command : Command} (checked : Checked) → checking held (inputs_of command) (Ok checked) → IsAnswer held (Some command) (report_of command checked)
+  served : {command : Command} (problem : Problem) → checking held (inputs_of command) (Ok problem) → IsAnswer held (Some command) (report_of command problem)
 
 -- the bytes of all files that the command reads are told
 abbrev pub IsTold : Held → Option Command → Type 0

@@ -1,13 +1,17 @@
 -- The lines and reports of small problems, and what is served of some words, worked by hand.
-use Rattle.std.specs.Prelude.{◌≡◌, ℕ, List, [], ◌∷◌, map, codes, Some, None}
+use Rattle.std.specs.Prelude.{◌≡◌, ℕ, true, false, List, [], ◌∷◌, map, codes, Some, None}
 use Rattle.kr_base.specs.declared.span.Bound.TheVariants.{At, End}
 use Rattle.kr_base.specs.Entries.{entries_in}
+use Rattle.kr_value.specs.declared.value.Value.TheVariants.{Bool as Truth}
+use Rattle.kr_mean.specs.declared.kind.Kind.TheVariants.{NullPointerException, ArithmeticException, NoReturn}
+use Rattle.kr_mean.specs.declared.kind.Verdict.TheVariants.{Pass, Ensures, RepOk, Trap, CheckTrap, Spent as OutOfFuel}
 use Rattle.kr_mean.specs.Problem.{Problem}
 use Rattle.kr_mean.specs.Entries.{all_entries}
-use Rattle.kr_mean_examples.specs.Examples.{cell, two_ints, two_nodes, two_subclasses, arrays}
-use Rattle.kr_report.specs.Texts.{row_text}
+use Rattle.kr_mean_examples.specs.Examples.{cell, two_ints, two_nodes, two_subclasses, arrays, later_first}
+use Rattle.kr_mean_examples.specs.Listings.{loops, plus}
+use Rattle.kr_report.specs.Texts.{row_text, value_text, verdict_text, tested_text}
 use Rattle.kr_args.specs.Worked.{files, with_files}
-use Rattle.kr_report.specs.Reports.{Answer, bytes_of, rows_in, listing_answer}
+use Rattle.kr_report.specs.Reports.{Answer, bytes_of, rows_in, listing_answer, is_failing}
 use Rattle.kr_args.specs.Worked as words
 use Rattle.korat_top.specs.Answer.{ListFiles, CheckFiles, asked_of}
 
@@ -35,6 +39,15 @@ pub record WorkedLines : Type 0 where
   pub cell_at_the_limit : report_of (cell 0 1000) [] 2 ≡ told 0 (codes "0.1 Cell#0{v=1}\n0.2 Cell#0{v=2}\nvalid 2 tried 3\n")
   pub cell_resumed : report_of (cell 0 1000) (0 ∷ 1 ∷ []) 9 ≡ told 0 (codes "0.2 Cell#0{v=2}\nvalid 1 tried 1\n")
   pub cell_without_fuel : report_of (cell 0 5) [] 9 ≡ told 5 (codes "spent 0.0\n")
+  pub later_first_report : report_of later_first [] 9 ≡ told 0 (codes "0.1.0 R#0{a=7,b=1}\n0.1.1 R#0{a=9,b=1}\nvalid 2 tried 3\n")
+  pub rows_before_spent : report_of loops [] 9 ≡ told 5 (codes "0.0 Cell#0{v=0}\nspent 0.1\n")
+  pub spent_at_the_limit : report_of loops [] 1 ≡ told 5 (codes "0.0 Cell#0{v=0}\nspent 0.1\n")
+  pub behind_spent : report_of loops (0 ∷ 1 ∷ []) 9 ≡ told 0 (codes "0.2 Cell#0{v=2}\nvalid 1 tried 1\n")
+  pub plus_report : report_of plus [] 9 ≡ told 0 (codes "0.1.0 pass (x=1) Cell#0{v=0}\nvalid 1 failing 0 tried 2\n")
+  pub booleans : map (value_text two_ints) (Truth true ∷ Truth false ∷ []) ≡ codes "true" ∷ codes "false" ∷ []
+  pub verdicts : map verdict_text (Some Pass ∷ Some (Ensures 12) ∷ Some RepOk ∷ Some (Trap NullPointerException) ∷ Some (CheckTrap ArithmeticException) ∷ Some OutOfFuel ∷ []) ≡ codes "pass " ∷ codes "ensures 12 " ∷ codes "repOk " ∷ codes "trap NullPointerException " ∷ codes "check-trap ArithmeticException " ∷ codes "spent " ∷ []
+  pub failing : map is_failing (None ∷ Some Pass ∷ Some (Ensures 1) ∷ Some RepOk ∷ Some (Trap NoReturn) ∷ Some (CheckTrap NoReturn) ∷ Some OutOfFuel ∷ []) ≡ false ∷ false ∷ true ∷ true ∷ true ∷ true ∷ true ∷ []
+  pub tested_last_line : tested_text 4 2 4 ≡ codes "valid 4 failing 2 tried 4\n"
 
 -- words with the command that is served for them: none where they give none, or one that is not served
 pub record WorkedCommands : Type 0 where

@@ -1,16 +1,17 @@
 -- What the work for a command finds, before anything is written.
-use Rattle.std.specs.Prelude.{◌≡◌, ℕ, ◌<◌, ◌≤◌, List, [], length, Option, Some, IfSome, Result, Ok, Err, Vec, slice_index_or}
+use Rattle.std.specs.Prelude.{◌≡◌, ℕ, ◌<◌, ◌≤◌, List, [], length, All, Option, Some, IfSome, Result, Ok, Err, Vec, slice_index_or}
 use Rattle.std.specs.declared.alloc.Global.{Global}
 use Rattle.kr_base.specs.Causes.{Rose}
-use Rattle.korat_top.specs.OneField.{one_field_of}
-use Rattle.korat_top.specs.Finitization.{finitization_of, IsWithinLimits}
+use Rattle.kr_ast.specs.Arena.{Arena, root}
+use Rattle.kr_posed.specs.Posed.{posed}
+use Rattle.kr_shapes.specs.Shapes.{AreClasses}
+use Rattle.kr_posed.specs.declared.problem.Problem.{Problem}
 use Rattle.korat_top.specs.Refusals.{Inputs, Refusal, too_long, name_of, refusal_of}
-use Rattle.korat_top.specs.Steps.{Held, LIMIT, Checked, each, checking, ReadsIn, Reads, AllTold}
+use Rattle.korat_top.specs.Steps.{Held, LIMIT, each, checking, ReadsIn, Reads, AllTold}
 use Rattle.korat_top.specs.declared.refusal.InputFile.{InputFile}
 use Rattle.korat_top.specs.declared.refusal.InputFile.TheVariants as input
 use Rattle.korat_top.specs.declared.refusal.Stop.{Stop}
 use Rattle.korat_top.specs.declared.refusal.Stop.TheVariants.{Read, Refused, Memory}
-use Rattle.korat_top.specs.declared.found.Found.{Found}
 
 -- ---- What is read
 
@@ -69,17 +70,9 @@ abbrev pub Meets : {V A : Type 0} → (Result A Refusal → Type 0) → (V → A
 Meets outcome seen (Ok v) = outcome (Ok (seen v))
 Meets outcome seen (Err stop) = StopsBy outcome stop
 
--- what is found stands for the files of which none is refused
-abbrev pub IsFound : Checked → Found → Type 0
-IsFound checked found = (checked.class ≡ one_field_of found.class) × (checked.range ≡ finitization_of found.range)
-
--- a range that was found is within the form's limits
-abbrev pub IsLimited : Found → Type 0
-IsLimited found = IsWithinLimits (finitization_of found.range)
-
-abbrev pub Judges : (Result Checked Refusal → Type 0) → Result Found Stop → Type 0
-Judges outcome (Ok f) = IsLimited f × ((checked : Checked) × outcome (Ok checked) × IsFound checked f)
-Judges outcome (Err stop) = StopsBy outcome stop
+-- each file is a list of classes, whose parts are of their places' shapes
+abbrev pub AreShaped : List Arena → Type 0
+AreShaped files = All (λ a. AreClasses (root a)) files
 
 -- ---- What is found
 
@@ -90,8 +83,8 @@ pub record FailsToRead {F : Type 0} (held : F → Held) (faults : F → ℕ) (la
   pub cause : Rose (faults files) (faults files')
 
 -- what the steps say of what the files hold, where it is told; or a read fault; or want of memory, which is free
-abbrev pub Finds : {F : Type 0} → (F → Held) → (F → ℕ) → (F → Option (List ℕ)) → Inputs → F → F → Result Found Stop → Type 0
-Finds held faults last inputs files files' (Ok f) = IsLimited f × (AllTold (held files) inputs → (checked : Checked) × checking (held files) inputs (Ok checked) × IsFound checked f)
+abbrev pub Finds : {F : Type 0} → (F → Held) → (F → ℕ) → (F → Option (List ℕ)) → Inputs → F → F → Result Problem Stop → Type 0
+Finds held faults last inputs files files' (Ok f) = AllTold (held files) inputs → checking (held files) inputs (Ok (posed f))
 Finds held faults last inputs files files' (Err (Refused r)) = AllTold (held files) inputs → checking (held files) inputs (Err (refusal_of r))
 Finds held faults last inputs files files' (Err (Read failed)) = FailsToRead held faults last inputs files files' failed
 Finds held faults last inputs files files' (Err Memory) = Unit {0}

@@ -1,8 +1,6 @@
 pub use Rattle.kr_base.specs.Causes
 pub use Rattle.kr_base.specs.Told
 pub use Rattle.kr_io.specs.Reads
-pub mod OneField
-pub mod Finitization
 pub mod Refusals
 pub mod Steps
 pub mod Answer
@@ -10,6 +8,4 @@ pub mod Ends
 pub mod Starts
 pub mod Orders
 pub mod Found
-pub mod Cells
-pub mod Scanning
 pub mod Examples

@@ -1,5 +1,5 @@
 -- What a file of a call is refused with.
-use Rattle.std.specs.Prelude.{ℕ, List, [], Option, Some, None, codes, string_bytes, slice_index_or}
+use Rattle.std.specs.Prelude.{ℕ, List, [], ◌++◌, Option, Some, None, codes, decimal, string_bytes, slice_index_or}
 use Rattle.kr_base.specs.declared.place.Place.{Place}
 use Rattle.kr_args.specs.Reading.{Files}
 use Rattle.kr_text.specs.Texts.{refusal_text}
@@ -21,6 +21,10 @@ pub record Refusal : Type 0 where
 -- a source breaks a rule at a place
 abbrev pub at_place : Place → List ℕ → Refusal
 at_place place rule = record { file = input.Source place.file; place = Some place; rule = rule; item = [] }
+
+-- the code of a typing rule
+abbrev pub type_code : ℕ → List ℕ
+type_code n = codes "T" ++ decimal n
 
 -- the finitization breaks a rule, of an item
 abbrev pub of_finitization : List ℕ → List ℕ → Refusal
@@ -52,4 +56,4 @@ line_of inputs refusal = refusal_text (name_of inputs refusal.file) refusal.plac
 -- ---- What the program's values stand for
 
 abbrev pub refusal_of : OwnRefusal → Refusal
-refusal_of r = record { file = r.file; place = r.place; rule = r.rule.now; item = string_bytes r.item }
+refusal_of r = record { file = r.file; place = r.place; rule = string_bytes r.rule; item = r.item.items }

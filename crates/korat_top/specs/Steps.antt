@@ -11,18 +11,23 @@ use Rattle.kr_parse.specs.declared.refusal.ParseRule.{ParseRule}
 use Rattle.kr_parse.specs.Rules.{rule_code as parse_code}
 use Rattle.kr_parse.specs.Refusals.{IsParsed, IsUnparsed}
 use Rattle.kr_table.specs.Table.{Table, table_of}
-use Rattle.kr_table.specs.Rules.{class_fault}
+use Rattle.kr_table.specs.Rules.{Fault as NodeFault, class_fault}
+use Rattle.kr_typing.specs.Typing.{type_fault}
 use Rattle.kr_classes.specs.declared.refusal.ClassRule.{ClassRule}
 use Rattle.kr_classes.specs.Refusals.{rule_number, rule_code as class_code}
 use Rattle.kr_fin.specs.declared.document.FinDoc.{FinDoc}
 use Rattle.kr_fin.specs.declared.refusal.Fault.{Fault}
 use Rattle.kr_fin.specs.Order.{rule_code as fin_code}
 use Rattle.kr_fin.specs.Meaning.{meaning}
+use Rattle.kr_mean.specs.Problem.{Problem}
+use Rattle.kr_mean.specs.Purity.{IsPure, IsFirstImpure}
+use Rattle.kr_mean.specs.declared.mode.Mode.TheVariants.{List as Listing}
+use Rattle.kr_domains.specs.declared.refusal.Fault.{Fault as SpaceFault}
+use Rattle.kr_domains.specs.Order.{rule_code as space_code}
+use Rattle.kr_domains.specs.Meaning.{meaning as problem_meant}
 use Rattle.korat_top.specs.declared.refusal.InputFile.{InputFile}
 use Rattle.korat_top.specs.declared.refusal.InputFile.TheVariants as input
-use Rattle.korat_top.specs.OneField.{OneField, IsOneField}
-use Rattle.korat_top.specs.Finitization.{Finitization, IsFinitization}
-use Rattle.korat_top.specs.Refusals.{Inputs, Refusal, at_place, of_finitization, source_start, too_long}
+use Rattle.korat_top.specs.Refusals.{Inputs, Refusal, at_place, type_code, of_finitization, too_long}
 
 -- what the files hold, where it is told
 abbrev pub Held : Type 0
@@ -31,6 +36,10 @@ Held = List ℕ → Option (List ℕ)
 -- the longest file that is taken, in bytes
 abbrev pub LIMIT : ℕ
 LIMIT = 1048576
+
+-- the most nodes that the tree of a file has: three for each byte, and one more
+abbrev pub MOST_NODES : ℕ
+MOST_NODES = 3145729
 
 -- ---- A step says what it makes, or what it refuses a file with
 
@@ -79,46 +88,48 @@ abbrev pub classing : List Tree → Result Table Refusal → Type 0
 classing trees (Ok table) = (table ≡ table_of trees) × (class_fault table ≡ None)
 classing trees (Err r) = (place : Place) × (rule : ClassRule) × (class_fault (table_of trees) ≡ Some (record { place = place; rule = rule_number rule })) × (r ≡ at_place place (class_code rule))
 
+-- no node breaks a typing rule; else the first broken one decides
+abbrev pub typing : List Tree → Result (Unit {0}) Refusal → Type 0
+typing trees (Ok done) = type_fault trees ≡ None
+typing trees (Err r) = (fault : NodeFault) × (type_fault trees ≡ Some fault) × (r ≡ at_place fault.place (type_code fault.rule))
+
 -- the document that the finitization is
 abbrev pub stating : List ℕ → Result FinDoc Refusal → Type 0
 stating fin (Ok document) = meaning fin ≡ Ok document
 stating fin (Err r) = (fault : Fault) × (meaning fin ≡ Err fault) × (r ≡ of_finitization (fin_code fault.rule) fault.item)
 
--- the one class of the form that the sources are
-abbrev pub forming : List Tree → Result OneField Refusal → Type 0
-forming trees (Ok class) = (tree : Tree) × (trees ≡ tree ∷ []) × IsOneField tree class
-forming trees (Err r) = ((tree : Tree) (class : OneField) → trees ≡ tree ∷ [] → IsOneField tree class → ⊥) × (r ≡ at_place (source_start 0) (codes "N0"))
+-- the problem of the sources and the document, which breaks no rule beside them
+abbrev pub spacing : List Tree → FinDoc → Result Problem Refusal → Type 0
+spacing trees document (Ok problem) = problem_meant trees document Listing ≡ Ok problem
+spacing trees document (Err r) = (fault : SpaceFault) × (problem_meant trees document Listing ≡ Err fault) × (r ≡ of_finitization (space_code fault.rule) fault.item)
 
--- the finitization of that class
-abbrev pub bounding : List ℕ → OneField → Result Finitization Refusal → Type 0
-bounding fin class (Ok range) = IsFinitization fin class range
-bounding fin class (Err r) = ((range : Finitization) → IsFinitization fin class range → ⊥) × (r ≡ of_finitization (codes "N0") (codes "form"))
-
--- What the files are, where none is refused.
-pub record Checked : Type 0 where
-  pub trees : List Tree
-  pub class : OneField
-  pub range : Finitization
+-- the predicate leaves the candidates alone; else the first node of its code that doesn't decides
+abbrev pub purifying : Problem → Result (Unit {0}) Refusal → Type 0
+purifying problem (Ok done) = IsPure problem
+purifying problem (Err r) = (place : Place) × IsFirstImpure problem place × (r ≡ at_place place (codes "I1"))
 
 -- ---- Their order, from the last one on: each goes on over what those before it make
 
-abbrev pub from_class : List ℕ → List Tree → OneField → Result Checked Refusal → Type 0
-from_class fin trees class = and_then (bounding fin class) (λ range. made (record { trees = trees; class = class; range = range }))
+abbrev pub from_problem : Problem → Result Problem Refusal → Type 0
+from_problem problem = and_then (purifying problem) (λ done. made problem)
 
-abbrev pub from_document : List ℕ → List Tree → Result Checked Refusal → Type 0
-from_document fin trees = and_then (forming trees) (λ class. from_class fin trees class)
+abbrev pub from_document : List Tree → FinDoc → Result Problem Refusal → Type 0
+from_document trees document = and_then (spacing trees document) from_problem
 
-abbrev pub from_trees : List ℕ → List Tree → Result Checked Refusal → Type 0
-from_trees fin trees = and_then (stating fin) (λ document. from_document fin trees)
+abbrev pub from_trees : List ℕ → List Tree → Result Problem Refusal → Type 0
+from_trees fin trees = and_then (stating fin) (λ document. from_document trees document)
 
-abbrev pub from_grown : List ℕ → List Tree → Result Checked Refusal → Type 0
-from_grown fin trees = and_then (classing trees) (λ table. from_trees fin trees)
+abbrev pub from_table : List ℕ → List Tree → Result Problem Refusal → Type 0
+from_table fin trees = and_then (typing trees) (λ done. from_trees fin trees)
 
-abbrev pub from_texts : List ℕ → List (List ℕ) → Result Checked Refusal → Type 0
+abbrev pub from_grown : List ℕ → List Tree → Result Problem Refusal → Type 0
+from_grown fin trees = and_then (classing trees) (λ table. from_table fin trees)
+
+abbrev pub from_texts : List ℕ → List (List ℕ) → Result Problem Refusal → Type 0
 from_texts fin sources = and_then (each growing 0 sources) (λ trees. from_grown fin trees)
 
--- all steps, the finitization read first
-abbrev pub checking : Held → Inputs → Result Checked Refusal → Type 0
+-- all steps, the finitization read first: the problem that the files pose, where none is refused
+abbrev pub checking : Held → Inputs → Result Problem Refusal → Type 0
 checking held inputs =
     and_then (reading held input.Finitization inputs.fin) (λ fin.
     and_then (each (λ n name. reading held (input.Source n) name) 0 inputs.sources) (λ sources.

@@ -1,26 +1,38 @@
 // The work for a command, before anything is written: its files are read, and then judged.
-ghost use Rattle.std.specs.Prelude.{◌≡◌, ◌<◌, ◌≤◌, All, IfOk, length, map};
+ghost use Rattle.std.specs.Prelude.{◌≡◌, ◌<◌, ◌≤◌, ◌+◌, ◌*◌, ◌^◌, All, IfOk, length, map};
 ghost use Rattle.kr_ast.specs.Arena.{root};
 ghost use Rattle.kr_table.specs.Table.{table_of};
-ghost use Rattle.korat_top.specs.OneField.{one_field_of};
-ghost use Rattle.korat_top.specs.Finitization.{finitization_of};
+ghost use Rattle.kr_classes.specs.ClassTables.{IsClassTable};
+ghost use Rattle.kr_types.specs.Programs.{IsProgram, all_entries};
+ghost use Rattle.kr_shapes.specs.Shapes.{AreClasses};
+ghost use Rattle.kr_domains.specs.Limits.{IsWithinLimits};
+ghost use Rattle.kr_mean.specs.declared.mode.Mode.TheVariants.{List as Listing};
+ghost use Rattle.kr_mean.specs.Problem.{slots};
+ghost use Rattle.kr_mean.specs.WellFormed.{IsWellFormed};
+ghost use Rattle.kr_posed.specs.Posed.{IsPosed, posed};
 ghost use Rattle.korat_top.specs.Refusals.{refusal_of, too_long as too_long_of, source_start as start_of};
-ghost use Rattle.korat_top.specs.Steps.{LIMIT, lexing, parsing, growing, classing, stating, forming, bounding, from_texts, from_grown, from_trees, from_document, each};
-ghost use Rattle.korat_top.specs.Found.{HasRead, HasReadAll, IsLater, Meets, Judges, Finds, CountStays};
+ghost use Rattle.korat_top.specs.Steps.{LIMIT, lexing, parsing, growing, classing, typing, stating, MOST_NODES, spacing, purifying, from_texts, from_grown, from_table, from_trees, from_document, from_problem, each};
+ghost use Rattle.korat_top.specs.Found.{HasRead, HasReadAll, IsLater, Meets, Finds, CountStays, AreShaped};
 
 use crate::MAX_FILE_BYTES;
-use crate::finitization::{Finitization, read_finitization};
-use crate::found::Found;
-use crate::one_field::{OneField, read_one_field};
 use crate::refusal::{InputFile, Refusal, Stop};
 use crate::sources::Texts;
 use kr_ast::Tree;
 use kr_base::{NoMemory, Place, Words};
-use kr_classes::{ClassRefusal, classes};
+use kr_classes::{ClassRefusal, ClassTable, classes};
+use kr_domains::SpaceRefusal;
 use kr_fin::{FinDoc, FinRefusal, read_fin};
 use kr_io::{Files, ReadRefusal};
 use kr_lex::{LexRefusal, Tokens, lex};
+use kr_mean::Mode;
 use kr_parse::{ParseRefusal, parse};
+use kr_posed::Problem;
+use kr_reach::{PureRefusal, pure};
+use kr_shapes::shape_law;
+use kr_space::{limits_law, problem};
+use kr_subject::Accepted;
+use kr_types::{Program, TypeRefusal, check};
+use kr_typing::well_typed_law;
 use std::alloc::Global;
 
 /// Where a source begins.
@@ -39,11 +51,8 @@ fn too_long(alloc: Global, file: InputFile) -> Result<Refusal, NoMemory>
     ensures { IfOk result (λ refusal. refusal_of refusal ≡ too_long_of file) }
 {
     match file {
-        InputFile::Finitization => Ok(Refusal::of_finitization(
-            "F6",
-            String::from_str(alloc, "size")?,
-        )),
-        InputFile::Source(number) => Ok(Refusal::at(alloc, source_start(number), "B1")),
+        InputFile::Finitization => Refusal::of_finitization(alloc, "F6", b"size".as_slice()),
+        InputFile::Source(number) => Refusal::at(alloc, source_start(number), "B1"),
     }
 }
 
@@ -98,7 +107,7 @@ fn tokens_of(alloc: Global, number: u32, bytes: &[u8]) -> Result<Tokens, Stop>
     match lex(alloc, number, bytes) {
         Ok(tokens) => Ok(tokens),
         Err(LexRefusal::Broken { place, rule }) => {
-            Err(Stop::Refused(Refusal::at(alloc, place, rule.code())))
+            Err(Stop::Refused(Refusal::at(alloc, place, rule.code())?))
         }
         Err(LexRefusal::NoMemory) => Err(Stop::Memory),
     }
@@ -106,12 +115,15 @@ fn tokens_of(alloc: Global, number: u32, bytes: &[u8]) -> Result<Tokens, Stop>
 
 /// The tree of tokens.
 fn parsed(alloc: Global, tokens: &Tokens) -> Result<Tree, Stop>
-    ensures { Meets (parsing tokens.now) root result }
+    ensures parsed { Meets (parsing tokens.now) root result }
+    ensures small { IfOk result (λ tree. length tree.entries ≤ 3 * length tokens.now.list + 1) }
+    ensures shaped { IfOk result (λ tree. AreClasses (root tree)) }
 {
+    shape_law();
     match parse(alloc, tokens) {
         Ok(tree) => Ok(tree),
         Err(ParseRefusal::Broken { place, rule }) => {
-            Err(Stop::Refused(Refusal::at(alloc, place, rule.code())))
+            Err(Stop::Refused(Refusal::at(alloc, place, rule.code())?))
         }
         Err(ParseRefusal::NoMemory) => Err(Stop::Memory),
     }
@@ -121,7 +133,9 @@ fn parsed(alloc: Global, tokens: &Tokens) -> Result<Tree, Stop>
 fn tree_of(alloc: Global, number: u32, bytes: &[u8]) -> Result<Tree, Stop>
     requires few { number < 64 }
     requires short { length bytes.now ≤ LIMIT }
-    ensures { Meets (growing number bytes.now) root result }
+    ensures grown { Meets (growing number bytes.now) root result }
+    ensures small { IfOk result (λ tree. length tree.entries ≤ MOST_NODES) }
+    ensures shaped { IfOk result (λ tree. AreClasses (root tree)) }
 {
     let tokens = tokens_of(alloc, number, bytes)?;
     parsed(alloc, &tokens)
@@ -131,7 +145,9 @@ fn tree_of(alloc: Global, number: u32, bytes: &[u8]) -> Result<Tree, Stop>
 fn trees_of(alloc: Global, texts: &Texts) -> Result<Vec<Tree>, Stop>
     requires few { length texts.now ≤ 16 }
     requires short { All (λ text. length text ≤ LIMIT) texts.now }
-    ensures { Meets (each growing 0 texts.now) (λ trees. map root trees.items) result }
+    ensures grown { Meets (each growing 0 texts.now) (λ trees. map root trees.items) result }
+    ensures small { IfOk result (λ trees. All (λ tree. length tree.entries ≤ MOST_NODES) trees.items) }
+    ensures shaped { IfOk result (λ trees. AreShaped trees.items) }
 {
     let mut trees = Vec::new(alloc);
     for number in 0..texts.len() {
@@ -143,44 +159,37 @@ fn trees_of(alloc: Global, texts: &Texts) -> Result<Vec<Tree>, Stop>
     Ok(trees)
 }
 
-/// Sees to it that the classes break no class rule.
-fn class_rules(alloc: Global, trees: &[Tree]) -> Result<(), Stop>
+/// The class table of the sources, whose classes break no class rule.
+fn table_of_classes(alloc: Global, trees: &[Tree]) -> Result<ClassTable, Stop>
     requires few { length trees.now ≤ 16 }
-    ensures { Meets (classing (map root trees.now)) (λ done. table_of (map root trees.now)) result }
+    ensures judged { Meets (classing (map root trees.now)) (λ table. table_of (map root trees.now)) result }
+    ensures table { IfOk result (IsClassTable trees.now) }
 {
     match classes(alloc, trees) {
-        Ok(_) => Ok(()),
+        Ok(table) => Ok(table),
         Err(ClassRefusal::Broken { place, rule }) => {
-            Err(Stop::Refused(Refusal::at(alloc, place, rule.code())))
+            Err(Stop::Refused(Refusal::at(alloc, place, rule.code())?))
         }
         Err(ClassRefusal::NoMemory) => Err(Stop::Memory),
     }
 }
 
-/// The class of one field that the sources are.
-fn class_of(alloc: Global, trees: &[Tree]) -> Result<OneField, Stop>
-    ensures { Meets (forming (map root trees.now)) one_field_of result }
+/// The program that the sources are, whose nodes break no typing rule.
+fn program_of(alloc: Global, trees: Vec<Tree>, table: ClassTable) -> Result<Program, Stop>
+    requires few { length trees.items ≤ 16 }
+    requires small { length (all_entries trees.items) < 2 ^ 32 }
+    requires table { IsClassTable trees.items table }
+    ensures judged { Meets (typing (map root trees.items)) (λ program. tt) result }
+    ensures program { IfOk result IsProgram }
+    ensures files { IfOk result (λ program. program.trees.items ≡ trees.items) }
 {
-    let class = match trees {
-        [tree] => read_one_field(alloc, tree)?,
-        _ => None,
-    };
-    match class {
-        Some(class) => Ok(class),
-        None => Err(Stop::Refused(Refusal::at(alloc, source_start(0), "N0"))),
-    }
-}
-
-/// The finitization of a class of one field.
-fn range_of(alloc: Global, fin: &[u8], class: &OneField) -> Result<Finitization, Stop>
-    ensures { Meets (bounding fin.now (one_field_of class.now)) finitization_of result }
-{
-    match read_finitization(alloc, fin, class)? {
-        Some(range) => Ok(range),
-        None => {
-            let item = String::from_str(alloc, "form")?;
-            Err(Stop::Refused(Refusal::of_finitization("N0", item)))
+    well_typed_law();
+    match check(alloc, trees, table) {
+        Ok(program) => Ok(program),
+        Err(TypeRefusal::Broken { place, rule }) => {
+            Err(Stop::Refused(Refusal::of_node(alloc, place, rule)?))
         }
+        Err(TypeRefusal::NoMemory) => Err(Stop::Memory),
     }
 }
 
@@ -191,48 +200,123 @@ fn document_of(alloc: Global, fin: &[u8]) -> Result<FinDoc, Stop>
     match read_fin(alloc, fin) {
         Ok(document) => Ok(document),
         Err(FinRefusal::Broken(fault)) => {
-            let item = String::from_str(alloc, fault.item.as_str())?;
-            Err(Stop::Refused(Refusal::of_finitization(fault.rule.code(), item)))
+            let rule = fault.rule.code();
+            let item = fault.item.as_str().as_bytes();
+            Err(Stop::Refused(Refusal::of_finitization(alloc, rule, item)?))
         }
         Err(FinRefusal::NoMemory) => Err(Stop::Memory),
     }
 }
 
-// The steps behind each other: what is judged from one of them on.
-
-fn judge_document(alloc: Global, fin: &[u8], trees: &[Tree]) -> Result<Found, Stop>
-    ensures { Judges (from_document fin.now (map root trees.now)) result }
+/// The problem of the sources and the document, which breaks no rule beside them.
+#[tactic(auto, unfolding(kr_domains::specs::Meaning::meaning, kr_domains::specs::Bounds::problem_in))]
+fn problem_of(alloc: Global, program: Program, document: &FinDoc) -> Result<Problem, Stop>
+    requires program { IsProgram program }
+    requires limits { IsWithinLimits document.now }
+    ensures judged { Meets (spacing (map root program.trees.items) document.now) posed result }
+    ensures posed { IfOk result IsPosed }
+    ensures well_formed { IfOk result (λ problem. IsWellFormed (posed problem)) }
+    ensures small { IfOk result (λ problem. length (slots (posed problem)) ≤ 4096) }
+    ensures mode { IfOk result (λ problem. (posed problem).mode ≡ Listing) }
+    ensures files { IfOk result (λ problem. problem.program.trees.items ≡ program.trees.items) }
 {
-    let class = class_of(alloc, trees)?;
-    match range_of(alloc, fin, &class) {
-        Ok(range) => Ok(Found { class, range }),
-        Err(stop) => Err(stop),
+    match problem(alloc, program, document, Mode::List) {
+        Ok(found) => Ok(found),
+        Err(SpaceRefusal::Broken(fault)) => {
+            let rule = fault.rule.code();
+            let item = fault.item.as_bytes();
+            Err(Stop::Refused(Refusal::of_finitization(alloc, rule, item)?))
+        }
+        Err(SpaceRefusal::NoMemory) => Err(Stop::Memory),
     }
 }
 
-fn judge_trees(alloc: Global, fin: &[u8], trees: &[Tree]) -> Result<Found, Stop>
-    ensures { Judges (from_trees fin.now (map root trees.now)) result }
+/// Sees to it that the predicate leaves the candidates alone.
+fn purity(alloc: Global, problem: &Problem) -> Result<(), Stop>
+    requires posed { IsPosed problem.now }
+    requires shaped { AreShaped problem.now.program.trees.items }
+    ensures { Meets (purifying (posed problem.now)) (λ done. tt) result }
 {
-    let _document = document_of(alloc, fin)?;
-    judge_document(alloc, fin, trees)
+    match pure(alloc, problem) {
+        Ok(()) => Ok(()),
+        Err(PureRefusal::Impure { place }) => Err(Stop::Refused(Refusal::at(alloc, place, "I1")?)),
+        Err(PureRefusal::NoMemory) => Err(Stop::Memory),
+    }
 }
 
-fn judge_grown(alloc: Global, fin: &[u8], trees: &[Tree]) -> Result<Found, Stop>
-    requires few { length trees.now ≤ 16 }
-    ensures { Judges (from_grown fin.now (map root trees.now)) result }
+// The steps behind each other: what is judged from one of them on.
+
+fn judge_problem(alloc: Global, problem: Problem) -> Result<Accepted, Stop>
+    requires shaped { AreShaped problem.program.trees.items }
+    requires posed { IsPosed problem }
+    requires well_formed { IsWellFormed (posed problem) }
+    requires small { length (slots (posed problem)) ≤ 4096 }
+    ensures judged { Meets (from_problem (posed problem)) posed result }
+    ensures same { IfOk result (λ found. found ≡ problem) }
 {
-    class_rules(alloc, trees)?;
-    judge_trees(alloc, fin, trees)
+    purity(alloc, &problem)?;
+    Ok(Accepted::new(problem))
+}
+
+fn judge_document(alloc: Global, program: Program, document: &FinDoc) -> Result<Accepted, Stop>
+    requires program { IsProgram program }
+    requires shaped { AreShaped program.trees.items }
+    requires limits { IsWithinLimits document.now }
+    ensures judged { Meets (from_document (map root program.trees.items) document.now) posed result }
+    ensures mode { IfOk result (λ found. (posed found).mode ≡ Listing) }
+{
+    let problem = problem_of(alloc, program, document)?;
+    judge_problem(alloc, problem)
+}
+
+fn judge_program(alloc: Global, fin: &[u8], program: Program) -> Result<Accepted, Stop>
+    requires program { IsProgram program }
+    requires shaped { AreShaped program.trees.items }
+    ensures judged { Meets (from_trees fin.now (map root program.trees.items)) posed result }
+    ensures mode { IfOk result (λ found. (posed found).mode ≡ Listing) }
+{
+    limits_law();
+    let document = document_of(alloc, fin)?;
+    judge_document(alloc, program, &document)
+}
+
+fn judge_table(
+    alloc: Global,
+    fin: &[u8],
+    trees: Vec<Tree>,
+    table: ClassTable,
+) -> Result<Accepted, Stop>
+    requires few { length trees.items ≤ 16 }
+    requires small { All (λ tree. length tree.entries ≤ MOST_NODES) trees.items }
+    requires shaped { AreShaped trees.items }
+    requires table { IsClassTable trees.items table }
+    ensures judged { Meets (from_table fin.now (map root trees.items)) posed result }
+    ensures mode { IfOk result (λ found. (posed found).mode ≡ Listing) }
+{
+    let program = program_of(alloc, trees, table)?;
+    judge_program(alloc, fin, program)
+}
+
+fn judge_grown(alloc: Global, fin: &[u8], trees: Vec<Tree>) -> Result<Accepted, Stop>
+    requires few { length trees.items ≤ 16 }
+    requires small { All (λ tree. length tree.entries ≤ MOST_NODES) trees.items }
+    requires shaped { AreShaped trees.items }
+    ensures judged { Meets (from_grown fin.now (map root trees.items)) posed result }
+    ensures mode { IfOk result (λ found. (posed found).mode ≡ Listing) }
+{
+    let table = table_of_classes(alloc, trees.as_slice())?;
+    judge_table(alloc, fin, trees, table)
 }
 
 /// Judges what was read.
-fn judge(alloc: Global, fin: &[u8], texts: &Texts) -> Result<Found, Stop>
+fn judge(alloc: Global, fin: &[u8], texts: &Texts) -> Result<Accepted, Stop>
     requires few { length texts.now ≤ 16 }
     requires short { All (λ text. length text ≤ LIMIT) texts.now }
-    ensures { Judges (from_texts fin.now texts.now) result }
+    ensures judged { Meets (from_texts fin.now texts.now) posed result }
+    ensures mode { IfOk result (λ found. (posed found).mode ≡ Listing) }
 {
     let trees = trees_of(alloc, texts)?;
-    judge_grown(alloc, fin, trees.as_slice())
+    judge_grown(alloc, fin, trees)
 }
 
 /// Reads the files of a command, the finitization first, and judges them.
@@ -241,10 +325,11 @@ pub(crate) fn find<F: Files>(
     fin: &str,
     sources: &Words,
     files: &mut F,
-) -> Result<Found, Stop>
+) -> Result<Accepted, Stop>
     requires few { length sources.now ≤ 16 }
     ensures found { Finds F.held F.faults F.last (record { fin = fin.now; sources = sources.now }) files.old files.new result }
     ensures count { CountStays (F.faults files.old) (F.faults files.new) result }
+    ensures mode { IfOk result (λ found. (posed found).mode ≡ Listing) }
 {
     let bytes = read(alloc, InputFile::Finitization, fin, files)?;
     match read_sources(alloc, sources, files) {

@@ -1,14 +1,10 @@
 //! The whole tool as one call.
 #![tactic(auto)]
 
-mod cells;
 mod command;
 mod find;
-mod finitization;
-mod found;
 mod given;
 mod laws;
-mod one_field;
 mod refusal;
 mod report;
 mod sources;

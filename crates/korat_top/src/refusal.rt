@@ -1,8 +1,9 @@
 // What a file of the call is refused with, and why the work for a command stops.
-ghost use Rattle.std.specs.Prelude.{◌≡◌, string_bytes};
-ghost use Rattle.korat_top.specs.Refusals.{at_place, of_finitization, refusal_of};
+ghost use Rattle.std.specs.Prelude.{◌≡◌, IfOk};
+ghost use Rattle.korat_top.specs.Refusals.{at_place, of_finitization, refusal_of, type_code};
 ghost use Rattle.korat_top.specs.declared.refusal.Stop.TheVariants.{Memory};
 
+use itoa::Buffer;
 use kr_base::{NoMemory, Place};
 use std::alloc::{AllocError, AllocFailed, Global};
 
@@ -19,33 +20,52 @@ pub(crate) enum InputFile {
 pub(crate) struct Refusal {
     pub(crate) file: InputFile,
     pub(crate) place: Option<Place>,
-    pub(crate) rule: &'static str,
-    pub(crate) item: String,
+    pub(crate) rule: String,
+    pub(crate) item: Vec<u8>,
 }
 
 impl Refusal {
     /// A source breaks a rule at a place, which says which source.
-    pub(crate) fn at(alloc: Global, place: Place, rule: &'static str) -> Self
-        ensures { refusal_of result ≡ at_place place rule.now }
+    pub(crate) fn at(alloc: Global, place: Place, rule: &str) -> Result<Refusal, NoMemory>
+        ensures { IfOk result (λ refusal. refusal_of refusal ≡ at_place place rule.now) }
     {
-        Refusal {
+        Ok(Refusal {
             file: InputFile::Source(place.file),
             place: Some(place),
-            rule,
-            item: String::new(alloc),
-        }
+            rule: String::from_str(alloc, rule)?,
+            item: Vec::new(alloc),
+        })
+    }
+
+    /// A node at a place breaks the typing rule of a number.
+    pub(crate) fn of_node(alloc: Global, place: Place, rule: u32) -> Result<Refusal, NoMemory>
+        ensures { IfOk result (λ refusal. refusal_of refusal ≡ at_place place (type_code rule)) }
+    {
+        let mut digits = Buffer::new();
+        let mut code = String::from_str(alloc, "T")?;
+        code.push_str(digits.format(rule))?;
+        Ok(Refusal {
+            file: InputFile::Source(place.file),
+            place: Some(place),
+            rule: code,
+            item: Vec::new(alloc),
+        })
     }
 
     /// The finitization breaks a rule, of an item.
-    pub(crate) fn of_finitization(rule: &'static str, item: String) -> Self
-        ensures { refusal_of result ≡ of_finitization rule.now (string_bytes item) }
+    pub(crate) fn of_finitization(
+        alloc: Global,
+        rule: &str,
+        item: &[u8],
+    ) -> Result<Refusal, NoMemory>
+        ensures { IfOk result (λ refusal. refusal_of refusal ≡ of_finitization rule.now item.now) }
     {
-        Refusal {
+        Ok(Refusal {
             file: InputFile::Finitization,
             place: None,
-            rule,
-            item,
-        }
+            rule: String::from_str(alloc, rule)?,
+            item: Vec::from_slice(alloc, item)?,
+        })
     }
 }
 

@@ -5,7 +5,7 @@ ghost use Rattle.korat_top.specs.Refusals.{name_of as name_in, line_of, status_o
 
 use crate::refusal::{InputFile, Refusal};
 use kr_base::{Failed, Sink, Words};
-use kr_text::put_refusal;
+use kr_text::put_refusal_bytes;
 
 /// A file's name, as the words give it.
 pub(crate) fn name_of<'w>(fin: &'w str, sources: &'w Words, file: InputFile) -> &'w str
@@ -43,11 +43,11 @@ pub(crate) fn put_refused<K: Sink>(
     ensures { Writes K.taken K.faults out.old out.new (line_of (record { fin = fin.now; sources = sources.now }) (refusal_of refusal.now)) result }
 {
     let name = name_of(fin, sources, refusal.file);
-    put_refusal(
+    put_refusal_bytes(
         out,
         name,
         refusal.place,
-        refusal.rule,
-        refusal.item.as_str(),
+        refusal.rule.as_str(),
+        refusal.item.as_slice(),
     )
 }

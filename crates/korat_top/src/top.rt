@@ -1,26 +1,23 @@
 // The call.
-ghost use Rattle.std.specs.Prelude.{◌≡◌, ◌<◌, ◌≤◌, Some, IfOk, is_ok, if◌then◌else◌, length};
+ghost use Rattle.std.specs.Prelude.{◌≡◌, ◌<◌, ◌≤◌, Some, IfOk, OnErr, is_ok, if◌then◌else◌, length};
+ghost use Rattle.kr_mean.specs.declared.mode.Mode.TheVariants.{List as Listing};
 ghost use Rattle.kr_report.specs.Endings.{EndsListing};
-ghost use Rattle.korat_top.specs.Answer.{asked_of};
-ghost use Rattle.korat_top.specs.OneField.{one_field_of};
-ghost use Rattle.korat_top.specs.Finitization.{finitization_of};
-ghost use Rattle.korat_top.specs.Cells.{listing_for};
+ghost use Rattle.korat_top.specs.Answer.{asked_of, counts_of, listing_of};
+ghost use Rattle.kr_posed.specs.Posed.{posed};
 ghost use Rattle.korat_top.specs.Orders.{command_for, command_in, range_of, report_for};
 ghost use Rattle.korat_top.specs.Ends.{EndsFor, IsComplete};
-ghost use Rattle.korat_top.specs.Scanning.{ScansFound};
 
-use crate::cells::Cells;
 use crate::command::{Order, Purpose, Range, order_of};
 use crate::find::find;
-use crate::found::Found;
 use crate::refusal::Stop;
 use crate::report::{name_of, put_refused, status_of};
 use kr_base::{Failed, NoMemory, Sink, Words};
+use kr_compiled::predicate_of;
 use kr_io::{Files, Gate};
-use kr_pruning::one_field_law;
-use kr_report::{put_checked, put_listing, put_out_of_memory, put_read_fault, put_usage_fault};
-use kr_scan::Scan;
+use kr_listing::put_subject;
+use kr_report::{put_checked, put_out_of_memory, put_read_fault, put_usage_fault};
 use kr_steps::Steps;
+use kr_subject::{Accepted, Prepared};
 use std::alloc::Global;
 use std::marker::Brand;
 use std::sync::ledger::{Blank, Ledger};
@@ -32,49 +29,71 @@ fn once_written(written: Result<(), Failed>, status: u8) -> u8
     if written.is_ok() { status } else { 7 }
 }
 
-/// The scan of what was found, over a range of keys.
-fn scan_of<'f, L: Ledger>(
+/// Lists the entries of a problem in a range of keys. Where memory is refused before anything is searched, nothing is put.
+fn put_range<K: Sink, L: Ledger>(
     alloc: Global,
-    found: &'f Found,
+    found: Accepted,
     range: &Range,
+    out: &mut K,
     runs: &mut Steps<L>,
-) -> Result<Scan<Cells<'f>>, NoMemory>
-    ensures { IfOk result (λ scan. ScansFound found.now range.now scan) }
+) -> Result<u8, NoMemory>
+    requires mode { (posed found).mode ≡ Listing }
+    ensures ends { IfOk result (λ status. EndsListing K.taken K.faults (listing_of (range_of range.now) (posed found)) out.old out.new status) }
+    ensures nothing { OnErr result (out.new ≡ out.old) }
 {
     let upto = range.to.try_clone()?;
-    match Scan::new(alloc, Cells::new(found), range.from.numbers(), upto, runs) {
-        Ok(scan) => Ok(scan),
-        Err(NoMemory) => Err(NoMemory),
-    }
+    let predicate = predicate_of(alloc, found.problem())?;
+    let prepared = Prepared::new(alloc, found, predicate)?;
+    put_subject(
+        alloc,
+        &prepared,
+        range.from.numbers(),
+        upto,
+        range.limit,
+        out,
+        runs,
+    )
 }
 
-/// Lists what was found.
+/// Lists a problem.
 fn list<K: Sink, L: Ledger>(
     alloc: Global,
-    found: &Found,
+    found: Accepted,
     range: &Range,
     out: &mut K,
     blank: Blank,
 ) -> u8
+    requires mode { (posed found).mode ≡ Listing }
     requires ledger { blank.name ≡ L.name }
     requires parts { blank.parts ≡ L.parts }
     requires some { 0 < L.parts }
-    ensures { EndsListing K.taken K.faults (listing_for (range_of range.now) (one_field_of found.now.class) (finitization_of found.now.range)) out.old out.new result }
+    ensures { EndsListing K.taken K.faults (listing_of (range_of range.now) (posed found)) out.old out.new result }
 {
     let mut runs = Steps::<L>::start(blank);
-    match scan_of(alloc, found, range, &mut runs) {
-        Ok(scan) => put_listing(alloc, scan, found, range.limit, out, &mut runs),
+    match put_range(alloc, found, range, out, &mut runs) {
+        Ok(status) => status,
         Err(NoMemory) => once_written(put_out_of_memory(out), 8),
     }
 }
 
-/// Reports of what was found.
-fn report<K: Sink>(alloc: Global, purpose: &Purpose, found: &Found, out: &mut K) -> u8
-    ensures { EndsListing K.taken K.faults (report_for purpose.now (one_field_of found.now.class) (finitization_of found.now.range)) out.old out.new result }
+/// Counts the classes and slots of a problem.
+fn count<K: Sink>(found: &Accepted, out: &mut K) -> u8
+    ensures { EndsListing K.taken K.faults (counts_of (posed found.now)) out.old out.new result }
+{
+    let problem = found.problem();
+    let classes = problem.program.table.members.len() as u64;
+    let slots = problem.layout.slots() as u64;
+    once_written(put_checked(classes, slots, out), 0)
+}
+
+/// Reports of a problem.
+fn report<K: Sink>(alloc: Global, purpose: &Purpose, found: Accepted, out: &mut K) -> u8
+    requires mode { (posed found).mode ≡ Listing }
+    ensures { EndsListing K.taken K.faults (report_for purpose.now (posed found)) out.old out.new result }
 {
     match purpose {
         Purpose::List(range) => list::<K, Brand>(alloc, found, range, out, Blank::new(1)),
-        Purpose::Check => once_written(put_checked(1, 2, out), 0),
+        Purpose::Check => count(&found, out),
     }
 }
 
@@ -90,9 +109,8 @@ fn serve<F: Files, K: Sink>(
     requires { length sources.now ≤ 16 }
     ensures { EndsFor F.held F.faults F.last K.taken K.faults (Some (command_for purpose.now (record { fin = fin.now; sources = sources.now }))) files.old files.new out.old out.new result }
 {
-    one_field_law();
     match find(alloc, fin, sources, files) {
-        Ok(found) => report(alloc, purpose, &found, out),
+        Ok(found) => report(alloc, purpose, found, out),
         Err(Stop::Refused(refusal)) => once_written(
             put_refused(fin, sources, &refusal, out),
             status_of(refusal.file),

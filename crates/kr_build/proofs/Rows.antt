@@ -39,7 +39,7 @@ before_same zero ds = refl
 before_same (suc d) [] = refl
 before_same (suc d) (c ∷ cs) = ap (λ (n : ℕ). c.count * length c.spots + n) (before_same d cs)
 
-first_same : (problem : Problem) (d k : ℕ) → first_slot problem (object d k) ≡ numbering.first_slot problem d k
+pub first_same : (problem : Problem) (d k : ℕ) → first_slot problem (object d k) ≡ numbering.first_slot problem d k
 first_same problem d k = omega (arith, before_same d problem.domains)
 
 extent_same : (c : Class) (n : ℕ) (x : Value) → extent_of c n x ≡ places.extent_of c n x

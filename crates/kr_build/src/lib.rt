@@ -2,10 +2,13 @@
 #![tactic(auto)]
 
 mod heap;
+mod marks;
 mod objects;
 #[cfg(test)]
 mod tests;
 mod walk;
 
 pub use heap::build;
+pub use marks::{is_marked, mark};
+pub use objects::{Stretch, slots_of};
 pub use walk::Walk;

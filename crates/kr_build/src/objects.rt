@@ -43,14 +43,14 @@ fn extent(layout: &Layout, vector: &Vector, class: Class, first: u32, width: u32
 }
 
 /// Slots that stand one after another.
-#[derive(Clone, Copy)]
-pub(crate) struct Stretch {
-    pub(crate) first: u32,
-    pub(crate) count: u32,
+#[derive(Clone, Copy, Debug)]
+pub struct Stretch {
+    pub first: u32,
+    pub count: u32,
 }
 
 /// The slots of an object in a candidate's heap: of an array its length and the elements below it, of another object all fields.
-pub(crate) fn slots_of(layout: &Layout, vector: &Vector, object: Object) -> Stretch
+pub fn slots_of(layout: &Layout, vector: &Vector, object: Object) -> Stretch
     requires well { IsWellFormed (bare layout.now) }
     requires vector { IsVector (space_of (bare layout.now)) vector.now }
     requires small { length (slots (bare layout.now)) < 2 ^ 31 }

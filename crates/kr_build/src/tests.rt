@@ -3,7 +3,7 @@ ghost use Rattle.std.specs.Prelude.{◌≡◌, IfOk};
 ghost use Rattle.kr_build.specs.Examples.{arrays as array_domain, from_second, nodes as node_domain, two_nodes};
 
 use crate::{Walk, build};
-use kr_fin::{Listed, Text};
+use kr_fin::Listed;
 use kr_mean::Mode;
 use kr_problem::{ClassDomain, Item, Layout, Spotted};
 use kr_value::{Class, Spot, Value};
@@ -25,7 +25,7 @@ fn nodes(alloc: Global) -> Result<ClassDomain, Fail>
     spots.push(spot(Spot::Field(0), 0))?;
     spots.push(spot(Spot::Field(1), 1))?;
     Ok(ClassDomain {
-        name: Text::of(alloc, "N")?,
+        name: Listed::from_vec(Vec::from_slice(alloc, b"N")?),
         class: Class::Object(0),
         count: 2,
         spots,
@@ -41,7 +41,7 @@ fn arrays(alloc: Global) -> Result<ClassDomain, Fail>
     spots.push(spot(Spot::Element(0), 3))?;
     spots.push(spot(Spot::Element(1), 3))?;
     Ok(ClassDomain {
-        name: Text::of(alloc, "int[]")?,
+        name: Listed::from_vec(Vec::from_slice(alloc, b"int[]")?),
         class: Class::Array(0),
         count: 1,
         spots,

@@ -6,8 +6,9 @@ ghost use Rattle.kr_mean.specs.Problem.{slots};
 ghost use Rattle.kr_mean.specs.Space.{IsVector, space_of};
 ghost use Rattle.kr_mean.specs.WellFormed.{IsWellFormed};
 ghost use Rattle.kr_problem.specs.Bounds.{bare};
-ghost use Rattle.kr_build.specs.Visits.{IsMarked, IsVisit};
+ghost use Rattle.kr_build.specs.Visits.{IsVisit};
 
+use crate::marks::{is_marked, mark};
 use crate::objects::{Stretch, add_slots, slots_of};
 use kr_base::NoMemory;
 use kr_problem::Layout;
@@ -30,35 +31,6 @@ impl Model for Walk {
     ghost view = { λ w. w.slots.items };
 }
 
-/// Whether an object of the heap was met.
-fn is_met(met: &[bool], number: u32) -> bool
-    ensures { result ≡ get_or met.now number false }
-{
-    let at = number as usize;
-    if at < met.len() { met[at] } else { false }
-}
-
-/// Makes room for so many objects; none of the new ones was met.
-fn grow(met: &mut Vec<bool>, count: usize) -> Result<(), NoMemory>
-    ensures kept { (m : ℕ) → get_or met.new.items m false ≡ get_or met.old.items m false }
-    ensures long { OnOk result (count ≤ length met.new.items) }
-{
-    while met.len() < count {
-        met.push(false)?;
-    }
-    Ok(())
-}
-
-/// Notes that an object was met.
-fn mark(met: &mut Vec<bool>, number: u32) -> Result<(), NoMemory>
-    ensures { OnOk result (IsMarked met.old.items number met.new.items) }
-{
-    let at = number as usize;
-    grow(met, at + 1)?;
-    met[at] = true;
-    Ok(())
-}
-
 /// Looks at a slot: where it has an object that wasn't met, the object's slots are walked behind all others.
 fn visit(
     layout: &Layout,
@@ -77,7 +49,7 @@ fn visit(
         return Ok(());
     };
     let number = layout.heap_number(object);
-    if is_met(met.as_slice(), number) {
+    if is_marked(met.as_slice(), number) {
         return Ok(());
     }
     mark(met, number)?;

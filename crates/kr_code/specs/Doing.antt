@@ -3,9 +3,9 @@ use Rattle.std.specs.Prelude.{◌≡◌, ℕ, true, false, List, [], ◌∷◌, 
 use Rattle.kr_ast.specs.declared.node.BinaryOperator.{BinaryOperator}
 use Rattle.kr_value.specs.declared.value.Value.{Value}
 use Rattle.kr_value.specs.declared.value.Value.TheVariants.{Int, Bool as Truth, Null}
-use Rattle.kr_value.specs.declared.object.Class.TheVariants.{Object, Array}
+use Rattle.kr_value.specs.declared.object.Class.TheVariants.{Object, Array, Set, List as ListClass}
 use Rattle.kr_mean.specs.declared.kind.Kind.TheVariants.{NegativeArraySizeException, ArrayTooLong}
-use Rattle.kr_mean.specs.Steps.{Trapped, Stuck, State, Run, say, give, stop, ◌>>=◌, ◌>>◌, tick, get_this, read_local, declare, assign, get_result, get_old, within, scoped, element, class_or_null, class_of, make}
+use Rattle.kr_mean.specs.Steps.{Trapped, Stuck, State, Run, say, give, stop, ◌>>=◌, ◌>>◌, tick, get_this, read_local, declare, assign, get_result, get_old, within, scoped, element, class_or_null, class_of, make, collect}
 use Rattle.kr_mean.specs.Operators.{operated, operated_alone}
 use Rattle.kr_mean.specs.Meaning.{Flow, Next, Broke, Continued, Left, Gave, then_on, then_round, then_update, returned, completed, choose, Change, change_to, stepped}
 use Rattle.kr_code.specs.declared.code.Code.{Code}
@@ -24,6 +24,7 @@ use Rattle.kr_code.specs.declared.statement.Statement.{Statement}
 use Rattle.kr_code.specs.declared.statement.Statement.TheVariants as statements
 use Rattle.kr_code.specs.declared.statement.Declarator.{Declarator}
 use Rattle.kr_code.specs.Tables.{node_at, expression_of, statement_of, declarator_of, initialiser_of, listed, values_in, method_at, class_at, method_in}
+use Rattle.kr_code.specs.Collections.{name_of, new_collection}
 use Rattle.kr_code.specs.Steps.{load_named, store_field, store_initial, store_item, cast_to, instance_of}
 
 -- what the nodes of code do, as expressions and as statements, and what a loop does
@@ -127,6 +128,8 @@ call code d (callees.Super m) is = do
 call code d (callees.New c) is = do
   vs ← values_at d is
   create code d c vs (class_at code c)
+call code d callees.NewSet is = values_at d is >>= new_collection Set
+call code d callees.NewList is = values_at d is >>= new_collection ListClass
 
 abbrev pub new_array : ℕ → Option ℕ → Value → Run Value
 new_array n (Some k) default = make (Array k) (replicate n default)
@@ -217,6 +220,10 @@ value_of code d (expressions.StaticCallOn e m arguments) = do
   o ← d.value e
   vs ← values_at d (listed code arguments)
   class_of o >> run_method code d Null vs (method_at code m)
+value_of code d (expressions.CallCollection e c arguments) = do
+  o ← d.value e
+  vs ← values_at d (listed code arguments)
+  collect (name_of c) o vs
 value_of code d (expressions.NewArray k default e) = d.value e >>= array_of k default
 value_of code d (expressions.Unary o e) = do
   v ← d.value e

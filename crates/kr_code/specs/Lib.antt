@@ -1,4 +1,5 @@
 pub mod Tables
 pub mod Steps
+pub mod Collections
 pub mod Doing
 pub mod Resolved

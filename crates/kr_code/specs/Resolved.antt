@@ -1,5 +1,5 @@
 -- When code is that of a program: each node is the resolved form of a tree in its scope, and the tables say what the program
--- does. Collections aren't resolved yet: no code is that of a program which calls or creates them.
+-- does.
 use Rattle.std.specs.Prelude.{◌≡◌, ℕ, Bool, true, false, List, [], ◌∷◌, length, map, codes, bytes_eq, nat_eq, Option, Some, None, option_and_then, option_map, pos, All, IsSome, flat_map}
 use Rattle.kr_base.specs.declared.place.Place.{Place}
 use Rattle.kr_ast.specs.declared.node.UnaryOperator.{UnaryOperator}
@@ -35,6 +35,7 @@ use Rattle.kr_code.specs.declared.expression.Expression.TheVariants as expressio
 use Rattle.kr_code.specs.declared.statement.Statement.{Statement}
 use Rattle.kr_code.specs.declared.statement.Statement.TheVariants as statements
 use Rattle.kr_code.specs.declared.statement.Declarator.{Declarator}
+use Rattle.kr_code.specs.Collections.{call_named}
 use Rattle.kr_code.specs.Tables.{node_at, expression_of, statement_of, declarator_of, initialiser_of, listed, values_in, method_at, class_at, position_in, spot_in, method_in, is_instance}
 
 -- What numbers stand for: names, fields that are stored, methods, types; and of each node the tree with its scope.
@@ -162,6 +163,9 @@ pub data IsExpression (program : Program) (code : Code) (n : Numbering) (s : Sco
   static_call_on : (p : Place) (e : Tree) (x : List ℕ) (es : Tree) (i : ℕ) (m : Method) (k : ℕ) (ns : Nodes) → class_before s e ≡ None → typed_method s e x ≡ Some m
       → m.is_static ≡ true → IsMethod code n m k → IsPart n s e i → AreParts n s (items es) (listed code ns)
       → IsExpression program code n s (trees.MethodCall p e x es) (expressions.StaticCallOn i k ns)
+  -- a method that the type of the object doesn't have is a collection's
+  collection_call : (p : Place) (e : Tree) (x : List ℕ) (es : Tree) (i : ℕ) (ns : Nodes) → class_before s e ≡ None → typed_method s e x ≡ None → IsPart n s e i
+      → AreParts n s (items es) (listed code ns) → IsExpression program code n s (trees.MethodCall p e x es) (expressions.CallCollection i (call_named x) ns)
   super_call : (p : Place) (x : List ℕ) (es : Tree) (m : Method) (k : ℕ) (ns : Nodes) → super_method s x ≡ Some m → IsMethod code n m k
       → AreParts n s (items es) (listed code ns) → IsExpression program code n s (trees.SuperCall p x es) (expressions.Call (callees.Super (Some k)) ns)
   no_super_call : (p : Place) (x : List ℕ) (es : Tree) (ns : Nodes) → super_method s x ≡ None
@@ -169,6 +173,10 @@ pub data IsExpression (program : Program) (code : Code) (n : Numbering) (s : Sco
   -- creation
   creation : (p : Place) (t es : Tree) (c : ℕ) (k : ClassCode) (ns : Nodes) → written s t ≡ ClassType c → class_at code c ≡ Some k → AreParts n s (items es) (listed code ns)
       → IsExpression program code n s (trees.ObjectCreation p t es) (expressions.Call (callees.New c) ns)
+  new_set : (p : Place) (t es : Tree) (u : JavaType) (ns : Nodes) → written s t ≡ SetType u → AreParts n s (items es) (listed code ns)
+      → IsExpression program code n s (trees.ObjectCreation p t es) (expressions.Call callees.NewSet ns)
+  new_list : (p : Place) (t es : Tree) (u : JavaType) (ns : Nodes) → written s t ≡ ListType u → AreParts n s (items es) (listed code ns)
+      → IsExpression program code n s (trees.ObjectCreation p t es) (expressions.Call callees.NewList ns)
   no_creation : (p : Place) (t es : Tree) (ns : Nodes) → is_uncreatable (written s t) ≡ true → AreParts n s (items es) (listed code ns)
       → IsExpression program code n s (trees.ObjectCreation p t es) (expressions.Call callees.Unknown ns)
   array : (p : Place) (t e : Tree) (i : ℕ) → IsPart n s e i

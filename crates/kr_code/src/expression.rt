@@ -1,5 +1,6 @@
 // Expressions whose names, types and calls are resolved.
 
+use crate::CollectionCall;
 use kr_ast::{BinaryOperator, StepOperator, UnaryOperator};
 use kr_base::Place;
 use kr_value::Value;
@@ -24,6 +25,10 @@ pub enum Callee {
     Super(Option<u32>),
     /// The constructors of a class, on a new object.
     New(u32),
+    /// A new `HashSet`, which takes no arguments.
+    NewSet,
+    /// A new `LinkedList`, which takes no arguments.
+    NewList,
 }
 
 /// What is written.
@@ -72,6 +77,12 @@ pub enum Expression {
     StaticCallOn {
         object: u32,
         method: u32,
+        arguments: Nodes,
+    },
+    /// A call on a collection.
+    CallCollection {
+        object: u32,
+        call: CollectionCall,
         arguments: Nodes,
     },
     /// The array type's number, if it has one, and what an element begins with.

@@ -5,10 +5,12 @@
 #![tactic(auto)]
 
 mod code;
+mod collections;
 mod expression;
 mod lookups;
 mod statement;
 
 pub use code::{ClassCode, Code, Constructor, Initialiser, MethodCode, Node};
+pub use collections::CollectionCall;
 pub use expression::{Callee, Expression, Nodes, Variable};
 pub use statement::{Declarator, Statement};

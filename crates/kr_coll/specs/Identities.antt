@@ -1,28 +1,13 @@
--- Members of collections. They are told apart by identity (Java Language Specification 15.21.3): objects by their numbers,
--- and null, which is one member more.
-use Rattle.std.specs.Prelude.{◌≡◌, ℕ, Bool, false, ◌||◌, List, [], ◌∷◌, ◌++◌, nat_eq, if◌then◌else◌, Option}
-use Rattle.std.specs.Option.{option_eq}
-
-abbrev pub Member : Type 0
-Member = Option ℕ
-
-abbrev pub is_same : Member → Member → Bool
-is_same a b = option_eq nat_eq a b
-
-abbrev pub is_member : List Member → Member → Bool
-is_member [] m = false
-is_member (x ∷ xs) m = is_same x m || is_member xs m
+-- Members of sets. They are told apart as the meaning does it: by identity (Java Language Specification 15.21.3).
+use Rattle.std.specs.Prelude.{◌≡◌, false, List, [], ◌∷◌, ◌++◌, if◌then◌else◌}
+use Rattle.kr_value.specs.declared.value.Value.{Value}
+use Rattle.kr_mean.specs.Collections.{has_member}
 
 -- each member is another one
-abbrev pub Differ : List Member → Type 0
+abbrev pub Differ : List Value → Type 0
 Differ [] = Unit {0}
-Differ (x ∷ xs) = (is_member xs x ≡ false) × Differ xs
-
--- the members without the first that is this one
-abbrev pub without : List Member → Member → List Member
-without [] m = []
-without (x ∷ xs) m = if is_same x m then xs else x ∷ without xs m
+Differ (x ∷ xs) = (has_member x xs ≡ false) × Differ xs
 
 -- a set's members with one more, unless it is there
-abbrev pub with_member : List Member → Member → List Member
-with_member xs m = if is_member xs m then xs else xs ++ m ∷ []
+abbrev pub with_member : Value → List Value → List Value
+with_member m xs = if has_member m xs then xs else xs ++ m ∷ []

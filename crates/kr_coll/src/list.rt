@@ -1,13 +1,13 @@
 // `LinkedList`: a list of identities.
 ghost use Rattle.std.specs.Prelude.{◌≡◌, ◌==◌, [], ◌∷◌, ◌++◌, length, OnOk, OnErr, IfOk, true, MatchOption};
-ghost use Rattle.kr_coll.specs.Identities.{is_member, without};
+ghost use Rattle.kr_mean.specs.Collections.{has_member, without};
 
 use crate::search::position_of;
 use kr_base::NoMemory;
 use kr_heap::Members;
-use kr_value::Obj;
+use kr_value::Value;
 
-/// A `LinkedList`, over the members of one. A member that is `None` is null.
+/// A `LinkedList`, over the members of one. A member is a reference or null.
 #[derive(Drop)]
 pub struct ListObj<'a> {
     pub members: &'a mut Members,
@@ -23,7 +23,7 @@ impl<'a> ListObj<'a> {
     }
 
     /// Adds a member at the end, and answers true. Only this takes memory.
-    pub fn add(&mut self, member: Option<Obj>) -> Result<bool, NoMemory>
+    pub fn add(&mut self, member: Value) -> Result<bool, NoMemory>
         ensures same_reference { self.new.members.ghost_name ≡ self.old.members.ghost_name }
         ensures answer { IfOk result (λ added. added ≡ true) }
         ensures added { OnOk result (self.new.members.now ≡ self.old.members.now ++ member ∷ []) }
@@ -33,17 +33,17 @@ impl<'a> ListObj<'a> {
         Ok(true)
     }
 
-    pub fn contains(&self, member: Option<Obj>) -> bool
-        ensures { result ≡ is_member self.now.members.now member }
+    pub fn contains(&self, member: Value) -> bool
+        ensures { result ≡ has_member member self.now.members.now }
     {
         position_of(self.members.as_slice(), member).is_some()
     }
 
     /// Takes the first one that is this member away, and says whether there was one.
-    pub fn remove(&mut self, member: Option<Obj>) -> bool
+    pub fn remove(&mut self, member: Value) -> bool
         ensures same_reference { self.new.members.ghost_name ≡ self.old.members.ghost_name }
-        ensures answer { result ≡ is_member self.old.members.now member }
-        ensures removed { self.new.members.now ≡ without self.old.members.now member }
+        ensures answer { result ≡ has_member member self.old.members.now }
+        ensures removed { self.new.members.now ≡ without member self.old.members.now }
     {
         match position_of(self.members.as_slice(), member) {
             None => false,
@@ -55,7 +55,7 @@ impl<'a> ListObj<'a> {
     }
 
     /// Takes the first member away; none where there is none.
-    pub fn remove_first(&mut self) -> Option<Option<Obj>>
+    pub fn remove_first(&mut self) -> Option<Value>
         ensures same_reference { self.new.members.ghost_name ≡ self.old.members.ghost_name }
         ensures first { MatchOption result ((self.old.members.now ≡ []) × (self.new.members.now ≡ [])) (λ m. self.old.members.now ≡ m ∷ self.new.members.now) }
     {

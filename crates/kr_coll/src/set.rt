@@ -1,22 +1,22 @@
 // `HashSet`: a set of identities.
 ghost use Rattle.std.specs.Prelude.{◌≡◌, ◌==◌, length, not, OnOk, OnErr, IfOk};
-ghost use Rattle.kr_coll.specs.Identities.{Differ, is_member, with_member, without};
+ghost use Rattle.kr_mean.specs.Collections.{has_member, without};
+ghost use Rattle.kr_coll.specs.Identities.{with_member};
 
 use crate::search::position_of;
 use kr_base::NoMemory;
 use kr_heap::Members;
-use kr_value::Obj;
+use kr_value::Value;
 
-/// A `HashSet`, over the members of one. A member that is `None` is null.
+/// A `HashSet`, over the members of one. A member is a reference or null.
 #[derive(Drop)]
 pub struct SetObj<'a> {
     pub members: &'a mut Members,
 }
 
 impl<'a> SetObj<'a> {
-    /// The set of these members, which are apart.
+    /// The set of these members. They are a set's where each is another one, which adding and removing keep (`set_law`).
     pub fn of(members: &'a mut Members) -> SetObj<'a>
-        requires { Differ members.old }
         ensures same_reference { result.members.ghost_name ≡ members.entry.ghost_name }
         ensures members { result.members.now ≡ members.old }
     {
@@ -24,10 +24,10 @@ impl<'a> SetObj<'a> {
     }
 
     /// Adds a member, where it is none yet, and says whether it was none. Only this takes memory.
-    pub fn add(&mut self, member: Option<Obj>) -> Result<bool, NoMemory>
+    pub fn add(&mut self, member: Value) -> Result<bool, NoMemory>
         ensures same_reference { self.new.members.ghost_name ≡ self.old.members.ghost_name }
-        ensures answer { IfOk result (λ added. added ≡ not (is_member self.old.members.now member)) }
-        ensures added { OnOk result (self.new.members.now ≡ with_member self.old.members.now member) }
+        ensures answer { IfOk result (λ added. added ≡ not (has_member member self.old.members.now)) }
+        ensures added { OnOk result (self.new.members.now ≡ with_member member self.old.members.now) }
         ensures unchanged { OnErr result (self.new.members.now ≡ self.old.members.now) }
     {
         if self.contains(member) {
@@ -37,17 +37,17 @@ impl<'a> SetObj<'a> {
         Ok(true)
     }
 
-    pub fn contains(&self, member: Option<Obj>) -> bool
-        ensures { result ≡ is_member self.now.members.now member }
+    pub fn contains(&self, member: Value) -> bool
+        ensures { result ≡ has_member member self.now.members.now }
     {
         position_of(self.members.as_slice(), member).is_some()
     }
 
     /// Takes a member away, and says whether it was one.
-    pub fn remove(&mut self, member: Option<Obj>) -> bool
+    pub fn remove(&mut self, member: Value) -> bool
         ensures same_reference { self.new.members.ghost_name ≡ self.old.members.ghost_name }
-        ensures answer { result ≡ is_member self.old.members.now member }
-        ensures removed { self.new.members.now ≡ without self.old.members.now member }
+        ensures answer { result ≡ has_member member self.old.members.now }
+        ensures removed { self.new.members.now ≡ without member self.old.members.now }
     {
         match position_of(self.members.as_slice(), member) {
             None => false,

@@ -33,7 +33,7 @@ plain_array d (a ∷ more) t = go (is_same a.0 t) (plain_array (d + 1) more t)
 plain_meant : (setting : Setting) (m : Meant) → ArePlain (meant_values setting m)
 plain_meant setting NoReference = (tt, tt)
 plain_meant setting (names.Objects c) = tt
-plain_meant setting (names.Arrays t) = plain_array (length setting.table.classes) setting.arrays t
+plain_meant setting (names.Arrays t) = plain_array (length setting.table.headings) setting.arrays t
 plain_meant setting Unknown = tt
 
 plain_item : (setting : Setting) (item : FinItem) → ArePlain (item_values setting item)

@@ -1,9 +1,9 @@
 -- The problem of a program, a document and a mode: class domains in the order of the class table, and then the array types
 -- in the document's; of an object the inherited fields first.
-use Rattle.std.specs.Prelude.{ℕ, zero, suc, ◌+◌, pos, List, [], ◌∷◌, ◌++◌, length, map, flat_map, max, bytes_eq, codes, Option, Some, None, option_map, unwrap_or, if◌then◌else◌}
+use Rattle.std.specs.Prelude.{ℕ, zero, suc, ◌+◌, pos, List, [], ◌∷◌, ◌++◌, length, map, flat_map, max, bytes_eq, codes, Option, Some, None, option_map, unwrap_or, slice_get, if◌then◌else◌}
 use Rattle.kr_ast.specs.Tree.{Tree}
 use Rattle.kr_table.specs.Types.{JavaType, is_same}
-use Rattle.kr_table.specs.Table.{Table, Heading, Field, Parameter, Method, Class, table_of, class_at, fields_of, method_named, number_of}
+use Rattle.kr_table.specs.Table.{Table, Heading, Field, Parameter, Method, table_of, fields_of, method_named, number_of}
 use Rattle.kr_table.specs.Arrays.{array_types_of, array_number, arrays_in, once}
 use Rattle.kr_value.specs.declared.value.Value.TheVariants.{Int, Bool as Truth, Null}
 use Rattle.kr_value.specs.declared.object.Class.TheVariants.{Object, Array}
@@ -66,7 +66,7 @@ setting_of files document =
     }
 
 abbrev pub class_name : Table → ℕ → Text
-class_name table c = unwrap_or (option_map (λ d. d.name) (class_at table.classes c)) []
+class_name table c = unwrap_or (option_map (λ h. h.name) (slice_get table.headings c)) []
 
 -- ---- values
 
@@ -79,7 +79,7 @@ array_domain d (a ∷ more) t = if is_same a.0 t then Objects d ∷ [] else arra
 abbrev pub meant_values : Setting → Meant → List Item
 meant_values setting NoReference = Plain Null ∷ []
 meant_values setting (names.Objects c) = Objects c ∷ []
-meant_values setting (names.Arrays t) = array_domain (length setting.table.classes) setting.arrays t
+meant_values setting (names.Arrays t) = array_domain (length setting.table.headings) setting.arrays t
 meant_values setting Unknown = []
 
 abbrev pub item_values : Setting → FinItem → List Item
@@ -117,17 +117,17 @@ field_spots setting k (f ∷ fs) =
     record { spot = FieldSpot k; domain = values_given setting setting.document.fields (field_key setting.table f) }
     ∷ field_spots setting (k + 1) fs
 
-abbrev pub class_domain : Setting → ℕ → Class → ClassDomain
-class_domain setting c d = record {
-  name = d.name;
+abbrev pub class_domain : Setting → ℕ → Heading → ClassDomain
+class_domain setting c h = record {
+  name = h.name;
   class = Object c;
-  count = count_named setting.document.objects d.name;
+  count = count_named setting.document.objects h.name;
   spots = field_spots setting 0 (fields_of setting.table c);
 }
 
-abbrev pub class_domains : Setting → ℕ → List Class → List ClassDomain
+abbrev pub class_domains : Setting → ℕ → List Heading → List ClassDomain
 class_domains setting c [] = []
-class_domains setting c (d ∷ ds) = class_domain setting c d ∷ class_domains setting (c + 1) ds
+class_domains setting c (h ∷ hs) = class_domain setting c h ∷ class_domains setting (c + 1) hs
 
 -- the greatest of some lengths
 abbrev pub greatest : Domain → ℕ
@@ -155,7 +155,7 @@ array_class_domain setting a = record {
 }
 
 abbrev pub domains_of : Setting → List ClassDomain
-domains_of setting = class_domains setting 0 setting.table.classes ++ map (array_class_domain setting) setting.arrays
+domains_of setting = class_domains setting 0 setting.table.headings ++ map (array_class_domain setting) setting.arrays
 
 -- ---- root, method and parameters
 

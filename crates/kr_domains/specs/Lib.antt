@@ -5,3 +5,4 @@ pub mod Faults
 pub mod Meaning
 pub mod Laws
 pub mod Examples
+pub mod Limits

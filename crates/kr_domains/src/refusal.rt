@@ -2,7 +2,7 @@
 ghost use Rattle.std.specs.Prelude.{◌≡◌};
 ghost use Rattle.kr_domains.specs.Order.{rule_code};
 
-use kr_fin::Text;
+use crate::item::ItemName;
 
 /// A rule of documents beside a program, by what breaks it.
 #[derive(Clone, Copy, Debug, PartialEq, Eq)]
@@ -50,7 +50,7 @@ impl SpaceRule {
 #[derive(Debug, Drop)]
 pub struct Fault {
     pub rule: SpaceRule,
-    pub item: Text,
+    pub item: ItemName,
 }
 
 /// The document was refused: it breaks a rule, or memory was refused.

@@ -19,6 +19,15 @@ impl<T> Model for Listed<T> {
     ghost view = { λ l. l.items.items };
 }
 
+impl<T> Listed<T> {
+    /// The items of a vector. It takes no memory.
+    pub fn from_vec(items: Vec<T>) -> Self
+        ensures { result ≡ items.items }
+    {
+        Listed { items }
+    }
+}
+
 impl<T: Drop> Listed<T> {
     /// The empty list. It takes no memory.
     pub fn new(alloc: Global) -> Self

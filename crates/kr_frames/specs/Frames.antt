@@ -2,13 +2,14 @@
 use Rattle.std.specs.Prelude.{ℕ, true, false, List, [], ◌∷◌, map, take, reverse}
 use Rattle.kr_value.specs.declared.value.Value.{Value}
 use Rattle.kr_value.specs.declared.value.Value.TheVariants.{Bool as Truth, Null}
-use Rattle.kr_mean.specs.Steps.{Stuck, State, Outcome, Run, go_on, say, give, stop, ◌>>=◌, ◌>>◌, get_this, assign, within, element, class_or_null, class_of}
+use Rattle.kr_mean.specs.Steps.{Stuck, State, Outcome, Run, go_on, say, give, stop, ◌>>=◌, ◌>>◌, get_this, assign, within, element, class_or_null, class_of, collect}
 use Rattle.kr_mean.specs.Operators.{operated, operated_alone, gives_old}
 use Rattle.kr_mean.specs.Meaning as meaning
 use Rattle.kr_mean.specs.Meaning.{then_on, then_round, then_update, returned, completed, choose, stepped, change_from}
 use Rattle.kr_code.specs.declared.code.Code.{Code}
 use Rattle.kr_code.specs.declared.expression.Nodes.{Nodes}
 use Rattle.kr_code.specs.Tables.{listed, method_at, class_at}
+use Rattle.kr_code.specs.Collections.{name_of, new_collection}
 use Rattle.kr_code.specs.Steps.{load_named, store_field, store_initial, store_item, cast_to, instance_of}
 use Rattle.kr_code.specs.Doing.{Doing, values_at, all_at, updates_at, run_method, run_numbered, run_on, initialised, constructed, create, array_of, compound, initial_value, all_declared, condition, for_round}
 use Rattle.kr_world.specs.declared.world.Local.{Local}
@@ -27,6 +28,8 @@ use Rattle.kr_frames.specs.declared.frame.Change.{Change}
 use Rattle.kr_frames.specs.declared.frame.Change.TheVariants as changes
 use Rattle.kr_frames.specs.declared.frame.Loop.{Loop}
 use Rattle.kr_frames.specs.declared.frame.Loop.TheVariants as loops
+use Rattle.kr_frames.specs.declared.frame.WriteFrame.{WriteFrame}
+use Rattle.kr_frames.specs.declared.frame.WriteFrame.TheVariants as writes
 use Rattle.kr_frames.specs.declared.frame.ValueFrame.{ValueFrame}
 use Rattle.kr_frames.specs.declared.frame.ValueFrame.TheVariants as values
 use Rattle.kr_frames.specs.declared.frame.TestFrame.{TestFrame}
@@ -63,6 +66,8 @@ applied code d (goals.Own m) vs = get_this >>= (λ o. run_on code d m o vs)
 applied code d (goals.On m o) vs = run_on code d m o vs
 applied code d (goals.StaticOn m o) vs = class_of o >> run_method code d Null vs (method_at code m)
 applied code d (goals.New c) vs = create code d c vs (class_at code c)
+applied code d (goals.NewCollection class) vs = new_collection class vs
+applied code d (goals.Collect c o) vs = collect (name_of c) o vs
 
 -- behind the superclass's constructor
 abbrev pub behind : Code → Doing → Value → Nodes → Nodes → Run (Unit {0})
@@ -106,6 +111,19 @@ turned code d l v = choose v (round_of code d l >>= (λ flow. then_round flow (r
 
 -- ---- frames
 
+-- a variable is written, or its parts come next
+abbrev pub wrote : Code → Doing → WriteFrame → Value → Run Value
+wrote code d (writes.Put cell) v = written code cell v >> give v
+wrote code d (writes.PutOwn field) v = get_this >>= (λ o. store_field code field o v >> give v)
+wrote code d (writes.FieldOf field e) o = d.value e >>= (λ v. store_field code field o v >> give v)
+wrote code d (writes.ItemOf i e t) a = d.value i >>= (λ j. d.value e >>= (λ v. store_item code t a j v >> give v))
+wrote code d (writes.ItemAt e t a) j = d.value e >>= (λ v. store_item code t a j v >> give v)
+wrote code d (writes.AlterField change name field) o = load_named code name o >>= altered code d change (cells.Field field o)
+wrote code d (writes.AlterItemOf change i t) a = d.value i >>= (λ j. element a j >>= altered code d change (cells.Item t a j))
+wrote code d (writes.AlterItemAt change t a) j = element a j >>= altered code d change (cells.Item t a j)
+wrote code d (writes.Stepped o cell v) w = written code cell (change_from (gives_old o) v w).new >> give (change_from (gives_old o) v w).given
+wrote code d (writes.Alter change cell) v = altered code d change cell v
+
 abbrev pub got : Code → Doing → ValueFrame → Value → Run Value
 got code d (values.Load name) v = load_named code name v
 got code d (values.ElementOf i) v = d.value i >>= element v
@@ -121,16 +139,8 @@ got code d (values.Cast t) v = class_or_null v >>= cast_to code t v
 got code d (values.NewArray k default) v = array_of k default v
 got code d (values.CallOn m ns) v = values_at d (listed code ns) >>= run_on code d m v
 got code d (values.StaticCallOn m ns) v = values_at d (listed code ns) >>= (λ vs. class_of v >> run_method code d Null vs (method_at code m))
-got code d (values.Write cell) v = written code cell v >> give v
-got code d (values.WriteOwn field) v = get_this >>= (λ o. store_field code field o v >> give v)
-got code d (values.FieldOf field e) o = d.value e >>= (λ v. store_field code field o v >> give v)
-got code d (values.ItemOf i e t) a = d.value i >>= (λ j. d.value e >>= (λ v. store_item code t a j v >> give v))
-got code d (values.ItemAt e t a) j = d.value e >>= (λ v. store_item code t a j v >> give v)
-got code d (values.AlterField change name field) o = load_named code name o >>= altered code d change (cells.Field field o)
-got code d (values.AlterItemOf change i t) a = d.value i >>= (λ j. element a j >>= altered code d change (cells.Item t a j))
-got code d (values.AlterItemAt change t a) j = element a j >>= altered code d change (cells.Item t a j)
-got code d (values.Stepped o cell v) w = written code cell (change_from (gives_old o) v w).new >> give (change_from (gives_old o) v w).given
-got code d (values.Alter change cell) v = altered code d change cell v
+got code d (values.CallCollection c ns) v = values_at d (listed code ns) >>= collect (name_of c) v
+got code d (values.Write f) v = wrote code d f v
 
 abbrev pub tested : Code → Doing → TestFrame → Value → Run meaning.Flow
 tested code d (tests.Then a) v = choose v (d.exec a) (give meaning.Next)

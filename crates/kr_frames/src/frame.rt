@@ -1,8 +1,8 @@
 // What waits for a value, for a statement's end, or for something that gives nothing.
 
 use kr_ast::{BinaryOperator, StepOperator, UnaryOperator};
-use kr_code::Nodes;
-use kr_value::Value;
+use kr_code::{CollectionCall, Nodes};
+use kr_value::{Class, Value};
 use kr_world::{Cell, Local};
 
 /// What is done with arguments.
@@ -20,6 +20,10 @@ pub enum Goal {
     StaticOn(u32, Value),
     /// A new object of a class.
     New(u32),
+    /// A new collection.
+    NewCollection(Class),
+    /// A call on a collection.
+    Collect(CollectionCall, Value),
 }
 
 /// What is done once the arguments of a superclass's constructor are there: the line of classes and the object, and then
@@ -47,6 +51,28 @@ pub enum Loop {
     For(Option<u32>, Nodes, u32),
 }
 
+/// What writes a variable, from a value.
+#[derive(Clone, Copy, Debug)]
+pub enum WriteFrame {
+    /// A variable gets the value.
+    Put(Cell),
+    /// A field of `this` gets it.
+    PutOwn(u32),
+    /// The value of an object's field comes next.
+    FieldOf(u32, u32),
+    /// Index, value and array type come next.
+    ItemOf(u32, u32, u32),
+    ItemAt(u32, u32, Value),
+    /// A field, by its name and as one that is stored, changes.
+    AlterField(Change, u32, u32),
+    AlterItemOf(Change, u32, u32),
+    AlterItemAt(Change, u32, Value),
+    /// A variable that had a value gets the next one, and one of both is given.
+    Stepped(StepOperator, Cell, Value),
+    /// A variable changes from the value.
+    Alter(Change, Cell),
+}
+
 /// What makes a value of a value.
 #[derive(Clone, Copy, Debug)]
 pub enum ValueFrame {
@@ -64,23 +90,9 @@ pub enum ValueFrame {
     NewArray(Option<u32>, Value),
     CallOn(u32, Nodes),
     StaticCallOn(u32, Nodes),
-    /// A variable gets the value.
-    Write(Cell),
-    /// A field of `this` gets it.
-    WriteOwn(u32),
-    /// The value of an object's field comes next.
-    FieldOf(u32, u32),
-    /// Index, value and array type come next.
-    ItemOf(u32, u32, u32),
-    ItemAt(u32, u32, Value),
-    /// A field, by its name and as one that is stored, changes.
-    AlterField(Change, u32, u32),
-    AlterItemOf(Change, u32, u32),
-    AlterItemAt(Change, u32, Value),
-    /// A variable that had a value gets the next one, and one of both is given.
-    Stepped(StepOperator, Cell, Value),
-    /// A variable changes from the value.
-    Alter(Change, Cell),
+    CallCollection(CollectionCall, Nodes),
+    /// A variable is written.
+    Write(WriteFrame),
 }
 
 /// What leads on after a value.

@@ -6,6 +6,8 @@ mod frame;
 mod stack;
 mod task;
 
-pub use frame::{Change, FlowFrame, Frame, Goal, Loop, TestFrame, UnitFrame, Up, ValueFrame};
+pub use frame::{
+    Change, FlowFrame, Frame, Goal, Loop, TestFrame, UnitFrame, Up, ValueFrame, WriteFrame,
+};
 pub use stack::Stack;
 pub use task::{Flow, Task};

@@ -3,4 +3,4 @@ use Rattle.kr_value.specs.Heaps.{HeapObject}
 use Rattle.kr_heap.specs.declared.object.Object.{Object}
 
 abbrev pub shown : Object → HeapObject
-shown o = record { class = o.class; values = o.values.items }
+shown o = record { class = o.class; values = o.values }

@@ -1,8 +1,11 @@
 // The objects of a running program, by their numbers.
-ghost use Rattle.std.specs.Prelude.{◌≡◌, [], ◌∷◌, ◌++◌, length, ◌≤◌, take, OnOk, OnErr, IfOk};
+ghost use Rattle.std.specs.Prelude.{◌≡◌, [], ◌∷◌, ◌++◌, length, ◌<◌, ◌≤◌, take, OnOk, OnErr, IfOk};
+ghost use Rattle.std.specs.Borrow.{sem};
 ghost use Rattle.kr_value.specs.Heaps.{object_in};
 ghost use Rattle.kr_heap.specs.Objects.{found, with_value, with_values};
+ghost use Rattle.kr_heap.specs.Lending.{LendsMembers};
 
+use crate::Members;
 use crate::object::Object;
 use kr_base::NoMemory;
 use kr_value::{Class, Obj, Spot, Value};
@@ -56,7 +59,7 @@ impl Heap {
         ensures { result ≡ length (object_in self.now object).values }
     {
         match self.objects.get(object as usize) {
-            Some(found) => found.values.len(),
+            Some(found) => found.values.as_slice().len(),
             None => 0,
         }
     }
@@ -80,6 +83,24 @@ impl Heap {
         }
     }
 
+    /// An object's fields or elements, or the members of a collection.
+    pub fn members(&self, object: Obj) -> &[Value]
+        requires { object < length self.now }
+        ensures { result.now ≡ (object_in self.now object).values }
+    {
+        self.objects[object as usize].values.as_slice()
+    }
+
+    /// The members of a collection, to be changed.
+    pub fn members_mut(&mut self, object: Obj) -> &mut Members
+        requires { object < length self.old }
+        ensures* lends { sem 𝓛 (LendsMembers self.entry object result) }
+        ensures members { result.now ≡ (object_in self.old object).values }
+    {
+        let found = &mut self.objects[object as usize];
+        &mut found.values
+    }
+
     /// A new object with these values, behind all others.
     pub fn allocate(&mut self, class: Class, values: Vec<Value>) -> Result<Obj, NoMemory>
         requires { length values.items ≤ 2147483647 }
@@ -90,6 +111,7 @@ impl Heap {
         let Ok(number) = u32::try_from(self.objects.len()) else {
             return Err(NoMemory);
         };
+        let values = Members::from_vec(values);
         self.objects.push(Object { class, values })?;
         Ok(number)
     }

@@ -1,29 +1,30 @@
-// The members of a collection, in the order in which they were added.
-ghost use Rattle.std.specs.Prelude.{◌≡◌, ◌<◌, [], ◌∷◌, ◌++◌, length, drop, take, slice_index_or, OnOk, OnErr, IsSome, MatchOption, ◌↔◌};
+// What an object has, in order: fields, elements, or the members of a collection.
+ghost use Rattle.std.specs.Prelude.{◌≡◌, ◌<◌, ◌≤◌, [], ◌∷◌, ◌++◌, length, take, slice_get, slice_set, OnOk, OnErr, MatchOption};
 ghost use Rattle.std.specs.List.{remove};
 
 use kr_base::NoMemory;
-use kr_value::Obj;
+use kr_value::Value;
 use std::alloc::Global;
 use std::marker::Model;
 
-/// The members of a collection: objects, or null, which is `None`. The first one is taken away in constant time. Contracts
-/// see the list.
+/// The fields, elements or members of an object: at most 2147483647, so that a length is an int. The first one is taken away
+/// in constant time, on average over the calls. Contracts see the list.
 #[derive(Debug, Drop)]
 pub struct Members {
-    items: Vec<Option<Obj>>,
+    items: Vec<Value>,
     // how many of the items are gone from the front
     gone: usize,
 }
 
 impl Model for Members {
-    ghost use Rattle.std.specs.Prelude.{List, ℕ, Option, drop, vec_len, ◌≤◌};
+    ghost use Rattle.std.specs.Prelude.{List, drop, vec_len, ◌≤◌, ◌+◌};
+    ghost use Rattle.kr_value.specs.declared.value.Value.{Value as Member};
 
-    ghost Value = { List (Option ℕ) };
+    ghost Value = { List Member };
 
     ghost view = { λ m. drop m.gone m.items.items };
 
-    ghost invariant = { λ m. m.gone ≤ vec_len m.items };
+    ghost invariant = { λ m. (m.gone ≤ vec_len m.items) × (vec_len m.items ≤ m.gone + 2147483647) };
 }
 
 impl Members {
@@ -37,10 +38,36 @@ impl Members {
         }
     }
 
-    pub fn as_slice(&self) -> &[Option<Obj>]
-        ensures { result.now ≡ self.now }
+    /// These members.
+    pub fn from_vec(items: Vec<Value>) -> Self
+        requires { length items.items ≤ 2147483647 }
+        ensures { result ≡ items.items }
+    {
+        Members { items, gone: 0 }
+    }
+
+    pub fn as_slice(&self) -> &[Value]
+        ensures members { result.now ≡ self.now }
+        ensures few { length result.now ≤ 2147483647 }
     {
         &self.items[self.gone..]
+    }
+
+    /// The member at a position, if there is one.
+    pub fn get(&self, at: usize) -> Option<Value>
+        ensures { result ≡ slice_get self.now at }
+    {
+        self.as_slice().get(at).copied()
+    }
+
+    /// Puts another member at a position, where there is one.
+    #[tactic(auto, using(crate::proofs::Parts::drop_replaced))]
+    pub fn set(&mut self, at: usize, member: Value)
+        ensures { self.new ≡ slice_set self.old at member }
+    {
+        if at < self.items.len() - self.gone {
+            self.items[self.gone + at] = member;
+        }
     }
 
     // Gives the room of what is gone back, where that is most of the list.
@@ -54,17 +81,20 @@ impl Members {
     }
 
     /// Adds a member at the end.
-    pub fn push(&mut self, member: Option<Obj>) -> Result<(), NoMemory>
+    pub fn push(&mut self, member: Value) -> Result<(), NoMemory>
         ensures added { OnOk result (self.new ≡ self.old ++ member ∷ []) }
         ensures unchanged { OnErr result (self.new ≡ self.old) }
     {
+        if self.as_slice().len() >= 2147483647 {
+            return Err(NoMemory);
+        }
         self.compact();
         self.items.push(member)?;
         Ok(())
     }
 
     /// Takes the first member away.
-    pub fn pop_first(&mut self) -> Option<Option<Obj>>
+    pub fn pop_first(&mut self) -> Option<Value>
         ensures { MatchOption result ((self.old ≡ []) × (self.new ≡ [])) (λ m. self.old ≡ m ∷ self.new) }
     {
         let first = *self.as_slice().first()?;
@@ -79,5 +109,15 @@ impl Members {
         ensures { self.new ≡ remove self.old at }
     {
         let _ = self.items.remove(self.gone + at);
+    }
+
+    /// The first members alone.
+    #[tactic(auto, using(crate::proofs::Parts::drop_taken))]
+    pub fn truncate(&mut self, count: usize)
+        ensures { self.new ≡ take count self.old }
+    {
+        if count < self.items.len() - self.gone {
+            self.items.truncate(self.gone + count);
+        }
     }
 }

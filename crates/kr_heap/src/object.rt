@@ -1,6 +1,5 @@
 // One object of a heap.
-ghost use Rattle.std.specs.Prelude.{◌≤◌, vec_len};
-
+use crate::Members;
 use kr_base::NoMemory;
 use kr_value::{Class, Spot, Value};
 
@@ -8,9 +7,7 @@ use kr_value::{Class, Spot, Value};
 #[derive(Debug, Drop)]
 pub struct Object {
     pub class: Class,
-    pub values: Vec<Value>,
-    /// A length is an int.
-    pub ghost small: { vec_len values ≤ 2147483647 },
+    pub values: Members,
 }
 
 impl Object {
@@ -23,40 +20,37 @@ impl Object {
         ensures { result ≡ found (shown self.now) spot }
     {
         match (self.class, spot) {
-            (Class::Object(_), Spot::Field(at)) => self.values.get(at as usize).copied(),
-            (Class::Array(_), Spot::Element(at)) => self.values.get(at as usize).copied(),
-            (Class::Array(_), Spot::Length) => match i32::try_from(self.values.len()) {
-                Ok(length) => Some(Value::Int(length)),
-                Err(_) => None,
-            },
+            (Class::Object(_), Spot::Field(at)) => self.values.get(at as usize),
+            (Class::Array(_), Spot::Element(at)) => self.values.get(at as usize),
+            (Class::Array(_), Spot::Length) => {
+                match i32::try_from(self.values.as_slice().len()) {
+                    Ok(length) => Some(Value::Int(length)),
+                    Err(_) => None,
+                }
+            }
             _ => None,
         }
     }
 
     pub fn write(&mut self, at: usize, value: Value)
         ensures class { self.new.class ≡ self.old.class }
-        ensures values { self.new.values.items ≡ slice_set self.old.values.items at value }
+        ensures values { self.new.values ≡ slice_set self.old.values at value }
     {
-        if at < self.values.len() {
-            self.values[at] = value;
-        }
+        self.values.set(at, value);
     }
 
     pub fn truncate(&mut self, count: usize)
         ensures class { self.new.class ≡ self.old.class }
-        ensures values { self.new.values.items ≡ take count self.old.values.items }
+        ensures values { self.new.values ≡ take count self.old.values }
     {
         self.values.truncate(count);
     }
 
     pub fn push(&mut self, value: Value) -> Result<(), NoMemory>
         ensures class { self.new.class ≡ self.old.class }
-        ensures added { OnOk result (self.new.values.items ≡ self.old.values.items ++ value ∷ []) }
-        ensures unchanged { OnErr result (self.new.values.items ≡ self.old.values.items) }
+        ensures added { OnOk result (self.new.values ≡ self.old.values ++ value ∷ []) }
+        ensures unchanged { OnErr result (self.new.values ≡ self.old.values) }
     {
-        if self.values.len() >= 2147483647 {
-            return Err(NoMemory);
-        }
         self.values.push(value)?;
         Ok(())
     }

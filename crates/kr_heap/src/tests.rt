@@ -30,3 +30,25 @@ fn objects(rt: HostRuntime) -> Result<(), Fail> {
     assert_eq!(rt; heap.class_of(1), Class::Object(0));
     Ok(())
 }
+
+#[test]
+fn members(rt: HostRuntime) -> Result<(), Fail> {
+    let alloc = rt.alloc();
+    let mut heap = Heap::new(alloc);
+    let list = heap.allocate(Class::List, Vec::new(alloc))?;
+    let members = heap.members_mut(list);
+    members.push(Value::Ref(0))?;
+    members.push(Value::Ref(1))?;
+    members.push(Value::Ref(2))?;
+    members.push(Value::Ref(3))?;
+    members.push(Value::Ref(4))?;
+    assert_eq!(rt; members.pop_first(), Some(Value::Ref(0)));
+    members.set(0, Value::Null);
+    members.remove(1);
+    assert_eq!(rt; members.get(1), Some(Value::Ref(3)));
+    members.truncate(1);
+    assert_eq!(rt; members.get(1), None);
+    assert_eq!(rt; heap.members(list).len(), 1);
+    assert_eq!(rt; heap.read(list, Spot::Length), None);
+    Ok(())
+}

@@ -2,6 +2,7 @@
 use Rattle.std.proofs.Common.{◌≡◌, refl}
 use Rattle.std.specs.Prelude.{pos, [], ◌∷◌, codes, Some, Ok}
 use Rattle.kr_ast.specs.declared.node.BinaryOperator.TheVariants.{Add, Divide, And}
+use Rattle.kr_ast.specs.declared.node.StepOperator.TheVariants.{DecrementBehind}
 use Rattle.kr_ast.specs.Tree as trees
 use Rattle.kr_ast.specs.Tree.{Nil}
 use Rattle.kr_mean_examples.specs.Constructs.{list_of}
@@ -16,7 +17,7 @@ use Rattle.kr_mean.specs.Heaps.{heap_of}
 use Rattle.kr_mean.specs.Steps.{bind}
 use Rattle.kr_mean.specs.Meaning.{eval, exec, value, body_of}
 use Rattle.kr_mean.specs.Verdicts.{verdict_of}
-use Rattle.kr_mean_examples.specs.Tests.{Tests, tested, of_new, name, number, yes, no, equal, result, old_at, give_back, assign, local, v, x, next_v}
+use Rattle.kr_mean_examples.specs.Tests.{Tests, tested, of_new, name, number, yes, no, equal, result, old_at, give_back, assign, local, v, x, next_v, of_heir}
 
 passes : tested yes (equal result (trees.Binary nowhere Add v x) ∷ []) (give_back (trees.Binary nowhere Add v x) ∷ []) 100 ≡ Some Pass
 unfolding table_of values_of is_constant evaluated judged heap_of bind eval exec value body_of verdict_of
@@ -94,6 +95,14 @@ body_spent : tested yes [] (trees.While nowhere yes (trees.Empty nowhere) ∷ []
 unfolding table_of values_of is_constant evaluated judged heap_of bind eval exec value body_of verdict_of
 body_spent = refl
 
+decremented_behind : tested yes (equal result (number 2) ∷ []) (give_back (trees.Step nowhere DecrementBehind x) ∷ []) 100 ≡ Some Pass
+unfolding table_of values_of is_constant evaluated judged heap_of bind eval exec value body_of verdict_of
+decremented_behind = refl
+
+compound_gives_new : tested yes (equal result (number 5) ∷ []) (give_back (trees.CompoundAssignment nowhere Add x (number 3)) ∷ []) 100 ≡ Some Pass
+unfolding table_of values_of is_constant evaluated judged heap_of bind eval exec value body_of verdict_of
+compound_gives_new = refl
+
 block_ends : tested yes (equal result (number 0) ∷ []) (trees.Block nowhere (list_of (local (codes "a") (number 7) ∷ [])) ∷ local (codes "b") Nil ∷ give_back (name (codes "b")) ∷ []) 100 ≡ Some Pass
 unfolding table_of values_of is_constant evaluated judged heap_of bind eval exec value body_of verdict_of
 block_ends = refl
@@ -105,6 +114,18 @@ initial_value_after_super = refl
 statements_last : of_new (codes "b") ≡ (Ok (Int (pos 7)), 8, [])
 unfolding table_of values_of is_constant evaluated judged heap_of bind eval exec value body_of verdict_of
 statements_last = refl
+
+initial_value_after_implied_super : of_heir (codes "B") (codes "b") ≡ (Ok (Int (pos 5)), 13, [])
+unfolding table_of values_of is_constant evaluated judged heap_of bind eval exec value body_of verdict_of
+initial_value_after_implied_super = refl
+
+initial_values_of_own_class : of_heir (codes "C") (codes "a") ≡ (Ok (Int (pos 5)), 14, [])
+unfolding table_of values_of is_constant evaluated judged heap_of bind eval exec value body_of verdict_of
+initial_values_of_own_class = refl
+
+return_leaves : of_heir (codes "D") (codes "a") ≡ (Ok (Int (pos 5)), 12, [])
+unfolding table_of values_of is_constant evaluated judged heap_of bind eval exec value body_of verdict_of
+return_leaves = refl
 
 pub tests : Tests
 tests = record {
@@ -127,7 +148,12 @@ tests = record {
   old_exact = old_exact;
   old_one_short = old_one_short;
   body_spent = body_spent;
+  decremented_behind = decremented_behind;
+  compound_gives_new = compound_gives_new;
   block_ends = block_ends;
   initial_value_after_super = initial_value_after_super;
   statements_last = statements_last;
+  initial_value_after_implied_super = initial_value_after_implied_super;
+  initial_values_of_own_class = initial_values_of_own_class;
+  return_leaves = return_leaves;
 }

@@ -2,6 +2,7 @@
 use Rattle.std.specs.Prelude.{◌≡◌, ℕ, pos, List, [], ◌∷◌, map, true, false, codes, Option, Some, Ok}
 use Rattle.kr_ast.specs.declared.node.Primitive.TheVariants as primitives
 use Rattle.kr_ast.specs.declared.node.BinaryOperator.TheVariants.{Equal, Add, Divide, And}
+use Rattle.kr_ast.specs.declared.node.StepOperator.TheVariants.{DecrementBehind}
 use Rattle.kr_ast.specs.Tree as trees
 use Rattle.kr_ast.specs.Tree.{Tree, Nil}
 use Rattle.kr_value.specs.declared.value.Value.TheVariants.{Int, Null}
@@ -105,6 +106,19 @@ heirs = program_of (list_of (
 abbrev pub of_new : List ℕ → Shown
 of_new n = run_in heirs [] 0 20 (field_of (trees.ObjectCreation nowhere (trees.NamedType nowhere (codes "B")) Nil) n)
 
+-- class R { } class A { int a = 1; A() { a = 5; } } class B extends A { int b = a; } class C extends A { C() { } }
+-- class D { int a; D() { a = 5; if (true) return; a = 6; } }
+abbrev pub implied : Program
+implied = program_of (list_of (
+    trees.Class nowhere (codes "R") Nil Nil
+    ∷ trees.Class nowhere (codes "A") Nil (list_of (field int (codes "a") (number 1) ∷ trees.Constructor nowhere Nil Nil (list_of (assign (codes "a") (number 5) ∷ [])) ∷ []))
+    ∷ trees.Class nowhere (codes "B") (trees.NamedType nowhere (codes "A")) (list_of (field int (codes "b") (name (codes "a")) ∷ []))
+    ∷ trees.Class nowhere (codes "C") (trees.NamedType nowhere (codes "A")) (list_of (trees.Constructor nowhere Nil Nil Nil ∷ []))
+    ∷ trees.Class nowhere (codes "D") Nil (list_of (field int (codes "a") Nil ∷ trees.Constructor nowhere Nil Nil (list_of (assign (codes "a") (number 5) ∷ trees.IfThen nowhere yes (trees.Return nowhere Nil) ∷ assign (codes "a") (number 6) ∷ [])) ∷ [])) ∷ []) ∷ [])
+
+abbrev pub of_heir : List ℕ → List ℕ → Shown
+of_heir class n = run_in implied [] 0 20 (field_of (trees.ObjectCreation nowhere (trees.NamedType nowhere class) Nil) n)
+
 pub record Tests : Type 0 where
   pub passes : tested yes (equal result (trees.Binary nowhere Add v x) ∷ []) (give_back (trees.Binary nowhere Add v x) ∷ []) 100 ≡ Some Pass
   pub without_contract : tested yes [] (give_back (number 0) ∷ []) 100 ≡ Some Pass
@@ -130,8 +144,17 @@ pub record Tests : Type 0 where
   pub old_exact : tested yes (equal (old_at 1 v) (number 5) ∷ []) (give_back (number 0) ∷ []) 10 ≡ Some Pass
   pub old_one_short : tested yes (equal (old_at 1 v) (number 5) ∷ []) (give_back (number 0) ∷ []) 9 ≡ Some Spent
   pub body_spent : tested yes [] (trees.While nowhere yes (trees.Empty nowhere) ∷ []) 100 ≡ Some Spent
+  -- `x--` gives the value before
+  pub decremented_behind : tested yes (equal result (number 2) ∷ []) (give_back (trees.Step nowhere DecrementBehind x) ∷ []) 100 ≡ Some Pass
+  -- and `x += 3` the one behind
+  pub compound_gives_new : tested yes (equal result (number 5) ∷ []) (give_back (trees.CompoundAssignment nowhere Add x (number 3)) ∷ []) 100 ≡ Some Pass
   -- a block's locals end with it, so the next one begins at its default
   pub block_ends : tested yes (equal result (number 0) ∷ []) (trees.Block nowhere (list_of (local (codes "a") (number 7) ∷ [])) ∷ local (codes "b") Nil ∷ give_back (name (codes "b")) ∷ []) 100 ≡ Some Pass
   -- the superclass's constructor is done before the initial values, and those before the constructor's own statements
   pub initial_value_after_super : of_new (codes "c") ≡ (Ok (Int (pos 5)), 8, [])
   pub statements_last : of_new (codes "b") ≡ (Ok (Int (pos 7)), 8, [])
+  -- so it is with an implied constructor; and each field's initial value is its own class's to write
+  pub initial_value_after_implied_super : of_heir (codes "B") (codes "b") ≡ (Ok (Int (pos 5)), 13, [])
+  pub initial_values_of_own_class : of_heir (codes "C") (codes "a") ≡ (Ok (Int (pos 5)), 14, [])
+  -- behind a `return` nothing is done
+  pub return_leaves : of_heir (codes "D") (codes "a") ≡ (Ok (Int (pos 5)), 12, [])

@@ -183,13 +183,13 @@ impl Layout {
         self.classes.as_slice().len()
     }
 
-    /// The name of the class or array type of a class domain.
-    pub fn name(&self, domain: u32) -> &str
+    /// The bytes of the name of a class domain's class or array type.
+    pub fn name(&self, domain: u32) -> &[u8]
         requires { domain < length self.now.domains }
         ensures { result.now ≡ (domain_at (bare self.now) domain).name }
     {
         let class = &self.classes.as_slice()[domain as usize];
-        class.name.as_str()
+        class.name.as_slice()
     }
 
     /// What the objects of a class domain are of.

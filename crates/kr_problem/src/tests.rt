@@ -1,7 +1,7 @@
 // Small problems, worked by hand.
 
 use crate::{ClassDomain, Item, Layout, SlotPlace, Spotted, any_program_law};
-use kr_fin::{Listed, Text};
+use kr_fin::Listed;
 use kr_iso::{Object, Slots};
 use kr_mean::Mode;
 use kr_value::{Class, Spot, Value};
@@ -31,7 +31,7 @@ fn class_domain(
         })?;
     }
     Ok(ClassDomain {
-        name: Text::of(alloc, name)?,
+        name: listed(alloc, name.as_bytes())?,
         class,
         count,
         spots: list,
@@ -79,7 +79,7 @@ fn object_at(layout: &Layout, object: Object) -> Option<(u32, u32)> {
 }
 
 // What there is of a class domain, if it is there.
-fn domain_at(layout: &Layout, domain: u32) -> Option<(&str, Class, u32, usize)> {
+fn domain_at(layout: &Layout, domain: u32) -> Option<(&[u8], Class, u32, usize)> {
     if (domain as usize) < layout.domains() {
         Some((
             layout.name(domain),
@@ -234,8 +234,8 @@ fn values(rt: HostRuntime) -> Result<(), Fail> {
 fn objects(rt: HostRuntime) -> Result<(), Fail> {
     let layout = lists(rt.alloc())?;
     assert_eq!(rt; layout.domains(), 3);
-    assert!(rt; domain_at(&layout, 1) == Some(("Node", Class::Object(1), 2, 2)));
-    assert!(rt; domain_at(&layout, 2) == Some(("Node[]", Class::Array(0), 1, 3)));
+    assert!(rt; domain_at(&layout, 1) == Some((b"Node".as_slice(), Class::Object(1), 2, 2)));
+    assert!(rt; domain_at(&layout, 2) == Some((b"Node[]".as_slice(), Class::Array(0), 1, 3)));
     assert!(rt; domain_at(&layout, 3).is_none());
     assert!(rt; object_at(&layout, ROOT) == Some((0, 3)));
     assert!(rt; object_at(&layout, SECOND) == Some((2, 7)));

@@ -1,6 +1,5 @@
 // One row of a listing.
 ghost use Rattle.std.specs.Prelude.{◌≡◌, ◌++◌, ◌≤◌, IfOk, OnOk, codes, map};
-ghost use Rattle.kr_base.specs.Told.{Writes};
 ghost use Rattle.kr_base.specs.Cuts.{cut_text};
 ghost use Rattle.kr_mean.specs.Space.{space_of, IsVector};
 ghost use Rattle.kr_mean.specs.Runs.{end_on, key_of};
@@ -66,21 +65,41 @@ fn copy_key(alloc: Global, cut: &mut Cut, key: &[u32]) -> Result<(), NoMemory>
     Ok(())
 }
 
-/// Puts a key and the structure of the candidate that stands, as a line.
-fn put_line<S: Structures, R: Runner, K: Sink>(
+/// Adds a key to a line.
+fn add_key(line: &mut Line, key: &Cut) -> Result<(), NoMemory>
+    ensures { OnOk result (line_bytes line.new ≡ line_bytes line.old ++ cut_text key.now) }
+{
+    match key.write(line) {
+        Ok(()) => Ok(()),
+        Err(Failed) => Err(NoMemory),
+    }
+}
+
+/// Adds bytes to a line.
+fn add_bytes(line: &mut Line, bytes: &[u8]) -> Result<(), NoMemory>
+    ensures { OnOk result (line_bytes line.new ≡ line_bytes line.old ++ bytes.now) }
+{
+    match put_all(line, bytes) {
+        Ok(()) => Ok(()),
+        Err(Failed) => Err(NoMemory),
+    }
+}
+
+/// Adds a key and the structure of the candidate that stands to a line, and ends it.
+fn add_row<S: Structures, R: Runner>(
     structures: &S,
     key: &Cut,
     candidate: &R,
-    out: &mut K,
-) -> Result<(), Failed>
+    line: &mut Line,
+) -> Result<(), NoMemory>
     requires { IsVector (space_of (S.problem structures.now)) (R.vector candidate.now) }
-    ensures { Writes K.taken K.faults out.old out.new
-        (((cut_text key.now ++ codes " ") ++ structure_text (S.problem structures.now) (structure_of (S.problem structures.now) (R.vector candidate.now))) ++ codes "\n") result }
+    ensures { OnOk result (line_bytes line.new ≡ (((line_bytes line.old ++ cut_text key.now) ++ codes " ") ++ structure_text (S.problem structures.now) (structure_of (S.problem structures.now) (R.vector candidate.now))) ++ codes "\n") }
 {
-    key.write(out)?;
-    put_all(out, b" ")?;
-    structures.put_structure(candidate, out)?;
-    put_all(out, b"\n")
+    add_key(line, key)?;
+    add_bytes(line, b" ")?;
+    structures.add_structure(candidate, line)?;
+    add_bytes(line, b"\n")?;
+    Ok(())
 }
 
 /// Makes the line of the candidate that stands.
@@ -95,10 +114,7 @@ fn make_line<S: Structures, R: Runner>(
     ensures last { rows.new.last ≡ rows.old.last }
 {
     rows.line.clear();
-    match put_line(structures, &rows.last, candidate, &mut rows.line) {
-        Ok(()) => Ok(()),
-        Err(Failed) => Err(NoMemory),
-    }
+    add_row(structures, &rows.last, candidate, &mut rows.line)
 }
 
 /// Puts the row of the candidate that stands, by one put.

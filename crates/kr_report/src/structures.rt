@@ -1,20 +1,21 @@
 // What writes the structures of a problem's candidates.
-ghost use Rattle.std.specs.Prelude.{◌≡◌};
-ghost use Rattle.kr_base.specs.Told.{Writes};
+ghost use Rattle.std.specs.Prelude.{◌≡◌, ◌++◌, OnOk};
 ghost use Rattle.kr_mean.specs.Problem.{Problem};
 ghost use Rattle.kr_mean.specs.Space.{space_of, IsVector};
 ghost use Rattle.kr_mean.specs.Entries.{structure_of};
 ghost use Rattle.kr_report.specs.Texts.{structure_text};
+ghost use Rattle.kr_text.specs.Lines.{line_bytes};
 
-use kr_base::{Failed, Sink};
+use kr_base::NoMemory;
 use kr_scan::Runner;
+use kr_text::Line;
 
 /// A problem's names and values.
 pub trait Structures {
     ghost problem: { Self → Problem };
 
-    /// Puts the structure of the candidate that stands.
-    fn put_structure<R: Runner, K: Sink>(&self, candidate: &R, out: &mut K) -> Result<(), Failed>
+    /// Adds the structure of the candidate that stands to a line.
+    fn add_structure<R: Runner>(&self, candidate: &R, line: &mut Line) -> Result<(), NoMemory>
         requires { IsVector (space_of (problem self.now)) (R.vector candidate.now) }
-        ensures { Writes K.taken K.faults out.old out.new (structure_text (problem self.now) (structure_of (problem self.now) (R.vector candidate.now))) result };
+        ensures { OnOk result (line_bytes line.new ≡ line_bytes line.old ++ structure_text (problem self.now) (structure_of (problem self.now) (R.vector candidate.now))) };
 }

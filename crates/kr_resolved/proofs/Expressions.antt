@@ -23,6 +23,7 @@ use Rattle.kr_code.specs.declared.expression.Callee.TheVariants as callees
 use Rattle.kr_code.specs.declared.expression.Variable.{Variable}
 use Rattle.kr_code.specs.declared.expression.Expression.{Expression}
 use Rattle.kr_code.specs.declared.expression.Expression.TheVariants as expressions
+use Rattle.kr_code.specs.Collections.{call_named}
 use Rattle.kr_code.specs.Tables.{listed, method_at}
 use Rattle.kr_code.specs.Doing as doings
 use Rattle.kr_code.specs.Doing.{Doing, values_at, run_numbered, run_on, array_of}
@@ -32,6 +33,7 @@ use Rattle.kr_code.specs.Resolved.{Numbering, IsPart, AreParts, IsVariable, IsMe
 use Rattle.kr_resolved.specs.Laws.{doing_of}
 use Rattle.kr_resolved.proofs.Agreeing.{Agree, then_same, choose_same}
 use Rattle.kr_resolved.proofs.Lookups.{loads, stores, stores_item, casts, instances}
+use Rattle.kr_resolved.proofs.Collections.{collects, creates_set, creates_list}
 use Rattle.kr_resolved.proofs.Calls.{value_part, values_parts, method_runs, dispatched, creates}
 
 module _ (program : Program) (code : Code) (n : Numbering) (tables : AreTables program code n) where
@@ -181,12 +183,19 @@ module _ (program : Program) (code : Code) (n : Numbering) (tables : AreTables p
   expression_same s t x (resolved.static_call_on r e y es i m k ns g h f l a j) =
       called_same s e y (items es) None (doings.value_of code d (expressions.StaticCallOn i k ns)) g
       (then_same (d.value i) (p.value s e) _ _ (part s e i a) (λ o. then_same (values_at d (listed code ns)) (values_of p s (items es)) _ _ (parts s (items es) (listed code ns) j) (λ vs state. static_on m k l f y o vs state ∙ ap (λ (z : Option Method). called program p y o vs z state) (sym h))))
+  expression_same s t x (resolved.collection_call r e y es i ns g h a j) =
+      called_same s e y (items es) None (doings.value_of code d (expressions.CallCollection i (call_named y) ns)) g
+      (then_same (d.value i) (p.value s e) _ _ (part s e i a) (λ o. then_same (values_at d (listed code ns)) (values_of p s (items es)) _ _ (parts s (items es) (listed code ns) j) (λ vs state. collects y o vs state ∙ ap (λ (z : Option Method). called program p y o vs z state) (sym h))))
   expression_same s t x (resolved.super_call r y es m k ns e h j) =
       then_same get_this get_this _ _ (λ state. refl) (λ o. then_same (values_at d (listed code ns)) (values_of p s (items es)) _ _ (parts s (items es) (listed code ns) j) (λ vs state. method_runs program code n tables m k h o vs state ∙ ap (λ (z : Option Method). means.run_method program p o vs z state) (sym e)))
   expression_same s t x (resolved.no_super_call r y es ns e j) =
       then_same get_this get_this _ _ (λ state. refl) (λ o. then_same (values_at d (listed code ns)) (values_of p s (items es)) _ _ (parts s (items es) (listed code ns) j) (λ vs state. ap (λ (z : Option Method). means.run_method program p o vs z state) (sym e)))
   expression_same s t x (resolved.creation r u es c k ns e g j) =
       then_same (values_at d (listed code ns)) (values_of p s (items es)) _ _ (parts s (items es) (listed code ns) j) (λ vs state. creates program code n tables c k g vs state ∙ ap (λ (z : JavaType). create program p z vs state) (sym e))
+  expression_same s t x (resolved.new_set r u es y ns e j) =
+      then_same (values_at d (listed code ns)) (values_of p s (items es)) _ _ (parts s (items es) (listed code ns) j) (λ vs state. creates_set program p y vs state ∙ ap (λ (z : JavaType). create program p z vs state) (sym e))
+  expression_same s t x (resolved.new_list r u es y ns e j) =
+      then_same (values_at d (listed code ns)) (values_of p s (items es)) _ _ (parts s (items es) (listed code ns) j) (λ vs state. creates_list program p y vs state ∙ ap (λ (z : JavaType). create program p z vs state) (sym e))
   expression_same s t x (resolved.no_creation r u es ns e j) = then_same (values_at d (listed code ns)) (values_of p s (items es)) _ _ (parts s (items es) (listed code ns) j) (λ vs. uncreatable (written s u) e vs)
   expression_same s t x (resolved.array r u e i h) = then_same (d.value i) (p.value s e) _ _ (part s e i h) (λ v. arrays_same (written s u) v)
   expression_same s t x (resolved.unary r o e i h) = then_same (d.value i) (p.value s e) _ _ (part s e i h) (λ v state. refl)

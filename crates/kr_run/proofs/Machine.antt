@@ -1,22 +1,19 @@
 -- What the machine's steps need of the meaning.
-use Rattle.std.proofs.Common.{◌≡◌, ◌<◌, arith, ℕ, List, [], ◌∷◌, ◌++◌, length, Result, Ok, Err, refl, sym, ap, ◌∙◌}
-use Rattle.std.specs.Prelude.{map, take, reverse, Some, Bool, true, nat_eq}
+use Rattle.std.proofs.Common.{◌≡◌, ◌<◌, arith, ℕ, List, [], ◌∷◌, length, Result, Ok, Err, refl, sym, ap, ◌∙◌}
+use Rattle.std.specs.Prelude.{map, take, Bool, true, nat_eq}
 use Rattle.std.proofs.lemmas.Bool.{eq-eqb}
-use Rattle.std.proofs.lemmas.List.{length-map, take-map, append_assoc, append-nil, reverse-append, reverse-reverse}
+use Rattle.std.proofs.lemmas.List.{take-map}
 use Rattle.kr_value.specs.declared.value.Value.{Value}
 use Rattle.kr_value.specs.declared.value.Value.TheVariants.{Null}
 use Rattle.kr_value.specs.Heaps.{HeapObject}
 use Rattle.kr_ast.specs.declared.node.BinaryOperator.{BinaryOperator}
-use Rattle.kr_ast.specs.declared.node.StepOperator.{StepOperator}
 use Rattle.kr_mean.specs.Places.{SlotPlace}
 use Rattle.kr_mean.specs.Steps as steps
 use Rattle.kr_mean.specs.Steps.{Stop, State, Outcome, Run, after_reads, go_on, bind, give, stop, Stuck, say, tick, declare, within, entered, back_to, plain_local}
-use Rattle.kr_mean.specs.Operators.{operated, gives_old}
-use Rattle.kr_mean.specs.Meaning.{Flow, Change, change_to, change_from}
+use Rattle.kr_mean.specs.Operators.{operated}
+use Rattle.kr_mean.specs.Meaning.{Flow, Change, change_to}
 use Rattle.kr_code.specs.declared.code.Code.{Code}
-use Rattle.kr_code.specs.declared.statement.Declarator.{Declarator}
-use Rattle.kr_code.specs.Tables.{listed}
-use Rattle.kr_code.specs.Doing.{Doing, IsMeaning, initial_value, declared, constructed}
+use Rattle.kr_code.specs.Doing.{Doing, constructed}
 use Rattle.kr_world.specs.declared.world.Local.{Local}
 use Rattle.kr_world.specs.declared.world.World.{World}
 use Rattle.kr_world.specs.declared.world.Halt.{Halt}
@@ -26,73 +23,15 @@ use Rattle.kr_world.specs.Noting.{noting}
 use Rattle.kr_world.specs.Worlds.{Agrees}
 use Rattle.kr_world.specs.Actions.{written}
 use Rattle.kr_world.specs.Shown.{local_of}
-use Rattle.kr_frames.specs.declared.frame.Loop.{Loop}
-use Rattle.kr_frames.specs.declared.frame.Loop.TheVariants as loops
 use Rattle.kr_frames.specs.declared.frame.Frame.{Frame}
 use Rattle.kr_frames.specs.declared.frame.Change.TheVariants as changes
-use Rattle.kr_frames.specs.declared.frame.ValueFrame.TheVariants as values
-use Rattle.kr_frames.specs.Frames.{continued, onto, repeated, test_of, turned, altered, got, out_value, out_flow}
+use Rattle.kr_frames.specs.Frames.{continued, altered, out_value, out_flow}
 use Rattle.kr_frames.specs.Leads.{Leads}
+use Rattle.kr_moves.proofs.Moves.{given_then}
 use Rattle.kr_frames.proofs.Outcomes.{continued_reads, gave, Ends, ends_on, value_ends, flow_ends, has_ended, leads_same}
-
-pub locals_long : (locals : List Local) → length (map local_of locals) ≡ length locals
-locals_long locals = length-map locals local_of
 
 pub locals_cut : (locals : List Local) (n : ℕ) → take n (map local_of locals) ≡ map local_of (take n locals)
 locals_cut locals n = take-map local_of n locals
-
--- ---- going on
-
-pub assoc : {A B C : Type 0} (m : Run A) (f : A → Run B) (g : B → Run C) (s : State) → continued (bind m f s) g ≡ bind m (λ a. bind (f a) g) s
-unfolding bind
-assoc {A} {B} {C} m f g s = go (m s).said
-  where
-    go : (r : Result A Stop) → continued (go_on r (m s).after (m s).reads f) g ≡ go_on r (m s).after (m s).reads (λ a. bind (f a) g)
-    go (Ok a) = continued_reads (m s).reads (f a (m s).after) g
-    go (Err e) = refl
-
--- what is given is something else
-pub mapped : {A B C : Type 0} (m : Run A) (h : A → B) (g : B → Run C) (s : State) → continued (bind m (λ a. give (h a)) s) g ≡ continued (m s) (λ a. g (h a))
-unfolding bind
-mapped {A} {B} {C} m h g s = go (m s).said
-  where
-    go : (r : Result A Stop) → continued (go_on r (m s).after (m s).reads (λ a. give (h a))) g ≡ go_on r (m s).after (m s).reads (λ a. g (h a))
-    go (Ok a) = ap (λ (rs : List SlotPlace). after_reads rs (g (h a) (m s).after)) (append-nil (m s).reads)
-    go (Err e) = refl
-
--- what is given doesn't count
-pub given_then : {A B C : Type 0} (m : Run A) (x : B) (f : B → Run C) (s : State) → continued (bind m (λ a. give x) s) f ≡ bind m (λ a. f x) s
-unfolding bind
-given_then m x f s = mapped m (λ a. x) f s
-
--- ---- lists
-
-onto_is : (us vs : List Value) → onto us vs ≡ reverse us ++ vs
-onto_is [] vs = refl
-onto_is (u ∷ us) vs =
-    onto_is us (u ∷ vs)
-    ∙ sym (append_assoc (reverse us) (u ∷ []) vs)
-    ∙ ap (λ (ws : List Value). ws ++ vs) (sym (reverse-append (u ∷ []) us))
-
--- all values that were found
-pub onto_all : (vs : List Value) → onto (reverse vs) [] ≡ vs
-onto_all vs = onto_is (reverse vs) [] ∙ append-nil (reverse (reverse vs)) ∙ reverse-reverse vs
-
-pub one_more : (vs : List Value) (v : Value) → reverse (vs ++ v ∷ []) ≡ v ∷ reverse vs
-one_more vs v = reverse-append vs (v ∷ [])
-
--- ---- loops and declarations
-
-pub repeats : (code : Code) (d : Doing) (l : Loop) (s : State) → IsMeaning code d → repeated code d l s ≡ continued (bind tick (λ u. give Null) s) (λ v. bind (test_of d l) (turned code d l))
-repeats code d (loops.While e a) s m = m.while_is e a s ∙ sym (given_then tick Null (λ v. bind (test_of d (loops.While e a)) (turned code d (loops.While e a))) s)
-repeats code d (loops.For e us a) s m = m.for_is e a (listed code us) s ∙ sym (given_then tick Null (λ v. bind (test_of d (loops.For e us a)) (turned code d (loops.For e us a))) s)
-
--- a declarator's unit and its local come before its initial value
-pub declares : (d : Doing) (x : Declarator) (rest : Run Flow) (s : State) → bind (declared d (Some x)) (λ u. rest) s ≡ continued (bind tick (λ u. bind (declare x.default) (λ w. give Null)) s) (λ v. bind (initial_value d x.local x.initial) (λ u. rest))
-unfolding bind
-declares d x rest s =
-    assoc tick (λ u. bind (declare x.default) (λ w. initial_value d x.local x.initial)) (λ u. rest) s
-    ∙ sym (assoc tick (λ u. bind (declare x.default) (λ w. give Null)) (λ v. bind (initial_value d x.local x.initial) (λ u. rest)) s)
 
 -- ---- steps that give something, and then go on
 
@@ -125,13 +64,6 @@ no_flow_tick code h fs gs w seen n s a =
     (halts code h gs w seen (λ d q. out_flow code d fs (continued q (λ x. n d))) (λ d e heap fuel reads o x. flow_ends code d e heap fuel reads fs _ (ends_on e heap fuel reads o (λ y. n d) x)) (bind tick (λ u. give Null) s) a)
 
 -- ---- changes
-
-pub steps_on : (code : Code) (d : Doing) (o : StepOperator) (cell : Cell) (v w given : Value) (s : State) (b : Bool) → gives_old o ≡ b → given ≡ (change_from b v w).given → (change_from b v w).new ≡ w → got code d (values.Stepped o cell v) w s ≡ bind (written code cell w) (λ u. give given) s
-unfolding bind
-steps_on code d o cell v w given s b is gives new =
-    ap (λ (x : Bool). bind (written code cell (change_from x v w).new) (λ u. give (change_from x v w).given) s) is
-    ∙ ap (λ (x : Value). bind (written code cell x) (λ u. give (change_from b v w).given) s) new
-    ∙ ap (λ (x : Value). bind (written code cell w) (λ u. give x) s) (sym gives)
 
 pub compounds : (code : Code) (d : Doing) (o : BinaryOperator) (e : ℕ) (cell : Cell) (v : Value) (s : State) → altered code d (changes.Compound o e) cell v s ≡ continued (continued (d.value e s) (λ w. say (operated o v w))) (λ x. bind (written code cell x) (λ u. give x))
 unfolding bind

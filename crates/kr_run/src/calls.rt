@@ -1,7 +1,8 @@
 // Calls: a method's body comes next, on its arguments.
 ghost use Rattle.std.specs.Prelude.{◌≡◌, ◌∷◌, map, IfOk, OnOk, IfErr};
 ghost use Rattle.kr_value.specs.declared.value.Value.TheVariants.{Null};
-ghost use Rattle.kr_mean.specs.Steps.{bind, class_of, plain_local};
+ghost use Rattle.kr_mean.specs.Steps.{bind, class_of, plain_local, collect as collect_step};
+ghost use Rattle.kr_code.specs.Collections.{name_of, new_collection as collection_step};
 ghost use Rattle.kr_code.specs.Tables.{method_at};
 ghost use Rattle.kr_code.specs.Doing.{run_method as run_step, run_numbered as numbered_step, run_on as on_step};
 ghost use Rattle.kr_frames.specs.declared.frame.Frame.TheVariants as frames;
@@ -12,13 +13,13 @@ ghost use Rattle.kr_world.specs.Shown.{local_of};
 ghost use Rattle.kr_world.specs.Worlds.{state_of};
 
 use crate::create::create;
-use crate::step::push;
 use kr_base::NoMemory;
-use kr_code::{Code, MethodCode};
+use kr_code::{Code, CollectionCall, MethodCode};
 use kr_frames::{Frame, Goal, Stack, Task};
 use kr_mean::Kind;
-use kr_value::Value;
-use kr_world::{Action, End, Halt, Local, World};
+use kr_moves::push;
+use kr_value::{Class, Value};
+use kr_world::{Action, End, Halt, Local, World, collect};
 use std::alloc::Global;
 use std::mem;
 
@@ -155,6 +156,40 @@ fn run_static(
     }
 }
 
+/// A new collection, which takes no arguments.
+#[tactic(auto, unfolding(kr_mean::specs::Steps::bind))]
+fn new_collection(
+    code: &Code,
+    world: &World,
+    stack: &Stack,
+    class: Class,
+    arguments: &Vec<Value>,
+) -> Result<Task, Halt>
+    ensures { Leads code.now result stack.now world.now world.now.reads (λ d. out_value code.now d stack.now (collection_step class arguments.now.items (state_of world.now))) }
+{
+    match arguments.as_slice().split_first() {
+        None => Ok(Task::Act(Action::NewCollection(class))),
+        Some(_) => Ok(Task::Act(Action::End(End::Stuck))),
+    }
+}
+
+/// A call on a collection.
+fn collect_on(
+    code: &Code,
+    world: &mut World,
+    stack: &Stack,
+    call: CollectionCall,
+    object: Value,
+    arguments: &Vec<Value>,
+) -> Result<Task, Halt>
+    ensures { Leads code.now result stack.now world.new world.old.reads (λ d. out_value code.now d stack.now (collect_step (name_of call) object arguments.now.items (state_of world.old))) }
+{
+    match collect(world, call, object, arguments) {
+        Ok(given) => Ok(Task::Got(given)),
+        Err(halt) => Err(halt),
+    }
+}
+
 /// What is done with arguments that are all there.
 #[tactic(auto, unfolding(kr_mean::specs::Steps::bind))]
 pub fn apply(
@@ -183,5 +218,11 @@ pub fn apply(
             return run_static(alloc, code, world, stack, method, object, &arguments);
         }
         Goal::New(class) => return create(alloc, code, world, stack, class, arguments),
+        Goal::NewCollection(class) => {
+            return new_collection(code, world, stack, class, &arguments);
+        }
+        Goal::Collect(call, object) => {
+            return collect_on(code, world, stack, call, object, &arguments);
+        }
     }
 }

@@ -11,9 +11,9 @@ ghost use Rattle.kr_world.specs.Shown.{local_of};
 ghost use Rattle.kr_world.specs.Worlds.{state_of};
 
 use crate::calls::plain_locals;
-use crate::step::{push, unit};
 use kr_code::{ClassCode, Code, Constructor, Nodes};
 use kr_frames::{Frame, Stack, Task, UnitFrame, Up};
+use kr_moves::{push, unit};
 use kr_value::Value;
 use kr_world::{Action, End, Halt, Local, World, new_object};
 use std::alloc::Global;
@@ -109,7 +109,7 @@ fn construct_plain(
 }
 
 /// The constructor that a class declares, with its arguments.
-#[tactic(auto, using(crate::proofs::Machine::runs, crate::proofs::Machine::assoc, crate::proofs::Machine::given_then), unfolding(kr_mean::specs::Steps::bind))]
+#[tactic(auto, using(crate::proofs::Machine::runs, kr_moves::proofs::Moves::assoc, kr_moves::proofs::Moves::given_then), unfolding(kr_mean::specs::Steps::bind))]
 fn construct_declared(
     alloc: Global,
     code: &Code,

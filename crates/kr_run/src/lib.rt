@@ -4,13 +4,8 @@
 
 mod calls;
 mod create;
-mod expressions;
-mod flows;
-mod lists;
 mod run;
-mod statements;
 mod step;
-mod values;
 
 pub use run::evaluate;
 

@@ -15,18 +15,15 @@ ghost use Rattle.kr_world.specs.Worlds.{state_of};
 
 use crate::calls::apply;
 use crate::create::{construct, initialise, stop_unit, take_unit};
-use crate::expressions::enter_expression;
-use crate::flows::take_flow;
-use crate::lists::{
-    all, declare, repeat, take_argument, take_up_argument, up_values, update, values,
-};
-use crate::statements::enter_statement;
-use crate::step::{Step, value};
-use crate::values::{stop, take_test, take_value};
+use crate::step::Step;
 use kr_ast::{BinaryOperator, StepOperator};
 use kr_code::{Code, Statement};
-use kr_frames::{Change, Flow, Frame, Stack, Task, ValueFrame};
+use kr_frames::{Change, Flow, Frame, Stack, Task, ValueFrame, WriteFrame};
 use kr_mean::Kind;
+use kr_moves::{
+    all, arguments, declare, enter_expression, enter_statement, repeat, take_argument, take_flow,
+    take_test, take_up_argument, take_value, up_arguments, update, value, write,
+};
 use kr_value::Value;
 use kr_world::{Action, Cell, End, Halt, Local, World, act, store_initial};
 use std::alloc::Global;
@@ -135,7 +132,7 @@ fn alter_compound(
 ) -> Result<Task, Halt>
     ensures { Leads code.now result stack.new world.now world.now.reads (λ d. out_value code.now d stack.old (altered code.now d (changes.Compound operator node) cell old (state_of world.now))) }
 {
-    value(stack, ValueFrame::Write(cell))?;
+    write(stack, WriteFrame::Put(cell))?;
     value(stack, ValueFrame::Right(operator, old))?;
     Ok(Task::Evaluate(node))
 }
@@ -154,7 +151,7 @@ fn alter(
 {
     match change {
         Change::Step(operator) => {
-            value(stack, ValueFrame::Stepped(operator, cell, old))?;
+            write(stack, WriteFrame::Stepped(operator, cell, old))?;
             Ok(Task::Act(Action::Binary(step_operator(operator), old, Value::Int(1))))
         }
         Change::Compound(operator, node) => {
@@ -338,10 +335,10 @@ fn do_task(
         Task::Act(action) => return act_on(alloc, code, world, stack, action),
         Task::Alter(change, cell, old) => return alter(code, world, stack, change, cell, old),
         Task::Values(goal, nodes, found) => {
-            return values(code, world, stack, goal, nodes, found);
+            return arguments(code, world, stack, goal, nodes, found);
         }
         Task::UpValues(up, nodes, found) => {
-            return up_values(code, world, stack, up, nodes, found);
+            return up_arguments(code, world, stack, up, nodes, found);
         }
         Task::Apply(goal, found) => return apply(alloc, code, world, stack, goal, found),
         Task::All(nodes) => return all(code, world, stack, nodes),

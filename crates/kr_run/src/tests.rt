@@ -4,12 +4,13 @@ use crate::evaluate;
 use kr_ast::{BinaryOperator, StepOperator};
 use kr_base::NoMemory;
 use kr_code::{
-    Callee, ClassCode, Code, Declarator, Expression, MethodCode, Node, Nodes, Statement, Variable,
+    Callee, ClassCode, Code, CollectionCall, Declarator, Expression, MethodCode, Node, Nodes,
+    Statement, Variable,
 };
 use kr_heap::Heap;
 use kr_mean::Kind;
 use kr_value::{Class, Value};
-use kr_world::{End, Halt, Reads, World};
+use kr_world::{End, Halt, Local, Reads, World};
 use std::alloc::Global;
 use std::test::Fail;
 
@@ -214,5 +215,90 @@ fn reads_and_traps(rt: HostRuntime) -> Result<(), Fail> {
             Err(Halt::Ended(End::Trapped(Kind::NullPointerException)))
         )
     );
+    Ok(())
+}
+
+// A list, a set, null, and calls on them: the locals are the list and the set.
+fn collection_nodes(alloc: Global) -> Result<Vec<Node>, NoMemory> {
+    let mut nodes = Vec::new(alloc);
+    for node in [
+        local(0),
+        local(1),
+        Node::Expression(Expression::Literal(Value::Null)),
+        created(Callee::NewList),
+        created(Callee::NewSet),
+        called(0, CollectionCall::Add, 1),
+        called(1, CollectionCall::Add, 1),
+        called(0, CollectionCall::Size, 0),
+        called(1, CollectionCall::Contains, 1),
+        called(0, CollectionCall::RemoveFirst, 0),
+        called(0, CollectionCall::IsEmpty, 0),
+        called(1, CollectionCall::Remove, 1),
+        called(2, CollectionCall::Size, 0),
+    ] {
+        nodes.push(node)?;
+    }
+    Ok(nodes)
+}
+
+fn created(callee: Callee) -> Node {
+    Node::Expression(Expression::Call {
+        callee,
+        arguments: NONE,
+    })
+}
+
+// A call with null as its argument, or with none.
+fn called(object: u32, call: CollectionCall, count: u32) -> Node {
+    Node::Expression(Expression::CallCollection {
+        object,
+        call,
+        arguments: Nodes { first: 0, count },
+    })
+}
+
+fn traps(said: &Result<Value, Halt>, kind: Kind) -> bool {
+    match said {
+        Err(Halt::Ended(End::Trapped(trapped))) => *trapped == kind,
+        _ => false,
+    }
+}
+
+#[test]
+fn collections(rt: HostRuntime) -> Result<(), Fail> {
+    let alloc = rt.alloc();
+    let mut code = code(alloc)?;
+    code.nodes = collection_nodes(alloc)?;
+    code.links = vec![in alloc; 2]?;
+    let mut world = world(alloc, Value::Null, Heap::new(alloc), 1000);
+    for (node, expected) in [
+        (3, Value::Ref(0)),
+        (4, Value::Ref(1)),
+        (5, Value::Bool(true)),
+        (5, Value::Bool(true)),
+        (6, Value::Bool(true)),
+        (6, Value::Bool(false)),
+        (7, Value::Int(2)),
+        (8, Value::Bool(true)),
+        (9, Value::Null),
+        (10, Value::Bool(false)),
+        (9, Value::Null),
+        (10, Value::Bool(true)),
+        (11, Value::Bool(true)),
+        (8, Value::Bool(false)),
+    ] {
+        let said = evaluate(alloc, &code, &mut world, node);
+        assert!(rt; matches!(&said, Ok(value) if *value == expected));
+        if node < 5 {
+            world.locals.push(Local {
+                value: expected,
+                parameter: None,
+            })?;
+        }
+    }
+    let empty = evaluate(alloc, &code, &mut world, 9);
+    assert!(rt; traps(&empty, Kind::NoSuchElementException));
+    let null = evaluate(alloc, &code, &mut world, 12);
+    assert!(rt; traps(&null, Kind::NullPointerException));
     Ok(())
 }

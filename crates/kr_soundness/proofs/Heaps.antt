@@ -46,7 +46,7 @@ all_more table types more t (v ∷ vs) x h = (value_more table types more t v x 
 
 object_more : (program : Program) (types more : List JavaType) (t : JavaType) (o : HeapObject) → Extends types more → IsObjectOf program types t o → IsObjectOf program more t o
 object_more program types more (ClassType c) o x h = (h.0, values_more program.table types more (map (λ f. f.type) (fields_of program.table c)) o.values x h.1)
-object_more program types more (ArrayType t) o x h = (h.0, all_more program.table types more t o.values x h.1)
+object_more program types more (ArrayType t) o x h = (h.0, all_more program.table types more t o.values x h.1, h.2)
 object_more program types more (SetType t) o x h = (h.0, h.1, all_more program.table types more t o.values x h.2)
 object_more program types more (ListType t) o x h = (h.0, h.1, all_more program.table types more t o.values x h.2)
 object_more program types more _ o x h = absurd h

@@ -1,7 +1,8 @@
 -- Operators on operands of the types that the typing rules ask, and new arrays.
-use Rattle.std.proofs.Common.{◌≡◌, ℕ, suc, ◌+◌, ◌-◌, ◌⊎◌, inl, inr, Bool, true, false, List, [], ◌∷◌, get_or, Option, Some, None, Result, Ok, Err, refl, sym, ap, ◌∙◌, arith, subst}
+use Rattle.std.proofs.Common.{◌≡◌, ℕ, suc, ◌+◌, ◌-◌, ◌≤◌, ◌⊎◌, inl, inr, Bool, true, false, List, [], ◌∷◌, get_or, Option, Some, None, Result, Ok, Err, refl, sym, ap, ◌∙◌, arith, subst}
 use Rattle.std.specs.Prelude.{ℤ, pos, negsuc, replicate, nat_lt, ◌&&◌, ◌||◌, if◌then◌else◌}
 use Rattle.std.proofs.lemmas.Bool.{ltb-true, ltb-false}
+use Rattle.std.proofs.lemmas.List.{length-replicate}
 use Rattle.kr_ast.specs.declared.node.BinaryOperator.{BinaryOperator}
 use Rattle.kr_ast.specs.declared.node.BinaryOperator.TheVariants.{Multiply, Divide, Remainder, Add, Subtract, ShiftLeft, ShiftRight, ShiftRightUnsigned, Less, Greater, LessOrEqual, GreaterOrEqual, Equal, NotEqual, BitAnd, BitXor, BitOr, And, Or}
 use Rattle.kr_ast.specs.declared.node.UnaryOperator.{UnaryOperator}
@@ -32,7 +33,7 @@ use Rattle.kr_soundness.proofs.Steps.{IsObjectType, Assigned, object_type, type_
 
 -- ---- ints
 
-is_int_of : (n : ℕ) → IsInt (int_of n)
+pub is_int_of : (n : ℕ) → IsInt (int_of n)
 is_int_of n = go (nat_lt n 2147483648) refl
   where
     go : (b : Bool) → nat_lt n 2147483648 ≡ b → IsInt (if b then pos n else negsuc (4294967295 - n))
@@ -40,7 +41,7 @@ is_int_of n = go (nat_lt n 2147483648) refl
     go false e = omega (arith, ltb-false n 2147483648 e)
 
 -- what an operator gives: a value of a type that needs no object, or a trap
-abbrev Good : JavaType → Result Value Stop → Type 0
+abbrev pub Good : JavaType → Result Value Stop → Type 0
 Good t (Ok v) = (table : Table) (types : List JavaType) → IsOf table types t v
 Good t (Err (Trapped k)) = Unit {0}
 Good t (Err OutOfFuel) = ⊥
@@ -50,7 +51,7 @@ whole_good : (n : ℕ) → Good IntType (Ok (Int (int_of n)))
 whole_good n table types = (refl, is_int_of n)
 
 -- the type that an operator gives on ints, and on booleans
-abbrev on_ints : BinaryOperator → Option JavaType
+abbrev pub on_ints : BinaryOperator → Option JavaType
 on_ints Less = Some BooleanType
 on_ints Greater = Some BooleanType
 on_ints LessOrEqual = Some BooleanType
@@ -65,11 +66,11 @@ divided : (b : Bool) (n : ℕ) → Good IntType (Rattle.kr_mean.specs.Operators.
 divided true n = tt
 divided false n = whole_good n
 
-abbrev OnInts : Option JavaType → Result Value Stop → Type 0
+abbrev pub OnInts : Option JavaType → Result Value Stop → Type 0
 OnInts None r = Unit {0}
 OnInts (Some t) r = Good t r
 
-ints_good : (o : BinaryOperator) (x y : ℤ) → OnInts (on_ints o) (operated o (Int x) (Int y))
+pub ints_good : (o : BinaryOperator) (x y : ℤ) → OnInts (on_ints o) (operated o (Int x) (Int y))
 ints_good Multiply x y = whole_good _
 ints_good Divide x y = divided (is_zero y) _
 ints_good Remainder x y = divided (is_zero y) _
@@ -92,7 +93,7 @@ ints_good Or x y = tt
 
 -- ---- booleans
 
-abbrev on_booleans : BinaryOperator → Bool
+abbrev pub on_booleans : BinaryOperator → Bool
 on_booleans Equal = true
 on_booleans NotEqual = true
 on_booleans BitAnd = true
@@ -100,11 +101,11 @@ on_booleans BitXor = true
 on_booleans BitOr = true
 on_booleans o = false
 
-abbrev OnBooleans : Bool → Result Value Stop → Type 0
+abbrev pub OnBooleans : Bool → Result Value Stop → Type 0
 OnBooleans true r = Good BooleanType r
 OnBooleans false r = Unit {0}
 
-booleans_good : (o : BinaryOperator) (x y : Bool) → OnBooleans (on_booleans o) (operated o (Truth x) (Truth y))
+pub booleans_good : (o : BinaryOperator) (x y : Bool) → OnBooleans (on_booleans o) (operated o (Truth x) (Truth y))
 booleans_good Equal x y = λ table types. refl
 booleans_good NotEqual x y = λ table types. refl
 booleans_good BitAnd x y = λ table types. refl
@@ -127,11 +128,11 @@ booleans_good Or x y = tt
 
 -- ---- what the rules ask
 
-ask_holds : (b : Bool) (r : ℕ) (v : Verdict) (t : Typed) → ask b r v ≡ Fits t → (b ≡ true) × (v ≡ Fits t)
+pub ask_holds : (b : Bool) (r : ℕ) (v : Verdict) (t : Typed) → ask b r v ≡ Fits t → (b ≡ true) × (v ≡ Fits t)
 ask_holds true r v t e = (refl, e)
 ask_holds false r v t e = absurd (cc (e))
 
-or_holds : (a b : Bool) → (a || b) ≡ true → (a ≡ true) ⊎ (b ≡ true)
+pub or_holds : (a b : Bool) → (a || b) ≡ true → (a ≡ true) ⊎ (b ≡ true)
 or_holds true b e = inl refl
 or_holds false b e = inr e
 
@@ -147,7 +148,7 @@ same_fits t u e = ap type_in e
     type_in v = t
 
 -- how an operator is used: on ints, on booleans, or on references
-data Use (o : BinaryOperator) (a b t : JavaType) : Type 0 where
+pub data Use (o : BinaryOperator) (a b t : JavaType) : Type 0 where
   ints : a ≡ IntType → b ≡ IntType → on_ints o ≡ Some t → Use o a b t
   booleans : a ≡ BooleanType → b ≡ BooleanType → on_booleans o ≡ true → t ≡ BooleanType → Use o a b t
   references : is_reference a ≡ true → is_reference b ≡ true → (o ≡ Equal) ⊎ (o ≡ NotEqual) → t ≡ BooleanType → Use o a b t
@@ -191,7 +192,7 @@ equals s o a b t q p k e =
         let y = and_holds (is_reference a) (is_reference b) x.0 in
         references y.0 y.1 k (sym f)
 
-used : (s : Scope) (o : BinaryOperator) (a b t : JavaType) → is_junction o ≡ false → operator_rule s o a b ≡ Fits (rules.Value t) → Use o a b t
+pub used : (s : Scope) (o : BinaryOperator) (a b t : JavaType) → is_junction o ≡ false → operator_rule s o a b ≡ Fits (rules.Value t) → Use o a b t
 used s Multiply a b t j e = only_ints s Multiply a b t IntType 7 refl e
 used s Divide a b t j e = only_ints s Divide a b t IntType 7 refl e
 used s Remainder a b t j e = only_ints s Remainder a b t IntType 7 refl e
@@ -216,42 +217,42 @@ used s Or a b t j e = absurd (cc (j))
 
 module _ (program : Program) (fixed : Fixed) where
   -- an object is no boolean
-  no_boolean : (types : List JavaType) (s : State) (o : ℕ) → IsHeapOf program types s.heap → IsOf program.table types BooleanType (Reference o) → ⊥
+  pub no_boolean : (types : List JavaType) (s : State) (o : ℕ) → IsHeapOf program types s.heap → IsOf program.table types BooleanType (Reference o) → ⊥
   no_boolean types s o h i = go (type_at types o) (type_known program fixed types s o BooleanType h i) (object_type program types (type_at types o) (object_in s.heap o) (object_found program types types s.heap o h i.0))
     where
       go : (u : JavaType) → Assigned program.table u BooleanType → IsObjectType u → ⊥
       go u (inl e) k = subst IsObjectType e k
       go u (inr r) k = absurd (cc (r.3))
 
-  int_known : (types : List JavaType) (s : State) (v : Value) → IsHeapOf program types s.heap → IsOf program.table types IntType v → (z : ℤ) × (v ≡ Int z)
+  pub int_known : (types : List JavaType) (s : State) (v : Value) → IsHeapOf program types s.heap → IsOf program.table types IntType v → (z : ℤ) × (v ≡ Int z)
   int_known types s (Int z) h i = (z, refl)
   int_known types s (Truth b) h i = absurd (cc (i))
   int_known types s Null h i = absurd (cc (i))
   int_known types s (Reference o) h i = absurd (no_int program fixed types s o h i)
 
-  boolean_known : (types : List JavaType) (s : State) (v : Value) → IsHeapOf program types s.heap → IsOf program.table types BooleanType v → (b : Bool) × (v ≡ Truth b)
+  pub boolean_known : (types : List JavaType) (s : State) (v : Value) → IsHeapOf program types s.heap → IsOf program.table types BooleanType v → (b : Bool) × (v ≡ Truth b)
   boolean_known types s (Truth b) h i = (b, refl)
   boolean_known types s (Int z) h i = absurd (cc (i.0))
   boolean_known types s Null h i = absurd (cc (i))
   boolean_known types s (Reference o) h i = absurd (no_boolean types s o h i)
 
-  abbrev IsReferenceValue : Value → Type 0
+  abbrev pub IsReferenceValue : Value → Type 0
   IsReferenceValue v = (v ≡ Null) ⊎ ((o : ℕ) × (v ≡ Reference o))
 
-  reference_known : (types : List JavaType) (t : JavaType) (v : Value) → is_reference t ≡ true → IsOf program.table types t v → IsReferenceValue v
+  pub reference_known : (types : List JavaType) (t : JavaType) (v : Value) → is_reference t ≡ true → IsOf program.table types t v → IsReferenceValue v
   reference_known types t Null r i = inl refl
   reference_known types t (Reference o) r i = inr (o, refl)
   reference_known types t (Int z) r i = absurd (cc (r, ap is_reference i.0))
   reference_known types t (Truth b) r i = absurd (cc (r, ap is_reference i))
 
   -- a result that is good is said
-  said : (types : List JavaType) (this : Option ℕ) (ls : List JavaType) (t : JavaType) (r : Result Value Stop) (s : State) → IsStateOf program fixed types this ls s → Good t r → Fine program fixed types this (Gives program ls t) r s
+  pub said : (types : List JavaType) (this : Option ℕ) (ls : List JavaType) (t : JavaType) (r : Result Value Stop) (s : State) → IsStateOf program fixed types this ls s → Good t r → Fine program fixed types this (Gives program ls t) r s
   said types this ls t (Ok v) s h g = (types, ls, extends_self types, h, (refl, g program.table types))
   said types this ls t (Err (Trapped k)) s h g = tt
   said types this ls t (Err OutOfFuel) s h g = absurd g
   said types this ls t (Err Stuck) s h g = absurd g
 
-  references_good : (o : BinaryOperator) (v w : Value) → (o ≡ Equal) ⊎ (o ≡ NotEqual) → IsReferenceValue v → IsReferenceValue w → Good BooleanType (operated o v w)
+  pub references_good : (o : BinaryOperator) (v w : Value) → (o ≡ Equal) ⊎ (o ≡ NotEqual) → IsReferenceValue v → IsReferenceValue w → Good BooleanType (operated o v w)
   references_good o v w k (inl e) (inl f) = rw (e, f) (null_null o k)
     where
       null_null : (o : BinaryOperator) → (o ≡ Equal) ⊎ (o ≡ NotEqual) → Good BooleanType (operated o Null Null)
@@ -330,19 +331,19 @@ module _ (program : Program) (fixed : Fixed) where
       Made : Run Value → State → Type 0
       Made m s = Fine program fixed types this (Gives program ls (ArrayType t)) (m s).said (m s).after
 
-      made : (n : ℕ) → Safe program fixed types this ls (make_array t n (Some k)) (Gives program ls (ArrayType t))
-      made n =
+      made : (n : ℕ) → n ≤ 64 → Safe program fixed types this ls (make_array t n (Some k)) (Gives program ls (ArrayType t))
+      made n small =
           safe_map program fixed types this ls (make_array t n (Some k)) _ _
-          (safe_make program fixed types this ls (ArrayType t) (Array k) (replicate n (default_of t)) (is_numbered t k e, all_replicate program.table types t n (default_of t) (value_more program.table [] types t (default_of t) (types, refl) d)))
+          (safe_make program fixed types this ls (ArrayType t) (Array k) (replicate n (default_of t)) (is_numbered t k e, all_replicate program.table types t n (default_of t) (value_more program.table [] types t (default_of t) (types, refl) d), omega (arith, small, length-replicate n (default_of t))))
           (λ more ms x h. (h.0, subst (λ (y : Value). IsOf program.table more (ArrayType t) y) (sym h.2) (h.3, ap (λ (u : JavaType). is_assignable program.table u (ArrayType t)) h.4 ∙ type_same t)))
 
-      sized : (s : State) → IsStateOf program fixed types this ls s → (n : ℕ) (b : Bool) → Made (if b then stop (Trapped ArrayTooLong) else make_array t n (array_number program.arrays (ArrayType t))) s
-      sized s h n true = tt
-      sized s h n false = subst (λ (x : Option ℕ). Made (make_array t n x) s) (sym e) ((made n).by s h)
+      sized : (s : State) → IsStateOf program fixed types this ls s → (n : ℕ) (b : Bool) → nat_lt 64 n ≡ b → Made (if b then stop (Trapped ArrayTooLong) else make_array t n (array_number program.arrays (ArrayType t))) s
+      sized s h n true q = tt
+      sized s h n false q = subst (λ (x : Option ℕ). Made (make_array t n x) s) (sym e) ((made n (ltb-false 64 n q)).by s h)
 
       go : (s : State) → IsStateOf program fixed types this ls s → (z : ℤ) × (v ≡ Int z) → Made (create_array program t v) s
       go s h r = subst (λ (x : Value). Made (create_array program t x) s) (sym r.1) (of r.0)
         where
           of : (z : ℤ) → Made (create_array program t (Int z)) s
-          of (pos n) = sized s h n (nat_lt 64 n)
+          of (pos n) = sized s h n (nat_lt 64 n) refl
           of (negsuc n) = tt

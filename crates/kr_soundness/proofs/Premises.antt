@@ -80,7 +80,7 @@ sorted_array_meets =
     (((((tt, (omega arith, tt)), (omega arith, tt)), (omega arith, (tt, (tt, (tt, tt))))), (omega arith, (tt, (tt, tt)))), (omega arith, (tt, (tt, tt))))
     ((tt, (refl, tt)), (refl, (refl, (refl, tt)), (omega arith, (omega arith, (omega arith, tt)))))
     (pure_by sorted_array 1 refl refl)
-    (typed sorted_array 2 refl ((tt, (((omega arith, refl), tt), tt)), (((refl, omega arith), ((refl, omega arith), tt)), (((refl, omega arith), ((refl, omega arith), tt)), tt))) refl refl)
+    (typed sorted_array 2 refl ((tt, (((omega arith, refl), tt), tt)), ((((refl, omega arith), ((refl, omega arith), tt)), (((refl, omega arith), ((refl, omega arith), tt)), tt)), omega arith)) refl refl)
 
 plus_meets : Meets plus
 unfolding table_of values_of is_constant evaluated judged

@@ -2,7 +2,7 @@
 use Rattle.std.proofs.Common.{◌≡◌, ℕ, zero, suc, ◌<◌, ◌≤◌, ◌⊎◌, inl, inr, Bool, true, false, List, [], ◌∷◌, ◌++◌, length, get_or, Result, Ok, Err, Option, Some, None, refl, sym, ap, ◌∙◌, arith, subst}
 use Rattle.std.specs.Prelude.{ℤ, pos, negsuc, map, take, slice_set, nat_eq, nat_lt, ◌||◌, if◌then◌else◌}
 use Rattle.std.proofs.lemmas.Bool.{eq-eqb, lt-ltb, ltb-true, le-ltb}
-use Rattle.std.proofs.lemmas.List.{length-append, length-map}
+use Rattle.std.proofs.lemmas.List.{length-append, length-map, length-set}
 use Rattle.kr_pruning.proofs.Spaces.{some_is}
 use Rattle.kr_base.specs.declared.place.Place.{Place}
 use Rattle.kr_value.specs.declared.value.Value.{Value}
@@ -19,7 +19,7 @@ use Rattle.kr_mean.specs.Program.{Program, is_array_of, field_position, spot_of_
 use Rattle.kr_mean.specs.Places.{SlotPlace}
 use Rattle.kr_mean.specs.Steps.{Stop, Trapped, OutOfFuel, Stuck, Local, Old, State, Outcome, Run, give, stop, go_on, bind, ◌>>=◌, tick, tick_at, get_this, local_at, local_given, read_local, plain_local, declare, assign_if, assign, given, get_result, old_at, get_old, entered, within, scoped, load_if, load, load_at, load_in, load_field, index_within, element_read, element_if, element, class_or_null, put, store_at, store, store_new_if, store_new, store_index, store_element_if, store_element, make}
 use Rattle.kr_mean.specs.Meaning.{choose}
-use Rattle.kr_soundness.specs.Fits.{IsOf, AreOf, IsObjectOf, IsHeapOf, type_at}
+use Rattle.kr_soundness.specs.Fits.{IsOf, AreOf, IsLength, IsObjectOf, IsHeapOf, type_at}
 use Rattle.kr_soundness.specs.Triples.{Fixed, IsThis, values_in, IsResult, AreOlds, IsStateOf, Extends, Fine, Safe, Gives, Keeps, type_of_local, type_of_old}
 use Rattle.kr_soundness.specs.Steps.{field_types, HasField, IsClassOf, IsSeen}
 use Rattle.kr_soundness.proofs.Heaps.{extends_self, extends_twice, value_more, values_more, one_more, heap_append, heap_long, last_type, object_found, object_set, value_found, value_set, values_long, values_front, all_found, all_set, same_type}
@@ -43,7 +43,7 @@ object_type program types _ o h = absurd h
 abbrev pub Assigned : Table → JavaType → JavaType → Type 0
 Assigned table u t = (u ≡ t) ⊎ ((c : ℕ) × (d : ℕ) × (u ≡ ClassType c) × (t ≡ ClassType d) × (is_below table c d ≡ true))
 
-assigned : (table : Table) (u t : JavaType) → IsObjectType u → is_assignable table u t ≡ true → Assigned table u t
+pub assigned : (table : Table) (u t : JavaType) → IsObjectType u → is_assignable table u t ≡ true → Assigned table u t
 assigned table (ClassType c) (ClassType d) h e = inr (c, d, refl, refl, e)
 assigned table (ClassType c) t h e = inl (same_type (ClassType c) t e)
 assigned table (ArrayType s) t h e = inl (same_type (ArrayType s) t e)
@@ -281,14 +281,14 @@ module _ (program : Program) (fixed : Fixed) where
   pub type_known : (types : List JavaType) (s : State) (o : ℕ) (t : JavaType) → IsHeapOf program types s.heap → IsOf program.table types t (Reference o) → Assigned program.table (type_at types o) t
   type_known types s o t h i = assigned program.table (type_at types o) t (object_type program types (type_at types o) (object_in s.heap o) (object_found program types types s.heap o h i.0)) i.1
 
-  class_known : (types : List JavaType) (s : State) (o c : ℕ) → IsHeapOf program types s.heap → IsOf program.table types (ClassType c) (Reference o) → (d : ℕ) × (type_at types o ≡ ClassType d) × (is_below program.table d c ≡ true)
+  pub class_known : (types : List JavaType) (s : State) (o c : ℕ) → IsHeapOf program types s.heap → IsOf program.table types (ClassType c) (Reference o) → (d : ℕ) × (type_at types o ≡ ClassType d) × (is_below program.table d c ≡ true)
   class_known types s o c h i = go (type_known types s o (ClassType c) h i)
     where
       go : Assigned program.table (type_at types o) (ClassType c) → (d : ℕ) × (type_at types o ≡ ClassType d) × (is_below program.table d c ≡ true)
       go (inl e) = (c, e, below_itself program.table c)
       go (inr r) = (r.0, r.2, ap (λ (x : JavaType). is_assignable program.table (ClassType r.0) x) r.3 ∙ r.4)
 
-  array_known : (types : List JavaType) (s : State) (o : ℕ) (t : JavaType) → IsHeapOf program types s.heap → IsOf program.table types (ArrayType t) (Reference o) → type_at types o ≡ ArrayType t
+  pub array_known : (types : List JavaType) (s : State) (o : ℕ) (t : JavaType) → IsHeapOf program types s.heap → IsOf program.table types (ArrayType t) (Reference o) → type_at types o ≡ ArrayType t
   array_known types s o t h i = go (type_known types s o (ArrayType t) h i)
     where
       go : Assigned program.table (type_at types o) (ArrayType t) → type_at types o ≡ ArrayType t
@@ -348,15 +348,15 @@ module _ (program : Program) (fixed : Fixed) where
       go u (inr r) k = absurd (cc (r.3))
 
   -- the length of an array
-  pub safe_length : (types : List JavaType) (this : Option ℕ) (ls : List JavaType) (t : JavaType) (v : Value) → IsOf program.table types (ArrayType t) v → Safe program fixed types this ls (load v Length) (λ more after x. (after ≡ ls) × (n : ℕ) × (x ≡ Int (pos n)))
+  pub safe_length : (types : List JavaType) (this : Option ℕ) (ls : List JavaType) (t : JavaType) (v : Value) → IsOf program.table types (ArrayType t) v → Safe program fixed types this ls (load v Length) (λ more after x. (after ≡ ls) × (n : ℕ) × (x ≡ Int (pos n)) × IsLength n)
   safe_length types this ls t (Int z) i = absurd (cc (i.0))
   safe_length types this ls t (Truth b) i = absurd (cc (i))
   safe_length types this ls t Null i = record { by = λ s h. tt }
   safe_length types this ls t (Reference o) i = record { by = λ s h. go s h (array_of_type types s o t h.heap i.0 (array_known types s o t h.heap i)) }
     where
-      go : (s : State) → IsStateOf program fixed types this ls s → IsObjectOf program types (ArrayType t) (object_in s.heap o) → Fine program fixed types this (λ more after x. (after ≡ ls) × (n : ℕ) × (x ≡ Int (pos n))) (load (Reference o) Length s).said (load (Reference o) Length s).after
+      go : (s : State) → IsStateOf program fixed types this ls s → IsObjectOf program types (ArrayType t) (object_in s.heap o) → Fine program fixed types this (λ more after x. (after ≡ ls) × (n : ℕ) × (x ≡ Int (pos n)) × IsLength n) (load (Reference o) Length s).said (load (Reference o) Length s).after
       go s h x =
-          subst (λ (b : Bool). Fine program fixed types this (λ more after x. (after ≡ ls) × (n : ℕ) × (x ≡ Int (pos n))) (load_if b o Length s).said (load_if b o Length s).after) (sym (has_length (object_in s.heap o) t x.0)) (types, ls, extends_self types, h, (refl, length (object_in s.heap o).values, refl))
+          subst (λ (b : Bool). Fine program fixed types this (λ more after x. (after ≡ ls) × (n : ℕ) × (x ≡ Int (pos n)) × IsLength n) (load_if b o Length s).said (load_if b o Length s).after) (sym (has_length (object_in s.heap o) t x.0)) (types, ls, extends_self types, h, (refl, length (object_in s.heap o).values, refl, x.2))
 
   -- an element
   pub safe_element : (types : List JavaType) (this : Option ℕ) (ls : List JavaType) (t : JavaType) (v w : Value) → IsOf program.table types (ArrayType t) v → IsOf program.table types IntType w → Safe program fixed types this ls (element v w) (Gives program ls t)
@@ -397,7 +397,7 @@ module _ (program : Program) (fixed : Fixed) where
   safe_store_element types this ls t (Reference o) (Int z) x i j y = record { by = λ s h. go s h (array_known types s o t h.heap i) }
     where
       changed : (s : State) → IsObjectOf program types (ArrayType t) (object_in s.heap o) → (k : ℕ) → IsObjectOf program types (ArrayType t) (record { class = (object_in s.heap o).class; values = slice_set (object_in s.heap o).values k x })
-      changed s a k = (a.0, all_set program.table types t (object_in s.heap o).values k x a.1 y)
+      changed s a k = (a.0, all_set program.table types t (object_in s.heap o).values k x a.1 y, subst IsLength (sym (length-set (object_in s.heap o).values k x)) a.2)
 
       stored : (s : State) → IsStateOf program fixed types this ls s → type_at types o ≡ ArrayType t → (k : Option ℕ) → Fine program fixed types this (Keeps ls) (store_index o k x s).said (store_index o k x s).after
       stored s h e None = tt

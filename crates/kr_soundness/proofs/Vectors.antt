@@ -22,7 +22,8 @@ use Rattle.kr_bounds.proofs.Respects.{AllOf, all_both}
 use Rattle.kr_pruning.proofs.Numbering.{object, nobody, no_spot, count_at, width_at, get_map, first_slot, parameter_slot, object_slot, object_at_number, number_of_object}
 use Rattle.kr_pruning.proofs.Places.{class_at, extent_of, extent_within, slots_in_are, values_of_class}
 use Rattle.kr_pruning.proofs.Judged.{root_object}
-use Rattle.kr_soundness.specs.Fits.{IsOf, AreOf, AreAll, IsObjectOf, AreObjects, IsHeapOf, type_at}
+use Rattle.std.proofs.lemmas.List.FromFn.{length-map-range_with_len}
+use Rattle.kr_soundness.specs.Fits.{IsLength, IsOf, AreOf, AreAll, IsObjectOf, AreObjects, IsHeapOf, type_at}
 use Rattle.kr_soundness.specs.Domains.{class_type, object_types, IsItemOf, IsDomainOf, AreDomainsOf, domains_of, AreAllDomainsOf, AreElementsOf, AreSpotsOf, HaveDomainsTypes}
 use Rattle.kr_soundness.specs.Laws.{IsTyped}
 
@@ -171,7 +172,8 @@ module _ (problem : Problem) (w : IsWellFormed problem) (h : HaveDomainsTypes pr
               let below : suc m ≤ suc (length ss) = omega (arith, extent_within problem w v d k a b, ap (λ (c : Class). extent_of c (width_at problem d) (value_at problem v (first_slot problem d k))) e, ap (λ (x : List Spotted). length x) q) in
               let f = subst (λ (x : List Spotted). HaveSlots (first_slot problem d k) (domains_of x)) q (object_slots d k a b) in (
                 ap (λ (c : Class). is_array_of problem.program t c) e ∙ (ap (λ (x : JavaType). is_same x (ArrayType t)) g ∙ type_same t),
-                subst (λ (xs : List Value). AreAll problem.program.table types t xs) (sym (values_are d k (Array n) a b e)) (of_one t ss (first_slot problem d k + 1) m (omega (arith, below)) j (later (first_slot problem d k) s.domain (domains_of ss) f)),
+                subst (λ (xs : List Value). AreAll problem.program.table types t xs) (sym (values_are d k (Array n) a b e)) (of_one t ss (first_slot problem d k + 1) m (omega (arith, below)) j.0 (later (first_slot problem d k) s.domain (domains_of ss) f)),
+                subst (λ (xs : List Value). IsLength (length xs)) (sym (values_are d k (Array n) a b e)) (omega (arith, below, j.1, length-map-range_with_len (value_at problem v) (first_slot problem d k + 1) m)),
               )
           array (ArrayType t) g [] q j = absurd j
           array IntType g ss q j = absurd j

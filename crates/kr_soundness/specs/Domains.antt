@@ -8,7 +8,7 @@ use Rattle.kr_table.specs.Table.{Method, fields_of, is_assignable}
 use Rattle.kr_mean.specs.Program.{Program}
 use Rattle.kr_mean.specs.Problem.{Problem, Item, Plain, Objects, Domain, Spotted, DomainObject, all_objects, domain_at}
 use Rattle.kr_mean.specs.Runs.{root_class, tested_method}
-use Rattle.kr_soundness.specs.Fits.{IsOf}
+use Rattle.kr_soundness.specs.Fits.{IsOf, IsLength}
 
 -- the type of what is of a class or array type
 abbrev pub class_type : Program → Class → JavaType
@@ -43,9 +43,9 @@ abbrev pub AreAllDomainsOf : Problem → JavaType → List Spotted → Type 0
 AreAllDomainsOf problem t [] = Unit {0}
 AreAllDomainsOf problem t (s ∷ ss) = IsDomainOf problem t s.domain × AreAllDomainsOf problem t ss
 
--- of an array type the elements behind the length; the array type has this number
+-- of an array type the elements behind the length, no more than an int counts; the array type has this number
 abbrev pub AreElementsOf : Problem → JavaType → List Spotted → Type 0
-AreElementsOf problem (ArrayType t) (s ∷ ss) = AreAllDomainsOf problem t ss
+AreElementsOf problem (ArrayType t) (s ∷ ss) = AreAllDomainsOf problem t ss × IsLength (length ss)
 AreElementsOf problem t ss = ⊥
 
 -- what the objects of a class domain have: of a class its fields

@@ -41,10 +41,14 @@ AreAll table types t (v ∷ vs) = IsOf table types t v × AreAll table types t v
 
 -- ---- objects
 
+-- what a length may be: an int
+abbrev pub IsLength : ℕ → Type 0
+IsLength n = n < 2147483648
+
 -- an object's fields, inherited ones first; an array's elements; a collection's members
 abbrev pub IsObjectOf : Program → List JavaType → JavaType → HeapObject → Type 0
 IsObjectOf program types (ClassType c) o = (o.class ≡ Object c) × AreOf program.table types (map (λ f. f.type) (fields_of program.table c)) o.values
-IsObjectOf program types (ArrayType t) o = (is_array_of program t o.class ≡ true) × AreAll program.table types t o.values
+IsObjectOf program types (ArrayType t) o = (is_array_of program t o.class ≡ true) × AreAll program.table types t o.values × IsLength (length o.values)
 IsObjectOf program types (SetType t) o = (o.class ≡ Set) × (is_element t ≡ true) × AreAll program.table types t o.values
 IsObjectOf program types (ListType t) o = (o.class ≡ ListClass) × (is_element t ≡ true) × AreAll program.table types t o.values
 IsObjectOf program types t o = ⊥

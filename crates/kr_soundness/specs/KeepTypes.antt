@@ -16,7 +16,7 @@ use Rattle.kr_typing.specs.Rules.{Fits, Value as Typed, operator_rule, unary_rul
 use Rattle.kr_mean.specs.Steps.{Run, say, tick, get_this, read_local, declare, assign, get_result, get_old, within, scoped, class_or_null, load, load_field, store, store_new, element, store_element, make, collect}
 use Rattle.kr_mean.specs.Operators.{operated, operated_alone}
 use Rattle.kr_mean.specs.Meaning.{Flow, create_array}
-use Rattle.kr_soundness.specs.Fits.{IsOf, AreOf, IsObjectOf, type_at}
+use Rattle.kr_soundness.specs.Fits.{IsOf, AreOf, IsLength, IsObjectOf, type_at}
 use Rattle.kr_soundness.specs.Triples.{Fixed, IsThis, Extends, Safe, Gives, Keeps, type_of_local, type_of_old}
 use Rattle.kr_soundness.specs.Steps.{HasField, IsSeen, Collection, type_with, is_junction}
 
@@ -41,7 +41,7 @@ pub record KeepTypes (program : Program) (fixed : Fixed) : Type 0 where
   pub stores_field : (types : List JavaType) (this : Option ℕ) (ls : List JavaType) (f : Field) (c : ℕ) (v x : Value) → HasField program c f.name f.type → is_below program.table c f.class ≡ true → ((d : ℕ) → is_below program.table d c ≡ true → is_below program.table d f.class ≡ true) → IsOf program.table types (ClassType c) v → IsOf program.table types f.type x → Safe program fixed types this ls (store program f v x) (Keeps ls)
   pub stores_new_field : (types : List JavaType) (this : Option ℕ) (ls : List JavaType) (f : Field) (c o : ℕ) (x : Value) → fixed.candidates ≤ o → HasField program c f.name f.type → is_below program.table c f.class ≡ true → ((d : ℕ) → is_below program.table d c ≡ true → is_below program.table d f.class ≡ true) → IsOf program.table types (ClassType c) (Reference o) → IsOf program.table types f.type x → Safe program fixed types this ls (store_new program f (Reference o) x) (Keeps ls)
   -- arrays
-  pub loads_length : (types : List JavaType) (this : Option ℕ) (ls : List JavaType) (t : JavaType) (v : Value) → IsOf program.table types (ArrayType t) v → Safe program fixed types this ls (load v Length) (λ more after x. (after ≡ ls) × (n : ℕ) × (x ≡ Int (pos n)))
+  pub loads_length : (types : List JavaType) (this : Option ℕ) (ls : List JavaType) (t : JavaType) (v : Value) → IsOf program.table types (ArrayType t) v → Safe program fixed types this ls (load v Length) (λ more after x. (after ≡ ls) × (n : ℕ) × (x ≡ Int (pos n)) × IsLength n)
   pub loads_element : (types : List JavaType) (this : Option ℕ) (ls : List JavaType) (t : JavaType) (v w : Value) → IsOf program.table types (ArrayType t) v → IsOf program.table types IntType w → Safe program fixed types this ls (element v w) (Gives program ls t)
   pub stores_element : (types : List JavaType) (this : Option ℕ) (ls : List JavaType) (t : JavaType) (v w x : Value) → IsOf program.table types (ArrayType t) v → IsOf program.table types IntType w → IsOf program.table types t x → Safe program fixed types this ls (store_element program t v w x) (Keeps ls)
   -- a new object or array

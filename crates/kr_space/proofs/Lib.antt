@@ -1,3 +1,12 @@
-pub mod Wrapped
-pub mod Meanings
-pub mod NameRule
+pub mod Named
+pub mod LengthLists
+pub mod ClassFaults
+pub mod Counts
+pub mod BoundedKept
+pub mod SlotCounts
+pub mod Parts
+pub mod ReadLimits
+pub mod Pooled
+pub mod Laid
+pub mod Problems
+pub mod Unbroken

@@ -1,3 +1,9 @@
-pub mod Texts
-pub mod Meanings
-pub mod Rules
+pub mod Headings
+pub mod Sizes
+pub mod Bounded
+pub mod Slots
+pub mod Keys
+pub mod Refusals
+pub mod Laws
+pub mod Basis
+pub mod Pools

@@ -1,18 +1,32 @@
-//! Judges a finitization beside a program. So far: which types the names of a finitization mean.
+//! Judges a finitization beside a program: the least broken rule, and there the least item; or poses the problem that they are.
 #![tactic(auto)]
 
-mod domains;
-mod least;
-mod meaning;
-mod names;
-mod peeling;
+mod array_domains;
+mod arrays;
+mod basis;
+mod bounded;
+mod class_domains;
+mod elements;
+mod given;
+mod judge;
+mod keys;
+mod laws;
+mod layout;
+mod lengths;
+mod numbers;
+mod parameters;
+mod places;
+mod pool;
+mod posing;
+#[cfg(test)]
+mod problem_tests;
+mod sizes;
+mod slots;
 #[cfg(test)]
 mod tests;
-mod unknown;
-mod wrapping;
-mod written;
+mod undefined;
+mod whole;
 
-pub use meaning::{Meaning, meaning_of};
-pub use unknown::unknown_name;
-pub use wrapping::Wrapping;
-pub use written::{array_type, type_number};
+pub use judge::judge_space;
+pub use laws::limits_law;
+pub use posing::problem;

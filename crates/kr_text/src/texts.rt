@@ -36,14 +36,14 @@ pub fn put_place<K: Sink>(out: &mut K, name: &str, place: Place) -> Result<(), F
 }
 
 /// Puts `: `, the rule, a space and the item where it isn't empty, and the line's end.
-fn put_rule<K: Sink>(out: &mut K, rule: &str, item: &str) -> Result<(), Failed>
+fn put_rule<K: Sink>(out: &mut K, rule: &str, item: &[u8]) -> Result<(), Failed>
     ensures { Writes K.taken K.faults out.old out.new (rule_text rule.now item.now) result }
 {
     let rule = rule.as_bytes();
     if item.is_empty() {
         put_pieces(out, &[b": ", rule, b"\n"])
     } else {
-        put_pieces(out, &[b": ", rule, b" ", item.as_bytes(), b"\n"])
+        put_pieces(out, &[b": ", rule, b" ", item, b"\n"])
     }
 }
 
@@ -57,6 +57,20 @@ fn put_where<K: Sink>(out: &mut K, name: &str, place: Option<Place>) -> Result<(
     }
 }
 
+/// Puts a refusal's line, whose item is any bytes.
+pub fn put_refusal_bytes<K: Sink>(
+    out: &mut K,
+    name: &str,
+    place: Option<Place>,
+    rule: &str,
+    item: &[u8],
+) -> Result<(), Failed>
+    ensures { Writes K.taken K.faults out.old out.new (refusal_text name.now place rule.now item.now) result }
+{
+    put_where(out, name, place)?;
+    put_rule(out, rule, item)
+}
+
 /// Puts a refusal's line: the name, `:LINE:COL` where there is a place, `: `, the rule, a space and the item where it
 /// isn't empty.
 pub fn put_refusal<K: Sink>(
@@ -68,6 +82,5 @@ pub fn put_refusal<K: Sink>(
 ) -> Result<(), Failed>
     ensures { Writes K.taken K.faults out.old out.new (refusal_text name.now place rule.now item.now) result }
 {
-    put_where(out, name, place)?;
-    put_rule(out, rule, item)
+    put_refusal_bytes(out, name, place, rule, item.as_bytes())
 }

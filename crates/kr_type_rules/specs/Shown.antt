@@ -67,6 +67,11 @@ IsKnownWithin l (known.More first rest) = first < count l
 abbrev pub IsNoteWithin : TypeList → Note → Type 0
 IsNoteWithin l n = IsKnownWithin l n.known
 
+-- it isn't a list of one value or more, so that it speaks of no other node
+abbrev pub HasNoRest : Known → Type 0
+HasNoRest (known.More first rest) = ⊥
+HasNoRest k = Unit {0}
+
 -- in every scope of the program, the verdict is what the rule says
 abbrev pub Says : Members → TypeList → Within → Verdict → (Scope → rules.Verdict) → Type 0
 Says members l here v rule = (files : List Arena) (g : Setting) (bs : List Binding) → AreMembers files members → g.table ≡ table_in files → verdict_shown l v ≡ rule (scope_in g bs here)

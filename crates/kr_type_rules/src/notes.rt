@@ -4,7 +4,7 @@ ghost use Rattle.kr_typing.specs.Rules as rules;
 ghost use Rattle.kr_table.specs.Rules.{is_before as comes_before, sooner};
 ghost use Rattle.kr_scopes.specs.Noting.{concluded, plain};
 ghost use Rattle.kr_type_numbers.specs.Types.{TypeList};
-ghost use Rattle.kr_type_rules.specs.Shown.{IsNoteWithin, IsVerdictWithin, fault_shown, least_shown, note_shown, verdict_shown};
+ghost use Rattle.kr_type_rules.specs.Shown.{HasNoRest, IsNoteWithin, IsVerdictWithin, fault_shown, least_shown, note_shown, verdict_shown};
 
 use crate::known::{Known, Typed, Verdict};
 use kr_base::Place;
@@ -53,6 +53,7 @@ pub fn earlier(a: Option<Fault>, b: Option<Fault>) -> Option<Fault>
 /// A node of which a rule says this, with the first broken node in its parts.
 pub fn conclude(place: Place, verdict: Verdict, least: Option<Fault>) -> Note
     ensures within { (l : TypeList) → IsVerdictWithin l verdict → IsNoteWithin l result }
+    ensures no_rest { HasNoRest result.known }
     ensures shown { (l : TypeList) (look : ℕ → rules.Typed) → note_shown l look result ≡ concluded place (verdict_shown l verdict) (least_shown least) }
 {
     match verdict {
@@ -70,6 +71,7 @@ pub fn conclude(place: Place, verdict: Verdict, least: Option<Fault>) -> Note
 /// A node without a rule of its own.
 pub fn plain(least: Option<Fault>) -> Note
     ensures within { (l : TypeList) → IsNoteWithin l result }
+    ensures no_rest { HasNoRest result.known }
     ensures shown { (l : TypeList) (look : ℕ → rules.Typed) → note_shown l look result ≡ plain (least_shown least) }
 {
     Note {

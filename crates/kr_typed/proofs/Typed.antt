@@ -15,10 +15,9 @@ use Rattle.kr_table.specs.Constants.{constant_only, or_else, outer_class, field_
 use Rattle.kr_typing.specs.Scopes.{Scope, Local, Meant, LocalName, FieldName, NoName, written, value, in_old, under_minus, meant_by, field_or_none, meant, class_before, static_only, method_meant, super_class}
 use Rattle.kr_typing.specs.Rules.{Typed, Value, Variable, Values, Untyped, Verdict, Fits, Breaks, ask, gives, value_of, variable_of, type_rule, diamond_rule, array_rule, number_rule, this_rule, name_rule, unary_rule, operator_rule, choice_rule, cast_rule, instance_rule, written_rule, is_broken, assignment_rule, compound_rule, step_rule, field_rule, access_rule, constant_rule, element_rule, result_rule, arguments_rule, call_rule, static_rule, above_rule, super_rule, plain_call_rule, member_call_rule, collection_rule, method_rule, object_call_rule, creation_rule, array_creation_rule, result_value_rule, old_rule}
 use Rattle.kr_typing.specs.Typing.{Judged, judge, on_one, on_two, on_list, joined, field_of, method_of, operand, judged, type_in}
-use Rattle.kr_typing.specs.Laws.{IsType}
-use Rattle.kr_typed.specs.Laws.{IsCreated, Shaped, AreKnown, AreTypesKnown}
+use Rattle.kr_typed.specs.Laws.{IsWritten, IsCreated, Shaped, AreKnown, AreTypesKnown}
 
-abbrev HasType : Typed → Type 0
+abbrev pub HasType : Typed → Type 0
 HasType x = (t : JavaType) × (type_in x ≡ Some t)
 
 -- a rule that gives a type where it isn't broken
@@ -100,7 +99,7 @@ joined_types Untyped y h k = absurd (cc (h.1))
 type_gives : (t : JavaType) → Gives (type_rule t)
 type_gives t = gives_ask (is_known t) 1 (Fits (Value t)) (gives_value t)
 
-written_type : (s : Scope) (t : Tree) → IsType t → (judged s t).faults ≡ [] → HasType (judged s t).typed
+pub written_type : (s : Scope) (t : Tree) → IsWritten t → (judged s t).faults ≡ [] → HasType (judged s t).typed
 unfolding judged
 written_type s (trees.PrimitiveType p k) h e = judge_type p _ [] (type_gives (written s (trees.PrimitiveType p k))) e
 written_type s (trees.NamedType p n) h e = judge_type p _ [] (type_gives (written s (trees.NamedType p n))) e
@@ -407,7 +406,7 @@ typed false s (trees.Cast p t e) k h f = two_type p (cast_rule s) (judged s t) (
 typed false s (trees.Assignment p a b) k h f =
     two_type p (assignment_rule s (judged (value s) a).typed) (judged (value s) a) (judged (value s) b) (λ t u. gives_ask (is_assignable s.table u t) 16 _ (written_gives s k.table (judged (value s) a).typed t)) (λ g. typed false (value s) a (known_part s k) h.0 g) (λ g. typed false (value s) b (known_part s k) h.1 g) f
 typed false s (trees.CompoundAssignment p o a b) k h f =
-    two_type p (compound_rule s o (judged (value s) a).typed) (judged (value s) a) (judged (value s) b) (λ t u. gives_ask (not (is_broken (operator_rule s o t u))) 17 _ (written_gives s k.table (judged (value s) a).typed t)) (λ g. typed false (value s) a (known_part s k) h.0 g) (λ g. typed false (value s) b (known_part s k) h.1 g) f
+    two_type p (compound_rule s o (judged (value s) a).typed) (judged (value s) a) (judged (value s) b) (λ t u. gives_ask (not (is_broken (operator_rule s o t u))) 17 _ (written_gives s k.table (judged (value s) a).typed t)) (λ g. typed false (value s) a (known_part s k) h.1 g) (λ g. typed false (value s) b (known_part s k) h.2 g) f
 typed false s (trees.Result p) k h f = judge_type p (result_value_rule s) [] (gives_ask (Rattle.kr_typing.specs.Rules.is_ensuring s.part && not (is_void s.result) && not s.is_in_old) 38 (gives s.result) (gives_known s.result k.result)) f
 typed false s (trees.Old p e) k h f = one_type p (old_rule s) (judged (in_old s) e) (λ t. gives_ask (Rattle.kr_typing.specs.Rules.is_ensuring s.part && not s.is_in_old) 38 (Fits (Value t)) (gives_value t)) (λ g. typed false (in_old s) e (known_old s k) h g) f
 typed false s _ k h f = absurd h

@@ -1,3 +1,6 @@
+pub mod Making
+pub mod Passing
+pub mod Absent
 pub mod Single
-pub mod Meanings
-pub mod Asking
+pub mod Faults
+pub mod Located

@@ -1,41 +1,46 @@
--- The parameters of the one constructor of a class.
-use Rattle.std.proofs.Common.{◌≡◌, refl, sym, ap, ◌∙◌, ℕ, ◌<◌, Bool, List, [], ◌∷◌, length, map, append-nil, arith}
-use Rattle.std.specs.Prelude.{Some, flat_map, slice_get}
-use Rattle.std.proofs.lemmas.List.{length-map}
-use Rattle.kr_ast.specs.Arena.{Arena, tree_in}
-use Rattle.kr_table.specs.Types.{JavaType}
-use Rattle.kr_table.specs.Table.{Table, items, parameters_in, constructor_parameters}
-use Rattle.kr_typing.specs.Rules.{arguments_fit, is_none_of}
-use Rattle.kr_typing.specs.Scopes.{Scope}
-use Rattle.kr_names.specs.Shown.{file_at}
-use Rattle.kr_members.specs.declared.methods.Constructor.{Constructor}
-use Rattle.kr_members.specs.Shown.{constructor_shown, headings_in, table_in}
-use Rattle.kr_type_rules.specs.Arguments.{arguments_go_into, listed_types}
-use Rattle.kr_type_rules.proofs.Walking.{asked}
-use Rattle.kr_types.specs.Constructors.{constructors_of, IsSingle}
+-- Classes of which no rule is broken have at most one constructor each.
+use Rattle.std.proofs.Common.{◌≡◌, refl, ℕ, zero, suc, ◌+◌, ◌<◌, List, [], ◌∷◌, ◌++◌, length, true, false, if◌then◌else◌, append-nil, arith}
+use Rattle.std.specs.Prelude.{Option, Some, None, drop, flat_map, option_to_list}
+use Rattle.kr_table.specs.Table.{Table, Class, Constructor, class_at}
+use Rattle.kr_table.specs.Rules.{Fault, C1, C2, C3, C4, C5, C6, C7, C8, break_if, class_fault, each_class, first_of, is_before, least, sooner}
+use Rattle.kr_expressions.specs.Constructors.{AreSingle}
 
-pub none_fit : (s : Scope) (ts : List JavaType) → arguments_fit s ts [] ≡ is_none_of ts
-none_fit s [] = refl
-none_fit s (t ∷ ts) = refl
+sooner_some : (f : Fault) (g : Option Fault) → sooner (Some f) g ≡ None → ⊥
+sooner_some f None e = cc
+sooner_some f (Some g) e = elim (is_before g f) as (λ t. (if t then Some g else Some f) ≡ None → ⊥) [ true ↦ λ e. cc | false ↦ λ e. cc ] e
 
-one : {A : Type 0} (xs : List A) (x : A) → length xs < 2 → slice_get xs 0 ≡ Some x → xs ≡ x ∷ []
-one [] x l e = absurd (cc)
-one (y ∷ []) x l e = let s : y ≡ x = cc in ap (λ z. z ∷ []) s
-one (y ∷ z ∷ xs) x l e = absurd (omega (arith, l))
+-- no fault comes first where there are none
+pub none_broken : (fs : List Fault) → least fs ≡ None → fs ≡ []
+none_broken [] e = refl
+none_broken (f ∷ fs) e = absurd (sooner_some f (least fs) e)
 
--- without a constructor there are no parameters
-pub no_parameters : (t : Table) (c : ℕ) → constructors_of t c ≡ [] → constructor_parameters t c ≡ []
-no_parameters t c e = ap (flat_map (λ k. k.parameters)) e
+first_none : (o : Option Fault) (os : List (Option Fault)) → first_of (o ∷ os) ≡ None → (o ≡ None) × (first_of os ≡ None)
+first_none None os e = (refl, e)
+first_none (Some f) os e = absurd (cc)
 
-pub one_constructor : (files : List Arena) (t : Table) (c : ℕ) (ks : List Constructor) (k : Constructor) → map (constructor_shown files) ks ≡ constructors_of t c → IsSingle t c → slice_get ks 0 ≡ Some k
-    → constructor_parameters t c ≡ parameters_in (headings_in files) (tree_in (file_at files k.file) k.parameters)
-one_constructor files t c ks k e l i =
-    let few : length ks < 2 = omega (arith, l, ap length e, length-map ks (constructor_shown files)) in
-    ap (flat_map (λ k. k.parameters)) (sym e ∙ ap (map (constructor_shown files)) (one ks k few i)) ∙ append-nil (constructor_shown files k).parameters
+no_front : (fs gs : List Fault) → fs ++ gs ≡ [] → gs ≡ []
+no_front [] gs e = e
+no_front (f ∷ fs) gs e = absurd (cc)
 
-pub fits : (files : List Arena) (s : Scope) (ts : List JavaType) (c : ℕ) (ks : List Constructor) (k : Constructor) (b : Bool) → s.table ≡ table_in files → map (constructor_shown files) ks ≡ constructors_of (table_in files) c → IsSingle s.table c → slice_get ks 0 ≡ Some k
-    → b ≡ arguments_go_into (table_in files) (headings_in files) ts (listed_types (file_at files k.file) k.parameters) → b ≡ arguments_fit s ts (constructor_parameters s.table c)
-fits files s ts c ks k b e m l i g =
-    g ∙ ap (λ (t : Table). arguments_go_into t (headings_in files) ts (listed_types (file_at files k.file) k.parameters)) (sym e)
-    ∙ sym (asked s (headings_in files) ts (items (tree_in (file_at files k.file) k.parameters)))
-    ∙ ap (λ ps. arguments_fit s ts ps) (sym (one_constructor files s.table c ks k (m ∙ ap (λ (t : Table). constructors_of t c) (sym e)) l i))
+no_back : (fs gs : List Fault) → fs ++ gs ≡ [] → fs ≡ []
+no_back [] gs e = refl
+no_back (f ∷ fs) gs e = absurd (cc)
+
+few : (ks : List Constructor) → flat_map (λ k. break_if true 4 k.place) (drop 1 ks) ≡ [] → length ks < 2
+few [] e = omega arith
+few (k ∷ []) e = omega arith
+few (k ∷ j ∷ ks) e = absurd (cc)
+
+each_none : (t : Table) (n c : ℕ) (ds : List Class) → each_class (C4 t) n ds ≡ [] → length (flat_map (λ (d : Class). d.constructors) (option_to_list (class_at ds c))) < 2
+each_none t n c [] e = omega arith
+each_none t n zero (d ∷ ds) e = simp append-nil (few d.constructors (no_front _ _ (no_back _ _ e)))
+each_none t n (suc c) (d ∷ ds) e = each_none t (n + 1) c ds (no_front (C4 t n d) _ e)
+
+pub single : (t : Table) → class_fault t ≡ None → AreSingle t
+unfolding class_fault
+single t e c =
+    let rule : (Table → ℕ → Class → List Fault) → Option Fault = λ r. least (each_class (r t) 0 t.classes) in
+    let on_two = first_none (rule C2) (rule C3 ∷ rule C4 ∷ rule C5 ∷ rule C6 ∷ rule C7 ∷ rule C8 ∷ []) (first_none (least (C1 t)) (rule C2 ∷ rule C3 ∷ rule C4 ∷ rule C5 ∷ rule C6 ∷ rule C7 ∷ rule C8 ∷ []) e).1 in
+    let on_three = first_none (rule C3) (rule C4 ∷ rule C5 ∷ rule C6 ∷ rule C7 ∷ rule C8 ∷ []) on_two.1 in
+    let on_four = first_none (rule C4) (rule C5 ∷ rule C6 ∷ rule C7 ∷ rule C8 ∷ []) on_three.1 in
+    each_none t 0 c t.classes (none_broken _ on_four.0)

@@ -1,2 +1,4 @@
-pub mod Constructors
-pub mod Parts
+pub mod Programs
+pub mod Refusals
+pub mod Sites
+pub mod Kinds

@@ -1,23 +1,30 @@
-//! The types of all nodes. So far the rules on creations and on names, beside those of `kr_type_rules`, and what is kept of some
-//! kinds of nodes, from what is kept of their parts; the pass over a tree is not there yet.
+//! The typing rules over whole programs: what is kept of each node of each file, and whether a rule is broken.
 #![tactic(auto)]
 
-mod choices;
+mod calls;
+mod classes;
+mod conditions;
 mod contracts;
-mod creations;
-mod elements;
+mod dots;
+mod files;
+mod group;
+mod growing;
 mod leaves;
+mod lists;
 mod names;
-mod operators;
-mod parts;
+mod nodes;
+mod notes;
+mod operations;
+mod plain;
+mod program;
+mod refusal;
+mod results;
+mod site;
 #[cfg(test)]
 mod tests;
+mod types;
+mod writes;
 
-pub use choices::{choice_note, condition_note};
-pub use contracts::{contract_note, old_note};
-pub use creations::{array_creation_rule, creation_rule, super_constructor_rule};
-pub use elements::element_note;
-pub use leaves::{jump_note, null_note, number_note, truth_note};
-pub use names::{class_of, variable_rule};
-pub use operators::{binary_note, cast_note, instance_note, unary_note};
-pub use parts::part_type;
+pub use files::check;
+pub use program::{Program, TypedFile};
+pub use refusal::TypeRefusal;

@@ -1,77 +1,76 @@
-// Rules on names: T3, T5.
-ghost use Rattle.std.specs.Prelude.{◌≡◌, ◌<◌, List, IfSome, length};
-ghost use Rattle.kr_table.specs.Constants.{Known};
-ghost use Rattle.kr_typing.specs.Rules as rules;
-ghost use Rattle.kr_typing.specs.Scopes.{meant};
-ghost use Rattle.kr_scopes.specs.Settings.{setting, class_there};
-ghost use Rattle.kr_scopes.specs.Scoped.{AreScopes, scope_at};
-ghost use Rattle.kr_names.specs.Shown.{AreHeads, file_at};
-ghost use Rattle.kr_members.specs.Shown.{table_in};
-ghost use Rattle.kr_members.specs.Kept.{AreMembers};
-ghost use Rattle.kr_type_numbers.specs.Numbers.{AreNodeTypes};
-ghost use Rattle.kr_type_rules.specs.Shown.{IsVerdictWithin, verdict_shown};
+// Notes of names that are used or declared.
+ghost use Rattle.std.specs.Prelude.{◌≡◌, ◌<◌, length, slice_index_or};
+ghost use Rattle.kr_ast.specs.Arena.{AreNamesIn, names, parts};
+ghost use Rattle.kr_scopes.specs.Scoped.{nowhere};
+ghost use Rattle.kr_constants.specs.Frames.{AreBelow};
+ghost use Rattle.kr_expressions.specs.Notes.{AreNotesWithin};
+ghost use Rattle.kr_types.specs.Sites.{IsNoteOf, IsSite, scope_here, tree_there};
+ghost use Rattle.kr_types.specs.Kinds.{IsNamed};
 
-use kr_ast::{Node, Tree};
-use kr_members::Members;
-use kr_names::{Heads, tree_of};
-use kr_scopes::Scopes;
-use kr_type_numbers::{NodeTypes, Types};
-use kr_type_rules::{Verdict, field_name_rule, type_of_node, variable_of};
+use crate::site::{Site, part_note};
+use kr_ast::Node;
+use kr_base::Place;
+use kr_expressions::variable_note;
+use kr_scopes::Within;
+use kr_statements::{declarator_note, parameter_note};
+use kr_type_numbers::Types;
+use kr_type_rules::{Note, plain};
 
-/// The class whose code a scope is in; the first one outside of classes.
-pub fn class_of(trees: &[Tree], heads: &Heads, file: u32, node: Option<u32>) -> u32
-    requires heads { AreHeads trees.now heads.now }
-    requires file { file < length trees.now }
-    requires node { IfSome node (λ k. k < length (file_at trees.now file).entries) }
-    ensures { (known : List Known) → class_there (setting (table_in trees.now) known (file_at trees.now file)) node ≡ result }
+/// The note of a variable, of a declarator or of a parameter: the node of a number, in its scope.
+pub(crate) fn name_note(
+    site: &Site<'_>,
+    types: &Types,
+    notes: &[Note],
+    here: Within,
+    at: u32,
+    place: Place,
+    node: Node,
+) -> Note
+    requires site { IsSite site.now types.now }
+    requires notes { AreNotesWithin types.now notes.now }
+    requires at { at < length (tree_there site.now).entries }
+    requires here { here ≡ slice_index_or site.now.scopes.now.within.items at nowhere }
+    requires parts { AreBelow (length notes.now) (parts node) }
+    requires names { AreNamesIn (tree_there site.now).text (names node) }
+    requires kind { IsNamed node }
+    ensures { IsNoteOf site.now types.now notes.now (length notes.now) (scope_here site.now here) place node result }
 {
     match node {
-        None => 0,
-        Some(node) => {
-            let tree = tree_of(trees, file);
-            match tree.entry(node).node {
-                Node::Class { name, .. } => match heads.number_of(tree.name(name)) {
-                    None => 0,
-                    Some(class) => class,
-                },
-                _ => 0,
-            }
-        }
-    }
-}
-
-/// T3: a name means something; T5: no instance field in static code.
-pub fn variable_rule(
-    trees: &[Tree],
-    types: &Types,
-    members: &Members,
-    node_types: &NodeTypes,
-    scopes: &Scopes,
-    file: u32,
-    node: u32,
-    class: u32,
-    name: &[u8],
-) -> Verdict
-    requires members { AreMembers trees.now members.now }
-    requires numbers { AreNodeTypes trees.now types.now node_types.now }
-    requires file { file < length trees.now }
-    requires node { node < length (file_at trees.now file).entries }
-    requires scopes { AreScopes (file_at trees.now file) scopes.now.bindings.items scopes.now.within.items }
-    ensures within { IsVerdictWithin types.now result }
-    ensures says { (known : List Known) → let s = scope_at (setting (table_in trees.now) known (file_at trees.now file)) scopes.now.bindings.items scopes.now.within.items node in s.class ≡ class → verdict_shown types.now result ≡ rules.name_rule s (meant s name.now) }
-{
-    let tree = tree_of(trees, file);
-    match scopes.local(tree, node, name) {
-        Some(local) => {
-            let number = type_of_node(trees, types, node_types, file, local.declared);
-            variable_of(types, number)
-        }
-        None => match members.field_meant(class, name) {
-            None => Verdict::Breaks(3),
-            Some(field) => {
-                let here = scopes.at(node);
-                field_name_rule(trees, types, node_types, here, field)
-            }
-        },
+        Node::Variable { name } => variable_note(
+            site.trees,
+            types,
+            site.members,
+            site.numbers,
+            site.scopes,
+            site.file,
+            at,
+            place,
+            site.class(here),
+            site.tree().name(name),
+        ),
+        Node::Declarator { name, initial } => declarator_note(
+            site.trees,
+            types,
+            site.members,
+            site.numbers,
+            site.values,
+            site.scopes,
+            site.file,
+            at,
+            place,
+            site.tree().name(name),
+            part_note(types, notes, initial),
+        ),
+        Node::Parameter { declared, name } => parameter_note(
+            site.trees,
+            types,
+            site.scopes,
+            site.file,
+            at,
+            place,
+            site.tree().name(name),
+            part_note(types, notes, declared),
+        ),
+        _ => plain(None),
     }
 }

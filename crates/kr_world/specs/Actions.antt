@@ -1,17 +1,12 @@
 -- Steps of the meaning that need no other code, each of which gives a value.
-use Rattle.std.specs.Prelude.{ℕ, Bool, List, [], Option, Some, None}
-use Rattle.kr_base.specs.declared.place.Place.{Place}
-use Rattle.kr_ast.specs.declared.node.BinaryOperator.{BinaryOperator}
-use Rattle.kr_ast.specs.declared.node.UnaryOperator.{UnaryOperator}
-use Rattle.kr_ast.specs.declared.node.StepOperator.{StepOperator}
+use Rattle.std.specs.Prelude.{[]}
 use Rattle.kr_value.specs.declared.value.Value.{Value}
 use Rattle.kr_value.specs.declared.value.Value.TheVariants.{Null}
-use Rattle.kr_value.specs.declared.object.Class.TheVariants.{Object}
 use Rattle.kr_world.specs.Shown.{stop_of}
-use Rattle.kr_mean.specs.Steps.{Run, say, give, stop, ◌>>=◌, ◌>>◌, tick, get_this, read_local, declare, assign, get_result, get_old, element, class_or_null, class_of, make}
+use Rattle.kr_mean.specs.Steps.{Run, say, give, stop, ◌>>=◌, ◌>>◌, tick, get_this, read_local, declare, assign, get_result, get_old, element, class_or_null, make}
 use Rattle.kr_mean.specs.Operators.{operated, operated_alone}
 use Rattle.kr_code.specs.declared.code.Code.{Code}
-use Rattle.kr_code.specs.Steps.{load_named, store_field, store_initial, store_item, cast_to, instance_of}
+use Rattle.kr_code.specs.Steps.{load_named, store_field, store_item, cast_to, instance_of}
 use Rattle.kr_code.specs.Doing.{array_of}
 use Rattle.kr_world.specs.declared.action.Cell.{Cell}
 use Rattle.kr_world.specs.declared.action.Cell.TheVariants as cells
@@ -41,6 +36,7 @@ acted code (actions.Cast t v) = do
   class ← class_or_null v
   cast_to code t v class
 acted code (actions.NewArray k default v) = array_of k default v
+acted code (actions.NewCollection class) = make class []
 acted code (actions.Write cell v g) = written code cell v >> give g
 acted code actions.Tick = tick >> give Null
 acted code (actions.Declare v) = tick >> (declare v >> give Null)

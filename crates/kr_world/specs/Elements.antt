@@ -1,5 +1,5 @@
 -- The element of an array, once its length was read.
-use Rattle.std.specs.Prelude.{ℕ, Bool, List, [], Option, Some, None, Ok, Err}
+use Rattle.std.specs.Prelude.{ℕ, Bool, [], Option, Some, None, Ok, Err}
 use Rattle.kr_value.specs.declared.value.Value.{Value}
 use Rattle.kr_value.specs.declared.object.Spot.TheVariants.{Element}
 use Rattle.kr_value.specs.Heaps.{object_in, value_of_spot}

@@ -3,14 +3,16 @@ ghost use Rattle.kr_world.specs.Worlds.{state_of, Agrees};
 ghost use Rattle.kr_world.specs.Actions.{acted, written};
 ghost use Rattle.kr_mean.specs.Steps.{bind, give};
 
-use crate::memory::{cast, element, instance, load_named, new_array, store, store_item};
+use crate::memory::{
+    cast, element, instance, load_named, new_array, new_collection, store, store_item,
+};
 use crate::names::{assign, declare, old, read_local, result, tick};
 use crate::operators::{operated, operated_alone};
 use crate::{End, Halt, World};
 use kr_ast::{BinaryOperator, UnaryOperator};
 use kr_base::Place;
 use kr_code::Code;
-use kr_value::Value;
+use kr_value::{Class, Value};
 use std::alloc::Global;
 
 /// A variable, with the values that say which one.
@@ -41,6 +43,8 @@ pub enum Action {
     Cast(u32, Value),
     /// The array type's number, what an element begins with, and the length.
     NewArray(Option<u32>, Value, Value),
+    /// Without members.
+    NewCollection(Class),
     /// Gives a variable a value, and then what is given.
     Write(Cell, Value, Value),
     /// A unit of fuel.
@@ -89,6 +93,7 @@ pub fn act(alloc: Global, code: &Code, action: Action, world: &mut World) -> Res
         Action::Instance(class, value) => instance(code, world, class, value),
         Action::Cast(class, value) => cast(code, world, class, value),
         Action::NewArray(class, default, length) => new_array(alloc, world, class, default, length),
+        Action::NewCollection(class) => new_collection(alloc, world, class),
         Action::Write(cell, value, given) => write(code, world, cell, value, given),
         Action::Tick => tick(world),
         Action::Declare(value) => declare(world, value),

@@ -3,6 +3,7 @@
 #![tactic(auto)]
 
 mod action;
+mod collections;
 mod memory;
 mod names;
 mod operators;
@@ -10,6 +11,7 @@ mod reads;
 mod world;
 
 pub use action::{Action, Cell, act};
+pub use collections::collect;
 pub use memory::{new_object, store_initial};
 pub use reads::{Reads, SlotPlace};
 pub use world::{End, Halt, Local, Old, World};

@@ -1,5 +1,5 @@
 // Objects: what is read and written, and their classes.
-ghost use Rattle.std.specs.Prelude.{◌≡◌, ◌≤◌, ◌<◌, Ok, Some, nat_lt, length, true};
+ghost use Rattle.std.specs.Prelude.{◌≡◌, [], ◌≤◌, ◌<◌, Ok, Some, nat_lt, length, true};
 ghost use Rattle.kr_value.specs.Heaps.{object_in, has_spot};
 ghost use Rattle.kr_value.specs.declared.object.Spot.TheVariants.{Length};
 ghost use Rattle.kr_mean.specs.Places.{At};
@@ -335,6 +335,16 @@ pub fn new_object(
         return Err(Halt::Memory);
     }
     match world.heap.allocate(Class::Object(class), values) {
+        Ok(object) => Ok(Value::Ref(object)),
+        Err(_) => Err(Halt::Memory),
+    }
+}
+
+/// A new collection, or what else has no values.
+pub fn new_collection(alloc: Global, world: &mut World, class: Class) -> Result<Value, Halt>
+    ensures { Agrees result world.new world.old.reads (make class [] (state_of world.old)) }
+{
+    match world.heap.allocate(class, Vec::new(alloc)) {
         Ok(object) => Ok(Value::Ref(object)),
         Err(_) => Err(Halt::Memory),
     }

@@ -1,4 +1,4 @@
-use Rattle.std.proofs.Common.{◌∙◌, arith}
+use Rattle.std.proofs.Common.{arith}
 use Rattle.korat_top.specs.Refusals.{Inputs}
 use Rattle.korat_top.proofs.Told.{as_many, all_short, sources_stopped, judged_found}
 use Rattle.korat_top.proofs.find.find.Goals as goal
@@ -19,4 +19,4 @@ pub returns-in-Ok-clause-found : goal.returns-in-Ok-clause-found
 returns-in-Ok-clause-found g c =
     let inputs : Inputs = record { fin = c.args.fin.now; sources = c.args.sources.now } in
     judged_found g.F.Files.held g.F.Files.faults g.F.Files.last inputs c.args.files.now c.read.new.files c.read_sources.new.files c.in_ok-bytes.bytes.items c.in-Ok.texts c.judge.result
-    c.in_ok-bytes.ensures.read c.in_ok-bytes.ensures.later.constant c.in-Ok.ensures.read (rw c.deref.ensures.value at c.judge.ensures)
+    c.in_ok-bytes.ensures.read c.in_ok-bytes.ensures.later.constant c.in-Ok.ensures.read (rw c.deref.ensures.value at c.judge.ensures.judged)

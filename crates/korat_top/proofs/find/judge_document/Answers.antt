@@ -1,15 +1,15 @@
-use Rattle.std.proofs.Common.{refl}
+use Rattle.std.proofs.Common.{List, sym, subst}
 use Rattle.std.specs.Prelude.{map}
-use Rattle.kr_ast.specs.Arena.{root}
-use Rattle.korat_top.specs.OneField.{one_field_of}
-use Rattle.korat_top.specs.Finitization.{finitization_of}
-use Rattle.korat_top.specs.Steps.{Checked}
+use Rattle.kr_ast.specs.Arena.{Arena, root}
+use Rattle.kr_posed.specs.Posed.{posed}
+use Rattle.korat_top.specs.Steps.{spacing, from_problem}
+use Rattle.korat_top.specs.Found.{AreShaped}
+use Rattle.korat_top.proofs.Outcomes.{meets_next}
 use Rattle.korat_top.proofs.find.judge_document.Goals as goal
 
-pub returns-in-Ok : goal.returns-in-Ok
-returns-in-Ok c =
-    let trees = map root c.args.trees.now in
-    let class = one_field_of c.in_ok-class.class in
-    let range = finitization_of c.in-Ok.range in
-    let checked : Checked = record { trees = trees; class = class; range = range } in
-    (c.in-Ok.ensures.is_within, (checked, (class, c.in_ok-class.ensures, (range, c.in-Ok.ensures, refl)), (refl, refl)))
+pub judge_problem-requires-clause-shaped : goal.judge_problem-requires-clause-shaped
+judge_problem-requires-clause-shaped c = subst (λ (files : List Arena). AreShaped files) (sym c.in_ok-problem.ensures.files) c.requires.shaped
+
+pub returns-clause-judged : goal.returns-clause-judged
+returns-clause-judged c =
+    meets_next (spacing (map root c.args.program.trees.items) c.args.document.now) from_problem posed (posed c.in_ok-problem.problem) c.judge_problem.result c.in_ok-problem.ensures.judged c.judge_problem.ensures.judged

@@ -1,4 +1,4 @@
-use Rattle.std.proofs.Common.{◌≡◌, ◌∙◌, ◌+◌, ◌<◌, ◌++◌, ◌∷◌, [], length, take, sym, subst, arith}
+use Rattle.std.proofs.Common.{◌∙◌, ◌+◌, ◌<◌, [], length, take, sym, subst, arith}
 use Rattle.std.specs.Prelude.{ℕ, List, Ok, Err, slice_index_or}
 use Rattle.korat_top.specs.declared.refusal.InputFile.TheVariants as input
 use Rattle.korat_top.specs.Steps.{each}

@@ -1,6 +1,6 @@
 use Rattle.std.proofs.Common.{◌≡◌, ◌++◌}
-use Rattle.std.specs.Prelude.{length, map, string_bytes}
-use Rattle.std.specs.Vec.Iter.{into_iter_items, into_iter_len}
+use Rattle.std.specs.Prelude.{map, string_bytes}
+use Rattle.std.specs.Vec.Iter.{into_iter_items}
 use Rattle.korat_top.proofs.given.words_of.Given as goal
 
 abbrev pub invariant-loop-word : goal.invariant-loop-word

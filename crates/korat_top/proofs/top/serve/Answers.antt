@@ -1,8 +1,6 @@
-use Rattle.std.proofs.Common.{refl}
 use Rattle.korat_top.specs.Refusals.{Inputs, name_of, refusal_of}
 use Rattle.korat_top.specs.Answer.{refusal_answer}
-use Rattle.korat_top.specs.OneField.{one_field_of}
-use Rattle.korat_top.specs.Finitization.{finitization_of}
+use Rattle.kr_posed.specs.Posed.{posed}
 use Rattle.korat_top.specs.Orders.{command_for, report_for}
 use Rattle.korat_top.proofs.Answered.{listed, refused_for, told_for, reads_for, refused_low, refused_no_usage}
 use Rattle.korat_top.proofs.Calls.{put_answer, put_read_fault, put_memory, end_listing}
@@ -11,12 +9,10 @@ use Rattle.korat_top.proofs.top.serve.Goals as goal
 pub returns-in-Ok : goal.returns-in-Ok
 returns-in-Ok g c =
     let inputs : Inputs = record { fin = c.args.fin.now; sources = c.args.sources.now } in
-    let class = one_field_of c.in-Ok.found.class in
-    let range = finitization_of c.in-Ok.found.range in
-    let found = c.in-Ok.ensures.found in
+    let problem = posed c.in-Ok.found in
     end_listing g.F.Files.held g.F.Files.faults g.F.Files.last g.K.Sink.taken g.K.Sink.faults (command_for c.args.purpose.now inputs) c.args.files.now c.find.new.files
-    c.args.out.now c.report.new.out c.report.result (report_for c.args.purpose.now class range)
-    (λ told. let x = found.1 (told_for (g.F.Files.held c.args.files.now) c.args.purpose.now inputs told) in listed (g.F.Files.held c.args.files.now) c.args.purpose.now inputs x.0 class range c.one_field_law.ensures x.1 x.2.0 x.2.1)
+    c.args.out.now c.report.new.out c.report.result (report_for c.args.purpose.now problem)
+    (λ told. listed (g.F.Files.held c.args.files.now) c.args.purpose.now inputs problem (c.in-Ok.ensures.found (told_for (g.F.Files.held c.args.files.now) c.args.purpose.now inputs told)))
     c.in-Ok.ensures.count c.report.ensures
 
 pub returns-in-Err-Refused : goal.returns-in-Err-Refused

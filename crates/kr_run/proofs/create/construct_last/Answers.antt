@@ -1,4 +1,4 @@
-use Rattle.std.proofs.Common.{◌≡◌, ◌<◌, [], length, arith, ap}
+use Rattle.std.proofs.Common.{◌<◌, [], length, arith, ap}
 use Rattle.kr_mean.specs.Steps.{Outcome, Stuck, stop}
 use Rattle.kr_code.specs.Doing.{Doing, constructed}
 use Rattle.kr_world.specs.Noting.{noting}

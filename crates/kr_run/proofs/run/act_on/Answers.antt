@@ -1,4 +1,3 @@
-use Rattle.kr_mean.specs.Steps.{State}
 use Rattle.kr_world.specs.Worlds.{state_of}
 use Rattle.kr_world.specs.Actions.{acted}
 use Rattle.kr_frames.proofs.Outcomes.{gave_value, value_halts}

@@ -1,4 +1,4 @@
-use Rattle.std.proofs.Common.{◌≡◌, ap, sym, ◌∙◌}
+use Rattle.std.proofs.Common.{ap, sym, ◌∙◌}
 use Rattle.kr_mean.specs.Steps.{Outcome}
 use Rattle.kr_mean.specs.Meaning.{Flow}
 use Rattle.kr_code.specs.declared.statement.Statement.{Statement}

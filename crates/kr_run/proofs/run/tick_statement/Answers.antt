@@ -1,4 +1,3 @@
-use Rattle.kr_mean.specs.Steps.{bind, tick}
 use Rattle.kr_code.specs.Doing.{Doing, flow_of}
 use Rattle.kr_world.specs.Worlds.{state_of}
 use Rattle.kr_frames.specs.Frames.{out_flow}

@@ -1,4 +1,4 @@
-use Rattle.std.proofs.Common.{◌≡◌, ◌<◌, length, refl, ap, arith}
+use Rattle.std.proofs.Common.{◌<◌, length, refl, ap, arith}
 use Rattle.kr_value.specs.declared.value.Value.{Value}
 use Rattle.kr_mean.specs.Steps.{Outcome}
 use Rattle.kr_world.specs.Worlds.{state_of}

@@ -1,0 +1,5 @@
+pub mod Weights
+pub mod Positions
+pub mod Spelled
+pub mod Fields
+pub mod Apart

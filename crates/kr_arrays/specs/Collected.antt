@@ -1,0 +1,26 @@
+-- Lists of types that grow by what isn't among them yet.
+use Rattle.std.specs.Prelude.{ℕ, ◌+◌, ◌<◌, List, [], ◌∷◌, ◌++◌, map, fold, All, if◌then◌else◌}
+use Rattle.kr_table.specs.Types.{JavaType, ArrayType, SetType, ListType}
+use Rattle.kr_table.specs.Arrays.{is_listed}
+use Rattle.kr_type_numbers.specs.Types.{TypeList, count, type_at}
+
+abbrev pub collect : List JavaType → JavaType → List JavaType
+collect done t = if is_listed t done then done else done ++ t ∷ []
+
+-- some types, and behind them those of others that aren't among them, each once
+abbrev pub collected : List JavaType → List JavaType → List JavaType
+collected done ts = fold collect done ts
+
+-- the types of these numbers
+abbrev pub types_shown : TypeList → List ℕ → List JavaType
+types_shown l ns = map (type_at l) ns
+
+abbrev pub AreNumbers : TypeList → List ℕ → Type 0
+AreNumbers l ns = All (λ n. n < count l) ns
+
+-- how many array types and collections a type is, one in another
+abbrev pub depth : JavaType → ℕ
+depth (ArrayType t) = depth t + 1
+depth (SetType t) = depth t + 1
+depth (ListType t) = depth t + 1
+depth t = 0

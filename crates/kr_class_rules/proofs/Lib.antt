@@ -1,0 +1,4 @@
+pub mod Unbroken
+pub mod Chains
+pub mod Declared
+pub mod Overriding

@@ -1,0 +1,6 @@
+pub mod RepOk
+pub mod Lines
+pub mod Joined
+pub mod Tabled
+pub mod Conditions
+pub mod Whole

@@ -1,0 +1,5 @@
+pub mod Closed
+pub mod Walks
+pub mod Parts
+pub mod Found
+pub mod Contracts

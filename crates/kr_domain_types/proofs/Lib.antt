@@ -1,0 +1,4 @@
+pub mod Pairs
+pub mod Integers
+pub mod Values
+pub mod Typed

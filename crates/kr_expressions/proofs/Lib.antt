@@ -1,0 +1,5 @@
+pub mod Single
+pub mod Meanings
+pub mod Asking
+pub mod Notes
+pub mod Gathering

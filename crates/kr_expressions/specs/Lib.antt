@@ -1,0 +1,4 @@
+pub mod Constructors
+pub mod Links
+pub mod Notes
+pub mod Parts

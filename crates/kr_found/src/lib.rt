@@ -1,0 +1,8 @@
+//! Nodes of files that are found one after another, each once: what a walk over a program's nodes keeps.
+#![tactic(auto)]
+
+mod found;
+#[cfg(test)]
+mod tests;
+
+pub use found::{Found, count_nodes};

@@ -1,0 +1,42 @@
+-- What a run says, from what its conditions say.
+use Rattle.std.proofs.Common.{◌≡◌, ℕ, Bool, List, [], ◌∷◌, ◌++◌, Result, Ok, Err, sym, ap, ◌∙◌}
+use Rattle.std.specs.Prelude.{flat_map, if◌then◌else◌}
+use Rattle.kr_mean.specs.Heaps.{walk}
+use Rattle.kr_mean.specs.Places.{SlotPlace, This}
+use Rattle.kr_mean.specs.Program.{Program}
+use Rattle.kr_mean.specs.Runs.{End, accepted_walk, end_of, end_on, is_accepted, order_of, outcome_of, read_slots, slots_for}
+use Rattle.kr_mean.specs.Steps.{Outcome}
+use Rattle.kr_world.specs.Noting.{noted_once}
+use Rattle.kr_world.specs.declared.world.Halt.{Halt}
+use Rattle.kr_world.specs.declared.world.Halt.TheVariants.{Ended, Memory}
+use Rattle.kr_world.specs.declared.world.World.{World}
+use Rattle.kr_problem.specs.Bounds.{Bounds, bare, problem_with}
+use Rattle.kr_judge.proofs.Orders.{once, with_all, with_both}
+use Rattle.kr_judge.proofs.Programs.{walk_same}
+use Rattle.kr_judge.specs.Orders.{with_slots}
+use Rattle.kr_judge.specs.Judged.{MeansAs}
+use Rattle.kr_judge.specs.Runs.{end_said, IsJudged}
+use Rattle.kr_judge.specs.declared.run.Judgement.{Judgement}
+
+pub ran : (answer : Result Bool Halt) (j : Judgement) (w : World) (o : Outcome Bool) → IsJudged answer (Ok j) → MeansAs answer w (This ∷ []) o → (end_said j ≡ end_of o.said) × (w.reads ≡ noted_once (This ∷ []) o.reads)
+ran (Ok b) j w o i m = (i ∙ ap end_of (sym (ap (λ (x : Outcome Bool). x.said) m)), sym (ap (λ (x : Outcome Bool). x.reads) m))
+ran (Err (Ended e)) j w o i m = (i ∙ ap end_of (sym m.said), sym m.reads)
+ran (Err Memory) j w o i m = absurd i
+
+-- ---- the order
+
+-- the slots of the places that were read, and then of what is reachable, each once, are the order
+pub order_is : (program : Program) (b : Bounds) (v : List ℕ) (j : Judgement) (reads : List SlotPlace) (read all : List ℕ) → end_said j ≡ end_on (problem_with program b) v → reads ≡ noted_once [] (outcome_of (problem_with program b) v).reads
+    → read ≡ with_slots [] (flat_map (slots_for (bare b)) reads) → all ≡ with_slots read (if is_accepted (end_said j) then walk (bare b) v else []) → all ≡ order_of (problem_with program b) v
+unfolding order_of read_slots
+order_is program b v j reads read all e r f g =
+    let problem = problem_with program b in
+    let places = (outcome_of problem v).reads in
+    let slots_of = slots_for (bare b) in
+    let here : read ≡ with_slots [] (flat_map slots_of places) = f ∙ (ap (λ (ps : List SlotPlace). with_slots [] (flat_map slots_of ps)) r ∙ once slots_of [] places) in
+    let behind : (if is_accepted (end_said j) then walk (bare b) v else []) ≡ accepted_walk problem v =
+    ap (λ (x : End). if is_accepted x then walk (bare b) v else []) e ∙ ap (λ (ss : List ℕ). if is_accepted (end_on problem v) then ss else []) (walk_same program b v) in
+    g
+    ∙ (ap (λ (ss : List ℕ). with_slots ss (if is_accepted (end_said j) then walk (bare b) v else [])) here
+    ∙ (ap (λ (ss : List ℕ). with_slots (with_slots [] (flat_map slots_of places)) ss) behind
+    ∙ (sym (with_both [] (flat_map slots_of places) (accepted_walk problem v)) ∙ with_all (flat_map slots_of places ++ accepted_walk problem v))))

@@ -1,0 +1,102 @@
+-- The slots of places, of places that no candidate has none.
+use Rattle.std.proofs.Common.{◌≡◌, ℕ, zero, suc, ◌+◌, ◌<◌, ◌≤◌, ◌⊎◌, inl, inr, Bool, true, false, List, [], ◌∷◌, length, get_or, refl, sym, ap, ◌∙◌, arith, subst}
+use Rattle.std.specs.Prelude.{filter, ◌==◌, ◌&&◌}
+use Rattle.std.specs.List.{range_with_len}
+use Rattle.std.proofs.lemmas.Bool.{eqb-true}
+use Rattle.kr_value.specs.declared.object.Class.{Class}
+use Rattle.kr_value.specs.declared.object.Class.TheVariants.{Object, Array, Set, List as ListClass}
+use Rattle.kr_value.specs.declared.object.Spot.{Spot}
+use Rattle.kr_mean.specs.Places.{SlotPlace, This, Parameter, At}
+use Rattle.kr_mean.specs.Problem.{Problem, ClassDomain, DomainObject, Slot, no_objects, objects_before, heap_number, domain_at, slots, slot_at}
+use Rattle.kr_mean.specs.Runs.{slots_for, is_same_place, is_same_spot}
+use Rattle.kr_mean.specs.WellFormed.{IsWellFormed}
+use Rattle.kr_problem.specs.Layouts.{first_slot}
+use Rattle.kr_pruning.proofs.Membership.{bool_cases}
+use Rattle.kr_pruning.proofs.Numbering as numbering
+use Rattle.kr_pruning.proofs.Numbering.{object, count_at, width_at, parameters, parameter_slot, object_slot, SlotCase, is_this, is_parameter, is_spot, slot_case}
+use Rattle.kr_pruning.proofs.Places.{kind, class_at, spot_slots, spot_none}
+use Rattle.kr_build.proofs.Rows.{first_same}
+use Rattle.kr_judge.specs.Columns.{spot_at, HasNone}
+use Rattle.kr_judge.specs.Places.{IsNumbered}
+
+-- ---- numbers of objects
+
+-- one class domain more has as many objects more before it
+next_domain : (d : ℕ) (ds : List ClassDomain) → d < length ds → objects_before (suc d) ds ≡ objects_before d ds + (get_or ds d no_objects).count
+next_domain d [] h = absurd (omega (arith, h))
+next_domain zero (c ∷ cs) h = omega arith
+next_domain (suc d) (c ∷ cs) h = let r = next_domain d cs (omega (arith, h)) in omega (arith, r)
+
+pub before_more : (d : ℕ) (ds : List ClassDomain) → d < length ds → objects_before (d + 1) ds ≡ objects_before d ds + (get_or ds d no_objects).count
+before_more d ds h = let n : d + 1 ≡ suc d = omega arith in ap (λ (n : ℕ). objects_before n ds) n ∙ next_domain d ds h
+
+-- an object is before all that are behind the class domains
+pub before_all : (d k : ℕ) (ds : List ClassDomain) → d < length ds → k < (get_or ds d no_objects).count → objects_before d ds + k < objects_before (length ds) ds
+before_all d k [] h b = absurd (omega (arith, h))
+before_all zero k (c ∷ cs) h b = omega (arith, b)
+before_all (suc d) k (c ∷ cs) h b = let r = before_all d k cs (omega (arith, h)) b in omega (arith, r)
+
+-- ---- places that no candidate has
+
+no_slot : (p : ℕ → Bool) (lo n : ℕ) → ((s : ℕ) → lo ≤ s → s < lo + n → p s ≡ false) → filter p (range_with_len lo n) ≡ []
+no_slot p lo zero miss = refl
+no_slot p lo (suc n) miss = rw (miss lo (omega arith) (omega arith)) (no_slot p (lo + 1) n (λ s a b. miss s (omega (arith, a)) (omega (arith, b))))
+
+unless_true : (b : Bool) → (b ≡ true → ⊥) → b ≡ false
+unless_true true n = absurd (n refl)
+unless_true false n = refl
+
+both_true : (a b : Bool) → (a && b) ≡ true → (a ≡ true) × (b ≡ true)
+both_true true b e = (refl, e)
+both_true false b e = absurd (cc (e))
+
+module _ (problem : Problem) where
+  nowhere : (place : SlotPlace) → ((s : ℕ) → s < length (slots problem) → is_same_place (slot_at problem s).place place ≡ true → ⊥) → slots_for problem place ≡ []
+  nowhere place never = no_slot (λ s. is_same_place (slot_at problem s).place place) 0 (length (slots problem)) (λ s l h. unless_true (is_same_place (slot_at problem s).place place) (never s (omega (arith, h))))
+
+  pub no_parameter : (i : ℕ) → parameters problem ≤ i → slots_for problem (Parameter i) ≡ []
+  no_parameter i past = nowhere (Parameter i) (λ s h t. go s t (slot_case problem s h))
+    where
+      place : SlotPlace
+      place = Parameter i
+
+      go : (s : ℕ) → is_same_place (slot_at problem s).place place ≡ true → SlotCase problem s → ⊥
+      go s t (is_this z) = absurd (cc (t, ap (λ (x : ℕ). is_same_place (slot_at problem x).place place) z))
+      go s t (is_parameter j l z) =
+          let u : (j == i) ≡ true = sym (ap (λ (x : ℕ). is_same_place (slot_at problem x).place place) z ∙ ap (λ (x : Slot). is_same_place x.place place) (parameter_slot problem j l).1) ∙ t in
+          absurd (omega (arith, eqb-true j i u, l, past))
+      go s t (is_spot d k j a b c z) = absurd (cc (t, ap (λ (x : ℕ). is_same_place (slot_at problem x).place place) z, ap (λ (x : Slot). is_same_place x.place place) (object_slot problem d k j a b c).1))
+
+  pub no_object : (number : ℕ) (spot : Spot) → ((o : DomainObject) → IsNumbered problem number o → ⊥) → slots_for problem (At number spot) ≡ []
+  no_object number spot none = nowhere place (λ s h t. go s t (slot_case problem s h))
+    where
+      place : SlotPlace
+      place = At number spot
+
+      go : (s : ℕ) → is_same_place (slot_at problem s).place place ≡ true → SlotCase problem s → ⊥
+      go s t (is_this z) = absurd (cc (t, ap (λ (x : ℕ). is_same_place (slot_at problem x).place place) z))
+      go s t (is_parameter j l z) = absurd (cc (t, ap (λ (x : ℕ). is_same_place (slot_at problem x).place place) z, ap (λ (x : Slot). is_same_place x.place place) (parameter_slot problem j l).1))
+      go s t (is_spot d k j a b c z) =
+          let p : (slot_at problem s).place ≡ At (heap_number problem (object d k)) (numbering.spotted_at problem d j).spot = ap (λ (x : ℕ). (slot_at problem x).place) z ∙ ap (λ (x : Slot). x.place) (object_slot problem d k j a b c).1 in
+          let u : is_same_place (At (heap_number problem (object d k)) (numbering.spotted_at problem d j).spot) place ≡ true = sym (ap (λ (x : SlotPlace). is_same_place x place) p) ∙ t in
+          let r = both_true (heap_number problem (object d k) == number) (is_same_spot (numbering.spotted_at problem d j).spot spot) u in
+          none (object d k) (record { domain = a; inside = b; is = eqb-true (heap_number problem (object d k)) number r.0 })
+
+-- ---- the slots of spots
+
+kind_same : (c : Class) (j : ℕ) → spot_at c j ≡ kind c j
+kind_same (Object c) j = refl
+kind_same (Array t) zero = refl
+kind_same (Array t) (suc j) = refl
+kind_same Set j = refl
+kind_same ListClass j = refl
+
+module _ (problem : Problem) (well : IsWellFormed problem) (o : DomainObject) (a : o.domain < length problem.domains) (b : o.number < (domain_at problem o.domain).count) where
+  pub there : (j : ℕ) (spot : Spot) → j < width_at problem o.domain → spot_at (domain_at problem o.domain).class j ≡ spot → (first_slot problem o + j) ∷ [] ≡ slots_for problem (At (heap_number problem o) spot)
+  there j spot h e =
+      let here = spot_slots problem well o.domain o.number j a b h in
+      let first : first_slot problem o ≡ numbering.first_slot problem o.domain o.number = first_same problem o.domain o.number in
+      ap (λ (n : ℕ). (n + j) ∷ []) first ∙ (sym here ∙ ap (λ (s : Spot). slots_for problem (At (heap_number problem o) s)) (sym (kind_same (class_at problem well o.domain) j) ∙ e))
+
+  pub not_there : (spot : Spot) → HasNone (domain_at problem o.domain).class (width_at problem o.domain) spot → [] ≡ slots_for problem (At (heap_number problem o) spot)
+  not_there spot none = sym (spot_none problem well o.domain o.number spot a b (λ j h e. none j h (kind_same (class_at problem well o.domain) j ∙ e)))

@@ -1,0 +1,53 @@
+use Rattle.std.proofs.Common.{◌≡◌, ◌<◌, ◌+◌, ◌-◌, ◌^◌, ◌++◌, ◌∷◌, [], ℕ, suc, List, Some, ap, sym, length, arith, rules, ◌∙◌, append_assoc}
+use Rattle.std.specs.Prelude.{map}
+use Rattle.std.specs.List.{range_with_len}
+use Rattle.std.proofs.lemmas.List.{append-nil, map-append}
+use Rattle.kr_value.specs.declared.value.Value.{Value}
+use Rattle.kr_mean.specs.Heaps.{value_at}
+use Rattle.kr_mean.specs.Places.{Parameter}
+use Rattle.kr_mean.specs.Problem.{slots}
+use Rattle.kr_mean.specs.Steps.{Local}
+use Rattle.kr_problem.specs.Bounds.{bare}
+use Rattle.kr_world.specs.Shown.{local_of}
+use Rattle.kr_world.specs.declared.world.Local as code
+use Rattle.kr_build.proofs.Rows.{roots_inside}
+use Rattle.kr_judge.proofs.Starts.{parameter_local, parameters_are}
+use Rattle.kr_judge.proofs.start.parameters_of.Goals as goal
+
+pub overflow_cast-count : goal.overflow_cast-count
+overflow_cast-count c =
+    let r = roots_inside (bare c.args.layout.now) in
+    let f : c.parameters-count.result < 2 ^ 32 = omega (arith, r, c.requires.small, c.parameters-count.ensures) in
+    search rules
+
+pub value_in-requires-clause-slot : goal.value_in-requires-clause-slot
+value_in-requires-clause-slot c =
+    let r = roots_inside (bare c.args.layout.now) in
+    let inside : c.loop-number.number + 1 < length (slots (bare c.args.layout.now)) = omega (arith, r, c.loop-number-test.true, c.parameters-count.ensures) in
+    inside
+
+pub loop-number-preserved : goal.loop-number-preserved
+loop-number-preserved c =
+    let f = parameter_local (bare c.args.layout.now) c.args.vector.now in
+    let ls = c.loop-number.locals.items in
+    let k = c.loop-number.number in
+    let left = c.parameters-count.result - (k + 1) in
+    let n : c.parameters-count.result - k ≡ suc left = omega (arith, c.loop-number-test.true) in
+    let x : code.Local = record { value = c.value_in.result; parameter = Some k } in
+    let is : local_of x ≡ f k = ap (λ (v : Value). record { value = v; place = Some (Parameter k) }) c.value_in.ensures in
+    let items : c.push.new.self.items ≡ ls ++ x ∷ [] = search rules in
+    c.loop-number.invariant
+    ∙ (ap (λ (m : ℕ). map local_of ls ++ map f (range_with_len k m)) n
+    ∙ (sym (append_assoc (map local_of ls) (f k ∷ []) (map f (range_with_len (k + 1) left)))
+    ∙ ap (λ (xs : List Local). xs ++ map f (range_with_len (k + 1) left)) (ap (λ (y : Local). map local_of ls ++ y ∷ []) (sym is) ∙ (sym (map-append local_of ls (x ∷ [])) ∙ ap (map local_of) (sym items)))))
+
+pub returns : goal.returns
+returns c =
+    let f = parameter_local (bare c.args.layout.now) c.args.vector.now in
+    let none : c.parameters-count.result - c.loop-number.number ≡ 0 = omega (arith, c.loop-number-test.false) in
+    let count : c.parameters-count.result ≡ length c.args.layout.now.parameters = c.parameters-count.ensures in
+    sym (append-nil (map local_of c.loop-number.locals.items))
+    ∙ (ap (λ (m : ℕ). map local_of c.loop-number.locals.items ++ map f (range_with_len c.loop-number.number m)) (sym none)
+    ∙ (sym c.loop-number.invariant
+    ∙ (ap (λ (m : ℕ). map f (range_with_len 0 m)) count
+    ∙ sym (parameters_are (λ i. value_at (bare c.args.layout.now) c.args.vector.now (i + 1)) 0 (length c.args.layout.now.parameters)))))

@@ -1,0 +1,8 @@
+pub mod Judged
+pub mod One
+pub mod Orders
+pub mod Columns
+pub mod Places
+pub mod Predicates
+pub mod Runs
+pub mod Examples

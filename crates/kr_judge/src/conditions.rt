@@ -1,0 +1,59 @@
+// Conditions, each looked at only where those before it hold.
+ghost use Rattle.std.specs.Prelude.{◌≡◌, map};
+ghost use Rattle.kr_code.specs.Resolved.{Numbering, IsCodeOf};
+ghost use Rattle.kr_judge.specs.Judged.{HoldsAs, MeansAs, hold_at};
+ghost use Rattle.kr_judge.specs.One.{OneAs};
+ghost use Rattle.kr_mean.specs.Program.{Program};
+ghost use Rattle.kr_mean.specs.Runs.{hold_all as hold_all_step};
+ghost use Rattle.kr_world.specs.Worlds.{state_of};
+
+use kr_code::Code;
+use kr_run::evaluate;
+use kr_value::Value;
+use kr_world::{End, Halt, World};
+use std::alloc::Global;
+
+/// Whether one condition holds; a value that is no truth value has no meaning.
+fn holds(alloc: Global, code: &Code, world: &mut World, condition: u32) -> Result<bool, Halt>
+    ensures { OneAs code.now result world.new world.old.reads condition (state_of world.old) }
+{
+    match evaluate(alloc, code, world, condition) {
+        Err(halt) => return Err(halt),
+        Ok(value) => match value {
+            Value::Bool(truth) => return Ok(truth),
+            Value::Int(_) => return Err(Halt::Ended(End::Stuck)),
+            Value::Null => return Err(Halt::Ended(End::Stuck)),
+            Value::Ref(_) => return Err(Halt::Ended(End::Stuck)),
+        },
+    }
+}
+
+/// Whether the conditions at these nodes hold, in every meaning of the code.
+fn hold(alloc: Global, code: &Code, world: &mut World, conditions: &[u32]) -> Result<bool, Halt>
+    ensures { HoldsAs code.now result world.new world.old.reads (λ d. hold_at d conditions.now (state_of world.old)) }
+{
+    'conditions: for condition in conditions {
+        match holds(alloc, code, world, *condition) {
+            Err(halt) => return Err(halt),
+            Ok(truth) => {
+                if !truth {
+                    return Ok(false);
+                }
+            }
+        }
+    }
+    Ok(true)
+}
+
+/// Whether the conditions at these nodes hold: what the program says of them, the world that it leaves, and the places that
+/// were read, each where it is read first; or how the run ends.
+pub fn hold_all(
+    alloc: Global,
+    code: &Code,
+    world: &mut World,
+    conditions: &[u32],
+) -> Result<bool, Halt>
+    ensures means { (program : Program) (n : Numbering) → IsCodeOf program code.now n → MeansAs result world.new world.old.reads (hold_all_step program (map n.origin conditions.now) (state_of world.old)) }
+{
+    hold(alloc, code, world, conditions)
+}

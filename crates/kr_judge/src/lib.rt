@@ -1,0 +1,20 @@
+//! The predicate's run on a candidate, by the machine: the heap that the candidate spells, `this.repOk()` and then each
+//! precondition on it; how the run ends, and the slots that decide it. All this is what the program means.
+#![tactic(auto)]
+
+mod conditions;
+mod judge;
+mod order;
+mod places;
+mod predicate;
+mod run;
+mod start;
+#[cfg(test)]
+mod tests;
+
+pub use conditions::hold_all;
+pub use judge::Judge;
+pub use order::Order;
+pub use places::object_numbered;
+pub use predicate::Predicate;
+pub use run::Judgement;

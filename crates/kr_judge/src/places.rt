@@ -1,0 +1,129 @@
+// The slots of places.
+ghost use Rattle.std.specs.Prelude.{◌≡◌, ◌<◌, ◌≤◌, ◌^◌, ℕ, IfOk, MatchOption, length, option_to_list};
+ghost use Rattle.kr_iso.specs.Objects.{object_of};
+ghost use Rattle.kr_judge.specs.Columns.{HasNone, spot_at};
+ghost use Rattle.kr_judge.specs.Places.{IsFound};
+ghost use Rattle.kr_mean.specs.Problem.{domain_at, heap_number, slots};
+ghost use Rattle.kr_mean.specs.Runs.{slots_for};
+ghost use Rattle.kr_mean.specs.Places.{At, Parameter};
+ghost use Rattle.kr_value.specs.declared.object.Class.TheVariants.{Array};
+ghost use Rattle.kr_value.specs.declared.object.Spot.TheVariants.{Field};
+ghost use Rattle.kr_mean.specs.WellFormed.{IsWellFormed};
+ghost use Rattle.kr_problem.specs.Bounds.{bare};
+ghost use Rattle.kr_world.specs.Shown.{place_of};
+
+use kr_base::NoMemory;
+use kr_iso::Object;
+use kr_problem::Layout;
+use kr_value::{Class, Obj, Spot};
+use kr_world::SlotPlace;
+
+/// A number that is below another.
+fn below(number: u32, bound: u32) -> Option<u32>
+    ensures { MatchOption result (bound ≤ number) (λ n. (n ≡ number) × (n < bound)) }
+{
+    if number < bound { Some(number) } else { None }
+}
+
+/// Which of an array's slots, so many, stands for a spot.
+fn array_column(array: u32, width: u32, spot: Spot) -> Option<u32>
+    ensures { MatchOption result (HasNone (Array array) width spot) (λ j. (j < width) × (spot_at (Array array) j ≡ spot)) }
+{
+    match spot {
+        Spot::Field(_) => None,
+        Spot::Length => below(0, width),
+        Spot::Element(number) => match number.checked_add(1) {
+            None => None,
+            Some(column) => below(column, width),
+        },
+    }
+}
+
+/// Which of the slots of an object that has fields stands for a spot.
+fn field_column(width: u32, spot: Spot) -> Option<u32>
+    ensures { MatchOption result ((j : ℕ) → j < width → Field j ≡ spot → ⊥) (λ j. (j < width) × (Field j ≡ spot)) }
+{
+    match spot {
+        Spot::Field(number) => below(number, width),
+        Spot::Length => None,
+        Spot::Element(_) => None,
+    }
+}
+
+/// Which of an object's slots, so many, stands for a spot.
+fn column(class: Class, width: u32, spot: Spot) -> Option<u32>
+    ensures { MatchOption result (HasNone class width spot) (λ j. (j < width) × (spot_at class j ≡ spot)) }
+{
+    match class {
+        Class::Array(array) => array_column(array, width, spot),
+        Class::Object(_) => field_column(width, spot),
+        Class::Set => field_column(width, spot),
+        Class::List => field_column(width, spot),
+    }
+}
+
+/// The slot of a parameter, if there is such a parameter.
+fn parameter_slot(layout: &Layout, number: u32) -> Option<u32>
+    requires well { IsWellFormed (bare layout.now) }
+    requires small { length (slots (bare layout.now)) < 2 ^ 31 }
+    ensures { option_to_list result ≡ slots_for (bare layout.now) (Parameter number) }
+{
+    if (number as usize) < layout.parameters() {
+        Some(number + 1)
+    } else {
+        None
+    }
+}
+
+/// The object of a number in the heap, if there is one.
+pub fn object_numbered(layout: &Layout, number: Obj) -> Result<Option<Object>, NoMemory>
+    ensures { IfOk result (λ found. IsFound (bare layout.now) number found) }
+{
+    let Ok(domains) = u32::try_from(layout.domains()) else {
+        return Err(NoMemory);
+    };
+    let mut left = number;
+    for domain in 0..domains {
+        let count = layout.count(domain);
+        if left < count {
+            return Ok(Some(Object {
+                domain,
+                number: left,
+            }));
+        }
+        left -= count;
+    }
+    Ok(None)
+}
+
+/// The slot of a spot of an object, if it has the spot.
+fn spot_slot(layout: &Layout, object: Object, spot: Spot) -> Option<u32>
+    requires well { IsWellFormed (bare layout.now) }
+    requires small { length (slots (bare layout.now)) < 2 ^ 31 }
+    requires domain { object.domain < length layout.now.domains }
+    requires number { object.number < (domain_at (bare layout.now) object.domain).count }
+    ensures { option_to_list result ≡ slots_for (bare layout.now) (At (heap_number (bare layout.now) (object_of object)) spot) }
+{
+    let width = layout.width(object.domain) as u32;
+    match column(layout.class(object.domain), width, spot) {
+        None => None,
+        Some(column) => Some(layout.first_slot(object) + column),
+    }
+}
+
+/// The slot of a place, if a candidate has the place.
+pub(crate) fn slot_of(layout: &Layout, place: SlotPlace) -> Result<Option<u32>, NoMemory>
+    requires well { IsWellFormed (bare layout.now) }
+    requires small { length (slots (bare layout.now)) < 2 ^ 31 }
+    ensures { IfOk result (λ slot. option_to_list slot ≡ slots_for (bare layout.now) (place_of place)) }
+{
+    match place {
+        SlotPlace::This => Ok(Some(0)),
+        SlotPlace::Parameter(number) => Ok(parameter_slot(layout, number)),
+        SlotPlace::At(number, spot) => match object_numbered(layout, number) {
+            Err(NoMemory) => Err(NoMemory),
+            Ok(None) => Ok(None),
+            Ok(Some(object)) => Ok(spot_slot(layout, object, spot)),
+        },
+    }
+}

@@ -1,0 +1,80 @@
+// The world that a candidate's run begins in.
+ghost use Rattle.std.specs.Prelude.{◌≡◌, ◌<◌, ◌^◌, ◌∷◌, [], IfOk, length, map};
+ghost use Rattle.kr_mean.specs.Places.{This};
+ghost use Rattle.kr_mean.specs.Problem.{slots};
+ghost use Rattle.kr_mean.specs.Heaps.{value_at};
+ghost use Rattle.kr_mean.specs.Runs.{parameter_values, parameters_from, start};
+ghost use Rattle.kr_mean.specs.Space.{IsVector, space_of};
+ghost use Rattle.kr_mean.specs.WellFormed.{IsWellFormed};
+ghost use Rattle.kr_problem.specs.Bounds.{bare};
+ghost use Rattle.kr_world.specs.Shown.{local_of};
+ghost use Rattle.kr_world.specs.Worlds.{state_of};
+
+use kr_base::NoMemory;
+use kr_build::build;
+use kr_problem::Layout;
+use kr_value::Value;
+use kr_vector::{Slot, Vector};
+use kr_world::{Local, Reads, SlotPlace, World};
+use std::alloc::Global;
+
+/// What a candidate has at a slot.
+fn value_in(layout: &Layout, vector: &Vector, slot: u32) -> Value
+    requires vector { IsVector (space_of (bare layout.now)) vector.now }
+    requires slot { slot < length (slots (bare layout.now)) }
+    ensures { result ≡ value_at (bare layout.now) vector.now slot }
+{
+    layout.value(slot, vector.get(Slot(slot)))
+}
+
+/// The parameters of the method under test as locals, which are read where they are named.
+fn parameters_of(alloc: Global, layout: &Layout, vector: &Vector) -> Result<Vec<Local>, NoMemory>
+    requires vector { IsVector (space_of (bare layout.now)) vector.now }
+    requires small { length (slots (bare layout.now)) < 2 ^ 31 }
+    ensures { IfOk result (λ locals. map local_of locals.items ≡ parameters_from 0 (parameter_values (bare layout.now) vector.now)) }
+{
+    let mut locals = Vec::new(alloc);
+    let count = layout.parameters() as u32;
+    for number in 0..count {
+        locals.push(Local {
+            value: value_in(layout, vector, number + 1),
+            parameter: Some(number),
+        })?;
+    }
+    Ok(locals)
+}
+
+/// `this` was read, and nothing else.
+fn this_read(alloc: Global) -> Result<Reads, NoMemory>
+    ensures { IfOk result (λ reads. reads ≡ This ∷ []) }
+{
+    let mut reads = Reads::new(alloc);
+    reads.note(SlotPlace::This)?;
+    Ok(reads)
+}
+
+/// The world in which a candidate's run begins, once `this` is read.
+pub(crate) fn world_of(alloc: Global, layout: &Layout, vector: &Vector) -> Result<World, NoMemory>
+    requires well { IsWellFormed (bare layout.now) }
+    requires vector { IsVector (space_of (bare layout.now)) vector.now }
+    requires small { length (slots (bare layout.now)) < 2 ^ 31 }
+    ensures state { IfOk result (λ world. state_of world ≡ start (bare layout.now) vector.now) }
+    ensures reads { IfOk result (λ world. world.reads ≡ This ∷ []) }
+{
+    let heap = build(alloc, layout, vector)?;
+    let Ok(candidates) = u32::try_from(heap.len()) else {
+        return Err(NoMemory);
+    };
+    let locals = parameters_of(alloc, layout, vector)?;
+    let reads = this_read(alloc)?;
+    Ok(World {
+        this: value_in(layout, vector, 0),
+        locals,
+        result: None,
+        olds: Vec::new(alloc),
+        heap,
+        candidates,
+        fuel: layout.fuel(),
+        reads,
+    })
+}

@@ -1,0 +1,4 @@
+pub mod Wrapped
+pub mod Meanings
+pub mod NameRule
+pub mod Growing

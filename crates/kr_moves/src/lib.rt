@@ -1,0 +1,19 @@
+//! The machine's moves that enter no method and make no object: what comes next where an expression or a statement is entered, where
+//! a value or a statement's end comes to a frame, and in lists of nodes. Each keeps the outcome of the whole run.
+#![tactic(auto)]
+
+mod expressions;
+mod flows;
+mod lists;
+mod pushes;
+mod statements;
+mod values;
+
+pub use expressions::enter_expression;
+pub use flows::take_flow;
+pub use lists::{
+    all, arguments, declare, repeat, take_argument, take_up_argument, up_arguments, update,
+};
+pub use pushes::{push, unit, value, write};
+pub use statements::enter_statement;
+pub use values::{stop, take_test, take_value};

@@ -1,0 +1,79 @@
+// Frames that wait for what comes next.
+ghost use Rattle.std.specs.Prelude.{◌≡◌, ◌∷◌, OnOk, IfOk, IfErr};
+ghost use Rattle.kr_frames.specs.declared.frame.Frame.TheVariants as frames;
+ghost use Rattle.kr_frames.specs.declared.frame.ValueFrame.TheVariants as values;
+ghost use Rattle.kr_frames.specs.declared.task.Task.TheVariants as tasks;
+ghost use Rattle.kr_mean.specs.Steps.{bind};
+ghost use Rattle.kr_code.specs.declared.code.Code.{Code};
+ghost use Rattle.kr_frames.specs.Frames.{out_value, got, wrote};
+ghost use Rattle.kr_frames.specs.Leads.{Leads};
+ghost use Rattle.kr_world.specs.declared.world.World.{World};
+ghost use Rattle.kr_world.specs.declared.world.Halt.TheVariants.{Memory};
+ghost use Rattle.kr_world.specs.Worlds.{state_of};
+
+use kr_frames::{FlowFrame, Frame, Stack, Task, TestFrame, UnitFrame, ValueFrame, WriteFrame};
+use kr_world::Halt;
+
+/// A frame more.
+pub fn push(stack: &mut Stack, frame: Frame) -> Result<(), Halt>
+    ensures pushed { OnOk result (stack.new ≡ frame ∷ stack.old) }
+    ensures memory { IfErr result (λ halt. halt ≡ Memory) }
+{
+    if stack.push(frame).is_err() {
+        return Err(Halt::Memory);
+    }
+    Ok(())
+}
+
+pub fn value(stack: &mut Stack, frame: ValueFrame) -> Result<(), Halt>
+    ensures pushed { OnOk result (stack.new ≡ frames.Value frame ∷ stack.old) }
+    ensures memory { IfErr result (λ halt. halt ≡ Memory) }
+{
+    push(stack, Frame::Value(frame))
+}
+
+pub fn write(stack: &mut Stack, frame: WriteFrame) -> Result<(), Halt>
+    ensures pushed { OnOk result (stack.new ≡ frames.Value (values.Write frame) ∷ stack.old) }
+    ensures memory { IfErr result (λ halt. halt ≡ Memory) }
+{
+    value(stack, ValueFrame::Write(frame))
+}
+
+pub fn test(stack: &mut Stack, frame: TestFrame) -> Result<(), Halt>
+    ensures pushed { OnOk result (stack.new ≡ frames.Test frame ∷ stack.old) }
+    ensures memory { IfErr result (λ halt. halt ≡ Memory) }
+{
+    push(stack, Frame::Test(frame))
+}
+
+pub fn flow(stack: &mut Stack, frame: FlowFrame) -> Result<(), Halt>
+    ensures pushed { OnOk result (stack.new ≡ frames.Flow frame ∷ stack.old) }
+    ensures memory { IfErr result (λ halt. halt ≡ Memory) }
+{
+    push(stack, Frame::Flow(frame))
+}
+
+pub fn unit(stack: &mut Stack, frame: UnitFrame) -> Result<(), Halt>
+    ensures pushed { OnOk result (stack.new ≡ frames.Unit frame ∷ stack.old) }
+    ensures memory { IfErr result (λ halt. halt ≡ Memory) }
+{
+    push(stack, Frame::Unit(frame))
+}
+
+/// A node's value comes next, and then the frame.
+#[tactic(auto, unfolding(kr_mean::specs::Steps::bind))]
+pub fn first(stack: &mut Stack, frame: ValueFrame, node: u32) -> Result<Task, Halt>
+    ensures { (code : Code) (world : World) → Leads code result stack.new world world.reads (λ d. out_value code d stack.old (bind (d.value node) (got code d frame) (state_of world))) }
+{
+    value(stack, frame)?;
+    Ok(Task::Evaluate(node))
+}
+
+/// A node's value comes next, and then the frame that writes.
+#[tactic(auto, unfolding(kr_mean::specs::Steps::bind))]
+pub fn then_write(stack: &mut Stack, frame: WriteFrame, node: u32) -> Result<Task, Halt>
+    ensures { (code : Code) (world : World) → Leads code result stack.new world world.reads (λ d. out_value code d stack.old (bind (d.value node) (wrote code d frame) (state_of world))) }
+{
+    write(stack, frame)?;
+    Ok(Task::Evaluate(node))
+}

@@ -1,0 +1,70 @@
+// A statement is entered: what comes next, and the frames that wait for it.
+ghost use Rattle.kr_code.specs.Doing.{flow_of};
+ghost use Rattle.kr_frames.specs.Frames.{out_flow};
+ghost use Rattle.kr_frames.specs.Leads.{Leads};
+ghost use Rattle.kr_world.specs.Worlds.{state_of};
+
+use crate::pushes::{flow, push, test};
+use crate::values::stop;
+use kr_code::{Code, Statement};
+use kr_frames::{Flow, FlowFrame, Frame, Loop, Stack, Task, TestFrame};
+use kr_world::{Halt, World};
+
+/// A statement, after its unit.
+#[tactic(auto, using(crate::proofs::Moves::locals_long), unfolding(kr_mean::specs::Steps::bind))]
+pub fn enter_statement(
+    code: &Code,
+    world: &World,
+    stack: &mut Stack,
+    statement: Statement,
+) -> Result<Task, Halt>
+    ensures { Leads code.now result stack.new world.now world.now.reads (λ d. out_flow code.now d stack.old (flow_of code.now d statement (state_of world.now))) }
+{
+    match statement {
+        Statement::Stuck => stop(code, world, stack),
+        Statement::Empty => Ok(Task::Led(Flow::Next)),
+        Statement::Block(statements) => {
+            push(stack, Frame::Scope(world.locals.len()))?;
+            Ok(Task::All(statements))
+        }
+        Statement::Evaluate(node) => {
+            test(stack, TestFrame::Discard)?;
+            Ok(Task::Evaluate(node))
+        }
+        Statement::IfThen { condition, then } => {
+            test(stack, TestFrame::Then(then))?;
+            Ok(Task::Evaluate(condition))
+        }
+        Statement::IfElse {
+            condition,
+            then,
+            otherwise,
+        } => {
+            test(stack, TestFrame::Branch(then, otherwise))?;
+            Ok(Task::Evaluate(condition))
+        }
+        Statement::While { condition, body } => Ok(Task::Repeat(Loop::While(condition, body))),
+        Statement::Do { body, condition } => {
+            flow(stack, FlowFrame::Again(Loop::While(condition, body)))?;
+            Ok(Task::Execute(body))
+        }
+        Statement::For {
+            initial,
+            condition,
+            updates,
+            body,
+        } => {
+            push(stack, Frame::Scope(world.locals.len()))?;
+            flow(stack, FlowFrame::First(Loop::For(condition, updates, body)))?;
+            Ok(Task::All(initial))
+        }
+        Statement::Break => Ok(Task::Led(Flow::Broke)),
+        Statement::Continue => Ok(Task::Led(Flow::Continued)),
+        Statement::Leave => Ok(Task::Led(Flow::Left)),
+        Statement::Return(node) => {
+            test(stack, TestFrame::Return)?;
+            Ok(Task::Evaluate(node))
+        }
+        Statement::Declare(_) => stop(code, world, stack),
+    }
+}

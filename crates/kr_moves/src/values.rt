@@ -1,0 +1,259 @@
+// A value comes to a frame.
+ghost use Rattle.std.specs.Prelude.{◌≡◌, true};
+ghost use Rattle.kr_value.specs.declared.value.Value.TheVariants.{Bool as Truth};
+ghost use Rattle.kr_mean.specs.Operators.{gives_old as gives_old_step};
+ghost use Rattle.kr_mean.specs.Steps.{Stuck, bind, stop as stop_step};
+ghost use Rattle.kr_frames.specs.declared.frame.WriteFrame.TheVariants as writes;
+ghost use Rattle.kr_frames.specs.declared.frame.TestFrame.TheVariants as tests;
+ghost use Rattle.kr_frames.specs.Frames.{out_value, out_flow, got, wrote, tested, test_of, turned};
+ghost use Rattle.kr_frames.specs.Leads.{Leads};
+ghost use Rattle.kr_world.specs.Worlds.{state_of};
+
+use crate::pushes::{first, flow, test, then_write, value, write};
+use kr_ast::StepOperator;
+use kr_code::{Code, Nodes};
+use kr_frames::{Flow, FlowFrame, Goal, Loop, Stack, Task, TestFrame, ValueFrame, WriteFrame};
+use kr_value::Value;
+use kr_world::{Action, Cell, End, Halt, World};
+use std::alloc::Global;
+
+fn gives_old(operator: StepOperator) -> bool
+    ensures { result ≡ gives_old_step operator }
+{
+    match operator {
+        StepOperator::IncrementBehind => true,
+        StepOperator::DecrementBehind => true,
+        _ => false,
+    }
+}
+
+/// A variable's next value, by one more or one less.
+#[tactic(auto, using(crate::proofs::Moves::steps_on), unfolding(kr_mean::specs::Steps::bind))]
+fn take_stepped(
+    code: &Code,
+    world: &World,
+    stack: &Stack,
+    operator: StepOperator,
+    cell: Cell,
+    old: Value,
+    given: Value,
+) -> Result<Task, Halt>
+    ensures { Leads code.now result stack.now world.now world.now.reads (λ d. out_value code.now d stack.now (wrote code.now d (writes.Stepped operator cell old) given (state_of world.now))) }
+{
+    if gives_old(operator) {
+        Ok(Task::Act(Action::Write(cell, given, old)))
+    } else {
+        Ok(Task::Act(Action::Write(cell, given, given)))
+    }
+}
+
+/// A value from which a variable is written.
+#[tactic(auto, unfolding(kr_mean::specs::Steps::bind))]
+fn take_write(
+    code: &Code,
+    world: &World,
+    stack: &mut Stack,
+    frame: WriteFrame,
+    given: Value,
+) -> Result<Task, Halt>
+    ensures { Leads code.now result stack.new world.now world.now.reads (λ d. out_value code.now d stack.old (wrote code.now d frame given (state_of world.now))) }
+{
+    match frame {
+        WriteFrame::Put(cell) => Ok(Task::Act(Action::Write(cell, given, given))),
+        WriteFrame::PutOwn(field) => {
+            Ok(Task::Act(Action::Write(Cell::Field(field, world.this), given, given)))
+        }
+        WriteFrame::FieldOf(field, node) => then_write(
+            stack,
+            WriteFrame::Put(Cell::Field(field, given)),
+            node,
+        ),
+        WriteFrame::ItemOf(index, node, class) => then_write(
+            stack,
+            WriteFrame::ItemAt(node, class, given),
+            index,
+        ),
+        WriteFrame::ItemAt(node, class, array) => then_write(
+            stack,
+            WriteFrame::Put(Cell::Item(class, array, given)),
+            node,
+        ),
+        WriteFrame::AlterField(change, name, field) => {
+            write(stack, WriteFrame::Alter(change, Cell::Field(field, given)))?;
+            Ok(Task::Act(Action::Load(name, given)))
+        }
+        WriteFrame::AlterItemOf(change, index, class) => then_write(
+            stack,
+            WriteFrame::AlterItemAt(change, class, given),
+            index,
+        ),
+        WriteFrame::AlterItemAt(change, class, array) => {
+            write(
+                stack,
+                WriteFrame::Alter(change, Cell::Item(class, array, given)),
+            )?;
+            Ok(Task::Act(Action::Element(array, given)))
+        }
+        WriteFrame::Stepped(operator, cell, old) => {
+            take_stepped(code, world, stack, operator, cell, old, given)
+        }
+        WriteFrame::Alter(change, cell) => Ok(Task::Alter(change, cell, given)),
+    }
+}
+
+/// A value of which a value is made.
+#[tactic(auto, unfolding(kr_mean::specs::Steps::bind))]
+pub fn take_value(
+    alloc: Global,
+    code: &Code,
+    world: &World,
+    stack: &mut Stack,
+    frame: ValueFrame,
+    given: Value,
+) -> Result<Task, Halt>
+    ensures { Leads code.now result stack.new world.now world.now.reads (λ d. out_value code.now d stack.old (got code.now d frame given (state_of world.now))) }
+{
+    match frame {
+        ValueFrame::Load(name) => Ok(Task::Act(Action::Load(name, given))),
+        ValueFrame::ElementOf(index) => first(stack, ValueFrame::ElementAt(given), index),
+        ValueFrame::ElementAt(array) => Ok(Task::Act(Action::Element(array, given))),
+        ValueFrame::Unary(operator) => Ok(Task::Act(Action::Unary(operator, given))),
+        ValueFrame::Left(operator, right) => first(
+            stack,
+            ValueFrame::Right(operator, given),
+            right,
+        ),
+        ValueFrame::Right(operator, left) => Ok(Task::Act(Action::Binary(operator, left, given))),
+        ValueFrame::AndThen(right) => match given {
+            Value::Bool(true) => Ok(Task::Evaluate(right)),
+            Value::Bool(false) => Ok(Task::Got(Value::Bool(false))),
+            _ => Ok(Task::Act(Action::End(End::Stuck))),
+        },
+        ValueFrame::OrElse(right) => match given {
+            Value::Bool(true) => Ok(Task::Got(Value::Bool(true))),
+            Value::Bool(false) => Ok(Task::Evaluate(right)),
+            _ => Ok(Task::Act(Action::End(End::Stuck))),
+        },
+        ValueFrame::Choose(then, otherwise) => match given {
+            Value::Bool(true) => Ok(Task::Evaluate(then)),
+            Value::Bool(false) => Ok(Task::Evaluate(otherwise)),
+            _ => Ok(Task::Act(Action::End(End::Stuck))),
+        },
+        ValueFrame::Instance(class) => Ok(Task::Act(Action::Instance(class, given))),
+        ValueFrame::Cast(class) => Ok(Task::Act(Action::Cast(class, given))),
+        ValueFrame::NewArray(class, default) => {
+            Ok(Task::Act(Action::NewArray(class, default, given)))
+        }
+        ValueFrame::CallOn(method, arguments) => {
+            Ok(Task::Values(Goal::On(method, given), arguments, Vec::new(alloc)))
+        }
+        ValueFrame::StaticCallOn(method, arguments) => {
+            Ok(Task::Values(Goal::StaticOn(method, given), arguments, Vec::new(alloc)))
+        }
+        ValueFrame::CallCollection(call, arguments) => {
+            Ok(Task::Values(Goal::Collect(call, given), arguments, Vec::new(alloc)))
+        }
+        ValueFrame::Write(writing) => take_write(code, world, stack, writing, given),
+    }
+}
+
+/// Nothing that has a meaning: no value will come to the frame.
+#[tactic(auto, unfolding(kr_mean::specs::Steps::bind))]
+pub fn stop(code: &Code, world: &World, stack: &mut Stack) -> Result<Task, Halt>
+    ensures { Leads code.now result stack.new world.now world.now.reads (λ d. out_flow code.now d stack.old (stop_step Stuck (state_of world.now))) }
+{
+    test(stack, TestFrame::Discard)?;
+    Ok(Task::Act(Action::End(End::Stuck)))
+}
+
+/// A loop's test.
+#[tactic(auto, unfolding(kr_mean::specs::Steps::bind))]
+fn begin(code: &Code, world: &World, stack: &mut Stack, turn: Loop) -> Result<Task, Halt>
+    ensures { Leads code.now result stack.new world.now world.now.reads (λ d. out_flow code.now d stack.old (bind (test_of d turn) (turned code.now d turn) (state_of world.now))) }
+{
+    test(stack, TestFrame::Test(turn))?;
+    match turn {
+        Loop::While(condition, _) => Ok(Task::Evaluate(condition)),
+        Loop::For(Some(condition), _, _) => Ok(Task::Evaluate(condition)),
+        Loop::For(None, _, _) => Ok(Task::Got(Value::Bool(true))),
+    }
+}
+
+/// A round's body, and then the next round.
+#[tactic(auto, unfolding(kr_mean::specs::Steps::bind))]
+fn turn_round(code: &Code, world: &World, stack: &mut Stack, turn: Loop) -> Result<Task, Halt>
+    ensures { Leads code.now result stack.new world.now world.now.reads (λ d. out_flow code.now d stack.old (turned code.now d turn (Truth true) (state_of world.now))) }
+{
+    flow(stack, FlowFrame::Again(turn))?;
+    match turn {
+        Loop::While(_, body) => Ok(Task::Execute(body)),
+        Loop::For(_, updates, body) => {
+            flow(stack, FlowFrame::Update(updates))?;
+            Ok(Task::Execute(body))
+        }
+    }
+}
+
+/// A local's initial value comes next, and then the other declarators.
+#[tactic(auto, using(crate::proofs::Moves::assoc), unfolding(kr_mean::specs::Steps::bind))]
+fn take_declared(
+    code: &Code,
+    world: &World,
+    stack: &mut Stack,
+    local: u32,
+    initial: Option<u32>,
+    others: Nodes,
+    given: Value,
+) -> Result<Task, Halt>
+    ensures { Leads code.now result stack.new world.now world.now.reads (λ d. out_flow code.now d stack.old (tested code.now d (tests.Declared local initial others) given (state_of world.now))) }
+{
+    match initial {
+        None => Ok(Task::Declare(others)),
+        Some(node) => {
+            test(stack, TestFrame::Initial(local, others))?;
+            Ok(Task::Evaluate(node))
+        }
+    }
+}
+
+/// A value that leads on.
+#[tactic(auto, unfolding(kr_mean::specs::Steps::bind))]
+pub fn take_test(
+    code: &Code,
+    world: &World,
+    stack: &mut Stack,
+    frame: TestFrame,
+    given: Value,
+) -> Result<Task, Halt>
+    ensures { Leads code.now result stack.new world.now world.now.reads (λ d. out_flow code.now d stack.old (tested code.now d frame given (state_of world.now))) }
+{
+    match frame {
+        TestFrame::Then(then) => match given {
+            Value::Bool(true) => Ok(Task::Execute(then)),
+            Value::Bool(false) => Ok(Task::Led(Flow::Next)),
+            _ => stop(code, world, stack),
+        },
+        TestFrame::Branch(then, otherwise) => match given {
+            Value::Bool(true) => Ok(Task::Execute(then)),
+            Value::Bool(false) => Ok(Task::Execute(otherwise)),
+            _ => stop(code, world, stack),
+        },
+        TestFrame::Discard => Ok(Task::Led(Flow::Next)),
+        TestFrame::Return => Ok(Task::Led(Flow::Gave(given))),
+        TestFrame::Initial(local, others) => {
+            test(stack, TestFrame::Rest(others))?;
+            Ok(Task::Act(Action::Write(Cell::Local(local), given, given)))
+        }
+        TestFrame::Declared(local, initial, others) => {
+            take_declared(code, world, stack, local, initial, others, given)
+        }
+        TestFrame::Rest(others) => Ok(Task::Declare(others)),
+        TestFrame::Updates(others) => Ok(Task::Update(others)),
+        TestFrame::Begin(turn) => begin(code, world, stack, turn),
+        TestFrame::Test(turn) => match given {
+            Value::Bool(true) => turn_round(code, world, stack, turn),
+            Value::Bool(false) => Ok(Task::Led(Flow::Next)),
+            _ => stop(code, world, stack),
+        },
+    }
+}

@@ -1,0 +1,5 @@
+pub mod Fields
+pub mod Parameters
+pub mod Documents
+pub mod Arrays
+pub mod Accepted

@@ -1,0 +1,5 @@
+mod Along
+mod Carries
+mod Entering
+mod Gone
+mod Whole

@@ -1,0 +1,4 @@
+pub mod Finitized
+pub mod Found
+pub mod Parts
+pub mod Scanning

@@ -1,0 +1,19 @@
+//! What a node of a predicate's code touches and may run: which objects it creates or may write, whether these are of a problem's
+//! candidates, and which methods and classes it may run code of.
+#![tactic(auto)]
+
+mod callees;
+mod candidates;
+mod known;
+mod nodes;
+mod runs;
+mod targets;
+#[cfg(test)]
+mod tests;
+mod touch;
+mod writes;
+
+pub use candidates::touches_candidates;
+pub use nodes::touch_of;
+pub use runs::{Runs, runs_of};
+pub use touch::Touch;

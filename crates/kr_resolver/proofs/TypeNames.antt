@@ -1,0 +1,60 @@
+-- Expressions that name types.
+use Rattle.std.proofs.Common.{◌≡◌, refl, sym, ap, ◌∙◌, ℕ, zero, suc, ◌+◌, ◌<◌, ◌≤◌, Bool, cond, List, [], ◌∷◌, length, map, drop, get_or, add-one, arith, subst, true, false, Option, Some, None}
+use Rattle.std.proofs.Math.Seq.{drop-cons}
+use Rattle.kr_value.specs.declared.value.Value.{Value}
+use Rattle.kr_table.specs.Types.{JavaType, ArrayType, is_same}
+use Rattle.kr_table.specs.Arrays.{array_number, array_number_from}
+use Rattle.kr_mean.specs.Program.{default_of}
+use Rattle.kr_ast.specs.declared.node.Entry.{Entry}
+use Rattle.kr_ast.specs.declared.node.Node.TheVariants as nodes
+use Rattle.kr_loops.specs.Laws.{running}
+use Rattle.kr_typing.specs.Scopes.{written}
+use Rattle.kr_type_numbers.specs.Types.{IsTypeNumber, type_at}
+use Rattle.kr_types.specs.declared.program.Program.{Program}
+use Rattle.kr_types.specs.Programs.{IsProgram}
+use Rattle.kr_mean.specs.Meaning.{is_primitive}
+use Rattle.kr_code.specs.declared.expression.Expression.TheVariants as expressions
+use Rattle.kr_code.specs.Resolved as resolved
+use Rattle.kr_resolver.specs.declared.site.Site.{Site}
+use Rattle.kr_resolver.specs.Origins.{node_tree}
+use Rattle.kr_resolver.specs.Sites.{IsHere, Resolves, scope_at}
+use Rattle.kr_resolver.proofs.Parts.{part_in}
+use Rattle.kr_resolver.proofs.Naming.{parts_are, resolves_at}
+
+-- an array type more
+pub number_step : (f : ℕ → JavaType) (xs : List ℕ) (n : ℕ) (t : JavaType) (b : Bool) → n < length xs → is_same t (f (get_or xs n 0)) ≡ b → array_number_from n (map f (drop n xs)) t ≡ cond b (Some n) (array_number_from (n + 1) (map f (drop (n + 1) xs)) t)
+number_step f xs n t b h e =
+    let d : drop n xs ≡ get_or xs n 0 ∷ drop (n + 1) xs = drop-cons xs n 0 h ∙ ap (λ k. get_or xs n 0 ∷ drop k xs) (sym (add-one n)) in
+    ap (λ ys. array_number_from n (map f ys) t) d ∙ ap (λ c. cond c (Some n) (array_number_from (n + 1) (map f (drop (n + 1) xs)) t)) e
+
+pub number_end : (f : ℕ → JavaType) (xs : List ℕ) (n : ℕ) (t : JavaType) → length xs ≤ n → array_number_from n (map f (drop n xs)) t ≡ None
+number_end f xs n t h = ap (λ ys. array_number_from n (map f ys) t) (none xs n h)
+  where
+    none : (ys : List ℕ) (k : ℕ) → length ys ≤ k → drop k ys ≡ []
+    none [] zero l = refl
+    none [] (suc k) l = refl
+    none (y ∷ ys) zero l = absurd (omega (arith, l))
+    none (y ∷ ys) (suc k) l = none ys k (omega (arith, l))
+
+module _ (p : Program) (program : IsProgram p) (arrays : List ℕ) (s : Site) (e : Entry) (at : IsHere p s e) (known : List (List ℕ)) (linked : List ℕ) (a t : ℕ) where
+  pub instance_resolves : (k : ℕ) → e.node ≡ nodes.InstanceOf a t → IsTypeNumber p.table.types k (written (scope_at p s) (node_tree p s.file t)) → Resolves p arrays s known linked (expressions.InstanceOf (s.first + a) k)
+  instance_resolves k is number = resolves_at p arrays s e (nodes.InstanceOf a t) at is known linked (expressions.InstanceOf (s.first + a) k)
+      (λ final code b. resolved.instance e.place (node_tree p s.file a) (node_tree p s.file t) (s.first + a) k (part_in p program final s e (nodes.InstanceOf a t) at is 0 a (parts_are p s e (nodes.InstanceOf a t) at is).0 (running (scope_at p s)) refl) number.type_is)
+
+  pub same_resolves : e.node ≡ nodes.Cast t a → is_primitive (node_tree p s.file t) ≡ true → Resolves p arrays s known linked (expressions.Same (s.first + a))
+  same_resolves is primitive = resolves_at p arrays s e (nodes.Cast t a) at is known linked (expressions.Same (s.first + a))
+      (λ final code b. resolved.primitive_cast e.place (node_tree p s.file t) (node_tree p s.file a) (s.first + a) primitive (part_in p program final s e (nodes.Cast t a) at is 1 a (parts_are p s e (nodes.Cast t a) at is).1.0 (running (scope_at p s)) refl))
+
+  pub cast_resolves : (k : ℕ) → e.node ≡ nodes.Cast t a → is_primitive (node_tree p s.file t) ≡ false → IsTypeNumber p.table.types k (written (scope_at p s) (node_tree p s.file t)) → Resolves p arrays s known linked (expressions.Cast k (s.first + a))
+  cast_resolves k is primitive number = resolves_at p arrays s e (nodes.Cast t a) at is known linked (expressions.Cast k (s.first + a))
+      (λ final code b. resolved.cast e.place (node_tree p s.file t) (node_tree p s.file a) k (s.first + a) primitive number.type_is (part_in p program final s e (nodes.Cast t a) at is 1 a (parts_are p s e (nodes.Cast t a) at is).1.0 (running (scope_at p s)) refl))
+
+  pub array_resolves : (k : ℕ) (number : Option ℕ) (v : Value) → e.node ≡ nodes.ArrayCreation t a → IsTypeNumber p.table.types k (written (scope_at p s) (node_tree p s.file t)) → number ≡ array_number (map (type_at p.table.types) arrays) (ArrayType (type_at p.table.types k)) → v ≡ default_of (type_at p.table.types k)
+      → Resolves p arrays s known linked (expressions.NewArray number v (s.first + a))
+  array_resolves k number v is kind n d =
+      let ty = written (scope_at p s) (node_tree p s.file t) in
+      let number' : number ≡ array_number (map (type_at p.table.types) arrays) (ArrayType ty) = n ∙ ap (λ (u : JavaType). array_number (map (type_at p.table.types) arrays) (ArrayType u)) kind.type_is in
+      let v' : v ≡ default_of ty = d ∙ ap default_of kind.type_is in
+      subst (λ (o : Option ℕ). Resolves p arrays s known linked (expressions.NewArray o v (s.first + a))) (sym number') (subst (λ (u : Value). Resolves p arrays s known linked (expressions.NewArray (array_number (map (type_at p.table.types) arrays) (ArrayType ty)) u (s.first + a))) (sym v')
+      (resolves_at p arrays s e (nodes.ArrayCreation t a) at is known linked (expressions.NewArray (array_number (map (type_at p.table.types) arrays) (ArrayType ty)) (default_of ty) (s.first + a))
+      (λ final code b. resolved.array e.place (node_tree p s.file t) (node_tree p s.file a) (s.first + a) (part_in p program final s e (nodes.ArrayCreation t a) at is 1 a (parts_are p s e (nodes.ArrayCreation t a) at is).1.0 (running (scope_at p s)) refl))))

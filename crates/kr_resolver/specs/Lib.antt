@@ -1,0 +1,11 @@
+pub mod Origins
+pub mod Sites
+pub mod Kinds
+pub mod Lists
+pub mod Names
+pub mod Named
+pub mod Calls
+pub mod Targets
+pub mod Statements
+pub mod Bodies
+pub mod Resolving

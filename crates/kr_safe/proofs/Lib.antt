@@ -1,0 +1,12 @@
+pub mod Targets
+pub mod Glue
+pub mod Scoping
+pub mod Classes
+pub mod Operands
+pub mod Tests
+pub mod Writes
+pub mod Sequences
+pub mod Calls
+pub mod Creations
+pub mod Members
+pub mod Values

@@ -1,0 +1,3 @@
+pub mod Typed
+pub mod Claims
+pub mod Laws

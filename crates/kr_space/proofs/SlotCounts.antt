@@ -1,0 +1,169 @@
+-- How many slots a problem has.
+use Rattle.std.proofs.Common.{◌≡◌, ℕ, zero, suc, inl, inr, nat_lt, ◌+◌, ◌*◌, ◌-◌, ◌^◌, ◌<◌, List, [], ◌∷◌, ◌++◌, length, map, get_or, drop, min, refl, ap, sym, subst, ◌∙◌, arith}
+use Rattle.std.specs.Prelude.{flat_map}
+use Rattle.std.specs.List.{range_with_len}
+use Rattle.std.proofs.lemmas.List.{drop_more, length-append, length-map}
+use Rattle.std.proofs.lemmas.List.Concat.{flat_map-append}
+use Rattle.std.proofs.lemmas.Bool.{cases_lt, le-ltb, lt-ltb}
+use Rattle.kr_ast.specs.Tree.{Tree}
+use Rattle.kr_table.specs.Types.{JavaType}
+use Rattle.kr_table.specs.Table.{Heading, Field, fields_of, headings_of, table_of}
+use Rattle.kr_mean.specs.declared.mode.Mode.{Mode}
+use Rattle.kr_mean.specs.Program.{Program}
+use Rattle.kr_mean.specs.Problem.{Problem, ClassDomain, Domain, Slot, domain_at, no_objects, objects_from, objects_of_domain, parameter_slots, slots, slots_of_object}
+use Rattle.kr_fin.specs.declared.document.ArrayBound.{ArrayBound}
+use Rattle.kr_fin.specs.declared.document.FinDoc.{FinDoc}
+use Rattle.kr_domains.specs.Bounds.{Setting, array_class_domain, class_domains, class_name, count_named, elements_key, field_spots, greatest, lengths_of, parameter_key, problem_in, program_in, setting_of, tested_parameters, values_given}
+use Rattle.kr_domains.proofs.Plain.{length-element_spots}
+use Rattle.kr_space.specs.Headings.{heading_at, no_heading}
+use Rattle.kr_space.specs.Slots.{slots_of_arrays, slots_of_classes}
+use Rattle.kr_space.proofs.ClassFaults.{name_at}
+
+-- ---- by class domains
+
+abbrev domains_slots : List ClassDomain → ℕ
+domains_slots [] = 0
+domains_slots (d ∷ ds) = d.count * length d.spots + domains_slots ds
+
+suc_times : (n w : ℕ) → suc n * w ≡ w + n * w
+suc_times n w = omega arith
+
+rows_long : {A B : Type 0} (f : A → List B) (g : ℕ → A) (w : ℕ) → ((k : ℕ) → length (f (g k)) ≡ w) → (a n : ℕ) → length (flat_map f (map g (range_with_len a n))) ≡ n * w
+rows_long f g w h a zero = omega arith
+rows_long f g w h a (suc n) =
+    let r = rows_long f g w h (a + 1) n in
+    let l = length-append (f (g a)) (flat_map f (map g (range_with_len (a + 1) n))) in
+    let e = h a in
+    let t = suc_times n w in
+    omega (arith, r, l, e, t)
+
+objects_long : (problem : Problem) (d : ℕ) (ds : List ClassDomain) → ((k : ℕ) → k < length ds → domain_at problem (d + k) ≡ get_or ds k no_objects) → length (flat_map (slots_of_object problem) (objects_from d ds)) ≡ domains_slots ds
+objects_long problem d [] h = refl
+objects_long problem d (x ∷ ds) h =
+    let own : length (flat_map (slots_of_object problem) (objects_of_domain d x)) ≡ x.count * length x.spots =
+    rows_long (slots_of_object problem) (λ k. record { domain = d; number = k }) (length x.spots) (λ k. wide k) 0 x.count in
+    let rest = objects_long problem (d + 1) ds (λ k l. subst (λ (n : ℕ). domain_at problem n ≡ get_or ds k no_objects) (shift k) (h (suc k) (omega (arith, l)))) in
+    flat-length own rest
+  where
+    here : domain_at problem d ≡ x
+    here = subst (λ (n : ℕ). domain_at problem n ≡ x) (omega arith) (h 0 (omega arith))
+
+    wide : (k : ℕ) → length (slots_of_object problem (record { domain = d; number = k })) ≡ length x.spots
+    wide k = length-map (domain_at problem d).spots _ ∙ ap (λ (c : ClassDomain). length c.spots) here
+
+    shift : (k : ℕ) → d + suc k ≡ (d + 1) + k
+    shift k = omega arith
+
+    flat-length : length (flat_map (slots_of_object problem) (objects_of_domain d x)) ≡ x.count * length x.spots → length (flat_map (slots_of_object problem) (objects_from (d + 1) ds)) ≡ domains_slots ds
+        → length (flat_map (slots_of_object problem) (objects_of_domain d x ++ objects_from (d + 1) ds)) ≡ x.count * length x.spots + domains_slots ds
+    flat-length a b =
+        ap (λ (ss : List Slot). length ss) (flat_map-append (slots_of_object problem) (objects_of_domain d x) (objects_from (d + 1) ds))
+        ∙ (let l = length-append (flat_map (slots_of_object problem) (objects_of_domain d x)) (flat_map (slots_of_object problem) (objects_from (d + 1) ds)) in omega (arith, a, b, l))
+
+parameters_long : (i : ℕ) (ds : List Domain) → length (parameter_slots i ds) ≡ length ds
+parameters_long i [] = refl
+parameters_long i (d ∷ ds) = ap suc (parameters_long (i + 1) ds)
+
+all_long : (problem : Problem) → length (slots problem) ≡ suc (length problem.parameters + domains_slots problem.domains)
+all_long problem =
+    let objects = objects_long problem 0 problem.domains (λ k l. ap (domain_at problem) (plus k)) in
+    let l = length-append (parameter_slots 0 problem.parameters) (flat_map (slots_of_object problem) (objects_from 0 problem.domains)) in
+    let p = parameters_long 0 problem.parameters in
+    omega (arith, objects, l, p)
+  where
+    plus : (k : ℕ) → 0 + k ≡ k
+    plus k = omega arith
+
+-- ---- by classes and array types
+
+domains_slots-append : (xs ys : List ClassDomain) → domains_slots (xs ++ ys) ≡ domains_slots xs + domains_slots ys
+domains_slots-append [] ys = omega arith
+domains_slots-append (x ∷ xs) ys = let r = domains_slots-append xs ys in omega (arith, r)
+
+fields_long : (setting : Setting) (k : ℕ) (fs : List Field) → length (field_spots setting k fs) ≡ length fs
+fields_long setting k [] = refl
+fields_long setting k (f ∷ fs) = ap suc (fields_long setting (k + 1) fs)
+
+classes_slots : (setting : Setting) (c : ℕ) (hs : List Heading) → domains_slots (class_domains setting c hs) ≡ slots_of_classes setting c hs
+classes_slots setting c [] = refl
+classes_slots setting c (h ∷ hs) =
+    ap (λ (n : ℕ). count_named setting.document.objects h.name * n + domains_slots (class_domains setting (c + 1) hs)) (fields_long setting 0 (fields_of setting.table c))
+    ∙ ap (λ (n : ℕ). count_named setting.document.objects h.name * length (fields_of setting.table c) + n) (classes_slots setting (c + 1) hs)
+
+array_long : (setting : Setting) (a : JavaType × ArrayBound) → length (array_class_domain setting a).spots ≡ greatest (lengths_of setting a.1.lengths) + 1
+array_long setting a =
+    let l = length-element_spots 0 (greatest (lengths_of setting a.1.lengths)) (values_given setting setting.document.fields (elements_key a.1.name)) in omega (arith, l)
+
+arrays_slots : (setting : Setting) (arrays : List (JavaType × ArrayBound)) → domains_slots (map (array_class_domain setting) arrays) ≡ slots_of_arrays setting arrays
+arrays_slots setting [] = refl
+arrays_slots setting (a ∷ more) =
+    ap (λ (n : ℕ). a.1.count * n + domains_slots (map (array_class_domain setting) more)) (array_long setting a)
+    ∙ ap (λ (n : ℕ). a.1.count * (greatest (lengths_of setting a.1.lengths) + 1) + n) (arrays_slots setting more)
+
+setting_slots : (program : Program) (setting : Setting) (mode : Mode) → length (slots (problem_in program setting mode)) ≡ suc (length (tested_parameters setting mode) + (slots_of_classes setting 0 setting.table.headings + slots_of_arrays setting setting.arrays))
+unfolding problem_in
+setting_slots program setting mode =
+    let all = all_long (problem_in program setting mode) in
+    let p = length-map (tested_parameters setting mode) (λ p. values_given setting setting.document.params (parameter_key mode p)) in
+    let d = domains_slots-append (class_domains setting 0 setting.table.headings) (map (array_class_domain setting) setting.arrays) in
+    let c = classes_slots setting 0 setting.table.headings in
+    let a = arrays_slots setting setting.arrays in
+    omega (arith, all, p, d, c, a)
+
+headings_are : (files : List Tree) (document : FinDoc) → (setting_of files document).table.headings ≡ headings_of files
+unfolding setting_of table_of
+headings_are files document = refl
+
+-- the slots of a document's problem
+pub slots_are : (files : List Tree) (document : FinDoc) (mode : Mode) (arrays : List (JavaType × ArrayBound)) → arrays ≡ (setting_of files document).arrays
+    → length (slots (problem_in (program_in (setting_of files document)) (setting_of files document) mode)) ≡ suc (length (tested_parameters (setting_of files document) mode) + (slots_of_classes (setting_of files document) 0 (headings_of files) + slots_of_arrays (setting_of files document) arrays))
+slots_are files document mode arrays e =
+    let setting = setting_of files document in
+    setting_slots (program_in setting) setting mode
+    ∙ (ap (λ (hs : List Heading). suc (length (tested_parameters setting mode) + (slots_of_classes setting 0 hs + slots_of_arrays setting setting.arrays))) (headings_are files document)
+    ∙ ap (λ (bs : List (JavaType × ArrayBound)). suc (length (tested_parameters setting mode) + (slots_of_classes setting 0 (headings_of files) + slots_of_arrays setting bs))) (sym e))
+
+-- ---- counts that stand still at the last number
+
+pub class_more : (files : List Tree) (document : FinDoc) (all c total own next : ℕ) → c < length (headings_of files)
+    → own ≡ min (count_named document.objects (class_name (table_of files) c) * length (fields_of (table_of files) c)) (2 ^ 64 - 1) → next ≡ min (total + own) (2 ^ 64 - 1)
+    → min all (2 ^ 64 - 1) ≡ min (total + slots_of_classes (setting_of files document) c (drop c (headings_of files))) (2 ^ 64 - 1)
+    → min all (2 ^ 64 - 1) ≡ min (next + slots_of_classes (setting_of files document) (c + 1) (drop (c + 1) (headings_of files))) (2 ^ 64 - 1)
+unfolding setting_of table_of
+class_more files document all c total own next h o n e =
+    let hs = headings_of files in
+    let setting = setting_of files document in
+    let rest = slots_of_classes setting (c + 1) (drop (c + 1) hs) in
+    let here = count_named document.objects (heading_at hs c).name * length (fields_of (table_of files) c) in
+    let a : slots_of_classes setting c (drop c hs) ≡ here + rest = ap (λ (xs : List Heading). slots_of_classes setting c xs) (drop_more hs c no_heading h) in
+    let b : own ≡ min here (2 ^ 64 - 1) = o ∙ ap (λ (t : List ℕ). min (count_named document.objects t * length (fields_of (table_of files) c)) (2 ^ 64 - 1)) (name_at hs c h) in
+    capped all total (slots_of_classes setting c (drop c hs)) here rest own next a b n e
+  where
+    capped : (all total left here rest own next : ℕ) → left ≡ here + rest → own ≡ min here (2 ^ 64 - 1) → next ≡ min (total + own) (2 ^ 64 - 1) → min all (2 ^ 64 - 1) ≡ min (total + left) (2 ^ 64 - 1) → min all (2 ^ 64 - 1) ≡ min (next + rest) (2 ^ 64 - 1)
+    capped all total left here rest own next a b n e = omega (arith, a, b, n, e)
+
+pub array_more : (setting : Setting) (arrays : List (JavaType × ArrayBound)) (all i total own next : ℕ) (x : JavaType × ArrayBound) → i < length arrays
+    → own ≡ min ((get_or arrays i x).1.count * (greatest (lengths_of setting (get_or arrays i x).1.lengths) + 1)) (2 ^ 64 - 1) → next ≡ min (total + own) (2 ^ 64 - 1)
+    → min all (2 ^ 64 - 1) ≡ min (total + slots_of_arrays setting (drop i arrays)) (2 ^ 64 - 1) → min all (2 ^ 64 - 1) ≡ min (next + slots_of_arrays setting (drop (i + 1) arrays)) (2 ^ 64 - 1)
+array_more setting arrays all i total own next x h o n e =
+    let here = (get_or arrays i x).1.count * (greatest (lengths_of setting (get_or arrays i x).1.lengths) + 1) in
+    let rest = slots_of_arrays setting (drop (i + 1) arrays) in
+    let a : slots_of_arrays setting (drop i arrays) ≡ here + rest = ap (λ (bs : List (JavaType × ArrayBound)). slots_of_arrays setting bs) (drop_more arrays i x h) in
+    capped all total (slots_of_arrays setting (drop i arrays)) here rest own next a o n e
+  where
+    capped : (all total left here rest own next : ℕ) → left ≡ here + rest → own ≡ min here (2 ^ 64 - 1) → next ≡ min (total + own) (2 ^ 64 - 1) → min all (2 ^ 64 - 1) ≡ min (total + left) (2 ^ 64 - 1) → min all (2 ^ 64 - 1) ≡ min (next + rest) (2 ^ 64 - 1)
+    capped all total left here rest own next a b n e = omega (arith, a, b, n, e)
+
+-- no objects, no slots
+pub slots_none : (n w : ℕ) → n ≡ 0 → 0 ≡ min (n * w) (2 ^ 64 - 1)
+slots_none n w e = omega (arith, ap (λ (m : ℕ). m * w) e)
+
+pub shown_long : {A B : Type 0} (f : A → B) (xs : List A) (ys : List B) → map f xs ≡ ys → length xs ≡ length ys
+shown_long f xs ys e = sym (length-map xs f) ∙ ap (λ (zs : List _). length zs) e
+
+-- whether there are more than 4,096
+pub many_slots : (n x l : ℕ) → n ≡ min (x + 1) (2 ^ 64 - 1) → l ≡ suc x → nat_lt 4096 n ≡ nat_lt 4096 l
+many_slots n x l e f = elim (cases_lt 4096 l) [
+  | inl h ↦ lt-ltb 4096 n (omega (arith, e, f, h)) ∙ sym (lt-ltb 4096 l h)
+  | inr h ↦ le-ltb 4096 n (omega (arith, e, f, h)) ∙ sym (le-ltb 4096 l h)
+]

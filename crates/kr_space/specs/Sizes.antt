@@ -1,0 +1,27 @@
+-- How many objects and slots there are, by class domains.
+use Rattle.std.specs.Prelude.{◌≡◌, ℕ, List, [], map}
+use Rattle.kr_table.specs.Table.{Heading}
+use Rattle.kr_value.specs.declared.object.Class.TheVariants.{Object}
+use Rattle.kr_mean.specs.Problem as problems
+use Rattle.kr_mean.specs.Problem.{Problem, choices_in}
+use Rattle.kr_problem.specs.declared.item.Item.{Item}
+use Rattle.kr_problem.specs.declared.stretch.Block.{Block}
+use Rattle.kr_problem.specs.declared.classes.ClassDomain.{ClassDomain}
+use Rattle.kr_problem.specs.Items.{domain_of}
+use Rattle.kr_problem.specs.Stretches.{all_choices, stretch_of}
+use Rattle.kr_domains.specs.Bounds.{Setting, count_named}
+
+-- the values of each domain are those of its entries, where these are the objects
+abbrev pub AreBlocks : Problem → List Block → Type 0
+AreBlocks problem blocks = (items : List Item) → choices_in problem (domain_of items) ≡ all_choices (map (stretch_of blocks) items)
+
+-- class domains of which only the counts matter
+abbrev pub bare_class : ℕ → ClassDomain
+bare_class n = record { name = []; class = Object 0; count = n; spots = [] }
+
+abbrev pub counts_of : List problems.ClassDomain → List ℕ
+counts_of domains = map (λ d. d.count) domains
+
+-- how many objects classes have, and array types
+abbrev pub class_counts : Setting → List Heading → List ℕ
+class_counts setting hs = map (λ h. count_named setting.document.objects h.name) hs

@@ -1,0 +1,43 @@
+// Rule S2 as a whole.
+ghost use Rattle.std.specs.Prelude.{◌≡◌, All, OnOk, fold};
+ghost use Rattle.kr_domains.specs.Bounds.{root_of, setting_of};
+ghost use Rattle.kr_domains.specs.Faults.{S2};
+ghost use Rattle.kr_domains.specs.Limits.{AreLengths};
+ghost use Rattle.kr_domains.specs.Order.{lesser};
+ghost use Rattle.kr_fitting.specs.Classes.{AreClasses, files_of};
+ghost use Rattle.kr_numbers.specs.Entries.{AreBounds};
+ghost use Rattle.kr_space.specs.Keys.{AreKeys};
+
+use crate::elements::{note_all_elements, note_parameters};
+use crate::keys::Keys;
+use crate::slots::root_number;
+use crate::undefined::note_undefined;
+use kr_base::NoMemory;
+use kr_fin::FinDoc;
+use kr_fitting::Classes;
+use kr_mean::Mode;
+use kr_meanings::Least;
+use kr_numbers::Bound;
+use kr_type_numbers::Types;
+
+/// S2: each field, element and parameter that has slots has a domain.
+pub(crate) fn note_given(
+    least: &mut Least,
+    classes: &Classes,
+    types: &Types,
+    document: &FinDoc,
+    mode: &Mode,
+    keys: &Keys,
+    bounds: &[Bound],
+) -> Result<(), NoMemory>
+    requires classes { AreClasses classes.now }
+    requires keys { AreKeys document.now keys.now }
+    requires bounds { AreBounds types.now document.now.arrays bounds.now (setting_of (files_of classes.now) document.now).arrays }
+    requires lengths { All (λ b. All AreLengths b.lengths) document.now.arrays }
+    ensures { OnOk result (least.new ≡ fold lesser least.old (S2 (setting_of (files_of classes.now) document.now) mode.now)) }
+{
+    note_undefined(least, classes, &keys.objects, &keys.fields, document)?;
+    note_all_elements(least, classes, types, &keys.fields, document, bounds)?;
+    let root = root_number(classes, document);
+    note_parameters(least, classes, &keys.params, document, mode, root)
+}

@@ -1,0 +1,118 @@
+// All rules: whether a document is one of a program, or the least rule that it breaks.
+ghost use Rattle.std.specs.Prelude.{◌≡◌, ◌++◌, None, IfErr, IfOk, OnOk, fold};
+ghost use Rattle.kr_type_numbers.specs.Types.{Extends};
+ghost use Rattle.kr_domains.specs.Bounds.{problem_of, root_of, setting_of};
+ghost use Rattle.kr_domains.specs.Faults.{S4, S7, S8, S9, faults_in};
+ghost use Rattle.kr_domains.specs.Limits.{IsWithinLimits};
+ghost use Rattle.kr_domains.specs.Meaning.{faults_of};
+ghost use Rattle.kr_domains.specs.Order.{least as least_of, lesser};
+ghost use Rattle.kr_fitting.specs.Classes.{AreClasses, AreTyped, files_of};
+ghost use Rattle.kr_space.specs.Refusals.{Refuses};
+
+use crate::given::note_given;
+use crate::keys::Keys;
+use crate::slots::root_number;
+use crate::whole::note_numbers;
+use kr_base::NoMemory;
+use kr_domains::SpaceRefusal;
+use kr_fin::FinDoc;
+use kr_fitting::{Classes, note_method, note_predicate, note_slots, note_unfit};
+use kr_mean::Mode;
+use kr_meanings::{Least, note_names};
+use kr_numbers::bounds_of;
+use kr_type_numbers::Types;
+use std::alloc::Global;
+
+/// S8, where a method is tested.
+#[tactic(auto, unfolding(kr_domains::specs::Bounds::setting_of, kr_table::specs::Table::table_of))]
+fn note_tested(
+    least: &mut Least,
+    classes: &Classes,
+    document: &FinDoc,
+    mode: &Mode,
+    root: Option<u32>,
+) -> Result<(), NoMemory>
+    requires classes { AreClasses classes.now }
+    requires root { root ≡ root_of (setting_of (files_of classes.now) document.now) }
+    ensures { OnOk result (least.new ≡ fold lesser least.old (S8 (setting_of (files_of classes.now) document.now) mode.now)) }
+{
+    let _ = document;
+    match mode {
+        Mode::List => Ok(()),
+        Mode::Method(name) => note_method(least, classes, root, name.as_str().as_bytes()),
+    }
+}
+
+#[tactic(auto, using(crate::proofs::Parts::types_are, kr_meanings::proofs::Growing::node_types_kept), unfolding(kr_domains::specs::Bounds::setting_of))]
+/// The rules on types and methods: S4, S7, S8 and S9.
+fn note_types(
+    least: &mut Least,
+    classes: &Classes,
+    types: &mut Types,
+    document: &FinDoc,
+    mode: &Mode,
+) -> Result<(), NoMemory>
+    requires classes { AreClasses classes.now }
+    requires typed { AreTyped classes.now types.old }
+    ensures noted { OnOk result (least.new ≡ fold lesser least.old (S4 (setting_of (files_of classes.now) document.now) ++ (S7 (setting_of (files_of classes.now) document.now) ++ (S8 (setting_of (files_of classes.now) document.now) mode.now ++ S9 (setting_of (files_of classes.now) document.now))))) }
+    ensures extends { Extends types.old types.new }
+{
+    let root = root_number(classes, document);
+    let fields = document.fields.as_slice();
+    let params = document.params.as_slice();
+    note_unfit(least, classes, types, root, fields, params)?;
+    note_predicate(least, classes, &*types, root)?;
+    note_tested(least, classes, document, mode, root)?;
+    note_slots(least, classes, types, root, fields, params)
+}
+
+#[tactic(auto, using(crate::proofs::Parts::faults_are, crate::proofs::Parts::arrays_are, kr_meanings::proofs::Growing::node_types_kept, kr_numbers::proofs::Bounded::bounds_kept))]
+/// Notes all that the document breaks.
+fn note_faults(
+    least: &mut Least,
+    classes: &Classes,
+    types: &mut Types,
+    document: &FinDoc,
+    mode: &Mode,
+) -> Result<(), NoMemory>
+    requires classes { AreClasses classes.now }
+    requires typed { AreTyped classes.now types.old }
+    requires limits { IsWithinLimits document.now }
+    ensures noted { OnOk result (least.new ≡ fold lesser least.old (faults_of (files_of classes.now) document.now mode.now)) }
+    ensures extends { Extends types.old types.new }
+{
+    let alloc = least.alloc();
+    let keys = Keys::of(alloc, document)?;
+    let arrays = document.arrays.as_slice();
+    note_names(least, types, classes.trees, classes.heads, document)?;
+    let bounds = bounds_of(alloc, types, classes.trees, classes.heads, arrays)?;
+    note_given(least, classes, &*types, document, mode, &keys, &bounds)?;
+    note_numbers(least, classes, types, document, mode, &keys, &bounds)?;
+    note_types(least, classes, types, document, mode)
+}
+
+/// Whether a document breaks no rule beside a program; else the least of the rules that it breaks, and there the least item
+/// in the order of bytes.
+pub fn judge_space(
+    alloc: Global,
+    classes: &Classes,
+    types: &mut Types,
+    document: &FinDoc,
+    mode: &Mode,
+) -> Result<(), SpaceRefusal>
+    requires classes { AreClasses classes.now }
+    requires typed { AreTyped classes.now types.old }
+    requires limits { IsWithinLimits document.now }
+    ensures unbroken { IfOk result (λ none. least_of (faults_of (files_of classes.now) document.now mode.now) ≡ None) }
+    ensures refused { IfErr result (Refuses (least_of (faults_of (files_of classes.now) document.now mode.now))) }
+    ensures extends { Extends types.old types.new }
+{
+    let mut least = Least::new(alloc);
+    match note_faults(&mut least, classes, types, document, mode) {
+        Err(_) => Err(SpaceRefusal::NoMemory),
+        Ok(_) => match least.into_fault() {
+            None => Ok(()),
+            Some(fault) => Err(SpaceRefusal::Broken(fault)),
+        },
+    }
+}

@@ -1,0 +1,141 @@
+// Rules S3, S5 and S6 of the domains that are given.
+ghost use Rattle.std.specs.Prelude.{◌≡◌, ◌++◌, All, OnOk, fold};
+ghost use Rattle.kr_type_numbers.specs.Types.{Extends};
+ghost use Rattle.kr_mean.specs.Problem.{choices_in};
+ghost use Rattle.kr_domains.specs.Bounds.{lengths_of, values_of};
+ghost use Rattle.kr_domains.specs.Faults.{number_faults, numbers_of, numbers_of_lengths, of_arrays};
+ghost use Rattle.kr_domains.specs.Limits.{AreLengths, IsSmall};
+ghost use Rattle.kr_domains.specs.Order.{lesser};
+ghost use Rattle.kr_space.specs.Bounded.{IsBounded, problem_in, setting_in};
+
+use crate::bounded::Bounded;
+use kr_base::NoMemory;
+use kr_fin::{ArrayBound, Item, NamedDomain};
+use kr_meanings::{Least, item_of};
+use kr_numbers::{entries_of, note_numbers};
+use kr_type_numbers::Types;
+
+#[tactic(auto, using(crate::proofs::BoundedKept::numbers_same))]
+/// The numbers of the values of a domain, under its item.
+fn note_values(
+    least: &mut Least,
+    types: &mut Types,
+    bounded: &Bounded,
+    item: &str,
+    items: &[Item],
+) -> Result<(), NoMemory>
+    requires bounded { IsBounded types.old bounded.now }
+    requires small { All IsSmall items.now }
+    ensures noted { OnOk result (least.new ≡ fold lesser least.old (number_faults item.now (choices_in (problem_in bounded.now) (values_of (setting_in bounded.now) items.now)))) }
+    ensures extends { Extends types.old types.new }
+{
+    let classes = bounded.classes;
+    let entries = entries_of(
+        least.alloc(),
+        types,
+        classes.trees,
+        classes.heads,
+        bounded.document,
+        bounded.bounds,
+        items,
+    )?;
+    note_numbers(least, item, &entries, bounded.blocks)
+}
+
+/// The numbers of the values of a field, of elements or of a parameter.
+fn note_domain(
+    least: &mut Least,
+    types: &mut Types,
+    bounded: &Bounded,
+    table: &str,
+    domain: &NamedDomain,
+) -> Result<(), NoMemory>
+    requires bounded { IsBounded types.old bounded.now }
+    requires small { All IsSmall domain.now.domain }
+    ensures noted { OnOk result (least.new ≡ fold lesser least.old (number_faults (table.now ++ domain.now.key) (choices_in (problem_in bounded.now) (values_of (setting_in bounded.now) domain.now.domain)))) }
+    ensures extends { Extends types.old types.new }
+{
+    let item = item_of(least.alloc(), table, domain.key.as_str())?;
+    note_values(
+        least,
+        types,
+        bounded,
+        item.as_str(),
+        domain.domain.as_slice(),
+    )
+}
+
+/// The numbers of the values of the domains of a table.
+pub(crate) fn note_domains(
+    least: &mut Least,
+    types: &mut Types,
+    bounded: &Bounded,
+    table: &str,
+    domains: &[NamedDomain],
+) -> Result<(), NoMemory>
+    requires bounded { IsBounded types.old bounded.now }
+    requires small { All (λ d. All IsSmall d.domain) domains.now }
+    ensures noted { OnOk result (least.new ≡ fold lesser least.old (numbers_of (problem_in bounded.now) (setting_in bounded.now) table.now domains.now)) }
+    ensures extends { Extends types.old types.new }
+{
+    for domain in domains {
+        note_domain(least, types, bounded, table, domain)?;
+    }
+    Ok(())
+}
+
+#[tactic(auto, using(crate::proofs::BoundedKept::lengths_small))]
+/// The numbers of the values of an array type's lengths.
+fn note_length_values(
+    least: &mut Least,
+    types: &mut Types,
+    bounded: &Bounded,
+    bound: &ArrayBound,
+) -> Result<(), NoMemory>
+    requires bounded { IsBounded types.old bounded.now }
+    requires lengths { All AreLengths bound.now.lengths }
+    ensures noted { OnOk result (least.new ≡ fold lesser least.old (number_faults (of_arrays bound.now.name) (choices_in (problem_in bounded.now) (values_of (setting_in bounded.now) bound.now.lengths)))) }
+    ensures extends { Extends types.old types.new }
+{
+    let item = item_of(least.alloc(), "arrays.", bound.name.as_str())?;
+    note_values(
+        least,
+        types,
+        bounded,
+        item.as_str(),
+        bound.lengths.as_slice(),
+    )
+}
+
+/// The numbers of the lengths of an array type.
+fn note_lengths(
+    least: &mut Least,
+    types: &mut Types,
+    bounded: &Bounded,
+    bound: &ArrayBound,
+) -> Result<(), NoMemory>
+    requires bounded { IsBounded types.old bounded.now }
+    requires lengths { All AreLengths bound.now.lengths }
+    ensures noted { OnOk result (least.new ≡ fold lesser least.old (number_faults (of_arrays bound.now.name) (choices_in (problem_in bounded.now) (lengths_of (setting_in bounded.now) bound.now.lengths)))) }
+    ensures extends { Extends types.old types.new }
+{
+    note_length_values(least, types, bounded, bound)
+}
+
+/// The numbers of the lengths of the array types that the document bounds.
+pub(crate) fn note_all_lengths(
+    least: &mut Least,
+    types: &mut Types,
+    bounded: &Bounded,
+    bounds: &[ArrayBound],
+) -> Result<(), NoMemory>
+    requires bounded { IsBounded types.old bounded.now }
+    requires lengths { All (λ b. All AreLengths b.lengths) bounds.now }
+    ensures noted { OnOk result (least.new ≡ fold lesser least.old (numbers_of_lengths (problem_in bounded.now) (setting_in bounded.now) bounds.now)) }
+    ensures extends { Extends types.old types.new }
+{
+    for bound in bounds {
+        note_lengths(least, types, bounded, bound)?;
+    }
+    Ok(())
+}

@@ -1,0 +1,140 @@
+// The domains that a document gives, with their values.
+ghost use Rattle.std.specs.Prelude.{◌≡◌, ◌++◌, ◌∷◌, [], All, IfOk, OnOk, map};
+ghost use Rattle.kr_type_numbers.specs.Types.{Extends};
+ghost use Rattle.kr_problem.specs.Items.{domain_of};
+ghost use Rattle.kr_domains.specs.Bounds.{lengths_of, values_of};
+ghost use Rattle.kr_domains.specs.Limits.{AreLengths, IsSmall};
+ghost use Rattle.kr_space.specs.Basis.{AreBoundsOn, IsBasis, setting_on};
+ghost use Rattle.kr_space.specs.Pools.{all_lengths, all_values, pool};
+
+use crate::basis::Basis;
+use kr_base::NoMemory;
+use kr_fin::{ArrayBound, Item as FinItem, Listed, NamedDomain};
+use kr_numbers::entries_of;
+use kr_problem::Item;
+use kr_type_numbers::Types;
+use std::alloc::Global;
+
+/// Adds the values of a domain.
+fn add_values(
+    alloc: Global,
+    types: &mut Types,
+    basis: &Basis,
+    domains: &mut Vec<Listed<Item>>,
+    items: &[FinItem],
+) -> Result<(), NoMemory>
+    requires basis { IsBasis basis.now }
+    requires bounds { AreBoundsOn types.old basis.now }
+    requires small { All IsSmall items.now }
+    ensures added { OnOk result (map domain_of domains.new.items ≡ map domain_of domains.old.items ++ values_of (setting_on basis.now) items.now ∷ []) }
+    ensures extends { Extends types.old types.new }
+{
+    let classes = basis.classes;
+    let entries = entries_of(
+        alloc,
+        types,
+        classes.trees,
+        classes.heads,
+        basis.document,
+        basis.bounds,
+        items,
+    )?;
+    domains.push(Listed::from_vec(entries))?;
+    Ok(())
+}
+
+/// Adds the values of the domains of a table.
+fn add_domains(
+    alloc: Global,
+    types: &mut Types,
+    basis: &Basis,
+    domains: &mut Vec<Listed<Item>>,
+    named: &[NamedDomain],
+) -> Result<(), NoMemory>
+    requires basis { IsBasis basis.now }
+    requires bounds { AreBoundsOn types.old basis.now }
+    requires small { All (λ d. All IsSmall d.domain) named.now }
+    ensures added { OnOk result (map domain_of domains.new.items ≡ map domain_of domains.old.items ++ all_values (setting_on basis.now) named.now) }
+    ensures extends { Extends types.old types.new }
+{
+    for domain in named {
+        add_values(alloc, types, basis, domains, domain.domain.as_slice())?;
+    }
+    Ok(())
+}
+
+/// Adds the lengths of an array type.
+#[tactic(auto, using(crate::proofs::BoundedKept::lengths_small))]
+fn add_length(
+    alloc: Global,
+    types: &mut Types,
+    basis: &Basis,
+    domains: &mut Vec<Listed<Item>>,
+    bound: &ArrayBound,
+) -> Result<(), NoMemory>
+    requires basis { IsBasis basis.now }
+    requires bounds { AreBoundsOn types.old basis.now }
+    requires lengths { All AreLengths bound.now.lengths }
+    ensures added { OnOk result (map domain_of domains.new.items ≡ map domain_of domains.old.items ++ lengths_of (setting_on basis.now) bound.now.lengths ∷ []) }
+    ensures extends { Extends types.old types.new }
+{
+    add_values(alloc, types, basis, domains, bound.lengths.as_slice())
+}
+
+/// Adds the lengths of the array types that the document bounds.
+fn add_lengths(
+    alloc: Global,
+    types: &mut Types,
+    basis: &Basis,
+    domains: &mut Vec<Listed<Item>>,
+    arrays: &[ArrayBound],
+) -> Result<(), NoMemory>
+    requires basis { IsBasis basis.now }
+    requires bounds { AreBoundsOn types.old basis.now }
+    requires lengths { All (λ a. All AreLengths a.lengths) arrays.now }
+    ensures added { OnOk result (map domain_of domains.new.items ≡ map domain_of domains.old.items ++ all_lengths (setting_on basis.now) arrays.now) }
+    ensures extends { Extends types.old types.new }
+{
+    for bound in arrays {
+        add_length(alloc, types, basis, domains, bound)?;
+    }
+    Ok(())
+}
+
+/// The domains that a document gives.
+#[tactic(auto, using(kr_numbers::proofs::Bounded::bounds_kept, crate::proofs::Pooled::pool_whole))]
+pub(crate) fn pool_of(
+    alloc: Global,
+    types: &mut Types,
+    basis: &Basis,
+) -> Result<Vec<Listed<Item>>, NoMemory>
+    requires basis { IsBasis basis.now }
+    requires bounds { AreBoundsOn types.old basis.now }
+    ensures pool { IfOk result (λ domains. map domain_of domains.items ≡ pool (setting_on basis.now) basis.now.document.now) }
+    ensures extends { Extends types.old types.new }
+{
+    let document = basis.document;
+    let mut domains = Vec::new(alloc);
+    add_domains(
+        alloc,
+        types,
+        basis,
+        &mut domains,
+        document.fields.as_slice(),
+    )?;
+    add_domains(
+        alloc,
+        types,
+        basis,
+        &mut domains,
+        document.params.as_slice(),
+    )?;
+    add_lengths(
+        alloc,
+        types,
+        basis,
+        &mut domains,
+        document.arrays.as_slice(),
+    )?;
+    Ok(domains)
+}

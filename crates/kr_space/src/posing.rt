@@ -1,0 +1,159 @@
+// A program with a document beside it, posed as a problem.
+ghost use Rattle.std.specs.Prelude.{◌≡◌, IsTrue, ◌+◌, ◌^◌, ◌<◌, ◌≤◌, None, IfErr, IfOk, length, map, nat_lt};
+ghost use Rattle.kr_ast.specs.Arena.{root};
+ghost use Rattle.kr_table.specs.Table.{headings_of};
+ghost use Rattle.kr_type_numbers.specs.Types.{Extends};
+ghost use Rattle.kr_types.specs.Programs.{IsProgram};
+ghost use Rattle.kr_posed.specs.Posed.{IsPosed, posed};
+ghost use Rattle.kr_mean.specs.Problem.{slots};
+ghost use Rattle.kr_mean.specs.WellFormed.{IsWellFormed};
+ghost use Rattle.kr_domains.specs.Bounds.{problem_of, setting_of};
+ghost use Rattle.kr_domains.specs.Limits.{IsWithinLimits};
+ghost use Rattle.kr_domains.specs.Meaning.{faults_of};
+ghost use Rattle.kr_domains.specs.Order.{least as least_of};
+ghost use Rattle.kr_fitting.specs.Classes.{AreClasses, AreTyped, files_of};
+ghost use Rattle.kr_space.specs.Basis.{AreArrays, HasFewDomains, bounds_on};
+ghost use Rattle.kr_space.specs.Refusals.{Refuses};
+
+use crate::arrays::arrays_of;
+use crate::basis::Basis;
+use crate::judge_space;
+use crate::keys::Keys;
+use crate::layout::layout_of;
+use kr_base::NoMemory;
+use kr_classes::ClassTable;
+use kr_domains::SpaceRefusal;
+use kr_fin::FinDoc;
+use kr_fitting::Classes;
+use kr_mean::Mode;
+use kr_numbers::{Bound, bounds_of};
+use kr_posed::Problem;
+use kr_problem::Layout;
+use kr_type_numbers::Types;
+use kr_types::Program;
+use std::alloc::Global;
+
+/// Whether a sum has 32 bits.
+fn is_counted(first: usize, second: usize) -> bool
+    ensures { result ≡ nat_lt (first + second) (2 ^ 32) }
+{
+    match first.checked_add(second) {
+        None => false,
+        Some(sum) => sum < 0x1_0000_0000,
+    }
+}
+
+/// Whether class domains and given domains have numbers of 32 bits.
+fn has_numbers(classes: &Classes, document: &FinDoc, bounds: &[Bound]) -> bool
+    requires { AreClasses classes.now }
+    ensures classes { IsTrue result → length (headings_of (files_of classes.now)) + length bounds.now < 2 ^ 32 }
+    ensures domains { IsTrue result → HasFewDomains document.now }
+{
+    let fields = document.fields.as_slice().len();
+    let params = document.params.as_slice().len();
+    let arrays = document.arrays.as_slice().len();
+    is_counted(classes.heads.len(), bounds.len())
+        && is_counted(params, arrays)
+        && is_counted(fields, params + arrays)
+}
+
+/// What a document gives a program to be a problem.
+#[derive(Drop)]
+struct Laid {
+    arrays: Vec<u32>,
+    layout: Layout,
+}
+
+/// The array types and the layout of a document's problem.
+#[tactic(auto, using(crate::proofs::Parts::arrays_are, kr_meanings::proofs::Growing::node_types_kept, kr_numbers::proofs::Bounded::bounds_kept))]
+fn lay(
+    alloc: Global,
+    classes: &Classes,
+    types: &mut Types,
+    document: &FinDoc,
+    mode: Mode,
+) -> Result<Laid, NoMemory>
+    requires few { length classes.now.trees.now < 65 }
+    requires classes { AreClasses classes.now }
+    requires typed { AreTyped classes.now types.old }
+    requires limits { IsWithinLimits document.now }
+    ensures arrays { IfOk result (λ laid. AreArrays types.new (setting_of (files_of classes.now) document.now) laid.arrays.items) }
+    ensures layout { IfOk result (λ laid. laid.layout ≡ bounds_on (setting_of (files_of classes.now) document.now) mode) }
+    ensures extends { Extends types.old types.new }
+{
+    let keys = Keys::of(alloc, document)?;
+    let named = document.arrays.as_slice();
+    let bounds = bounds_of(alloc, types, classes.trees, classes.heads, named)?;
+    if !has_numbers(classes, document, &bounds) {
+        return Err(NoMemory);
+    }
+    let basis = Basis {
+        classes,
+        document,
+        keys: &keys,
+        bounds: &bounds,
+    };
+    let arrays = arrays_of(alloc, types, &basis)?;
+    let layout = layout_of(alloc, types, &arrays, &basis, mode)?;
+    Ok(Laid { arrays, layout })
+}
+
+/// The problem of a program, a document and a mode; or the least of the rules that the document breaks, and there the least
+/// item in the order of bytes.
+#[tactic(auto, using(crate::proofs::Problems::program_kept))]
+pub fn problem(
+    alloc: Global,
+    program: Program,
+    document: &FinDoc,
+    mode: Mode,
+) -> Result<Problem, SpaceRefusal>
+    requires program { IsProgram program }
+    requires limits { IsWithinLimits document.now }
+    ensures unbroken { IfOk result (λ p. least_of (faults_of (map root program.trees.items) document.now mode) ≡ None) }
+    ensures posed { IfOk result IsPosed }
+    ensures problem { IfOk result (λ p. posed p ≡ problem_of (map root program.trees.items) document.now mode) }
+    ensures well_formed { IfOk result (λ p. IsWellFormed (posed p)) }
+    ensures few { IfOk result (λ p. length (slots (posed p)) ≤ 4096) }
+    ensures files { IfOk result (λ p. p.program.trees.items ≡ program.trees.items) }
+    ensures refused { IfErr result (Refuses (least_of (faults_of (map root program.trees.items) document.now mode))) }
+{
+    let Program {
+        trees,
+        table,
+        files,
+    } = program;
+    let ClassTable {
+        heads,
+        members,
+        mut types,
+        numbers,
+        values,
+    } = table;
+    let classes = Classes {
+        trees: &trees,
+        heads: &heads,
+        members: &members,
+        numbers: &numbers,
+    };
+    judge_space(alloc, &classes, &mut types, document, &mode)?;
+    let Ok(laid) = lay(alloc, &classes, &mut types, document, mode) else {
+        return Err(SpaceRefusal::NoMemory);
+    };
+    let table = ClassTable {
+        heads,
+        members,
+        types,
+        numbers,
+        values,
+    };
+    let program = Program {
+        trees,
+        table,
+        files,
+    };
+    Ok(Problem {
+        program,
+        arrays: laid.arrays,
+        layout: laid.layout,
+    })
+}

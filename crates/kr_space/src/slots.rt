@@ -1,0 +1,157 @@
+// How many slots there are, as far as the number goes.
+ghost use Rattle.std.specs.Prelude.{◌≡◌, ◌+◌, ◌*◌, ◌-◌, ◌^◌, All, IfOk, length, map, min};
+ghost use Rattle.kr_table.specs.Table.{fields_of, headings_of};
+ghost use Rattle.kr_names.specs.Listed.{IsIndexOf};
+ghost use Rattle.kr_domains.specs.Bounds.{class_name as class_name_in, count_named as count_in, greatest, lengths_of, root_of, setting_of, tested_parameters};
+ghost use Rattle.kr_domains.specs.Limits.{AreLengths};
+ghost use Rattle.kr_fitting.specs.Classes.{AreClasses, files_of, table_of};
+ghost use Rattle.kr_numbers.specs.Entries.{IsBound, bound_shown};
+ghost use Rattle.kr_space.specs.Slots.{slots_of_arrays, slots_of_classes};
+
+use crate::elements::greatest_of;
+use crate::keys::count_named;
+use crate::undefined::class_name;
+use kr_base::NoMemory;
+use kr_fin::FinDoc;
+use kr_fitting::{Classes, parameters_of};
+use kr_mean::Mode;
+use kr_names::Index;
+use kr_numbers::Bound;
+use kr_type_numbers::Types;
+use std::alloc::Global;
+
+/// How many instance fields each object of a class has.
+fn field_count(alloc: Global, classes: &Classes, class: u32) -> Result<u64, NoMemory>
+    requires { AreClasses classes.now }
+    ensures { IfOk result (λ n. n ≡ length (fields_of (table_of classes.now) class)) }
+{
+    let own = classes.members.fields_of(alloc, class)?;
+    Ok(own.len() as u64)
+}
+
+/// How many slots the objects of a class have.
+#[tactic(auto, using(crate::proofs::SlotCounts::slots_none))]
+fn class_slots(
+    alloc: Global,
+    classes: &Classes,
+    objects: &Index,
+    document: &FinDoc,
+    class: u32,
+) -> Result<u64, NoMemory>
+    requires classes { AreClasses classes.now }
+    requires objects { IsIndexOf (map (λ c. c.name) document.now.objects) objects.now }
+    ensures { IfOk result (λ slots. slots ≡ min (count_in document.now.objects (class_name_in (table_of classes.now) class) * length (fields_of (table_of classes.now) class)) (2 ^ 64 - 1)) }
+{
+    let name = class_name(classes, class);
+    let count = count_named(objects, document.objects.as_slice(), name);
+    if count == 0 {
+        return Ok(0);
+    }
+    let fields = field_count(alloc, classes, class)?;
+    Ok(u64::from(count).saturating_mul(fields))
+}
+
+/// How many slots the objects of all classes have.
+fn all_class_slots(
+    alloc: Global,
+    classes: &Classes,
+    objects: &Index,
+    document: &FinDoc,
+) -> Result<u64, NoMemory>
+    requires classes { AreClasses classes.now }
+    requires objects { IsIndexOf (map (λ c. c.name) document.now.objects) objects.now }
+    ensures { IfOk result (λ slots. slots ≡ min (slots_of_classes (setting_of (files_of classes.now) document.now) 0 (headings_of (files_of classes.now))) (2 ^ 64 - 1)) }
+{
+    let mut total: u64 = 0;
+    let number = classes.heads.len() as u32;
+    for class in 0..number {
+        let own = class_slots(alloc, classes, objects, document, class)?;
+        total = total.saturating_add(own);
+    }
+    Ok(total)
+}
+
+/// How many slots the arrays of an array type have.
+fn array_slots(classes: &Classes, types: &Types, document: &FinDoc, bound: Bound) -> u64
+    requires bound { IsBound types.now document.now.arrays bound }
+    requires lengths { All (λ b. All AreLengths b.lengths) document.now.arrays }
+    ensures { result ≡ min ((bound_shown types.now document.now.arrays bound).1.count * (greatest (lengths_of (setting_of (files_of classes.now) document.now) (bound_shown types.now document.now.arrays bound).1.lengths) + 1)) (2 ^ 64 - 1) }
+{
+    let _ = types;
+    let bound = &document.arrays.as_slice()[bound.at as usize];
+    let spots = u64::from(greatest_of(classes, document, bound)) + 1;
+    u64::from(bound.count).saturating_mul(spots)
+}
+
+/// How many slots the arrays of all array types have.
+fn all_array_slots(classes: &Classes, types: &Types, document: &FinDoc, bounds: &[Bound]) -> u64
+    requires bounds { All (IsBound types.now document.now.arrays) bounds.now }
+    requires lengths { All (λ b. All AreLengths b.lengths) document.now.arrays }
+    ensures { result ≡ min (slots_of_arrays (setting_of (files_of classes.now) document.now) (map (bound_shown types.now document.now.arrays) bounds.now)) (2 ^ 64 - 1) }
+{
+    let mut total: u64 = 0;
+    for bound in bounds {
+        total = total.saturating_add(array_slots(classes, types, document, *bound));
+    }
+    total
+}
+
+/// How many parameters the method under test has, where one is tested.
+#[tactic(auto, unfolding(kr_domains::specs::Bounds::setting_of, kr_table::specs::Table::table_of), using(crate::proofs::SlotCounts::shown_long))]
+fn parameter_count(
+    alloc: Global,
+    classes: &Classes,
+    document: &FinDoc,
+    mode: &Mode,
+    root: Option<u32>,
+) -> Result<u64, NoMemory>
+    requires classes { AreClasses classes.now }
+    requires root { root ≡ root_of (setting_of (files_of classes.now) document.now) }
+    ensures { IfOk result (λ n. n ≡ length (tested_parameters (setting_of (files_of classes.now) document.now) mode.now)) }
+{
+    let _ = document;
+    match mode {
+        Mode::List => Ok(0),
+        Mode::Method(name) => {
+            let parameters = parameters_of(alloc, classes, root, name.as_str().as_bytes())?;
+            Ok(parameters.len() as u64)
+        }
+    }
+}
+
+/// How many slots there are: `this`, the parameters of the method under test, and those of the objects.
+pub(crate) fn slot_count(
+    alloc: Global,
+    classes: &Classes,
+    types: &Types,
+    objects: &Index,
+    document: &FinDoc,
+    mode: &Mode,
+    bounds: &[Bound],
+) -> Result<u64, NoMemory>
+    requires classes { AreClasses classes.now }
+    requires objects { IsIndexOf (map (λ c. c.name) document.now.objects) objects.now }
+    requires bounds { All (IsBound types.now document.now.arrays) bounds.now }
+    requires lengths { All (λ b. All AreLengths b.lengths) document.now.arrays }
+    ensures { IfOk result (λ n. n ≡ min (length (tested_parameters (setting_of (files_of classes.now) document.now) mode.now) + (slots_of_classes (setting_of (files_of classes.now) document.now) 0 (headings_of (files_of classes.now)) + slots_of_arrays (setting_of (files_of classes.now) document.now) (map (bound_shown types.now document.now.arrays) bounds.now)) + 1) (2 ^ 64 - 1)) }
+{
+    let root = root_number(classes, document);
+    let parameters = parameter_count(alloc, classes, document, mode, root)?;
+    let of_classes = all_class_slots(alloc, classes, objects, document)?;
+    let of_arrays = all_array_slots(classes, types, document, bounds);
+    Ok(
+        parameters
+            .saturating_add(of_classes)
+            .saturating_add(of_arrays)
+            .saturating_add(1),
+    )
+}
+
+/// The class that is the root, if it is one.
+#[tactic(auto, unfolding(kr_domains::specs::Bounds::setting_of, kr_table::specs::Table::table_of))]
+pub(crate) fn root_number(classes: &Classes, document: &FinDoc) -> Option<u32>
+    requires { AreClasses classes.now }
+    ensures { result ≡ root_of (setting_of (files_of classes.now) document.now) }
+{
+    classes.heads.number_of(document.root.as_str().as_bytes())
+}

@@ -1,0 +1,127 @@
+// Rule S2: each field, element and parameter that has slots has a domain.
+ghost use Rattle.std.specs.Prelude.{◌≡◌, ◌<◌, ◌++◌, All, IfOk, OnOk, codes, flat_map, fold, length, map};
+ghost use Rattle.kr_ast.specs.Arena.{Arena};
+ghost use Rattle.kr_table.specs.Table.{headings_of};
+ghost use Rattle.kr_names.specs.Listed.{IsIndexOf};
+ghost use Rattle.kr_members.specs.Shown.{IsField, field_shown};
+ghost use Rattle.kr_domains.specs.Bounds.{class_name as class_name_in, field_key as key_of_field, setting_of};
+ghost use Rattle.kr_domains.specs.Faults.{class_S2, classes_S2, no_domain};
+ghost use Rattle.kr_domains.specs.Order.{lesser};
+ghost use Rattle.kr_fitting.specs.Classes.{AreClasses, files_of, table_of};
+ghost use Rattle.kr_space.specs.Headings.{heading_at};
+
+use crate::keys::{count_named, is_absent, joined};
+use kr_base::NoMemory;
+use kr_domains::SpaceRule;
+use kr_fin::{FinDoc, NamedDomain};
+use kr_fitting::Classes;
+use kr_meanings::Least;
+use kr_members::Field;
+use kr_names::{Index, tree_of};
+use std::alloc::Global;
+
+/// Notes a key that no domain is given for.
+pub(crate) fn note_absent(
+    least: &mut Least,
+    table: &[u8],
+    index: &Index,
+    domains: &[NamedDomain],
+    key: &[u8],
+) -> Result<(), NoMemory>
+    requires { IsIndexOf (map (λ d. d.key) domains.now) index.now }
+    ensures { OnOk result (least.new ≡ fold lesser least.old (no_domain table.now domains.now key.now)) }
+{
+    if is_absent(index, domains, key) {
+        let item = joined(least.alloc(), table, key)?;
+        least.note_at(SpaceRule::NoDomain, &item)
+    } else {
+        Ok(())
+    }
+}
+
+/// The name of a class.
+#[tactic(auto, unfolding(kr_table::specs::Table::table_of))]
+pub(crate) fn class_name<'p>(classes: &Classes<'p>, class: u32) -> &'p [u8]
+    requires { AreClasses classes.now }
+    ensures { result.now ≡ class_name_in (table_of classes.now) class }
+{
+    match classes.heads.headings().get(class as usize) {
+        None => &[],
+        Some(heading) => tree_of(classes.trees, heading.file).name(heading.name),
+    }
+}
+
+/// The key of a field: its class, a dot and its name.
+pub(crate) fn field_key(alloc: Global, classes: &Classes, field: Field) -> Result<Vec<u8>, NoMemory>
+    requires classes { AreClasses classes.now }
+    requires field { IsField classes.now.trees.now field }
+    ensures { IfOk result (λ key. key.items ≡ key_of_field (table_of classes.now) (field_shown classes.now.trees.now field)) }
+{
+    let owner = joined(alloc, class_name(classes, field.class), b".".as_slice())?;
+    let name = tree_of(classes.trees, field.file).name(field.name);
+    joined(alloc, &owner, name)
+}
+
+/// Each of some fields has a domain.
+fn note_fields(
+    least: &mut Least,
+    classes: &Classes,
+    index: &Index,
+    domains: &[NamedDomain],
+    fields: &[Field],
+) -> Result<(), NoMemory>
+    requires classes { AreClasses classes.now }
+    requires index { IsIndexOf (map (λ d. d.key) domains.now) index.now }
+    requires fields { All (IsField classes.now.trees.now) fields.now }
+    ensures { OnOk result (least.new ≡ fold lesser least.old (flat_map (λ f. no_domain (codes "fields.") domains.now (key_of_field (table_of classes.now) f)) (map (field_shown classes.now.trees.now) fields.now))) }
+{
+    for field in fields {
+        let key = field_key(least.alloc(), classes, *field)?;
+        note_absent(least, b"fields.".as_slice(), index, domains, &key)?;
+    }
+    Ok(())
+}
+
+/// The fields of a class that has objects have domains.
+#[tactic(auto, using(crate::proofs::ClassFaults::class_none, crate::proofs::ClassFaults::class_some))]
+fn note_class(
+    least: &mut Least,
+    classes: &Classes,
+    objects: &Index,
+    fields: &Index,
+    document: &FinDoc,
+    class: u32,
+) -> Result<(), NoMemory>
+    requires classes { AreClasses classes.now }
+    requires objects { IsIndexOf (map (λ c. c.name) document.now.objects) objects.now }
+    requires fields { IsIndexOf (map (λ d. d.key) document.now.fields) fields.now }
+    requires class { class < length (headings_of (files_of classes.now)) }
+    ensures { OnOk result (least.new ≡ fold lesser least.old (class_S2 (setting_of (files_of classes.now) document.now) class (heading_at (headings_of (files_of classes.now)) class))) }
+{
+    let name = class_name(classes, class);
+    if count_named(objects, document.objects.as_slice(), name) == 0 {
+        return Ok(());
+    }
+    let own = classes.members.fields_of(least.alloc(), class)?;
+    note_fields(least, classes, fields, document.fields.as_slice(), &own)
+}
+
+/// The fields of classes that have objects have domains.
+pub(crate) fn note_undefined(
+    least: &mut Least,
+    classes: &Classes,
+    objects: &Index,
+    fields: &Index,
+    document: &FinDoc,
+) -> Result<(), NoMemory>
+    requires classes { AreClasses classes.now }
+    requires objects { IsIndexOf (map (λ c. c.name) document.now.objects) objects.now }
+    requires fields { IsIndexOf (map (λ d. d.key) document.now.fields) fields.now }
+    ensures { OnOk result (least.new ≡ fold lesser least.old (classes_S2 (setting_of (files_of classes.now) document.now) 0 (headings_of (files_of classes.now)))) }
+{
+    let count = classes.heads.len() as u32;
+    for class in 0..count {
+        note_class(least, classes, objects, fields, document, class)?;
+    }
+    Ok(())
+}

@@ -1,0 +1,99 @@
+// Rules S3, S5 and S6 as a whole.
+ghost use Rattle.std.specs.Prelude.{◌≡◌, ◌==◌, All, OnOk, fold, length, nat_lt, unwrap_or};
+ghost use Rattle.std.proofs.Common.{get_or};
+ghost use Rattle.kr_type_numbers.specs.Types.{Extends};
+ghost use Rattle.kr_mean.specs.Problem.{domain_at, slots};
+ghost use Rattle.kr_domains.specs.Bounds.{problem_of, setting_of};
+ghost use Rattle.kr_domains.specs.Faults.{S3_S5_S6};
+ghost use Rattle.kr_domains.specs.Limits.{IsWithinLimits};
+ghost use Rattle.kr_domains.specs.Order.{lesser};
+ghost use Rattle.kr_fitting.specs.Classes.{AreClasses, files_of};
+ghost use Rattle.kr_numbers.specs.Entries.{AreBounds};
+ghost use Rattle.kr_space.specs.Bounded.{IsBounded, problem_in, setting_in};
+ghost use Rattle.kr_space.specs.Keys.{AreKeys};
+
+use crate::bounded::Bounded;
+use crate::keys::Keys;
+use crate::numbers::{note_all_lengths, note_domains};
+use crate::sizes::{blocks_of, counts_of};
+use crate::slots::{root_number, slot_count};
+use kr_base::NoMemory;
+use kr_domains::SpaceRule;
+use kr_fin::FinDoc;
+use kr_fitting::Classes;
+use kr_mean::Mode;
+use kr_meanings::Least;
+use kr_numbers::{Bound, note_if};
+use kr_type_numbers::Types;
+
+/// The count of a root's class domain; 0 where there is none.
+fn count_of_root(counts: &[u32], root: Option<u32>) -> u32
+    ensures { result ≡ get_or counts.now (unwrap_or root 0) 0 }
+{
+    let at = match root {
+        None => 0,
+        Some(class) => class as usize,
+    };
+    if at < counts.len() { counts[at] } else { 0 }
+}
+
+#[tactic(auto, using(crate::proofs::Parts::numbers_are, crate::proofs::BoundedKept::bounded_kept), unfolding(kr_domains::specs::Bounds::setting_of))]
+/// S3, S5 and S6 of each domain that is given, of the root's objects and of the slots.
+fn note_numbers_of(
+    least: &mut Least,
+    types: &mut Types,
+    bounded: &Bounded,
+    is_rootless: bool,
+    has_many: bool,
+) -> Result<(), NoMemory>
+    requires bounded { IsBounded types.old bounded.now }
+    requires limits { IsWithinLimits bounded.now.document.now }
+    requires rootless { is_rootless ≡ ((domain_at (problem_in bounded.now) (problem_in bounded.now).root).count == 0) }
+    requires many { has_many ≡ nat_lt 4096 (length (slots (problem_in bounded.now))) }
+    ensures noted { OnOk result (least.new ≡ fold lesser least.old (S3_S5_S6 (problem_in bounded.now) (setting_in bounded.now))) }
+    ensures extends { Extends types.old types.new }
+{
+    let document = bounded.document;
+    note_domains(least, types, bounded, "fields.", document.fields.as_slice())?;
+    note_domains(least, types, bounded, "params.", document.params.as_slice())?;
+    note_all_lengths(least, types, bounded, document.arrays.as_slice())?;
+    note_if(least, is_rootless, SpaceRule::EmptyDomain, "this")?;
+    note_if(least, has_many, SpaceRule::TooMany, "slots")
+}
+
+/// S3, S5 and S6: each domain that is given has a value, none twice, and at most 65,536; the root has objects; and there
+/// are at most 4,096 slots.
+pub(crate) fn note_numbers(
+    least: &mut Least,
+    classes: &Classes,
+    types: &mut Types,
+    document: &FinDoc,
+    mode: &Mode,
+    keys: &Keys,
+    bounds: &[Bound],
+) -> Result<(), NoMemory>
+    requires classes { AreClasses classes.now }
+    requires keys { AreKeys document.now keys.now }
+    requires bounds { AreBounds types.old document.now.arrays bounds.now (setting_of (files_of classes.now) document.now).arrays }
+    requires limits { IsWithinLimits document.now }
+    ensures noted { OnOk result (least.new ≡ fold lesser least.old (S3_S5_S6 (problem_of (files_of classes.now) document.now mode.now) (setting_of (files_of classes.now) document.now))) }
+    ensures extends { Extends types.old types.new }
+{
+    let alloc = least.alloc();
+    let objects = &keys.objects;
+    let counts = counts_of(alloc, classes, &*types, objects, document, bounds)?;
+    if counts.len() >= 0xffff_ffff {
+        return Err(NoMemory);
+    }
+    let blocks = blocks_of(alloc, &counts)?;
+    let slots = slot_count(alloc, classes, &*types, objects, document, mode, bounds)?;
+    let objects_of_root = count_of_root(&counts, root_number(classes, document));
+    let bounded = Bounded {
+        classes,
+        document,
+        mode,
+        bounds,
+        blocks: &blocks,
+    };
+    note_numbers_of(least, types, &bounded, objects_of_root == 0, slots > 4_096)
+}

@@ -1,0 +1,6 @@
+mod Chosen
+mod Named
+mod Objects
+mod Separated
+mod Slots
+mod Walks

@@ -1,0 +1,65 @@
+-- A candidate's structure as it is written: parameters, and then the objects that are met, each slot by slot.
+use Rattle.std.specs.Prelude.{◌≡◌, ℕ, ◌+◌, Bool, true, false, List, [], ◌∷◌, ◌++◌, length, map, flat_map, codes}
+use Rattle.std.proofs.Common.{get_or}
+use Rattle.kr_value.specs.declared.object.Class.{Class}
+use Rattle.kr_value.specs.declared.object.Class.TheVariants.{Object, Array, Set, List as ListClass}
+use Rattle.kr_mean.specs.Entries.{structure_of}
+use Rattle.kr_mean.specs.WellFormed.{IsWellFormed}
+use Rattle.kr_mean.specs.Heaps.{choice_at, met_within, objects_of, slots_in, value_at}
+use Rattle.kr_mean.specs.Problem.{Problem, DomainObject, all_objects, domain_at, heap_number, slot_at, upto}
+use Rattle.kr_report.specs.Texts.{behind, in_brackets, in_parentheses, joined_by, object_name, part_text, structure_text, tested_parameters, value_text}
+
+-- texts with another between each two, and before the first where others stand before it
+abbrev pub separated : List ℕ → Bool → List (List ℕ) → List ℕ
+separated between true texts = behind between texts
+separated between false texts = joined_by between texts
+
+-- whether there are any
+abbrev pub are_any : List (List ℕ) → Bool
+are_any [] = false
+are_any (t ∷ ts) = true
+
+-- the brackets of an object
+abbrev pub opening : Class → List ℕ
+opening (Array t) = codes "["
+opening (Object c) = codes "{"
+opening Set = codes "{"
+opening ListClass = codes "{"
+
+abbrev pub closing : Class → List ℕ
+closing (Array t) = codes "]"
+closing (Object c) = codes "}"
+closing Set = codes "}"
+closing ListClass = codes "}"
+
+-- what a structure has of a slot
+abbrev pub part_at : Problem → List ℕ → Class → ℕ → List (List ℕ)
+part_at problem v class s = part_text problem class (value_at problem v s) (slot_at problem s).place
+
+abbrev pub parts_written : Problem → List ℕ → DomainObject → List (List ℕ)
+parts_written problem v o = flat_map (part_at problem v (domain_at problem o.domain).class) (slots_in problem v o)
+
+-- an object with its slots
+abbrev pub object_written : Problem → List ℕ → DomainObject → List ℕ
+object_written problem v o = object_name problem o ++ in_brackets (domain_at problem o.domain).class (joined_by (codes ",") (parts_written problem v o))
+
+-- a parameter of the method under test
+abbrev pub parameter_written : Problem → List ℕ → ℕ → List ℕ
+parameter_written problem v i = get_or (tested_parameters problem) i [] ++ codes "=" ++ value_text problem (value_at problem v (i + 1))
+
+-- the object at a slot, by its number in the heap
+abbrev pub numbers_at : Problem → List ℕ → ℕ → List ℕ
+numbers_at problem v s = map (heap_number problem) (objects_of (choice_at problem v s).object)
+
+-- the objects that are met
+abbrev pub met : Problem → List ℕ → List DomainObject
+met problem v = met_within problem v (length (all_objects problem))
+
+abbrev pub written : Problem → List ℕ → List ℕ
+written problem v =
+    in_parentheses (map (parameter_written problem v) (upto (length problem.parameters)))
+    ++ joined_by (codes " ") (map (object_written problem v) (met problem v))
+
+-- a structure's text is what is written
+abbrev pub WrittenLaw : Type 0
+WrittenLaw = (problem : Problem) → IsWellFormed problem → (v : List ℕ) → structure_text problem (structure_of problem v) ≡ written problem v

@@ -1,0 +1,15 @@
+//! The structure of a candidate, as a row of a listing has it: the parameters of the method under test, and the objects that
+//! are met from the roots, each with its fields or elements.
+#![tactic(auto)]
+
+mod laws;
+mod names;
+mod parts;
+mod structure;
+mod structured;
+mod values;
+
+pub use laws::written_law;
+pub use names::Names;
+pub use structure::Room;
+pub use structured::Structured;

@@ -1,0 +1,106 @@
+// Values, as structures have them.
+ghost use Rattle.std.specs.Prelude.{◌≡◌, ◌<◌, ◌++◌, OnOk, decimal, length};
+ghost use Rattle.std.specs.Fmt.{signed_decimal};
+ghost use Rattle.kr_iso.specs.Objects.{object_of};
+ghost use Rattle.kr_mean.specs.Heaps.{choice_at, value_at};
+ghost use Rattle.kr_mean.specs.Problem.{Problem, domain_at, slots};
+ghost use Rattle.kr_mean.specs.Space.{IsVector, space_of};
+ghost use Rattle.kr_mean.specs.WellFormed.{IsPlain, IsWellFormed};
+ghost use Rattle.kr_problem.specs.Bounds.{bare};
+ghost use Rattle.kr_problem.specs.Stretches.{chosen};
+ghost use Rattle.kr_report.specs.Texts.{object_name, value_text};
+ghost use Rattle.kr_text.specs.Lines.{line_bytes};
+
+use itoa::Buffer;
+use kr_base::{Failed, NoMemory, put_all};
+use kr_iso::Object;
+use kr_problem::{Chosen, Layout};
+use kr_text::Line;
+use kr_value::Value;
+use kr_vector::{Slot, Vector};
+
+/// Adds bytes to a line.
+pub(crate) fn add(line: &mut Line, piece: &[u8]) -> Result<(), NoMemory>
+    ensures { OnOk result (line_bytes line.new ≡ line_bytes line.old ++ piece.now) }
+{
+    match put_all(line, piece) {
+        Ok(()) => Ok(()),
+        Err(Failed) => Err(NoMemory),
+    }
+}
+
+fn add_number(line: &mut Line, number: u32) -> Result<(), NoMemory>
+    ensures { OnOk result (line_bytes line.new ≡ line_bytes line.old ++ decimal number) }
+{
+    let mut buffer = Buffer::new();
+    add(line, buffer.format(number).as_bytes())
+}
+
+fn add_integer(line: &mut Line, number: i32) -> Result<(), NoMemory>
+    ensures { OnOk result (line_bytes line.new ≡ line_bytes line.old ++ signed_decimal number) }
+{
+    let mut buffer = Buffer::new();
+    add(line, buffer.format(number).as_bytes())
+}
+
+/// Adds `Class#k`.
+#[tactic(auto, using(std::proofs::Common::append_assoc))]
+pub(crate) fn add_object_name(
+    line: &mut Line,
+    layout: &Layout,
+    object: Object,
+) -> Result<(), NoMemory>
+    requires { object.domain < length layout.now.domains }
+    ensures { OnOk result (line_bytes line.new ≡ line_bytes line.old ++ object_name (bare layout.now) (object_of object)) }
+{
+    add(line, layout.name(object.domain))?;
+    add(line, b"#")?;
+    add_number(line, object.number)
+}
+
+/// Adds a value that is no object.
+fn add_plain(line: &mut Line, value: Value) -> Result<(), NoMemory>
+    ensures { OnOk result ((problem : Problem) → IsPlain value → line_bytes line.new ≡ line_bytes line.old ++ value_text problem value) }
+{
+    match value {
+        Value::Int(number) => add_integer(line, number),
+        Value::Bool(true) => add(line, b"true"),
+        Value::Bool(false) => add(line, b"false"),
+        Value::Null => add(line, b"null"),
+        Value::Ref(_) => Ok(()),
+    }
+}
+
+/// What a candidate chooses at a slot.
+pub(crate) fn chosen_at(layout: &Layout, vector: &Vector, slot: u32) -> Chosen
+    requires vector { IsVector (space_of (bare layout.now)) vector.now }
+    requires slot { slot < length (slots (bare layout.now)) }
+    ensures { chosen result ≡ choice_at (bare layout.now) vector.now slot }
+{
+    layout.choice(slot, vector.get(Slot(slot)))
+}
+
+/// Adds the value that a candidate has at a slot.
+pub(crate) fn add_value(
+    line: &mut Line,
+    layout: &Layout,
+    vector: &Vector,
+    slot: u32,
+) -> Result<(), NoMemory>
+    requires well { IsWellFormed (bare layout.now) }
+    requires vector { IsVector (space_of (bare layout.now)) vector.now }
+    requires slot { slot < length (slots (bare layout.now)) }
+    ensures { OnOk result (line_bytes line.new ≡ line_bytes line.old ++ value_text (bare layout.now) (value_at (bare layout.now) vector.now slot)) }
+{
+    let found = chosen_at(layout, vector, slot);
+    match found.object {
+        Some(object) => {
+            add_object_name(line, layout, object)?;
+            Ok(())
+        }
+        None => {
+            add_plain(line, found.value)?;
+            Ok(())
+        }
+    }
+}

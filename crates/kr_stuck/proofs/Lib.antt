@@ -1,0 +1,4 @@
+pub mod Statements
+pub mod Runs
+pub mod Framed
+pub mod Verdicts

@@ -1,0 +1,13 @@
+//! The tables of a program's code: what depends on an object's class, of each name, field, method and type by its number.
+#![tactic(auto)]
+
+mod dispatch;
+mod fields;
+mod instances;
+mod positions;
+mod spots;
+mod tables;
+#[cfg(test)]
+mod tests;
+
+pub use tables::Tables;

@@ -1,0 +1,50 @@
+-- A program that breaks no rule, with what is known of its nodes.
+use Rattle.std.specs.Prelude.{◌≡◌, ℕ, ◌<◌, ◌^◌, List, length, map, flat_map, Some, slice_get}
+use Rattle.kr_ast.specs.declared.node.Entry.{Entry}
+use Rattle.kr_ast.specs.Arena.{Arena, root, tree_in}
+use Rattle.kr_table.specs.Constants.{values_of}
+use Rattle.kr_typing.specs.Scopes.{Scope}
+use Rattle.kr_typing.specs.Typing.{judged, IsWellTyped}
+use Rattle.kr_scopes.specs.Settings.{Setting, setting}
+use Rattle.kr_scopes.specs.Scoped.{AreScopes, scope_at}
+use Rattle.kr_scopes.specs.Noting.{kept, note_at}
+use Rattle.kr_names.specs.Shown.{file_at}
+use Rattle.kr_members.specs.Shown.{table_in}
+use Rattle.kr_type_numbers.specs.Types.{TypeList}
+use Rattle.kr_classes.specs.ClassTables.{IsClassTable}
+use Rattle.kr_expressions.specs.Notes.{AreNotesWithin, shown_notes}
+use Rattle.kr_types.specs.declared.program.TypedFile.{TypedFile}
+use Rattle.kr_types.specs.declared.program.Program.{Program}
+
+-- a file with the class table and the constants of its program
+abbrev pub setting_in : List Arena → ℕ → Setting
+setting_in files f = setting (table_in files) (values_of (table_in files)) (file_at files f)
+
+-- the scope of a node of a file
+abbrev pub scope_there : List Arena → ℕ → TypedFile → ℕ → Scope
+scope_there files f t i = scope_at (setting_in files f) t.scopes.bindings.items t.scopes.within.items i
+
+-- Of each node of the file there is its scope, and what is kept of its judgement.
+pub record IsTypedFile (files : List Arena) (l : TypeList) (f : ℕ) (t : TypedFile) : Type 0 where
+  pub scopes : AreScopes (file_at files f) t.scopes.bindings.items t.scopes.within.items
+  pub long : length t.notes.items ≡ length (file_at files f).entries
+  pub within : AreNotesWithin l t.notes.items
+  pub judged : (i : ℕ) → i < length (file_at files f).entries → note_at (shown_notes l t.notes.items) i ≡ kept (judged (scope_there files f t i) (tree_in (file_at files f) i))
+
+-- of all files, of which there are so many
+pub record AreTypedFiles (files : List Arena) (l : TypeList) (n : ℕ) (ts : List TypedFile) : Type 0 where
+  pub count : length ts ≡ n
+  pub each : (f : ℕ) (t : TypedFile) → slice_get ts f ≡ Some t → IsTypedFile files l f t
+
+-- the nodes of all files, file by file
+abbrev pub all_entries : List Arena → List Entry
+all_entries files = flat_map (λ a. a.entries) files
+
+-- The files break no class rule and no typing rule; the class table is theirs, and so is what is kept of their nodes.
+pub record IsProgram (p : Program) : Type 0 where
+  pub few : length p.trees.items < 65
+  pub small : length (all_entries p.trees.items) < 2 ^ 32
+  pub table : IsClassTable p.trees.items p.table
+  pub count : length p.files.items ≡ length p.trees.items
+  pub files : (f : ℕ) (t : TypedFile) → slice_get p.files.items f ≡ Some t → IsTypedFile p.trees.items p.table.types f t
+  pub well_typed : IsWellTyped (map root p.trees.items)

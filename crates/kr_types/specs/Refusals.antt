@@ -1,0 +1,26 @@
+-- What a refusal says of the typing rules.
+use Rattle.std.specs.Prelude.{◌≡◌, ℕ, List, map, take, flat_map, Some}
+use Rattle.kr_ast.specs.Arena.{Arena, root}
+use Rattle.kr_ast.specs.Tree.{Tree}
+use Rattle.kr_table.specs.Rules.{Fault}
+use Rattle.kr_typing.specs.Typing.{judged, outside, type_fault}
+use Rattle.kr_names.specs.Shown.{file_at}
+use Rattle.kr_members.specs.Shown.{table_in}
+use Rattle.kr_types.specs.declared.refusal.TypeRefusal.{TypeRefusal}
+use Rattle.kr_types.specs.declared.refusal.TypeRefusal.TheVariants.{Broken, NoMemory}
+
+-- the place and the rule are those of the first broken node; want of memory is free
+abbrev pub IsRefusal : List Arena → TypeRefusal → Type 0
+IsRefusal files (Broken p r) = type_fault (map root files) ≡ Some (record { place = p; rule = r })
+IsRefusal files NoMemory = Unit {0}
+
+-- the broken nodes of a tree that is one of these files
+abbrev pub tree_faults : List Arena → Tree → List Fault
+tree_faults files t = (judged (outside (table_in files)) t).faults
+
+-- those of a file, and those of the first files
+abbrev pub root_faults : List Arena → ℕ → List Fault
+root_faults files f = tree_faults files (root (file_at files f))
+
+abbrev pub faults_in : List Arena → ℕ → List Fault
+faults_in files n = flat_map (tree_faults files) (take n (map root files))

@@ -1,0 +1,63 @@
+-- What the notes of a file's nodes are made from, and what each note says.
+use Rattle.std.specs.Prelude.{◌≡◌, ℕ, ◌<◌, List, length, Some, slice_get}
+use Rattle.kr_base.specs.declared.place.Place.{Place}
+use Rattle.kr_ast.specs.declared.node.Node.{Node}
+use Rattle.kr_ast.specs.declared.node.Entry.{Entry}
+use Rattle.kr_ast.specs.Arena.{Arena, tree_in, tree_of}
+use Rattle.kr_table.specs.Constants.{values_of}
+use Rattle.kr_typing.specs.Scopes.{Scope}
+use Rattle.kr_scopes.specs.declared.within.Within.{Within}
+use Rattle.kr_scopes.specs.Settings.{scope_in}
+use Rattle.kr_scopes.specs.Scoped.{AreScopes, scope_at}
+use Rattle.kr_scopes.specs.Noting as noting
+use Rattle.kr_names.specs.Shown.{AreHeads, file_at}
+use Rattle.kr_members.specs.Shown.{table_in}
+use Rattle.kr_members.specs.Kept.{AreMembers}
+use Rattle.kr_type_numbers.specs.Types.{TypeList}
+use Rattle.kr_type_numbers.specs.Numbers.{AreNodeTypes}
+use Rattle.kr_constants.specs.Kept.{AreValues}
+use Rattle.kr_type_rules.specs.declared.notes.Note.{Note}
+use Rattle.kr_type_rules.specs.Shown.{IsNoteWithin, note_shown}
+use Rattle.kr_expressions.specs.Constructors.{AreSingle}
+use Rattle.kr_expressions.specs.Links.{IsLinked}
+use Rattle.kr_expressions.specs.Notes.{AreNotesWithin, IsRestBelow, shown_notes, typed_in}
+use Rattle.kr_types.specs.Programs.{setting_in}
+use Rattle.kr_types.specs.declared.site.Site.{Site}
+
+-- the tree of the file
+abbrev pub tree_there : Site → Arena
+tree_there s = file_at s.trees.now s.file
+
+-- of the file, with the class table of its program, and the scopes of its nodes
+pub record IsSite (s : Site) (l : TypeList) : Type 0 where
+  pub heads : AreHeads s.trees.now s.heads.now
+  pub members : AreMembers s.trees.now s.members.now
+  pub numbers : AreNodeTypes s.trees.now l s.numbers.now
+  pub values : AreValues (values_of (table_in s.trees.now)) s.values.now
+  pub single : AreSingle (table_in s.trees.now)
+  pub file : s.file < length s.trees.now
+  pub scopes : AreScopes (tree_there s) s.scopes.now.bindings.items s.scopes.now.within.items
+
+-- a scope that is kept, in the file
+abbrev pub scope_here : Site → Within → Scope
+scope_here s w = scope_in (setting_in s.trees.now s.file) s.scopes.now.bindings.items w
+
+-- the scope of a node of the file
+abbrev pub scope_of : Site → ℕ → Scope
+scope_of s i = scope_at (setting_in s.trees.now s.file) s.scopes.now.bindings.items s.scopes.now.within.items i
+
+-- what follows for a node in a scope from the notes of the nodes before it
+abbrev pub noted_there : Site → TypeList → List Note → Scope → Place → Node → noting.Note
+noted_there s l ns here p n = noting.noted here (tree_of (tree_there s).text (tree_in (tree_there s)) p n) (noting.part_note (shown_notes l ns) n)
+
+-- the note of the node i, which stands in a scope
+pub record IsNoteOf (s : Site) (l : TypeList) (ns : List Note) (i : ℕ) (here : Scope) (p : Place) (n : Node) (made : Note) : Type 0 where
+  pub within : IsNoteWithin l made
+  pub below : IsRestBelow i made.known
+  pub linked : IsLinked (typed_in l ns) made.known
+  pub shown : note_shown l (typed_in l ns) made ≡ noted_there s l ns here p n
+
+-- the notes of the first nodes of the file: each follows from those of its parts
+pub record AreNoted (s : Site) (l : TypeList) (ns : List Note) : Type 0 where
+  pub within : AreNotesWithin l ns
+  pub noted : (i : ℕ) (e : Entry) → i < length ns → slice_get (tree_there s).entries i ≡ Some e → noting.note_at (shown_notes l ns) i ≡ noting.noted (scope_of s i) (tree_in (tree_there s) i) (noting.part_note (shown_notes l ns) e.node)

@@ -1,0 +1,155 @@
+// The typing rules over all files.
+ghost use Rattle.std.specs.Prelude.{◌≡◌, ◌<◌, ◌^◌, length, Some, IfOk, IfErr, slice_get};
+ghost use Rattle.kr_ast.specs.Arena.{root};
+ghost use Rattle.kr_table.specs.Constants.{values_of};
+ghost use Rattle.kr_table.specs.Rules.{least};
+ghost use Rattle.kr_names.specs.Shown.{AreHeads, file_at};
+ghost use Rattle.kr_members.specs.Shown.{table_in};
+ghost use Rattle.kr_members.specs.Kept.{AreMembers};
+ghost use Rattle.kr_type_numbers.specs.Types.{Extends};
+ghost use Rattle.kr_type_numbers.specs.Numbers.{AreNodeTypes};
+ghost use Rattle.kr_constants.specs.Kept.{AreValues};
+ghost use Rattle.kr_type_rules.specs.Shown.{least_shown};
+ghost use Rattle.kr_classes.specs.ClassTables.{IsClassTable};
+ghost use Rattle.kr_expressions.specs.Constructors.{AreSingle};
+ghost use Rattle.kr_types.specs.Programs.{AreTypedFiles, IsProgram, IsTypedFile, all_entries};
+ghost use Rattle.kr_types.specs.Refusals.{IsRefusal, faults_in, root_faults};
+
+use crate::notes::notes_of;
+use crate::site::Site;
+use crate::{Program, TypeRefusal, TypedFile};
+use kr_ast::Tree;
+use kr_base::NoMemory;
+use kr_classes::ClassTable;
+use kr_constants::Values;
+use kr_members::Members;
+use kr_names::{Heads, tree_of};
+use kr_scopes::Scopes;
+use kr_type_numbers::{NodeTypes, Types};
+use kr_type_rules::{Fault, earlier};
+use std::alloc::Global;
+
+/// What is known of the nodes of a file.
+fn typed_file(
+    alloc: Global,
+    trees: &[Tree],
+    heads: &Heads,
+    members: &Members,
+    types: &mut Types,
+    numbers: &NodeTypes,
+    values: &Values,
+    file: u32,
+) -> Result<TypedFile, NoMemory>
+    requires heads { AreHeads trees.now heads.now }
+    requires members { AreMembers trees.now members.now }
+    requires numbers { AreNodeTypes trees.now types.old numbers.now }
+    requires values { AreValues (values_of (table_in trees.now)) values.now }
+    requires single { AreSingle (table_in trees.now) }
+    requires file { file < length trees.now }
+    ensures extends { Extends types.old types.new }
+    ensures typed { IfOk result (λ typed. IsTypedFile trees.now types.new file typed) }
+{
+    let scopes = Scopes::of(alloc, tree_of(trees, file))?;
+    let site = Site {
+        trees,
+        heads,
+        members,
+        numbers,
+        values,
+        scopes: &scopes,
+        file,
+    };
+    let notes = notes_of(alloc, &site, types)?;
+    Ok(TypedFile { scopes, notes })
+}
+
+/// What is known of the nodes of all files.
+fn typed_files(
+    alloc: Global,
+    trees: &[Tree],
+    heads: &Heads,
+    members: &Members,
+    types: &mut Types,
+    numbers: &NodeTypes,
+    values: &Values,
+) -> Result<Vec<TypedFile>, NoMemory>
+    requires few { length trees.now < 65 }
+    requires heads { AreHeads trees.now heads.now }
+    requires members { AreMembers trees.now members.now }
+    requires numbers { AreNodeTypes trees.now types.old numbers.now }
+    requires values { AreValues (values_of (table_in trees.now)) values.now }
+    requires single { AreSingle (table_in trees.now) }
+    ensures extends { Extends types.old types.new }
+    ensures typed { IfOk result (λ files. AreTypedFiles trees.now types.new (length trees.now) files.items) }
+{
+    let mut files = Vec::new(alloc);
+    let count = trees.len() as u32;
+    for file in 0..count {
+        let typed = typed_file(alloc, trees, heads, members, types, numbers, values, file)?;
+        files.push(typed)?;
+    }
+    Ok(files)
+}
+
+/// The first broken node of a file.
+fn fault_of(trees: &[Tree], types: &Types, file: u32, typed: &TypedFile) -> Option<Fault>
+    requires file { file < length trees.now }
+    requires typed { IsTypedFile trees.now types.now file typed.now }
+    ensures { least_shown result ≡ least (root_faults trees.now file) }
+{
+    let nodes = tree_of(trees, file).nodes();
+    typed.notes[nodes as usize - 1].least
+}
+
+/// The first broken node of all files.
+fn first_fault(trees: &[Tree], types: &Types, files: &[TypedFile]) -> Option<Fault>
+    requires few { length trees.now < 65 }
+    requires typed { AreTypedFiles trees.now types.now (length trees.now) files.now }
+    ensures { least_shown result ≡ least (faults_in trees.now (length trees.now)) }
+{
+    let mut first = None;
+    for file in 0..trees.len() {
+        let fault = fault_of(trees, types, file as u32, &files[file]);
+        first = earlier(first, fault);
+    }
+    first
+}
+
+/// The program of these files, with what is known of their nodes; or the first node in file and source order that breaks a
+/// typing rule, with the least rule that it breaks.
+pub fn check(alloc: Global, trees: Vec<Tree>, table: ClassTable) -> Result<Program, TypeRefusal>
+    requires few { length trees.items < 65 }
+    requires small { length (all_entries trees.items) < 2 ^ 32 }
+    requires table { IsClassTable trees.items table }
+    ensures typed { IfOk result (λ program. IsProgram program) }
+    ensures files { IfOk result (λ program. program.trees.items ≡ trees.items) }
+    ensures refused { IfErr result (λ refusal. IsRefusal trees.items refusal) }
+{
+    let ClassTable {
+        heads,
+        members,
+        mut types,
+        numbers,
+        values,
+    } = table;
+    let files = typed_files(
+        alloc, &trees, &heads, &members, &mut types, &numbers, &values,
+    )?;
+    match first_fault(&trees, &types, &files) {
+        Some(fault) => Err(TypeRefusal::Broken {
+            place: fault.place,
+            rule: fault.rule,
+        }),
+        None => Ok(Program {
+            trees,
+            table: ClassTable {
+                heads,
+                members,
+                types,
+                numbers,
+                values,
+            },
+            files,
+        }),
+    }
+}

@@ -1,0 +1,46 @@
+// Notes of nodes whose types may be new: `this` and creations of arrays.
+ghost use Rattle.std.specs.Prelude.{length, IfOk};
+ghost use Rattle.kr_ast.specs.Arena.{parts};
+ghost use Rattle.kr_constants.specs.Frames.{AreBelow};
+ghost use Rattle.kr_type_numbers.specs.Types.{Extends};
+ghost use Rattle.kr_expressions.specs.Notes.{AreNotesWithin};
+ghost use Rattle.kr_types.specs.Sites.{IsNoteOf, IsSite, scope_here};
+ghost use Rattle.kr_types.specs.Kinds.{IsGrowing};
+
+use crate::site::{Site, part_note};
+use kr_ast::Node;
+use kr_base::{NoMemory, Place};
+use kr_expressions::{array_creation_note, this_note};
+use kr_scopes::Within;
+use kr_type_numbers::Types;
+use kr_type_rules::{Note, plain};
+
+/// The note of `this` or of the creation of an array.
+pub(crate) fn growing_note(
+    site: &Site<'_>,
+    types: &mut Types,
+    notes: &[Note],
+    here: Within,
+    place: Place,
+    node: Node,
+) -> Result<Note, NoMemory>
+    requires site { IsSite site.now types.old }
+    requires notes { AreNotesWithin types.old notes.now }
+    requires parts { AreBelow (length notes.now) (parts node) }
+    requires kind { IsGrowing node }
+    ensures extends { Extends types.old types.new }
+    ensures note { IfOk result (λ note. IsNoteOf site.now types.new notes.now (length notes.now) (scope_here site.now here) place node note) }
+{
+    match node {
+        Node::This => {
+            let class = site.class(here);
+            this_note(types, here, place, class)
+        }
+        Node::ArrayCreation { element, length } => {
+            let x = part_note(types, notes, element);
+            let y = part_note(types, notes, length);
+            array_creation_note(types, here, place, x, y)
+        }
+        _ => Ok(plain(None)),
+    }
+}

@@ -1,0 +1,34 @@
+// Notes of lists.
+ghost use Rattle.std.specs.Prelude.{length};
+ghost use Rattle.kr_base.specs.declared.place.Place.{Place};
+ghost use Rattle.kr_ast.specs.Arena.{parts};
+ghost use Rattle.kr_typing.specs.Scopes.{Scope};
+ghost use Rattle.kr_constants.specs.Frames.{AreBelow};
+ghost use Rattle.kr_expressions.specs.Notes.{AreNotesWithin};
+ghost use Rattle.kr_types.specs.declared.site.Site.{Site as SiteSeen};
+ghost use Rattle.kr_types.specs.Sites.{IsNoteOf};
+ghost use Rattle.kr_types.specs.Kinds.{IsList};
+
+use crate::site::part_note;
+use kr_ast::Node;
+use kr_expressions::{absent_note, list_note};
+use kr_type_numbers::Types;
+use kr_type_rules::{Note, plain};
+
+/// The note of a list, or of what is absent, wherever it stands.
+pub(crate) fn link_note(types: &Types, notes: &[Note], node: Node) -> Note
+    requires notes { AreNotesWithin types.now notes.now }
+    requires parts { AreBelow (length notes.now) (parts node) }
+    requires kind { IsList node }
+    ensures { (s : SiteSeen) (here : Scope) (p : Place) → IsNoteOf s types.now notes.now (length notes.now) here p node result }
+{
+    match node {
+        Node::Nil => absent_note(),
+        Node::Cons { first, rest } => {
+            let x = part_note(types, notes, first);
+            let y = part_note(types, notes, rest);
+            list_note(x, rest, y)
+        }
+        _ => plain(None),
+    }
+}

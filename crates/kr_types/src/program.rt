@@ -1,0 +1,71 @@
+// A program that breaks no rule, and what is known of its nodes.
+ghost use Rattle.std.specs.Prelude.{◌≡◌, ◌<◌, length, Some, slice_get, IfSome, option_map};
+ghost use Rattle.kr_ast.specs.Arena.{tree_in};
+ghost use Rattle.kr_ast.specs.declared.node.Entry.{Entry as NodeEntry};
+ghost use Rattle.kr_typing.specs.Typing.{judged, type_in};
+ghost use Rattle.kr_names.specs.Shown.{file_at};
+ghost use Rattle.kr_type_numbers.specs.Types.{count, type_at};
+ghost use Rattle.kr_types.specs.Programs.{IsProgram, all_entries, scope_there};
+ghost use Rattle.kr_types.specs.declared.program.TypedFile.{TypedFile as Typed};
+
+use kr_ast::Tree;
+use kr_base::Place;
+use kr_classes::ClassTable;
+use kr_expressions::part_type;
+use kr_scopes::Scopes;
+use kr_type_rules::Note;
+
+/// What is known of the nodes of a file: the scope of each, and its type.
+#[derive(Drop)]
+pub struct TypedFile {
+    pub scopes: Scopes,
+    pub notes: Vec<Note>,
+}
+
+/// The files of a program, their class table with all types by number, and what is known of the nodes of each file.
+#[derive(Drop)]
+pub struct Program {
+    pub trees: Vec<Tree>,
+    pub table: ClassTable,
+    pub files: Vec<TypedFile>,
+}
+
+impl Program {
+    /// How many nodes the files have together. Those of the first file come first.
+    pub fn nodes(&self) -> u32
+        requires { IsProgram self.now }
+        ensures { result ≡ length (all_entries self.now.trees.items) }
+    {
+        let mut count = 0;
+        for tree in self.trees.iter() {
+            count += tree.nodes();
+        }
+        count
+    }
+
+    /// The place of a node, by its number among those of all files: its first token, of a declaration its name.
+    pub fn place_of(&self, node: u32) -> Place
+        requires { node < length (all_entries self.now.trees.items) }
+        ensures { (e : NodeEntry) → slice_get (all_entries self.now.trees.items) node ≡ Some e → result ≡ e.place }
+    {
+        let mut file = 0;
+        let mut rest = node;
+        while rest >= self.trees[file].nodes() {
+            rest -= self.trees[file].nodes();
+            file += 1;
+        }
+        self.trees[file].entry(rest).place
+    }
+
+    /// The type of an expression, by its number among the table's types.
+    pub fn type_of(&self, file: u32, node: u32) -> Option<u32>
+        requires program { IsProgram self.now }
+        requires file { file < length self.now.trees.items }
+        requires node { node < length (file_at self.now.trees.items file).entries }
+        ensures within { IfSome result (λ t. t < count self.now.table.types) }
+        ensures shown { (t : Typed) → slice_get self.now.files.items file ≡ Some t → option_map (type_at self.now.table.types) result ≡ type_in (judged (scope_there self.now.trees.items file t node) (tree_in (file_at self.now.trees.items file) node)).typed }
+    {
+        let notes = &self.files[file as usize].notes;
+        part_type(notes[node as usize].known)
+    }
+}

@@ -1,0 +1,20 @@
+// Why a program is refused.
+ghost use Rattle.std.specs.Prelude.{◌≡◌};
+ghost use Rattle.kr_types.specs.declared.refusal.TypeRefusal.TheVariants.{NoMemory as Lacking};
+
+use kr_base::{NoMemory, Place};
+
+/// The program was refused: a node breaks a typing rule, by its number (T1 to T40), or memory was refused.
+#[derive(Clone, Copy, Debug, PartialEq, Eq)]
+pub enum TypeRefusal {
+    Broken { place: Place, rule: u32 },
+    NoMemory,
+}
+
+impl From<NoMemory> for TypeRefusal {
+    ghost from_gives = { λ _ refusal. refusal ≡ Lacking };
+
+    fn from(_: NoMemory) -> TypeRefusal {
+        TypeRefusal::NoMemory
+    }
+}

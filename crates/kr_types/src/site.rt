@@ -1,0 +1,107 @@
+// What the notes of a file's nodes are made from.
+ghost use Rattle.std.specs.Prelude.{◌≡◌, ◌<◌, length, slice_index_or};
+ghost use Rattle.kr_ast.specs.Arena.{tree_in};
+ghost use Rattle.kr_typing.specs.Scopes.{class_before};
+ghost use Rattle.kr_scopes.specs.Settings.{class_there};
+ghost use Rattle.kr_scopes.specs.Scoped.{AreScopes, nowhere};
+ghost use Rattle.kr_scopes.specs.Noting.{note_at};
+ghost use Rattle.kr_names.specs.Shown.{AreHeads};
+ghost use Rattle.kr_members.specs.Kept.{AreMembers};
+ghost use Rattle.kr_type_rules.specs.Shown.{IsNoteWithin, note_shown};
+ghost use Rattle.kr_expressions.specs.Links.{IsLinked};
+ghost use Rattle.kr_expressions.specs.Notes.{AreNotesWithin, IsRestBelow, shown_notes, typed_in};
+ghost use Rattle.kr_types.specs.Programs.{setting_in};
+ghost use Rattle.kr_types.specs.Sites.{scope_here, tree_there};
+
+use kr_ast::Tree;
+use kr_constants::Values;
+use kr_expressions::{class_before, class_of};
+use kr_members::Members;
+use kr_names::{Heads, tree_of};
+use kr_scopes::{Scopes, Within};
+use kr_type_numbers::{NodeTypes, Types};
+use kr_type_rules::Note;
+
+/// A file of a program: the class table but for its types, which grow, and the scopes of the file's nodes.
+#[derive(Clone, Copy)]
+pub(crate) struct Site<'a> {
+    pub(crate) trees: &'a [Tree],
+    pub(crate) heads: &'a Heads,
+    pub(crate) members: &'a Members,
+    pub(crate) numbers: &'a NodeTypes,
+    pub(crate) values: &'a Values,
+    pub(crate) scopes: &'a Scopes,
+    pub(crate) file: u32,
+}
+
+impl<'a> Site<'a> {
+    /// The tree of the file.
+    pub(crate) fn tree(&self) -> &'a Tree
+        requires { self.now.file < length self.now.trees.now }
+        ensures { result.now ≡ tree_there self.now }
+    {
+        tree_of(self.trees, self.file)
+    }
+
+    /// The scope of a node.
+    pub(crate) fn here(&self, at: u32) -> Within
+        requires scopes { AreScopes (tree_there self.now) self.now.scopes.now.bindings.items self.now.scopes.now.within.items }
+        requires at { at < length (tree_there self.now).entries }
+        ensures { result ≡ slice_index_or self.now.scopes.now.within.items at nowhere }
+    {
+        self.scopes.at(at)
+    }
+
+    /// The class whose code a scope is in; the first one outside of classes.
+    pub(crate) fn class(&self, here: Within) -> u32
+        requires heads { AreHeads self.now.trees.now self.now.heads.now }
+        requires file { self.now.file < length self.now.trees.now }
+        ensures { class_there (setting_in self.now.trees.now self.now.file) here.class ≡ result }
+    {
+        match here.class {
+            None => 0,
+            Some(node) => {
+                if node < self.tree().nodes() {
+                    class_of(self.trees, self.heads, self.file, Some(node))
+                } else {
+                    0
+                }
+            }
+        }
+    }
+
+    /// The class that an expression before a dot means, where a node stands.
+    pub(crate) fn class_before(&self, here: Within, at: u32, object: u32) -> Option<u32>
+        requires heads { AreHeads self.now.trees.now self.now.heads.now }
+        requires members { AreMembers self.now.trees.now self.now.members.now }
+        requires file { self.now.file < length self.now.trees.now }
+        requires at { at < length (tree_there self.now).entries }
+        requires object { object < length (tree_there self.now).entries }
+        requires scopes { AreScopes (tree_there self.now) self.now.scopes.now.bindings.items self.now.scopes.now.within.items }
+        requires here { here ≡ slice_index_or self.now.scopes.now.within.items at nowhere }
+        ensures { result ≡ class_before (scope_here self.now here) (tree_in (tree_there self.now) object) }
+    {
+        class_before(
+            self.trees,
+            self.heads,
+            self.members,
+            self.scopes,
+            self.file,
+            at,
+            self.class(here),
+            object,
+        )
+    }
+}
+
+/// What is kept of a part.
+pub(crate) fn part_note(types: &Types, notes: &[Note], part: u32) -> Note
+    requires notes { AreNotesWithin types.now notes.now }
+    requires part { part < length notes.now }
+    ensures within { IsNoteWithin types.now result }
+    ensures below { IsRestBelow (length notes.now) result.known }
+    ensures linked { IsLinked (typed_in types.now notes.now) result.known }
+    ensures shown { note_shown types.now (typed_in types.now notes.now) result ≡ note_at (shown_notes types.now notes.now) part }
+{
+    notes[part as usize]
+}
