@@ -13,11 +13,15 @@ use kr_types::check;
 /// Whether a node is a call on the next node of what is no collection's method.
 fn is_call(node: Option<&Node>, object: u32) -> bool {
     match node {
-        Some(Node::Expression(Expression::CallCollection {
-            object: on,
-            call: CollectionCall::Unknown,
-            arguments,
-        })) => *on == object && arguments.count == 0,
+        Some(
+            Node::Expression(
+                Expression::CallCollection {
+                    object: on,
+                    call: CollectionCall::Unknown,
+                    arguments,
+                },
+            ),
+        ) => *on == object && arguments.count == 0,
         _ => false,
     }
 }
@@ -33,8 +37,7 @@ fn the_call_stands_behind_the_nodes_of_the_files(rt: HostRuntime) -> Result<(), 
             Ok(program) => {
                 let none = Listed::new(alloc);
                 let domains = Listed::new(alloc);
-                let layout =
-                    Layout::new(alloc, 0, Mode::List, 100, none, domains, &[])?;
+                let layout = Layout::new(alloc, 0, Mode::List, 100, none, domains, &[])?;
                 let arrays = Vec::new(alloc);
                 let problem = Problem {
                     program,
