@@ -14,11 +14,12 @@ pub enum End {
     Stuck,
 }
 
-/// Why a machine doesn't go on.
+/// Why a machine doesn't go on: the run has ended, memory ran out, or a candidate would have been written that must not be.
 #[derive(Clone, Copy, Debug)]
 pub enum Halt {
     Ended(End),
     Memory,
+    Written,
 }
 
 /// A local's value, and of which parameter a candidate gives it, where it does.
@@ -35,15 +36,17 @@ pub struct Old {
     pub value: Value,
 }
 
-/// The state of a run, and what was read.
+/// The state of a run, and what was read. The heap's objects are the candidates, and behind them those that the run has made;
+/// frozen candidates aren't written.
 #[derive(Debug, Drop)]
 pub struct World {
     pub this: Value,
     pub locals: Vec<Local>,
     pub result: Option<Value>,
     pub olds: Vec<Old>,
-    pub heap: Heap,
-    pub candidates: u32,
+    pub candidates: Heap,
+    pub made: Heap,
+    pub is_frozen: bool,
     pub fuel: u64,
     pub reads: Reads,
 }
