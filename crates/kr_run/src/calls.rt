@@ -10,7 +10,7 @@ ghost use Rattle.kr_world.specs.declared.world.Halt.TheVariants.{Memory};
 ghost use Rattle.kr_frames.specs.Frames.{out_value, applied};
 ghost use Rattle.kr_frames.specs.Leads.{Leads};
 ghost use Rattle.kr_world.specs.Shown.{local_of};
-ghost use Rattle.kr_world.specs.Worlds.{state_of};
+ghost use Rattle.kr_world.specs.Worlds.{state_at};
 
 use crate::create::create;
 use kr_base::NoMemory;
@@ -73,7 +73,7 @@ fn run_method(
     method: Option<MethodCode>,
     arguments: &Vec<Value>,
 ) -> Result<Task, Halt>
-    ensures { Leads code.now result stack.new world.new world.old.reads (λ d. out_value code.now d stack.old (run_step code.now d receiver arguments.now.items method (state_of world.old))) }
+    ensures { Leads code.now result stack.new world.new world.old (λ d x. out_value code.now d stack.old (run_step code.now d receiver arguments.now.items method (state_at world.old x))) }
 {
     let Some(found) = method else {
         return Ok(Task::Act(Action::End(End::Stuck)));
@@ -99,7 +99,7 @@ fn run_numbered(
     method: Option<u32>,
     arguments: &Vec<Value>,
 ) -> Result<Task, Halt>
-    ensures { Leads code.now result stack.new world.new world.old.reads (λ d. out_value code.now d stack.old (numbered_step code.now d receiver arguments.now.items method (state_of world.old))) }
+    ensures { Leads code.now result stack.new world.new world.old (λ d x. out_value code.now d stack.old (numbered_step code.now d receiver arguments.now.items method (state_at world.old x))) }
 {
     match method {
         None => Ok(Task::Act(Action::End(End::Stuck))),
@@ -121,7 +121,7 @@ fn run_on(
     object: Value,
     arguments: &Vec<Value>,
 ) -> Result<Task, Halt>
-    ensures { Leads code.now result stack.new world.new world.old.reads (λ d. out_value code.now d stack.old (on_step code.now d method object arguments.now.items (state_of world.old))) }
+    ensures { Leads code.now result stack.new world.new world.old (λ d x. out_value code.now d stack.old (on_step code.now d method object arguments.now.items (state_at world.old x))) }
 {
     match object {
         Value::Ref(number) => {
@@ -144,7 +144,7 @@ fn run_static(
     object: Value,
     arguments: &Vec<Value>,
 ) -> Result<Task, Halt>
-    ensures { Leads code.now result stack.new world.new world.old.reads (λ d. out_value code.now d stack.old (bind (class_of object) (λ c. run_step code.now d Null arguments.now.items (method_at code.now method)) (state_of world.old))) }
+    ensures { Leads code.now result stack.new world.new world.old (λ d x. out_value code.now d stack.old (bind (class_of object) (λ c. run_step code.now d Null arguments.now.items (method_at code.now method)) (state_at world.old x))) }
 {
     match object {
         Value::Ref(_) => {
@@ -165,7 +165,7 @@ fn new_collection(
     class: Class,
     arguments: &Vec<Value>,
 ) -> Result<Task, Halt>
-    ensures { Leads code.now result stack.now world.now world.now.reads (λ d. out_value code.now d stack.now (collection_step class arguments.now.items (state_of world.now))) }
+    ensures { Leads code.now result stack.now world.now world.now (λ d x. out_value code.now d stack.now (collection_step class arguments.now.items (state_at world.now x))) }
 {
     match arguments.as_slice().split_first() {
         None => Ok(Task::Act(Action::NewCollection(class))),
@@ -182,7 +182,7 @@ fn collect_on(
     object: Value,
     arguments: &Vec<Value>,
 ) -> Result<Task, Halt>
-    ensures { Leads code.now result stack.now world.new world.old.reads (λ d. out_value code.now d stack.now (collect_step (name_of call) object arguments.now.items (state_of world.old))) }
+    ensures { Leads code.now result stack.now world.new world.old (λ d x. out_value code.now d stack.now (collect_step (name_of call) object arguments.now.items (state_at world.old x))) }
 {
     match collect(world, call, object, arguments) {
         Ok(given) => Ok(Task::Got(given)),
@@ -200,7 +200,7 @@ pub fn apply(
     goal: Goal,
     arguments: Vec<Value>,
 ) -> Result<Task, Halt>
-    ensures { Leads code.now result stack.new world.new world.old.reads (λ d. out_value code.now d stack.old (applied code.now d goal arguments.items (state_of world.old))) }
+    ensures { Leads code.now result stack.new world.new world.old (λ d x. out_value code.now d stack.old (applied code.now d goal arguments.items (state_at world.old x))) }
 {
     match goal {
         Goal::Stop => return Ok(Task::Act(Action::End(End::Stuck))),
