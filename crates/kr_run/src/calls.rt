@@ -1,7 +1,7 @@
 // Calls: a method's body comes next, on its arguments.
 ghost use Rattle.std.specs.Prelude.{◌≡◌, ◌∷◌, map, IfOk, OnOk, IfErr};
 ghost use Rattle.kr_value.specs.declared.value.Value.TheVariants.{Null};
-ghost use Rattle.kr_mean.specs.Steps.{bind, class_of, plain_local, collect as collect_step};
+ghost use Rattle.kr_mean.specs.Steps.{bind, class_of as class_step, plain_local, collect as collect_step};
 ghost use Rattle.kr_code.specs.Collections.{name_of, new_collection as collection_step};
 ghost use Rattle.kr_code.specs.Tables.{method_at};
 ghost use Rattle.kr_code.specs.Doing.{run_method as run_step, run_numbered as numbered_step, run_on as on_step};
@@ -19,7 +19,7 @@ use kr_frames::{Frame, Goal, Stack, Task};
 use kr_mean::Kind;
 use kr_moves::push;
 use kr_value::{Class, Value};
-use kr_world::{Action, End, Halt, Local, World, collect};
+use kr_world::{Action, End, Halt, Local, World, class_of, collect};
 use std::alloc::Global;
 use std::mem;
 
@@ -52,8 +52,7 @@ fn enter_body(
     locals: Vec<Local>,
 ) -> Result<(), Halt>
     ensures pushed { OnOk result (stack.new ≡ frames.Leave is_void world.old.this world.old.locals ∷ stack.old) }
-    ensures state { OnOk result (state_of world.new ≡ record (state_of world.old) { this_value = receiver; locals = map local_of locals.items }) }
-    ensures reads { OnOk result (world.new.reads ≡ world.old.reads) }
+    ensures world { OnOk result (world.new ≡ record world.old { this = receiver; locals = locals }) }
     ensures memory { IfErr result (λ halt. halt ≡ Memory) }
 {
     let this = world.this;
@@ -125,7 +124,7 @@ fn run_on(
 {
     match object {
         Value::Ref(number) => {
-            let found = code.method_in(method, world.heap.class_of(number));
+            let found = code.method_in(method, class_of(world, number));
             run_numbered(alloc, code, world, stack, object, found, arguments)
         }
         Value::Null => Ok(Task::Act(Action::End(End::Trapped(Kind::NullPointerException)))),
@@ -144,7 +143,7 @@ fn run_static(
     object: Value,
     arguments: &Vec<Value>,
 ) -> Result<Task, Halt>
-    ensures { Leads code.now result stack.new world.new world.old (λ d x. out_value code.now d stack.old (bind (class_of object) (λ c. run_step code.now d Null arguments.now.items (method_at code.now method)) (state_at world.old x))) }
+    ensures { Leads code.now result stack.new world.new world.old (λ d x. out_value code.now d stack.old (bind (class_step object) (λ c. run_step code.now d Null arguments.now.items (method_at code.now method)) (state_at world.old x))) }
 {
     match object {
         Value::Ref(_) => {

@@ -52,19 +52,6 @@ pub fn stop_unit(code: &Code, world: &World, stack: &mut Stack) -> Result<Task, 
     Ok(Task::Act(Action::End(End::Stuck)))
 }
 
-/// Something is done with an object as `this` and without locals, and then they are as before.
-fn enter(world: &mut World, stack: &mut Stack, alloc: Global, object: Value) -> Result<(), Halt>
-    ensures pushed { OnOk result (stack.new ≡ frames.Back world.old.this world.old.locals ∷ stack.old) }
-    ensures state { OnOk result (state_of world.new ≡ record (state_of world.old) { this_value = object; locals = [] }) }
-    ensures reads { OnOk result (world.new.reads ≡ world.old.reads) }
-    ensures memory { IfErr result (λ halt. halt ≡ Memory) }
-{
-    let this = world.this;
-    let before = mem::replace(&mut world.locals, Vec::new(alloc));
-    world.this = object;
-    push(stack, Frame::Back(this, before))
-}
-
 /// Something is done with an object as `this` and with arguments, and then they are as before.
 fn enter_with(
     world: &mut World,
@@ -73,8 +60,7 @@ fn enter_with(
     locals: Vec<Local>,
 ) -> Result<(), Halt>
     ensures pushed { OnOk result (stack.new ≡ frames.Back world.old.this world.old.locals ∷ stack.old) }
-    ensures state { OnOk result (state_of world.new ≡ record (state_of world.old) { this_value = object; locals = map local_of locals.items }) }
-    ensures reads { OnOk result (world.new.reads ≡ world.old.reads) }
+    ensures world { OnOk result (world.new ≡ record world.old { this = object; locals = locals }) }
     ensures memory { IfErr result (λ halt. halt ≡ Memory) }
 {
     let this = world.this;
@@ -259,7 +245,7 @@ pub fn take_unit(
     match frame {
         UnitFrame::Behind(object, initialisers, body) => {
             unit(stack, UnitFrame::Body(body))?;
-            enter(world, stack, alloc, object)?;
+            enter_with(world, stack, object, Vec::new(alloc))?;
             Ok(Task::Initialise(initialisers, object))
         }
         UnitFrame::Body(body) => {

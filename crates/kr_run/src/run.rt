@@ -433,7 +433,7 @@ fn step(
 /// Runs a node as an expression: what it gives, or how the run ends. The world is left as the run leaves it, and every
 /// first read is noted.
 pub fn evaluate(alloc: Global, code: &Code, world: &mut World, node: u32) -> Result<Value, Halt>
-    ensures { Answers code.now result world.new world.old.reads (λ d. d.value node (state_of world.old)) }
+    ensures { Answers code.now result world.new world.old (λ d x. d.value node (state_at world.old x)) }
 {
     let mut stack = Stack::new(alloc);
     let mut task = Task::Evaluate(node);
@@ -441,6 +441,7 @@ pub fn evaluate(alloc: Global, code: &Code, world: &mut World, node: u32) -> Res
         match step(alloc, code, world, &mut stack, task) {
             Err(Halt::Ended(end)) => return Err(Halt::Ended(end)),
             Err(Halt::Memory) => return Err(Halt::Memory),
+            Err(Halt::Written) => return Err(Halt::Written),
             Ok(Step::Finished(given)) => return Ok(given),
             Ok(Step::More(next)) => task = next,
         }
