@@ -105,12 +105,28 @@ long_of : Option Value → ℕ
 long_of (Some (Int (pos n))) = n
 long_of v = 0
 
-array_found : (r : HeapObject) → IsArray r.class → found r Length ≡ Some (Int (pos (length r.values)))
-array_found r a = ap (λ (b : Bool). if b then Some (Int (pos (length r.values))) else None) (array_long r a)
-
-same_found : (r t : HeapObject) → IsArray r.class → IsArray t.class → found r Length ≡ found t Length → length r.values ≡ length t.values
+same_long : (r t : HeapObject) → value_of_spot r Length ≡ value_of_spot t Length → length r.values ≡ length t.values
 unfolding long_of
-same_found r t a b e = ap long_of (sym (array_found r a) ∙ (e ∙ array_found t b))
+same_long r t e = ap long_of (ap (λ (v : Value). Some v) e)
+
+pub found_has : (r : HeapObject) (spot : Spot) (v : Value) → found r spot ≡ Some v → has_spot r spot ≡ true
+found_has r spot v e = go (has_spot r spot) e
+  where
+    go : (b : Bool) → (if b then Some (value_of_spot r spot) else None) ≡ Some v → b ≡ true
+    go true h = refl
+    go false h = absurd (cc (h))
+
+found_by : (r : HeapObject) (spot : Spot) → has_spot r spot ≡ true → found r spot ≡ Some (value_of_spot r spot)
+found_by r spot e = ap (λ (b : Bool). if b then Some (value_of_spot r spot) else None) e
+
+element_has : (r : HeapObject) (k : ℕ) → IsArray r.class → has_spot r (Element k) ≡ nat_lt k (length r.values)
+element_has r k h = go r.class h
+  where
+    go : (c : Class) → IsArray c → has_spot (record { class = c; values = r.values }) (Element k) ≡ nat_lt k (length r.values)
+    go (Object c) a = absurd a
+    go (Array t) a = refl
+    go Set a = absurd a
+    go Sequence a = absurd a
 
 pub ok_is : {A E P : Type 0} (r : Result A E) → is_err r ≡ false → OnOk r P → P
 ok_is (Ok a) e p = p
@@ -123,7 +139,7 @@ module _ (frozen : Bool) (own : Heap) where
   allowed_before p seen (Some others) a = record {
     unwritten = a.unwritten;
     long = a.long;
-    each = λ o lt. let s = a.each o lt in record { class = s.class; fields = s.fields; told = λ spot is. s.told spot (read_on p (At o spot) seen is) };
+    each = λ o lt. let s = a.each o lt in record { class = s.class; fields = s.fields; told = λ spot is here there. s.told spot (read_on p (At o spot) seen is) here there };
   }
 
   pub candidates_long : (seen : List SlotPlace) (x : Others) → AreLike frozen seen own x → length (candidates_of own x) ≡ length own
@@ -148,12 +164,14 @@ module _ (frozen : Bool) (own : Heap) where
       go (Some others) b = (b.each o lt).class
 
   -- what was read of a candidate is the same
-  pub told_candidate : (seen : List SlotPlace) (made : Heap) (x : Others) (o : ℕ) (spot : Spot) → AreLike frozen seen own x → o < length own → is_read (At o spot) seen ≡ true → found (object_in (candidates_of own x ++ made) o) spot ≡ found (object_in own o) spot
-  told_candidate seen made x o spot a lt is = ap (λ (r : HeapObject). found r spot) (object_candidate seen made x o a lt) ∙ go x a
+  pub told_candidate : (seen : List SlotPlace) (made : Heap) (x : Others) (o : ℕ) (spot : Spot) → AreLike frozen seen own x → o < length own → is_read (At o spot) seen ≡ true → has_spot (object_in own o) spot ≡ true → has_spot (object_in (candidates_of own x ++ made) o) spot ≡ true → value_of_spot (object_in (candidates_of own x ++ made) o) spot ≡ value_of_spot (object_in own o) spot
+  told_candidate seen made x o spot a lt is here there =
+      let same = object_candidate seen made x o a lt in
+      ap (λ (r : HeapObject). value_of_spot r spot) same ∙ go x a (ap (λ (r : HeapObject). has_spot r spot) (sym same) ∙ there)
     where
-      go : (y : Others) → AreLike frozen seen own y → found (object_in (candidates_of own y) o) spot ≡ found (object_in own o) spot
-      go None b = refl
-      go (Some others) b = (b.each o lt).told spot is
+      go : (y : Others) → AreLike frozen seen own y → has_spot (object_in (candidates_of own y) o) spot ≡ true → value_of_spot (object_in (candidates_of own y) o) spot ≡ value_of_spot (object_in own o) spot
+      go None b h = refl
+      go (Some others) b h = (b.each o lt).told spot is here h
 
   -- whether a candidate has a field, or a length
   pub spot_candidate : (seen : List SlotPlace) (made : Heap) (x : Others) (o : ℕ) (spot : Spot) → AreLike frozen seen own x → o < length own → is_fixed spot ≡ true → has_spot (object_in (candidates_of own x ++ made) o) spot ≡ has_spot (object_in own o) spot
@@ -184,7 +202,9 @@ module _ (frozen : Bool) (own : Heap) where
 
   -- an array whose length was read is as long
   pub long_candidate : (seen : List SlotPlace) (made : Heap) (x : Others) (o : ℕ) → AreLike frozen seen own x → o < length own → is_read (At o Length) seen ≡ true → IsArray (object_in own o).class → length (object_in (candidates_of own x ++ made) o).values ≡ length (object_in own o).values
-  long_candidate seen made x o a lt is array = same_found (object_in (candidates_of own x ++ made) o) (object_in own o) (array_candidate seen made x o a lt array) array (told_candidate seen made x o Length a lt is)
+  long_candidate seen made x o a lt is array =
+      let array' = array_candidate seen made x o a lt array in
+      same_long (object_in (candidates_of own x ++ made) o) (object_in own o) (told_candidate seen made x o Length a lt is (array_long (object_in own o) array) (array_long (object_in (candidates_of own x ++ made) o) array'))
 
   -- ---- other values
 
@@ -215,11 +235,14 @@ module _ (frozen : Bool) (own : Heap) where
 
   -- ---- reading candidates
 
-  pub loads_candidate : (seen new : List SlotPlace) (made : Heap) (x : Others) (o : ℕ) (spot : Spot) (v : Value) (s : State) → s.heap ≡ candidates_of own x ++ made → s.candidates ≡ length own → new ≡ with_read seen (At o spot) → o < length own → found (object_in own o) spot ≡ Some v → AreLike frozen new own x
+  pub loads_candidate : (seen new : List SlotPlace) (made : Heap) (x : Others) (o : ℕ) (spot : Spot) (v : Value) (s : State) → s.heap ≡ candidates_of own x ++ made → s.candidates ≡ length own → new ≡ with_read seen (At o spot) → o < length own → is_fixed spot ≡ true → found (object_in own o) spot ≡ Some v → AreLike frozen new own x
       → AreLike frozen seen own x × (noting seen (load (Reference o) spot s) ≡ record { said = Ok v; after = s; reads = new })
-  loads_candidate seen new made x o spot v s heap count is lt e a =
+  loads_candidate seen new made x o spot v s heap count is lt fixed e a =
       let b : AreLike frozen (with_read seen (At o spot)) own x = subst (λ (ps : List SlotPlace). AreLike frozen ps own x) is a in
-      let there = ap (λ (h : Heap). found (object_in h o) spot) heap ∙ (told_candidate (with_read seen (At o spot)) made x o spot b lt (read_now (At o spot) seen (same_at o spot)) ∙ e) in
+      let here = found_has (object_in own o) spot v e in
+      let has = spot_candidate (with_read seen (At o spot)) made x o spot b lt fixed ∙ here in
+      let value = told_candidate (with_read seen (At o spot)) made x o spot b lt (read_now (At o spot) seen (same_at o spot)) here has ∙ found_value (object_in own o) spot v e in
+      let there = ap (λ (h : Heap). found (object_in h o) spot) heap ∙ (found_by (object_in (candidates_of own x ++ made) o) spot has ∙ ap (λ (u : Value). Some u) value) in
       let below : nat_lt o s.candidates ≡ true = lt-ltb o s.candidates (subst (λ (n : ℕ). o < n) (sym count) lt) in (
         allowed_before (At o spot) seen x b,
         ap (λ (q : Outcome Value). noting seen q) (load_some s o spot v there)
@@ -246,18 +269,22 @@ module _ (frozen : Bool) (own : Heap) where
       → AreLike frozen seen own x × (noting seen (element (Reference o) (Int i) s) ≡ record { said = Ok v; after = s; reads = new })
   reads_candidate seen first new made x o k i v s heap count is on lt array e f a =
       let all : List SlotPlace = with_read (with_read seen (At o Length)) (At o (Element k)) in
-      let same : new ≡ all = on ∙ ap (λ (ps : List SlotPlace). with_read ps (At o (Element k))) is in
-      let b : AreLike frozen all own x = subst (λ (ps : List SlotPlace). AreLike frozen ps own x) same a in
+      let noted_all : new ≡ all = on ∙ ap (λ (ps : List SlotPlace). with_read ps (At o (Element k))) is in
+      let b : AreLike frozen all own x = subst (λ (ps : List SlotPlace). AreLike frozen ps own x) noted_all a in
       let told : is_read (At o Length) all ≡ true = read_on (At o (Element k)) (At o Length) (with_read seen (At o Length)) (read_now (At o Length) seen (same_at o Length)) in
       let long = ap (λ (h : Heap). length (object_in h o).values) heap ∙ long_candidate all made x o b lt told array in
       let array' = subst (λ (h : Heap). IsArray (object_in h o).class) (sym heap) (array_candidate all made x o b lt array) in
-      let there = ap (λ (h : Heap). found (object_in h o) (Element k)) heap ∙ (told_candidate all made x o (Element k) b lt (read_now (At o (Element k)) (with_read seen (At o Length)) (same_at o (Element k))) ∙ f) in
+      let same = long_candidate all made x o b lt told array in
+      let here = found_has (object_in own o) (Element k) v f in
+      let has = element_has (object_in (candidates_of own x ++ made) o) k (array_candidate all made x o b lt array) ∙ (ap (λ (n : ℕ). nat_lt k n) same ∙ (sym (element_has (object_in own o) k array) ∙ here)) in
+      let value = told_candidate all made x o (Element k) b lt (read_now (At o (Element k)) (with_read seen (At o Length)) (same_at o (Element k))) here has ∙ found_value (object_in own o) (Element k) v f in
+      let there = ap (λ (h : Heap). value_of_spot (object_in h o) (Element k)) heap ∙ value in
       let below : nat_lt o s.candidates ≡ true = lt-ltb o s.candidates (subst (λ (n : ℕ). o < n) (sym count) lt) in (
         allowed_before (At o Length) seen x (allowed_before (At o (Element k)) (with_read seen (At o Length)) x b),
         ap (λ (q : Outcome Value). noting seen q) (element_is s o i (Some k) array' (ap (λ (n : ℕ). index_within i n) long ∙ e))
             ∙ (ap (λ (c : Bool). record { said = Ok (value_of_spot (object_in s.heap o) (Element k)); after = s; reads = noted_once seen (noted c (At o Length) ++ noted c (At o (Element k))) }) below
-            ∙ (ap (λ (u : Value). record { said = Ok u; after = s; reads = all }) (found_value (object_in s.heap o) (Element k) v there)
-            ∙ ap (λ (ps : List SlotPlace). record { said = Ok v; after = s; reads = ps }) (sym same))),
+            ∙ (ap (λ (u : Value). record { said = Ok u; after = s; reads = all }) there
+            ∙ ap (λ (ps : List SlotPlace). record { said = Ok v; after = s; reads = ps }) (sym noted_all))),
       )
 
   -- an element of an array that the run has made

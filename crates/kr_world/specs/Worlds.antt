@@ -1,11 +1,10 @@
 -- The state that a world is, also with other candidates, and what it is to do a step of the meaning.
 use Rattle.std.specs.Prelude.{◌≡◌, ℕ, ◌<◌, Bool, true, false, List, ◌++◌, length, map, Option, Some, None, Result, Ok, Err}
-use Rattle.kr_value.specs.Heaps.{Heap, HeapObject, object_in, has_spot}
+use Rattle.kr_value.specs.Heaps.{Heap, HeapObject, object_in, has_spot, value_of_spot}
 use Rattle.kr_value.specs.declared.object.Class.{Class}
 use Rattle.kr_value.specs.declared.object.Class.TheVariants.{Object, Array, Set, List as Sequence}
 use Rattle.kr_value.specs.declared.object.Spot.{Spot}
 use Rattle.kr_value.specs.declared.object.Spot.TheVariants.{Field, Length, Element}
-use Rattle.kr_heap.specs.Objects.{found}
 use Rattle.kr_mean.specs.Places.{SlotPlace, At}
 use Rattle.kr_mean.specs.Steps.{State, Outcome}
 use Rattle.kr_world.specs.declared.world.World.{World}
@@ -30,11 +29,12 @@ is_fixed (Field f) = true
 is_fixed Length = true
 is_fixed (Element i) = false
 
--- A candidate in another's place: of its class, with the same fields, and with the same values where these were read.
+-- A candidate in another's place: of its class, with the same fields, and where a spot that both have was read with the same
+-- value there.
 pub record StandsFor (seen : List SlotPlace) (o : ℕ) (own other : HeapObject) : Type 0 where
   pub class : other.class ≡ own.class
   pub fields : (spot : Spot) → is_fixed spot ≡ true → has_spot other spot ≡ has_spot own spot
-  pub told : (spot : Spot) → is_read (At o spot) seen ≡ true → found other spot ≡ found own spot
+  pub told : (spot : Spot) → is_read (At o spot) seen ≡ true → has_spot own spot ≡ true → has_spot other spot ≡ true → value_of_spot other spot ≡ value_of_spot own spot
 
 -- As many candidates, each in the place of one, where a run writes none.
 pub record StandFor (frozen : Bool) (seen : List SlotPlace) (own others : Heap) : Type 0 where

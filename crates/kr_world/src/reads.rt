@@ -1,5 +1,5 @@
 // The places that a run has read.
-ghost use Rattle.std.specs.Prelude.{◌≡◌, [], map, OnOk, OnErr};
+ghost use Rattle.std.specs.Prelude.{◌≡◌, [], map, take, OnOk, OnErr};
 ghost use Rattle.kr_mean.specs.Runs.{is_same_place, is_same_spot};
 ghost use Rattle.kr_world.specs.Noting.{is_read, with_read};
 ghost use Rattle.kr_world.specs.Shown.{place_of};
@@ -86,6 +86,13 @@ impl Reads {
         }
         self.places.push(place)?;
         Ok(())
+    }
+
+    /// The first places alone.
+    pub fn truncate(&mut self, count: usize)
+        ensures { self.new ≡ take count self.old }
+    {
+        self.places.truncate(count);
     }
 
     pub fn clear(&mut self)
