@@ -19,7 +19,8 @@ use Rattle.kr_world.specs.declared.world.Halt.{Halt}
 use Rattle.kr_world.specs.declared.world.Halt.TheVariants.{Ended, Memory, Written}
 use Rattle.kr_world.specs.Noting.{noting, noted_once, with_read}
 use Rattle.kr_world.specs.Shown.{stop_of}
-use Rattle.kr_world.specs.Worlds.{Others, Allows, Agrees, candidates_of, state_at}
+use Rattle.kr_world.specs.Worlds.{Others, Allows, Keeps, Agrees, candidates_of, state_at}
+use Rattle.kr_world.proofs.Candidates.{kept_same, kept_then}
 use Rattle.kr_frames.specs.declared.frame.Frame.{Frame}
 use Rattle.kr_frames.specs.declared.frame.Frame.TheVariants as frames
 use Rattle.kr_frames.specs.declared.task.Task.{Task}
@@ -230,16 +231,16 @@ pub flow_halts : (code : Code) (h : Halt) (fs gs : List Frame) (w before : World
 flow_halts code h fs gs w before o a = halts code h gs w before (λ d q. out_flow code d fs q) (λ d s heap fuel reads q y. flow_ends code d s heap fuel reads fs q y) o a
 
 -- a step that gives something leads on
-pub value_given : (code : Code) (fs : List Frame) (v : Value) (w before : World) (o : Others → Outcome Value) → Agrees {A = Value} (Ok v) w before o → (x : Others) → Allows w x → Allows before x × ((d : Doing) → noting before.reads (out_value code d fs (o x)) ≡ noting w.reads (out_value code d fs (give v (state_at w x))))
+pub value_given : (code : Code) (fs : List Frame) (v : Value) (w before : World) (o : Others → Outcome Value) → Agrees {A = Value} (Ok v) w before o → (x : Others) → Allows w x → Keeps before w x × ((d : Doing) → noting before.reads (out_value code d fs (o x)) ≡ noting w.reads (out_value code d fs (give v (state_at w x))))
 value_given code fs v w before o a = λ x y. let r = a x y in (r.0, λ d. gave_value code d fs before.reads w.reads (o x) v (state_at w x) r.1)
 
 -- the same by another way, where that is allowed
 pub leads_same : (code : Code) (r : Result Task Halt) (fs : List Frame) (w middle before : World) (o o' : Doing → Others → Outcome Value)
-    → ((x : Others) → Allows middle x → Allows before x × ((d : Doing) → IsMeaning code d → noting before.reads (o d x) ≡ noting middle.reads (o' d x)))
+    → ((x : Others) → Allows middle x → Keeps before middle x × ((d : Doing) → IsMeaning code d → noting before.reads (o d x) ≡ noting middle.reads (o' d x)))
     → Leads code r fs w middle o' → Leads code r fs w before o
-leads_same code (Ok task) fs w middle before o o' e h = λ x a. let y = h x a in let z = e x y.0 in (z.0, λ d m. z.1 d m ∙ y.1 d m)
-leads_same code (Err (Ended end)) fs w middle before o o' e h = λ x a. let y = h x a in let z = e x y.0 in (
-  z.0,
+leads_same code (Ok task) fs w middle before o o' e h = λ x a. let y = h x a in let z = e x y.0.allowed in (kept_then before middle w x z.0 y.0, λ d m. z.1 d m ∙ y.1 d m)
+leads_same code (Err (Ended end)) fs w middle before o o' e h = λ x a. let y = h x a in let z = e x y.0.allowed in (
+  kept_then before middle w x z.0 y.0,
   λ d m. let q = y.1 d m in let is = z.1 d m in record {
     said = ap (λ (p : Outcome Value). p.said) is ∙ q.said;
     heap = ap (λ (p : Outcome Value). p.after.heap) is ∙ q.heap;
@@ -254,4 +255,4 @@ leads_same code (Err Written) fs w middle before o o' e h = tt
 pub leads_alike : (code : Code) (r : Result Task Halt) (fs : List Frame) (w before : World) (o o' : Doing → Others → Outcome Value)
     → ((x : Others) (d : Doing) → IsMeaning code d → o d x ≡ o' d x)
     → Leads code r fs w before o' → Leads code r fs w before o
-leads_alike code r fs w before o o' e h = leads_same code r fs w before before o o' (λ x a. (a, λ d m. ap (λ (q : Outcome Value). noting before.reads q) (e x d m))) h
+leads_alike code r fs w before o o' e h = leads_same code r fs w before before o o' (λ x a. (kept_same before x a, λ d m. ap (λ (q : Outcome Value). noting before.reads q) (e x d m))) h

@@ -10,7 +10,7 @@ use Rattle.kr_world.specs.declared.world.Halt.{Halt}
 use Rattle.kr_world.specs.declared.world.Halt.TheVariants.{Ended, Memory, Written}
 use Rattle.kr_world.specs.Noting.{noting}
 use Rattle.kr_world.specs.Shown.{stop_of}
-use Rattle.kr_world.specs.Worlds.{Others, Allows, candidates_of, state_at}
+use Rattle.kr_world.specs.Worlds.{Others, Allows, Keeps, candidates_of, state_at}
 use Rattle.kr_frames.specs.declared.task.Task.{Task}
 use Rattle.kr_frames.specs.declared.frame.Frame.{Frame}
 use Rattle.kr_frames.specs.Frames.{resumed}
@@ -26,7 +26,7 @@ pub record HasEnded (e : End) (w : World) (x : Others) (o : Outcome Value) : Typ
 -- candidates that what was read until then allows. Where memory ran out, or a candidate would have been written that must not
 -- be, nothing is said.
 abbrev pub Leads : Code → Result Task Halt → List Frame → World → World → (Doing → Others → Outcome Value) → Type 0
-Leads code (Ok task) fs w before o = (x : Others) → Allows w x → Allows before x × ((d : Doing) → IsMeaning code d → noting before.reads (o d x) ≡ noting w.reads (resumed code d fs task (state_at w x)))
-Leads code (Err (Ended e)) fs w before o = (x : Others) → Allows w x → Allows before x × ((d : Doing) → IsMeaning code d → HasEnded e w x (noting before.reads (o d x)))
+Leads code (Ok task) fs w before o = (x : Others) → Allows w x → Keeps before w x × ((d : Doing) → IsMeaning code d → noting before.reads (o d x) ≡ noting w.reads (resumed code d fs task (state_at w x)))
+Leads code (Err (Ended e)) fs w before o = (x : Others) → Allows w x → Keeps before w x × ((d : Doing) → IsMeaning code d → HasEnded e w x (noting before.reads (o d x)))
 Leads code (Err Memory) fs w before o = Unit {0}
 Leads code (Err Written) fs w before o = Unit {0}

@@ -47,6 +47,8 @@ fn judged(answer: Result<bool, Halt>) -> Result<Judgement, NoMemory>
         Err(Halt::Ended(End::OutOfFuel)) => Ok(Judgement::Spent),
         Err(Halt::Ended(End::Stuck)) => Ok(Judgement::False),
         Err(Halt::Memory) => Err(NoMemory),
+        // no run ends so in a world whose candidates aren't frozen
+        Err(Halt::Written) => Err(NoMemory),
     }
 }
 

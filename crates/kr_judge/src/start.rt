@@ -12,6 +12,7 @@ ghost use Rattle.kr_world.specs.Worlds.{state_of};
 
 use kr_base::NoMemory;
 use kr_build::build;
+use kr_heap::Heap;
 use kr_problem::Layout;
 use kr_value::Value;
 use kr_vector::{Slot, Vector};
@@ -61,10 +62,7 @@ pub(crate) fn world_of(alloc: Global, layout: &Layout, vector: &Vector) -> Resul
     ensures state { IfOk result (λ world. state_of world ≡ start (bare layout.now) vector.now) }
     ensures reads { IfOk result (λ world. world.reads ≡ This ∷ []) }
 {
-    let heap = build(alloc, layout, vector)?;
-    let Ok(candidates) = u32::try_from(heap.len()) else {
-        return Err(NoMemory);
-    };
+    let candidates = build(alloc, layout, vector)?;
     let locals = parameters_of(alloc, layout, vector)?;
     let reads = this_read(alloc)?;
     Ok(World {
@@ -72,8 +70,9 @@ pub(crate) fn world_of(alloc: Global, layout: &Layout, vector: &Vector) -> Resul
         locals,
         result: None,
         olds: Vec::new(alloc),
-        heap,
         candidates,
+        made: Heap::new(alloc),
+        is_frozen: false,
         fuel: layout.fuel(),
         reads,
     })

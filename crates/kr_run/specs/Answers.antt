@@ -9,7 +9,7 @@ use Rattle.kr_world.specs.declared.world.End.{End}
 use Rattle.kr_world.specs.declared.world.Halt.{Halt}
 use Rattle.kr_world.specs.declared.world.Halt.TheVariants.{Ended, Memory, Written}
 use Rattle.kr_world.specs.Noting.{noting}
-use Rattle.kr_world.specs.Worlds.{Others, Allows, state_at}
+use Rattle.kr_world.specs.Worlds.{Others, Allows, Keeps, state_at}
 use Rattle.kr_frames.specs.declared.frame.Frame.{Frame}
 use Rattle.kr_frames.specs.Leads.{Leads, HasEnded}
 use Rattle.kr_run.specs.declared.step.Step.{Step}
@@ -17,11 +17,11 @@ use Rattle.kr_run.specs.declared.step.Step.TheVariants.{More, Finished}
 
 -- the run gives a value, and leaves a world, in every meaning of the code, with all candidates that what it has read allows
 abbrev pub Gives : Code → Value → World → World → (Doing → Others → Outcome Value) → Type 0
-Gives code v w before o = (x : Others) → Allows w x → Allows before x × ((d : Doing) → IsMeaning code d → noting before.reads (o d x) ≡ record { said = Ok v; after = state_at w x; reads = w.reads })
+Gives code v w before o = (x : Others) → Allows w x → Keeps before w x × ((d : Doing) → IsMeaning code d → noting before.reads (o d x) ≡ record { said = Ok v; after = state_at w x; reads = w.reads })
 
 -- the run has ended so
 abbrev pub EndsSo : Code → End → World → World → (Doing → Others → Outcome Value) → Type 0
-EndsSo code e w before o = (x : Others) → Allows w x → Allows before x × ((d : Doing) → IsMeaning code d → HasEnded e w x (noting before.reads (o d x)))
+EndsSo code e w before o = (x : Others) → Allows w x → Keeps before w x × ((d : Doing) → IsMeaning code d → HasEnded e w x (noting before.reads (o d x)))
 
 -- a step leads on, or the run has given a value or has ended
 abbrev pub StepsTo : Code → Result Step Halt → List Frame → World → World → (Doing → Others → Outcome Value) → Type 0

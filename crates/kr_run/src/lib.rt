@@ -7,7 +7,8 @@ mod create;
 mod run;
 mod step;
 
-pub use run::evaluate;
+pub use run::{evaluate, step};
+pub use step::Step;
 
 #[cfg(test)]
 mod tests;

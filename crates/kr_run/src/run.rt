@@ -404,7 +404,7 @@ fn give_nothing(
 }
 
 /// One step.
-fn step(
+pub fn step(
     alloc: Global,
     code: &Code,
     world: &mut World,

@@ -18,7 +18,7 @@ use Rattle.kr_heap.specs.Objects.{found, with_value, with_values}
 use Rattle.kr_mean.specs.Places.{SlotPlace, At}
 use Rattle.kr_mean.specs.Runs.{is_same_place, is_same_spot}
 use Rattle.kr_world.specs.Noting.{is_read, with_read, noted_once, noting}
-use Rattle.kr_world.specs.Worlds.{Others, AreLike, StandFor, StandsFor, candidates_of, is_fixed, IsArray, Allows, Agrees}
+use Rattle.kr_world.specs.Worlds.{Others, AreLike, StandFor, StandsFor, candidates_of, is_fixed, IsArray, Allows, Agrees, Keeps}
 use Rattle.kr_world.specs.declared.world.World.{World}
 use Rattle.kr_world.specs.declared.world.Halt.{Halt}
 use Rattle.kr_world.specs.declared.world.Halt.TheVariants.{Ended, Memory, Written}
@@ -310,9 +310,23 @@ module _ (frozen : Bool) (own : Heap) where
   )
   puts_candidate seen new made (Some others) o at v s free is lt a = absurd (cc (free, a.unwritten))
 
+-- a step that leaves the candidates as they are
+pub kept : (w w' : World) (x : Others) → Allows w x → w'.is_frozen ≡ w.is_frozen → w'.candidates ≡ w.candidates → Keeps w w' x
+kept w w' x a frozen same = record { allowed = a; frozen = λ e. frozen ∙ e; same = λ e. same }
+
+pub kept_same : (w : World) (x : Others) → Allows w x → Keeps w w x
+kept_same w x a = record { allowed = a; frozen = λ e. e; same = λ e. refl }
+
+pub kept_then : (before middle w : World) (x : Others) → Keeps before middle x → Keeps middle w x → Keeps before w x
+kept_then before middle w x k l = record {
+  allowed = k.allowed;
+  frozen = λ e. l.frozen (k.frozen e);
+  same = λ e. l.same (k.frozen e) ∙ k.same e;
+}
+
 -- the same by another way, where that is allowed
 pub agrees_same : {A : Type 0} (r : Result A Halt) (w before : World) (o o' : Others → Outcome A) → ((x : Others) → Allows before x → o x ≡ o' x) → Agrees r w before o' → Agrees r w before o
-agrees_same {A} (Ok v) w before o o' e h = λ x a. let r = h x a in (r.0, ap (λ (q : Outcome A). noting before.reads q) (e x r.0) ∙ r.1)
-agrees_same {A} (Err (Ended end)) w before o o' e h = λ x a. let r = h x a in (r.0, ap (λ (q : Outcome A). noting before.reads q) (e x r.0) ∙ r.1)
+agrees_same {A} (Ok v) w before o o' e h = λ x a. let r = h x a in (r.0, ap (λ (q : Outcome A). noting before.reads q) (e x r.0.allowed) ∙ r.1)
+agrees_same {A} (Err (Ended end)) w before o o' e h = λ x a. let r = h x a in (r.0, ap (λ (q : Outcome A). noting before.reads q) (e x r.0.allowed) ∙ r.1)
 agrees_same (Err Memory) w before o o' e h = tt
 agrees_same (Err Written) w before o o' e h = tt

@@ -67,11 +67,17 @@ state_at w x = record {
 abbrev pub state_of : World → State
 state_of w = state_at w None
 
+-- What a step leaves as it was: what other candidates are allowed after it was allowed before; frozen candidates stay.
+pub record Keeps (before w : World) (x : Others) : Type 0 where
+  pub allowed : Allows before x
+  pub frozen : before.is_frozen ≡ true → w.is_frozen ≡ true
+  pub same : before.is_frozen ≡ true → w.candidates ≡ before.candidates
+
 -- The answer, the world and its reads are the outcome's, after what was read before: with all candidates that what was read
 -- until then allows. Where memory ran out, or a candidate would have been written that must not be, nothing is said.
 abbrev pub Agrees : {A : Type 0} → Result A Halt → World → World → (Others → Outcome A) → Type 0
-Agrees (Ok a) w before o = (x : Others) → Allows w x → Allows before x × (noting before.reads (o x) ≡ record { said = Ok a; after = state_at w x; reads = w.reads })
-Agrees (Err (Ended e)) w before o = (x : Others) → Allows w x → Allows before x × (noting before.reads (o x) ≡ record { said = Err (stop_of e); after = state_at w x; reads = w.reads })
+Agrees (Ok a) w before o = (x : Others) → Allows w x → Keeps before w x × (noting before.reads (o x) ≡ record { said = Ok a; after = state_at w x; reads = w.reads })
+Agrees (Err (Ended e)) w before o = (x : Others) → Allows w x → Keeps before w x × (noting before.reads (o x) ≡ record { said = Err (stop_of e); after = state_at w x; reads = w.reads })
 Agrees (Err Memory) w before o = Unit {0}
 Agrees (Err Written) w before o = Unit {0}
 

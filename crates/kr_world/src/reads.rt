@@ -1,5 +1,5 @@
 // The places that a run has read.
-ghost use Rattle.std.specs.Prelude.{◌≡◌, [], map, take, OnOk, OnErr};
+ghost use Rattle.std.specs.Prelude.{◌≡◌, [], map, take, OnOk, OnErr, IfOk};
 ghost use Rattle.kr_mean.specs.Runs.{is_same_place, is_same_spot};
 ghost use Rattle.kr_world.specs.Noting.{is_read, with_read};
 ghost use Rattle.kr_world.specs.Shown.{place_of};
@@ -74,6 +74,15 @@ impl Reads {
         Reads {
             places: Vec::new(alloc),
         }
+    }
+
+    /// The same places once more.
+    pub fn copy(&self, alloc: Global) -> Result<Reads, NoMemory>
+        ensures { IfOk result (λ reads. reads ≡ self.now) }
+    {
+        Ok(Reads {
+            places: self.places.as_slice().to_vec(alloc)?,
+        })
     }
 
     /// A place that is read now.

@@ -1,10 +1,13 @@
 // What a run changes.
+ghost use Rattle.std.specs.Prelude.{IfOk};
+ghost use Rattle.kr_world.specs.Pauses.{IsPaused};
 
 use crate::Reads;
-use kr_base::Place;
+use kr_base::{NoMemory, Place};
 use kr_heap::Heap;
 use kr_mean::Kind;
 use kr_value::Value;
+use std::alloc::Global;
 
 /// How a run ends early: it is stuck where code has no meaning.
 #[derive(Clone, Copy, Debug)]
@@ -49,4 +52,23 @@ pub struct World {
     pub is_frozen: bool,
     pub fuel: u64,
     pub reads: Reads,
+}
+
+impl World {
+    /// The world once more, but for the candidates: none are there.
+    pub fn pause(&self, alloc: Global) -> Result<World, NoMemory>
+        ensures { IfOk result (λ world. IsPaused self.now world) }
+    {
+        Ok(World {
+            this: self.this,
+            locals: self.locals.as_slice().to_vec(alloc)?,
+            result: self.result,
+            olds: self.olds.as_slice().to_vec(alloc)?,
+            candidates: Heap::new(alloc),
+            made: self.made.copy(alloc)?,
+            is_frozen: self.is_frozen,
+            fuel: self.fuel,
+            reads: self.reads.copy(alloc)?,
+        })
+    }
 }

@@ -7,4 +7,5 @@ pub returns : goal.returns
 returns c = λ x a.
     let w = c.args.world.now in
     let is = ok_is c.note.result (sym (c.is_err.ensures.value) ∙ c.if-is_err.false) c.note.ensures.noted in
-    loads_candidate w.is_frozen w.candidates w.reads c.note.new.self w.made x c.args.object c.args.spot c.in-Some.value (state_at w x) refl refl is c.requires.candidate c.requires.fixed (sym c.read.ensures ∙ c.in-Some.is) a
+    let r = loads_candidate w.is_frozen w.candidates w.reads c.note.new.self w.made x c.args.object c.args.spot c.in-Some.value (state_at w x) refl refl is c.requires.candidate c.requires.fixed (sym c.read.ensures ∙ c.in-Some.is) a in
+    (record { allowed = r.0; frozen = λ e. e; same = λ e. refl }, r.1)
