@@ -37,7 +37,7 @@ pub(crate) struct Ran {
 }
 
 /// A run that is stuck doesn't accept.
-fn judged(answer: Result<bool, Halt>) -> Result<Judgement, NoMemory>
+pub fn judged(answer: Result<bool, Halt>) -> Result<Judgement, NoMemory>
     ensures { IsJudged answer result }
 {
     match answer {
@@ -64,7 +64,7 @@ pub(crate) fn run(
     requires small { length (slots (bare layout.now)) < 2 ^ 31 }
     ensures { IfOk result (λ run. (program : Program) (n : Numbering) → IsPredicateOf (problem_with program layout.now) predicate.now n → IsRunOf (problem_with program layout.now) vector.now run) }
 {
-    let mut world = world_of(alloc, layout, vector)?;
+    let mut world = world_of(alloc, layout, vector, false)?;
     let answer = hold_all(
         alloc,
         &predicate.code,
