@@ -93,7 +93,7 @@ module _ (problem : Problem) (well : IsWellFormed problem) where
       class = class_same v u o (there u o lt);
       fields = λ spot fixed. spot_same v u o spot (there u o lt) fixed;
       told = λ spot read here other. found_value (object_in (heap_of problem v) o) spot (value_of_spot (object_in (heap_of problem u) o) spot)
-      (sym (told_there (heap_of problem u) (heap_of problem v) ps (At o spot) e read) ∙ has_found (object_in (heap_of problem u) o) spot here);
+          (sym (told_there (heap_of problem u) (heap_of problem v) ps (At o spot) e read) ∙ has_found (object_in (heap_of problem u) o) spot here);
     };
   }
 
@@ -106,9 +106,9 @@ module _ (problem : Problem) (well : IsWellFormed problem) where
       class = class_same w u o (there u o lt);
       fields = λ spot fixed. spot_same w u o spot (there u o lt) fixed;
       told = λ spot read here other.
-        let is = sym (told_there (heap_of problem u) (heap_of problem v) ps (At o spot) e read) ∙ has_found (object_in (heap_of problem u) o) spot here in
-        let middle = found_has (object_in (heap_of problem v) o) spot (value_of_spot (object_in (heap_of problem u) o) spot) is in
-        (s.each o (subst (λ (n : ℕ). o < n) (as_long u v) lt)).told spot read middle other
-        ∙ found_value (object_in (heap_of problem v) o) spot (value_of_spot (object_in (heap_of problem u) o) spot) is;
+          let is = sym (told_there (heap_of problem u) (heap_of problem v) ps (At o spot) e read) ∙ has_found (object_in (heap_of problem u) o) spot here in
+          let middle = found_has (object_in (heap_of problem v) o) spot (value_of_spot (object_in (heap_of problem u) o) spot) is in
+          (s.each o (subst (λ (n : ℕ). o < n) (as_long u v) lt)).told spot read middle other
+          ∙ found_value (object_in (heap_of problem v) o) spot (value_of_spot (object_in (heap_of problem u) o) spot) is;
     };
   }

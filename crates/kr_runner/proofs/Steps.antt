@@ -1,14 +1,18 @@
 -- Going on: steps, conditions, checkpoints.
 use Rattle.std.proofs.Common.{◌≡◌, ℕ, zero, suc, ◌+◌, ◌<◌, ◌≤◌, Bool, true, false, List, [], ◌∷◌, ◌++◌, length, drop, Result, Ok, Err, Some, None, refl, sym, ap, ◌∙◌, subst, arith}
-use Rattle.std.specs.Prelude.{map, Option, slice_get}
+use Rattle.std.specs.Prelude.{map, Option, slice_get, slice_set}
+use Rattle.std.proofs.Common.{get_or}
+use Rattle.std.specs.List.{All, range_with_len}
+use Rattle.std.proofs.lemmas.List.{append-nil, get_or-set_other, get_or_append_left, get_or-append-add, length-append}
+use Rattle.std.proofs.lemmas.List.Elements.{All-append}
 use Rattle.kr_value.specs.declared.value.Value.{Value}
 use Rattle.kr_value.specs.declared.value.Value.TheVariants.{Bool as Truth}
 use Rattle.kr_value.specs.Heaps.{Heap}
-use Rattle.kr_mean.specs.Heaps.{heap_of}
+use Rattle.kr_mean.specs.Heaps.{heap_of, value_at}
 use Rattle.kr_mean.specs.Places.{SlotPlace, This}
-use Rattle.kr_mean.specs.Problem.{slots}
-use Rattle.kr_mean.specs.Runs.{start, where_true}
-use Rattle.kr_mean.specs.Space.{IsVector, space_of}
+use Rattle.kr_mean.specs.Problem.{Problem, choices_at}
+use Rattle.kr_mean.specs.Runs.{parameter_values, parameters_from, start, where_true}
+use Rattle.kr_mean.specs.Space.{IsVector, no_choice, space_of}
 use Rattle.kr_mean.specs.Steps.{Stop, State, Outcome, Run, go_on, bind, give, stop, Stuck, Local, Old}
 use Rattle.kr_mean.specs.WellFormed.{IsWellFormed}
 use Rattle.kr_code.specs.declared.code.Code.{Code}
@@ -17,7 +21,8 @@ use Rattle.kr_problem.specs.Bounds.{Bounds, bare}
 use Rattle.kr_world.specs.declared.world.World.{World}
 use Rattle.kr_world.specs.declared.world.End.{End}
 use Rattle.kr_world.specs.declared.world.End.TheVariants as ends
-use Rattle.kr_world.specs.declared.world.Halt.TheVariants.{Ended}
+use Rattle.kr_world.specs.declared.world.Halt.TheVariants.{Ended, Memory, Written}
+use Rattle.kr_world.specs.declared.world.Halt.{Halt}
 use Rattle.kr_world.specs.Noting.{noting, noted_once}
 use Rattle.kr_world.specs.Pauses.{IsPaused}
 use Rattle.kr_world.specs.Shown.{stop_of, local_of, old_of}
@@ -29,10 +34,13 @@ use Rattle.kr_frames.specs.declared.task.Task.TheVariants as tasks
 use Rattle.kr_frames.specs.Frames.{continued, resumed}
 use Rattle.kr_frames.specs.Leads.{Leads, HasEnded}
 use Rattle.kr_frames.proofs.Outcomes.{noted_behind}
-use Rattle.kr_run.specs.Answers.{Gives, EndsSo}
+use Rattle.kr_run.specs.Answers.{Gives as GivesAs, EndsSo, StepsTo}
+use Rattle.kr_run.specs.declared.steps.Step.{Step}
+use Rattle.kr_run.specs.declared.steps.Step.TheVariants as steps
 use Rattle.kr_judge.specs.Judged.{hold_at, MeansAs, HoldsAs, IsEnded}
 use Rattle.kr_judge.specs.declared.predicate.Predicate.{Predicate}
 use Rattle.kr_runner.specs.Kept.{with_heap, behind, rest_of, GoesOn, Gave, Kept, told_of, task_of, woken}
+use Rattle.kr_runner.specs.Going.{Gives, IsCheckOf}
 use Rattle.kr_runner.specs.declared.check.Check.{Check}
 use Rattle.kr_runner.specs.declared.check.Pause.{Pause}
 use Rattle.kr_runner.specs.declared.check.Pause.TheVariants as pauses
@@ -107,13 +115,13 @@ module _ (b : Bounds) (p : Predicate) (v : List ℕ) where
         frozen = frozen;
         same = same;
         is = λ u i a d m.
-          let f = heap_of (bare b) u in
-          let r = l (Some f) (to_world w' (heap_of (bare b) v) f frozen same a) in
-          g.is u i (from_world w (heap_of (bare b) v) f g.frozen g.same r.0.allowed) d m
-          ∙ rest_alike w.reads w'.reads (resumed p.code d fs task (state_at w (Some f))) (resumed p.code d fs' task' (state_at w' (Some f))) (λ x. where_true x (hold_at d (behind p condition))) (r.1 d m);
+            let f = heap_of (bare b) u in
+            let r = l (Some f) (to_world w' (heap_of (bare b) v) f frozen same a) in
+            g.is u i (from_world w (heap_of (bare b) v) f g.frozen g.same r.0.allowed) d m
+            ∙ rest_alike w.reads w'.reads (resumed p.code d fs task (state_at w (Some f))) (resumed p.code d fs' task' (state_at w' (Some f))) (λ x. where_true x (hold_at d (behind p condition))) (r.1 d m);
       }
 
-  pub gives_on : (condition : ℕ) (fs : List Frame) (task : Task) (given : Value) (w w' : World) → GoesOn b p v condition fs task w → Gives p.code given w' w (λ d x. resumed p.code d fs task (state_at w x)) → Gave b p v condition given w'
+  pub gives_on : (condition : ℕ) (fs : List Frame) (task : Task) (given : Value) (w w' : World) → GoesOn b p v condition fs task w → GivesAs p.code given w' w (λ d x. resumed p.code d fs task (state_at w x)) → Gave b p v condition given w'
   gives_on condition fs task given w w' g l =
       let k = (l None tt).0 in
       let frozen = k.frozen g.frozen in
@@ -122,10 +130,10 @@ module _ (b : Bounds) (p : Predicate) (v : List ℕ) where
         frozen = frozen;
         same = same;
         is = λ u i a d m.
-          let f = heap_of (bare b) u in
-          let r = l (Some f) (to_world w' (heap_of (bare b) v) f frozen same a) in
-          g.is u i (from_world w (heap_of (bare b) v) f g.frozen g.same r.0.allowed) d m
-          ∙ rest_gives w.reads w'.reads (resumed p.code d fs task (state_at w (Some f))) given (state_at w' (Some f)) (λ x. where_true x (hold_at d (behind p condition))) (r.1 d m);
+            let f = heap_of (bare b) u in
+            let r = l (Some f) (to_world w' (heap_of (bare b) v) f frozen same a) in
+            g.is u i (from_world w (heap_of (bare b) v) f g.frozen g.same r.0.allowed) d m
+            ∙ rest_gives w.reads w'.reads (resumed p.code d fs task (state_at w (Some f))) given (state_at w' (Some f)) (λ x. where_true x (hold_at d (behind p condition))) (r.1 d m);
       }
 
   pub ends_on : (condition : ℕ) (fs : List Frame) (task : Task) (e : End) (w w' : World) → IsVector (space_of (bare b)) v → GoesOn b p v condition fs task w → EndsSo p.code e w' w (λ d x. resumed p.code d fs task (state_at w x))
@@ -146,7 +154,7 @@ module _ (b : Bounds) (p : Predicate) (v : List ℕ) where
       value_or : Option ℕ → ℕ → ℕ
       value_or (Some n) m = n
       value_or None m = m
-  drop_next (y ∷ ys) (suc k) x e = drop_next ys k x e
+  drop_next (y ∷ ys) (suc k) x e = let n : suc (k + 1) ≡ suc k + 1 = omega arith in drop_next ys k x e ∙ ap (λ (m : ℕ). x ∷ drop m (y ∷ ys)) n
 
   -- the next condition comes
   pub next_comes : (condition node : ℕ) (w : World) → Gave b p v condition (Truth true) w → slice_get p.conditions.items (condition + 1) ≡ Some node → GoesOn b p v (condition + 1) [] (tasks.Evaluate node) w
@@ -215,12 +223,12 @@ module _ (b : Bounds) (p : Predicate) (v : List ℕ) where
     vector = i;
     told = told ∙ (ap (λ (h : Heap). told_of h w.reads) g.same ∙ ap (λ (ps : List SlotPlace). told_of (heap_of (bare b) v) ps) (sym s.reads));
     is = λ u j a d m.
-      let f = heap_of (bare b) u in
-      let a' = subst (λ (ps : List SlotPlace). StandFor true ps (heap_of (bare b) v) f) s.reads a in
-      g.is u j a' d m
-      ∙ (ap (λ (o : Outcome Value). noting w.reads (continued o (λ x. where_true x (hold_at d (behind p c.condition))))) (resumed_alike p.code d fs c.stack c.pause (state_at w (Some f)) alike)
-      ∙ (ap (λ (t : State). noting w.reads (rest_of p.code d (behind p c.condition) c.stack (task_of c.pause) t)) (awake w c.world (heap_of (bare b) v) f s g.same a'.long)
-      ∙ ap (λ (ps : List SlotPlace). noting ps (rest_of p.code d (behind p c.condition) c.stack (task_of c.pause) (state_of (woken c.world f)))) (sym s.reads)));
+        let f = heap_of (bare b) u in
+        let a' = subst (λ (ps : List SlotPlace). StandFor true ps (heap_of (bare b) v) f) s.reads a in
+        g.is u j a' d m
+        ∙ (ap (λ (o : Outcome Value). noting w.reads (continued o (λ x. where_true x (hold_at d (behind p c.condition))))) (resumed_alike p.code d fs c.stack c.pause (state_at w (Some f)) alike)
+        ∙ (ap (λ (t : State). noting w.reads (rest_of p.code d (behind p c.condition) c.stack (task_of c.pause) t)) (awake w c.world (heap_of (bare b) v) f s g.same a'.long)
+        ∙ ap (λ (ps : List SlotPlace). noting ps (rest_of p.code d (behind p c.condition) c.stack (task_of c.pause) (state_of (woken c.world f)))) (sym s.reads)));
   }
 
   -- where candidates have what a checkpoint tells, their run goes on from it
@@ -231,7 +239,139 @@ module _ (b : Bounds) (p : Predicate) (v : List ℕ) where
         frozen = refl;
         same = refl;
         is = λ u j a d m.
-          let f = heap_of (bare b) u in
-          k.is u j (stand_then (bare b) well c.world.reads k.made_on v u same a) d m
-          ∙ ap (λ (n : ℕ). noting c.world.reads (rest_of p.code d (behind p c.condition) c.stack (task_of c.pause) (record (state_of (woken c.world f)) { candidates = n }))) (as_long (bare b) well u v);
+            let f = heap_of (bare b) u in
+            k.is u j (stand_then (bare b) well c.world.reads k.made_on v u same a) d m
+            ∙ ap (λ (n : ℕ). noting c.world.reads (rest_of p.code d (behind p c.condition) c.stack (task_of c.pause) (record (state_of (woken c.world f)) { candidates = n }))) (as_long (bare b) well u v);
       }
+
+  -- a check of where a run stands is kept
+  pub check_kept : (c : Check) (condition : ℕ) (pause : Pause) (fs : List Frame) (task : Task) (w : World) → IsWellFormed (bare b) → IsVector (space_of (bare b)) v → GoesOn b p v condition fs task w → task ≡ task_of pause → IsCheckOf condition pause fs w c → Kept b p v c
+  check_kept c condition pause fs task w well i g e k =
+      keeps c fs w well i
+      (subst (λ (n : ℕ). GoesOn b p v n fs (task_of c.pause) w) (sym k.condition_is)
+      (subst (λ (q : Pause). GoesOn b p v condition fs (task_of q) w) (sym k.pause_is)
+      (subst (λ (t : Task). GoesOn b p v condition fs t w) e g)))
+      k.world k.stack k.told
+
+  -- the same, by other words
+  pub wakes_with : (c : Check) (heap : Heap) (task : Task) → IsWellFormed (bare b) → IsVector (space_of (bare b)) v → heap ≡ heap_of (bare b) v → task ≡ task_of c.pause → Kept b p v c → c.told.items ≡ told_of heap c.world.reads → GoesOn b p v c.condition c.stack task (woken c.world heap)
+  wakes_with c heap task well i same e k told =
+      subst (λ (t : Task). GoesOn b p v c.condition c.stack t (woken c.world heap)) (sym e)
+      (subst (λ (h : Heap). GoesOn b p v c.condition c.stack (task_of c.pause) (woken c.world h)) (sym same)
+      (wakes c well i k (told ∙ ap (λ (h : Heap). told_of h c.world.reads) same)))
+
+  -- a run begins
+  pub begins : (fs : List Frame) (node : ℕ) (w : World) → fs ≡ [] → slice_get p.conditions.items 0 ≡ Some node → state_of w ≡ start (bare b) v → w.reads ≡ This ∷ [] → w.candidates ≡ heap_of (bare b) v → w.made ≡ [] → w.is_frozen ≡ true → GoesOn b p v 0 fs (tasks.Evaluate node) w
+  unfolding bind
+  begins fs node w none first state reads same made frozen = record {
+    frozen = frozen;
+    same = same;
+    is = λ u i a d m.
+        let f = heap_of (bare b) u in
+        let begun : with_heap (start (bare b) v) f ≡ state_at w (Some f) =
+        ap (λ (s : State). with_heap s f) (sym state) ∙ ap (λ (h : Heap). with_heap (state_of w) h) (sym (append-nil f) ∙ ap (λ (h : Heap). f ++ h) (sym made)) in
+        ap (λ (is : List ℕ). noting (This ∷ []) (hold_at d is (with_heap (start (bare b) v) f))) (drop_next p.conditions.items 0 node first)
+        ∙ (ap (λ (s : State). noting (This ∷ []) (rest_of p.code d (behind p 0) [] (tasks.Evaluate node) s)) begun
+        ∙ (ap (λ (ps : List SlotPlace). noting ps (rest_of p.code d (behind p 0) [] (tasks.Evaluate node) (state_at w (Some f)))) (sym reads)
+        ∙ ap (λ (gs : List Frame). noting w.reads (rest_of p.code d (behind p 0) gs (tasks.Evaluate node) (state_at w (Some f)))) (sym none)));
+  }
+
+-- ---- another index
+
+get_set : (v : List ℕ) (s t i : ℕ) → (t ≡ s → ⊥) → get_or (slice_set v s i) t 0 ≡ get_or v t 0
+get_set v s t i h = get_or-set_other v s t i 0 h
+
+value_set : (problem : Problem) (v : List ℕ) (s t i : ℕ) → (t ≡ s → ⊥) → value_at problem (slice_set v s i) t ≡ value_at problem v t
+value_set problem v s t i h = ap (λ (n : ℕ). (get_or (choices_at problem t) n no_choice).value) (get_set v s t i h)
+
+map_range : (f g : ℕ → Value) (a n : ℕ) → ((k : ℕ) → a ≤ k → k < a + n → f k ≡ g k) → map f (range_with_len a n) ≡ map g (range_with_len a n)
+map_range f g a zero h = refl
+map_range f g a (suc n) h =
+    ap (λ (x : Value). x ∷ map f (range_with_len (a + 1) n)) (h a (omega arith) (omega arith))
+    ∙ ap (λ (xs : List Value). g a ∷ xs) (map_range f g (a + 1) n (λ k l t. h k (omega (arith, l)) (omega (arith, t))))
+
+-- where no root changes a run begins alike
+pub begun_set : (problem : Problem) (v : List ℕ) (s i : ℕ) (heap : Heap) → length problem.parameters < s → with_heap (start problem (slice_set v s i)) heap ≡ with_heap (start problem v) heap
+begun_set problem v s i heap lt =
+    ap (λ (x : Value). mk x (parameters_from 0 (parameter_values problem (slice_set v s i)))) (value_set problem v s 0 i (λ e. omega (arith, lt, e)))
+    ∙ ap (λ (vs : List Value). mk (value_at problem v 0) (parameters_from 0 vs)) (map_range (λ k. value_at problem (slice_set v s i) (k + 1)) (λ k. value_at problem v (k + 1)) 0 (length problem.parameters) (λ k l t. value_set problem v s (k + 1) i (λ e. omega (arith, lt, t, e))))
+  where
+    mk : Value → List Local → State
+    mk this locals = record (start problem v) { this_value = this; locals = locals; heap = heap }
+
+pub kept_set : (b : Bounds) (p : Predicate) (v : List ℕ) (s i : ℕ) (c : Check) → length b.parameters < s → Kept b p v c → Kept b p (slice_set v s i) c
+kept_set b p v s i c lt k = record {
+  made_on = k.made_on;
+  vector = k.vector;
+  told = k.told;
+  is = λ u j a d m. ap (λ (t : State). noting (This ∷ []) (hold_at d p.conditions.items t)) (begun_set (bare b) v s i (heap_of (bare b) u) lt) ∙ k.is u j a d m;
+}
+
+-- ---- all of a list
+
+pub all_map : {X : Type 0} (P Q : X → Type 0) → ((x : X) → P x → Q x) → (xs : List X) → All P xs → All Q xs
+all_map P Q f xs a = λ k d lt. f (get_or xs k d) (a k d lt)
+
+pub all_front : {X : Type 0} (P : X → Type 0) (xs : List X) (x : X) (ys : List X) → ys ≡ xs ++ x ∷ [] → All P ys → All P xs
+all_front P xs x ys e a = λ k d lt.
+    let h = subst (All P) e a in
+    let in_both : k < length (xs ++ x ∷ []) = omega (arith, lt, length-append xs (x ∷ [])) in
+    subst P (get_or_append_left xs (x ∷ []) d k lt) (h k d in_both)
+
+pub all_last : {X : Type 0} (P : X → Type 0) (xs : List X) (x : X) (ys : List X) → ys ≡ xs ++ x ∷ [] → All P ys → P x
+all_last P xs x ys e a =
+    let h = subst (All P) e a in
+    let in_both : length xs + 0 < length (xs ++ x ∷ []) = omega (arith, length-append xs (x ∷ [])) in
+    subst P (get_or-append-add xs (x ∷ []) 0 x) (h (length xs + 0) x in_both)
+
+all_one : {X : Type 0} (P : X → Type 0) (x : X) → P x → All P (x ∷ [])
+all_one P x h zero d lt = h
+all_one P x h (suc k) d lt = absurd (omega (arith, lt))
+
+pub all_more : {X : Type 0} (P : X → Type 0) (xs ys : List X) (x : X) → ys ≡ xs ++ x ∷ [] → All P xs → P x → All P ys
+all_more P xs ys x e a h = subst (All P) (sym e) (All-append P xs (x ∷ []) a (all_one P x h))
+
+-- ---- what the code answers
+
+module _ (b : Bounds) (p : Predicate) (v : List ℕ) (i : IsVector (space_of (bare b)) v) where
+  all : Doing → Outcome Bool
+  all d = hold_at d p.conditions.items (start (bare b) v)
+
+  -- a step that doesn't lead on
+  pub halts_on : (condition : ℕ) (fs fs' : List Frame) (task : Task) (halt : Halt) (w w' : World) → GoesOn b p v condition fs task w → StepsTo p.code (Err halt) fs' w' w (λ d x. resumed p.code d fs task (state_at w x)) → Gives b p v condition (Err halt) w'
+  halts_on condition fs fs' task (Ended e) w w' g l = ends_on b p v condition fs task e w w' i g l
+  halts_on condition fs fs' task Memory w w' g l = tt
+  halts_on condition fs fs' task Written w w' g l = tt
+
+  pub finishes_on : (condition : ℕ) (fs fs' : List Frame) (task : Task) (stepped : Step) (given : Value) (w w' : World) → stepped ≡ steps.Finished given → GoesOn b p v condition fs task w → StepsTo p.code (Ok stepped) fs' w' w (λ d x. resumed p.code d fs task (state_at w x)) → Gave b p v condition given w'
+  finishes_on condition fs fs' task stepped given w w' e g l = gives_on b p v condition fs task given w w' g (subst (λ (s : Step). StepsTo p.code (Ok s) fs' w' w (λ d x. resumed p.code d fs task (state_at w x))) e l)
+
+  pub more_on : (condition : ℕ) (fs fs' : List Frame) (task : Task) (stepped : Step) (more : Task) (w w' : World) → stepped ≡ steps.More more → GoesOn b p v condition fs task w → StepsTo p.code (Ok stepped) fs' w' w (λ d x. resumed p.code d fs task (state_at w x)) → GoesOn b p v condition fs' more w'
+  more_on condition fs fs' task stepped more w w' e g l = goes_on b p v condition fs fs' task more w w' g (subst (λ (s : Step). StepsTo p.code (Ok s) fs' w' w (λ d x. resumed p.code d fs task (state_at w x))) e l)
+
+  -- a condition that doesn't give a value
+  pub halted_so : (condition : ℕ) (halt : Halt) (w : World) → Gives b p v condition (Err halt) w → HoldsAs p.code (Err halt) w (This ∷ []) (λ d. hold_at d p.conditions.items (start (bare b) v))
+  halted_so condition (Ended e) w g = g
+  halted_so condition Memory w g = λ d m. tt
+  halted_so condition Written w g = λ d m. tt
+
+  truth_is : (condition : ℕ) (given : Value) (truth t : Bool) (w : World) → given ≡ Truth truth → truth ≡ t → Gave b p v condition given w → Gave b p v condition (Truth t) w
+  truth_is condition given truth t w e is g = subst (λ (x : Value). Gave b p v condition x w) (e ∙ ap (λ (x : Bool). Truth x) is) g
+
+  pub all_hold_so : (condition following : ℕ) (found : Option ℕ) (given : Value) (truth : Bool) (w : World) → given ≡ Truth truth → truth ≡ true → following ≡ condition + 1 → found ≡ slice_get p.conditions.items following → found ≡ None → Gave b p v condition given w
+      → HoldsAs p.code (Ok true) w (This ∷ []) (λ d. hold_at d p.conditions.items (start (bare b) v))
+  all_hold_so condition following found given truth w e is next at none g =
+      all_hold b p v condition w i (truth_is condition given truth true w e is g) (ap (λ (k : ℕ). slice_get p.conditions.items k) (sym next) ∙ (sym at ∙ none))
+
+  pub next_so : (condition following node : ℕ) (found : Option ℕ) (given : Value) (truth : Bool) (fs : List Frame) (w : World) → given ≡ Truth truth → truth ≡ true → following ≡ condition + 1 → found ≡ slice_get p.conditions.items following → found ≡ Some node → fs ≡ [] → Gave b p v condition given w
+      → GoesOn b p v following fs (tasks.Evaluate node) w
+  next_so condition following node found given truth fs w e is next at some none g =
+      subst (λ (k : ℕ). GoesOn b p v k fs (tasks.Evaluate node) w) (sym next)
+      (subst (λ (gs : List Frame). GoesOn b p v (condition + 1) gs (tasks.Evaluate node) w) (sym none)
+      (next_comes b p v condition node w (truth_is condition given truth true w e is g) (ap (λ (k : ℕ). slice_get p.conditions.items k) (sym next) ∙ (sym at ∙ some))))
+
+  pub false_so : (condition : ℕ) (given : Value) (truth : Bool) (w : World) → given ≡ Truth truth → truth ≡ false → Gave b p v condition given w → HoldsAs p.code (Ok false) w (This ∷ []) (λ d. hold_at d p.conditions.items (start (bare b) v))
+  false_so condition given truth w e is g = one_false b p v condition w i (truth_is condition given truth false w e is g)
+
+  pub stuck_so : (condition : ℕ) (given other : Value) (w : World) → given ≡ other → ((m : Run Bool) (s : State) → where_true other m s ≡ stop Stuck s) → Gave b p v condition given w → HoldsAs p.code (Err (Ended ends.Stuck)) w (This ∷ []) (λ d. hold_at d p.conditions.items (start (bare b) v))
+  stuck_so condition given other w e h g = one_stuck b p v condition other w i (subst (λ (x : Value). Gave b p v condition x w) e g) h

@@ -49,11 +49,7 @@ fn value_told(heap: &Heap, place: SlotPlace) -> Option<Value>
 }
 
 /// What candidates have at places.
-fn told_at(
-    alloc: Global,
-    heap: &Heap,
-    places: &[SlotPlace],
-) -> Result<Vec<Option<Value>>, NoMemory>
+fn told_at(alloc: Global, heap: &Heap, places: &[SlotPlace]) -> Result<Vec<Option<Value>>, NoMemory>
     ensures { IfOk result (λ told. told.items ≡ told_of heap.now (map place_of places.now)) }
 {
     let mut told = Vec::new(alloc);

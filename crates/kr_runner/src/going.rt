@@ -119,11 +119,11 @@ fn give(
             Err(_) => return Err(Halt::Memory),
         }
         match step(alloc, &predicate.code, world, &mut frames, next) {
-            Err(Halt::Ended(end)) => return Err(Halt::Ended(end)),
-            Err(Halt::Memory) => return Err(Halt::Memory),
-            Err(Halt::Written) => return Err(Halt::Written),
-            Ok(Step::Finished(given)) => return Ok(given),
-            Ok(Step::More(more)) => next = more,
+            Err(halt) => return Err(halt),
+            Ok(stepped) => match stepped {
+                Step::Finished(given) => return Ok(given),
+                Step::More(more) => next = more,
+            },
         }
     }
     Err(Halt::Memory)
@@ -162,26 +162,28 @@ fn go_on(
         match give(
             alloc, layout, vector, predicate, world, checks, at, next, frames,
         ) {
-            Err(Halt::Ended(end)) => return Err(Halt::Ended(end)),
-            Err(Halt::Memory) => return Err(Halt::Memory),
-            Err(Halt::Written) => return Err(Halt::Written),
-            Ok(Value::Bool(true)) => {
-                let Some(following) = at.checked_add(1) else {
-                    return Err(Halt::Memory);
-                };
-                match condition_at(predicate, following) {
-                    None => return Ok(true),
-                    Some(node) => {
-                        at = following;
-                        next = Task::Evaluate(node);
-                        frames = Stack::new(alloc);
+            Err(halt) => return Err(halt),
+            Ok(given) => match given {
+                Value::Bool(truth) => {
+                    if !truth {
+                        return Ok(false);
+                    }
+                    let Some(following) = at.checked_add(1) else {
+                        return Err(Halt::Memory);
+                    };
+                    match condition_at(predicate, following) {
+                        None => return Ok(true),
+                        Some(node) => {
+                            at = following;
+                            next = Task::Evaluate(node);
+                            frames = Stack::new(alloc);
+                        }
                     }
                 }
-            }
-            Ok(Value::Bool(false)) => return Ok(false),
-            Ok(Value::Int(_)) => return Err(Halt::Ended(End::Stuck)),
-            Ok(Value::Null) => return Err(Halt::Ended(End::Stuck)),
-            Ok(Value::Ref(_)) => return Err(Halt::Ended(End::Stuck)),
+                Value::Int(_) => return Err(Halt::Ended(End::Stuck)),
+                Value::Null => return Err(Halt::Ended(End::Stuck)),
+                Value::Ref(_) => return Err(Halt::Ended(End::Stuck)),
+            },
         }
     }
     Err(Halt::Memory)
@@ -236,13 +238,7 @@ fn beginning(
 }
 
 /// A checkpoint with candidates.
-fn woken(
-    layout: &Layout,
-    predicate: &Predicate,
-    vector: &Vector,
-    heap: Heap,
-    check: Check,
-) -> Stand
+fn woken(layout: &Layout, predicate: &Predicate, vector: &Vector, heap: Heap, check: Check) -> Stand
     requires well { IsWellFormed (bare layout.now) }
     requires vector { IsVector (space_of (bare layout.now)) vector.now }
     requires heap { heap ≡ heap_of (bare layout.now) vector.now }

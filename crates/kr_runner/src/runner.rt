@@ -1,5 +1,6 @@
 // Runs of candidates that go on from before the first place that changed.
 ghost use Rattle.std.specs.Prelude.{◌≡◌, ◌<◌, ◌^◌, [], IfOk, OnOk, length, replicate, slice_index, slice_set};
+ghost use Rattle.std.specs.List.{All};
 ghost use Rattle.kr_code.specs.Resolved.{Numbering};
 ghost use Rattle.kr_mean.specs.Problem.{slots};
 ghost use Rattle.kr_mean.specs.Program.{Program};
@@ -9,6 +10,7 @@ ghost use Rattle.kr_mean.specs.WellFormed.{IsWellFormed};
 ghost use Rattle.kr_problem.specs.Bounds.{bare, problem_with};
 ghost use Rattle.kr_judge.specs.Predicates.{IsPredicateOf};
 ghost use Rattle.kr_judge.specs.Runs.{end_said};
+ghost use Rattle.kr_runner.specs.Kept.{Kept};
 
 use crate::check::Check;
 use crate::going::run;
@@ -42,6 +44,28 @@ impl<'s> Model for Runner<'s> {
     ghost view = { λ r. record { bounds = r.layout.now; predicate = r.predicate.now; vector = r.vector; order = r.judge } };
 
     ghost invariant = { λ r. All (Kept r.layout.now r.predicate.now r.vector) r.checks.items };
+}
+
+/// Gives a slot another index. No checkpoint stays where a root changes.
+fn change(
+    layout: &Layout,
+    predicate: &Predicate,
+    vector: &mut Vector,
+    checks: &mut Vec<Check>,
+    slot: u32,
+    index: u32,
+)
+    requires slot { slot < length vector.old }
+    requires kept { All (Kept layout.now predicate.now vector.old) checks.old.items }
+    ensures vector { vector.new ≡ slice_set vector.old slot index }
+    ensures kept { All (Kept layout.now predicate.now vector.new) checks.new.items }
+{
+    if (slot as usize) <= layout.parameters() {
+        checks.clear();
+        vector.set(Slot(slot), index);
+        return;
+    }
+    vector.set(Slot(slot), index);
 }
 
 impl<'s> Runner<'s> {
@@ -86,10 +110,14 @@ impl<'s> Runner<'s> {
         requires { slot < length self.old.vector }
         ensures { self.new ≡ record self.old { vector = slice_set self.old.vector slot index } }
     {
-        if (slot as usize) <= self.layout.parameters() {
-            self.checks.clear();
-        }
-        self.vector.set(Slot(slot), index);
+        change(
+            self.layout,
+            self.predicate,
+            &mut self.vector,
+            &mut self.checks,
+            slot,
+            index,
+        );
     }
 
     /// Runs the predicate on the candidate: how the run ends, and the order of the slots that decide it.
