@@ -31,9 +31,9 @@ pub enum Judgement {
 
 /// How a run has ended, and the places that it has read.
 #[derive(Drop)]
-pub(crate) struct Ran {
-    pub(crate) end: Judgement,
-    pub(crate) reads: Reads,
+pub struct Ran {
+    pub end: Judgement,
+    pub reads: Reads,
 }
 
 /// A run that is stuck doesn't accept.

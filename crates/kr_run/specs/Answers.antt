@@ -12,8 +12,8 @@ use Rattle.kr_world.specs.Noting.{noting}
 use Rattle.kr_world.specs.Worlds.{Others, Allows, Keeps, state_at}
 use Rattle.kr_frames.specs.declared.frame.Frame.{Frame}
 use Rattle.kr_frames.specs.Leads.{Leads, HasEnded}
-use Rattle.kr_run.specs.declared.step.Step.{Step}
-use Rattle.kr_run.specs.declared.step.Step.TheVariants.{More, Finished}
+use Rattle.kr_run.specs.declared.steps.Step.{Step}
+use Rattle.kr_run.specs.declared.steps.Step.TheVariants.{More, Finished}
 
 -- the run gives a value, and leaves a world, in every meaning of the code, with all candidates that what it has read allows
 abbrev pub Gives : Code → Value → World → World → (Doing → Others → Outcome Value) → Type 0

@@ -5,10 +5,10 @@
 mod calls;
 mod create;
 mod run;
-mod step;
+mod steps;
 
 pub use run::{evaluate, step};
-pub use step::Step;
+pub use steps::Step;
 
 #[cfg(test)]
 mod tests;

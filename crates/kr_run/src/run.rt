@@ -15,7 +15,7 @@ ghost use Rattle.kr_world.specs.Worlds.{state_at};
 
 use crate::calls::apply;
 use crate::create::{construct, initialise, stop_unit, take_unit};
-use crate::step::Step;
+use crate::steps::Step;
 use kr_ast::{BinaryOperator, StepOperator};
 use kr_code::{Code, Statement};
 use kr_frames::{Change, Flow, Frame, Stack, Task, ValueFrame, WriteFrame};

@@ -1,2 +1,2 @@
 mod Shapes
-mod Going
+mod Steps

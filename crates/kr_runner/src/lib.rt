@@ -4,6 +4,7 @@
 
 mod check;
 mod going;
+mod pauses;
 mod runner;
 
 pub use runner::Runner;

@@ -14,6 +14,6 @@ returns-clause-state c =
     let p = bare c.args.layout.now in
     let v = c.args.vector.now in
     let own = c.in_ok-candidates.candidates in
-    let heap = ap (λ (h : List HeapObject). own ++ h) c.new-made.ensures ∙ (append-nil own ∙ c.in_ok-candidates.ensures) in
+    let heap = ap (λ (h : List HeapObject). own ++ h) c.new-2.ensures ∙ (append-nil own ∙ c.in_ok-candidates.ensures) in
     let long = ap (λ (h : List HeapObject). length h) c.in_ok-candidates.ensures ∙ heap_long p v in
     begins p v c.value_in.ensures c.in_ok-locals.ensures (ap (λ (os : List Old). map old_of os) c.new.ensures.items) heap long c.fuel.ensures
