@@ -72,7 +72,24 @@ fn action_reads(code: &Code, world: &World, action: Action) -> bool {
     }
 }
 
-/// Where a run pauses: before it reads a place for the first time.
+/// Whether a copy of where a run stands is small: few frames wait, and little was made and read.
+fn is_small(world: &World, stack: &Stack) -> bool {
+    let made = world.made.len();
+    if stack.len() > 128 || made > 64 || world.reads.as_slice().len() > 512 {
+        return false;
+    }
+    let mut room = 512usize;
+    for object in 0..made as u32 {
+        let size = world.made.size_of(object);
+        if size > room {
+            return false;
+        }
+        room -= size;
+    }
+    true
+}
+
+/// Where a run pauses: before it reads a place for the first time, where a copy is small.
 pub(crate) fn pause_of(code: &Code, world: &World, stack: &Stack, task: &Task) -> Option<Pause>
     ensures { IfSome result (λ pause. task.now ≡ task_of pause) }
 {
@@ -80,7 +97,7 @@ pub(crate) fn pause_of(code: &Code, world: &World, stack: &Stack, task: &Task) -
         Task::Got(given) => match stack.top() {
             None => None,
             Some(frame) => {
-                if frame_reads(code, world, frame, *given) {
+                if frame_reads(code, world, frame, *given) && is_small(world, stack) {
                     Some(Pause::Got(*given))
                 } else {
                     None
@@ -88,7 +105,7 @@ pub(crate) fn pause_of(code: &Code, world: &World, stack: &Stack, task: &Task) -
             }
         },
         Task::Act(action) => {
-            if action_reads(code, world, *action) {
+            if action_reads(code, world, *action) && is_small(world, stack) {
                 Some(Pause::Act(*action))
             } else {
                 None
