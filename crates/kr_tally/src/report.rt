@@ -1,0 +1,63 @@
+// What is reported of a subject whose structures are counted.
+ghost use Rattle.std.specs.Prelude.{◌≡◌, [], IfOk, OnErr, is_ok, if◌then◌else◌};
+ghost use Rattle.kr_base.specs.declared.span.Bound.TheVariants.{At, End};
+ghost use Rattle.kr_base.specs.Entries.{entries_in};
+ghost use Rattle.kr_mean.specs.Entries.{all_entries};
+ghost use Rattle.kr_report.specs.Endings.{EndsListing};
+ghost use Rattle.kr_tally.specs.Tallies.{Tallies, tally_answer};
+
+use crate::tally::{OfProblem, Tally, tally_of};
+use kr_base::{Bound, Failed, NoMemory, Sink};
+use kr_candidates::{Candidates, Subject};
+use kr_scan::Scan;
+use kr_steps::Steps;
+use std::alloc::Global;
+use std::sync::ledger::Ledger;
+
+impl<S: Subject> OfProblem for Candidates<S> {
+    ghost problem = { λ c. S.problem c.subject };
+}
+
+/// The tally of all entries of a subject.
+fn tally_all<S: Subject + Drop, L: Ledger>(
+    alloc: Global,
+    subject: S,
+    runs: &mut Steps<L>,
+) -> Result<Tally, NoMemory>
+    ensures { IfOk result (Tallies (entries_in (At []) End (all_entries (S.problem subject)))) }
+{
+    let candidates = match Candidates::new(alloc, subject) {
+        Ok(candidates) => candidates,
+        Err(NoMemory) => return Err(NoMemory),
+    };
+    let mut scan = match Scan::new(alloc, candidates, &[], Bound::End, runs) {
+        Ok(scan) => scan,
+        Err(NoMemory) => return Err(NoMemory),
+    };
+    tally_of(alloc, &mut scan, runs)
+}
+
+/// A status once its text is written, or that of a write fault.
+fn once_written(written: Result<(), Failed>, status: u8) -> u8
+    ensures { result ≡ (if is_ok written then status else 7) }
+{
+    if written.is_ok() { status } else { 7 }
+}
+
+/// Counts the valid entries of a subject, and puts one line: how many, for so many nodes, or the key of the first spent one.
+/// Says the status; where memory is refused, nothing is put.
+pub fn put_tally<S: Subject + Drop, K: Sink, L: Ledger>(
+    alloc: Global,
+    subject: S,
+    nodes: u32,
+    out: &mut K,
+    runs: &mut Steps<L>,
+) -> Result<u8, NoMemory>
+    ensures ends { IfOk result (λ status. EndsListing K.taken K.faults (tally_answer nodes (entries_in (At []) End (all_entries (S.problem subject)))) out.old out.new status) }
+    ensures nothing { OnErr result (out.new ≡ out.old) }
+{
+    match tally_all(alloc, subject, runs) {
+        Ok(tally) => Ok(once_written(tally.put(nodes, out), tally.status())),
+        Err(NoMemory) => Err(NoMemory),
+    }
+}
