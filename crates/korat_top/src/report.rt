@@ -1,4 +1,4 @@
-// The line of a refusal.
+// What a command's files are called, and the line of a refusal.
 ghost use Rattle.std.specs.Prelude.{◌≡◌};
 ghost use Rattle.kr_base.specs.Told.{Writes};
 ghost use Rattle.kr_text.specs.Texts.{refusal_text};

@@ -78,7 +78,7 @@ fn list<K: Sink, L: Ledger>(
 }
 
 /// Counts the valid entries of a problem. Where memory is refused, nothing is put.
-fn put_count<K: Sink, L: Ledger>(
+fn put_valid<K: Sink, L: Ledger>(
     alloc: Global,
     found: Accepted,
     nodes: u32,
@@ -91,7 +91,7 @@ fn put_count<K: Sink, L: Ledger>(
 {
     let predicate = predicate_of(alloc, found.problem())?;
     let prepared = Prepared::new(alloc, found, predicate)?;
-    put_tally(alloc, prepared, nodes, out, runs)
+    put_tally(alloc, &prepared, nodes, out, runs)
 }
 
 /// Counts the valid entries of the demo's problem.
@@ -109,7 +109,7 @@ fn demonstrate<K: Sink, L: Ledger>(
     ensures { EndsListing K.taken K.faults (tally_of nodes (posed found)) out.old out.new result }
 {
     let mut runs = Steps::<L>::start(blank);
-    match put_count(alloc, found, nodes, out, &mut runs) {
+    match put_valid(alloc, found, nodes, out, &mut runs) {
         Ok(status) => status,
         Err(NoMemory) => once_written(put_out_of_memory(out), 8),
     }

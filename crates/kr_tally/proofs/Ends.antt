@@ -1,11 +1,10 @@
 -- How a call ends that puts a tally's line.
 use Rattle.std.proofs.Common.{◌≡◌, ℕ, List, refl, sym, ap, ◌∙◌, inl, inr, subst, arith, length}
-use Rattle.std.specs.Prelude.{Option, Some, None, Result, Ok, Err, is_ok, if◌then◌else◌}
-use Rattle.kr_base.specs.Told.{Added, Stopped, Writes}
+use Rattle.std.specs.Prelude.{Option, Result, Ok, Err, is_ok, if◌then◌else◌}
+use Rattle.kr_base.specs.Told.{Added, Writes}
 use Rattle.kr_base.specs.declared.entry.Entry.{Entry}
 use Rattle.kr_mean.specs.declared.row.Row.{Row}
-use Rattle.kr_report.specs.Reports.{Answer, bytes_of, line_answer, rows_in, spent_key}
-use Rattle.kr_report.specs.Texts.{capped}
+use Rattle.kr_report.specs.Reports.{Answer, line_answer, rows_in}
 use Rattle.kr_report.specs.Endings.{EndsListing}
 use Rattle.kr_tally.specs.Tallies.{counted_text, tally_by, tally_answer, Tallies, tally_line, tally_status}
 use Rattle.kr_tally.specs.declared.tally.Tally.{Tally}

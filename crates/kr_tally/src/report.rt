@@ -6,7 +6,8 @@ ghost use Rattle.kr_mean.specs.Entries.{all_entries};
 ghost use Rattle.kr_report.specs.Endings.{EndsListing};
 ghost use Rattle.kr_tally.specs.Tallies.{Tallies, tally_answer};
 
-use crate::tally::{OfProblem, Tally, tally_of};
+use crate::lent::Lent;
+use crate::tally::{Tally, tally_of};
 use kr_base::{Bound, Failed, NoMemory, Sink};
 use kr_candidates::{Candidates, Subject};
 use kr_scan::Scan;
@@ -14,19 +15,15 @@ use kr_steps::Steps;
 use std::alloc::Global;
 use std::sync::ledger::Ledger;
 
-impl<S: Subject> OfProblem for Candidates<S> {
-    ghost problem = { λ c. S.problem c.subject };
-}
-
 /// The tally of all entries of a subject.
-fn tally_all<S: Subject + Drop, L: Ledger>(
+fn tally_all<S: Subject, L: Ledger>(
     alloc: Global,
-    subject: S,
+    subject: &S,
     runs: &mut Steps<L>,
 ) -> Result<Tally, NoMemory>
-    ensures { IfOk result (Tallies (entries_in (At []) End (all_entries (S.problem subject)))) }
+    ensures { IfOk result (Tallies (entries_in (At []) End (all_entries (S.problem subject.now)))) }
 {
-    let candidates = match Candidates::new(alloc, subject) {
+    let candidates = match Candidates::new(alloc, Lent { subject }) {
         Ok(candidates) => candidates,
         Err(NoMemory) => return Err(NoMemory),
     };
@@ -34,7 +31,7 @@ fn tally_all<S: Subject + Drop, L: Ledger>(
         Ok(scan) => scan,
         Err(NoMemory) => return Err(NoMemory),
     };
-    tally_of(alloc, &mut scan, runs)
+    tally_of(alloc, subject, &mut scan, runs)
 }
 
 /// A status once its text is written, or that of a write fault.
@@ -46,14 +43,14 @@ fn once_written(written: Result<(), Failed>, status: u8) -> u8
 
 /// Counts the valid entries of a subject, and puts one line: how many, for so many nodes, or the key of the first spent one.
 /// Says the status; where memory is refused, nothing is put.
-pub fn put_tally<S: Subject + Drop, K: Sink, L: Ledger>(
+pub fn put_tally<S: Subject, K: Sink, L: Ledger>(
     alloc: Global,
-    subject: S,
+    subject: &S,
     nodes: u32,
     out: &mut K,
     runs: &mut Steps<L>,
 ) -> Result<u8, NoMemory>
-    ensures ends { IfOk result (λ status. EndsListing K.taken K.faults (tally_answer nodes (entries_in (At []) End (all_entries (S.problem subject)))) out.old out.new status) }
+    ensures ends { IfOk result (λ status. EndsListing K.taken K.faults (tally_answer nodes (entries_in (At []) End (all_entries (S.problem subject.now)))) out.old out.new status) }
     ensures nothing { OnErr result (out.new ≡ out.old) }
 {
     match tally_all(alloc, subject, runs) {

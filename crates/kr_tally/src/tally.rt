@@ -9,6 +9,7 @@ ghost use Rattle.kr_tally.specs.Tallies.{CountsOn, Tallies};
 ghost use Rattle.kr_tally.specs.declared.tally.Tally.TheVariants.{Spent};
 
 use kr_base::{Cut, NoMemory};
+use kr_candidates::Subject;
 use kr_scan::{Ending, Next, Runner, Scan};
 use kr_steps::Steps;
 use std::alloc::Global;
@@ -19,13 +20,6 @@ use std::sync::ledger::Ledger;
 pub(crate) enum Tally {
     Valid(u64),
     Spent(Cut),
-}
-
-/// What has the candidates of a problem.
-pub(crate) trait OfProblem {
-    ghost use Rattle.kr_mean.specs.Problem.{Problem};
-
-    ghost problem: { Self → Problem };
 }
 
 /// Whether a run needs more than the fuel.
@@ -60,14 +54,15 @@ fn spent_at(alloc: Global, key: &[u32]) -> Result<Tally, NoMemory>
     }
 }
 
-/// The tally of a scan's entries.
-pub(crate) fn tally_of<R: Runner + OfProblem + Drop, L: Ledger>(
+/// The tally of the entries of a scan, whose candidates are the subject's.
+pub(crate) fn tally_of<R: Runner + Drop, S: Subject, L: Ledger>(
     alloc: Global,
+    _subject: &S,
     scan: &mut Scan<R>,
     runs: &mut Steps<L>,
 ) -> Result<Tally, NoMemory>
-    requires runs_on { RunsOn (R.problem scan.old.runner) (R.space scan.old.runner) (R.order scan.old.runner) (R.ending scan.old.runner) }
-    ensures { IfOk result (Tallies (entries_in (At scan.old.cut) scan.old.upto (all_entries (R.problem scan.old.runner)))) }
+    requires runs_on { RunsOn (S.problem _subject.now) (R.space scan.old.runner) (R.order scan.old.runner) (R.ending scan.old.runner) }
+    ensures { IfOk result (Tallies (entries_in (At scan.old.cut) scan.old.upto (all_entries (S.problem _subject.now)))) }
 {
     let mut valid: u64 = 0;
     loop {

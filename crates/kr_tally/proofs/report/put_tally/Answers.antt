@@ -7,5 +7,5 @@ use Rattle.kr_tally.proofs.report.put_tally.Goals as goal
 
 pub returns-in-Ok-clause-ends : goal.returns-in-Ok-clause-ends
 returns-in-Ok-clause-ends g c =
-    let es = entries_in (At []) End (all_entries (g.S.Subject.problem c.args.subject)) in
+    let es = entries_in (At []) End (all_entries (g.S.Subject.problem c.args.subject.now)) in
     tally_put c.args.nodes es c.in-Ok.tally c.status.result c.once_written.result c.put.result c.in-Ok.ensures c.put.ensures c.status.ensures c.once_written.ensures

@@ -1,11 +1,11 @@
-use Rattle.std.proofs.Common.{◌≡◌, ℕ, ◌+◌, List, Bool, length, refl, sym, ap, ◌∙◌, subst, arith}
+use Rattle.std.proofs.Common.{Bool, refl, sym, ap, ◌∙◌, subst, arith}
 use Rattle.std.specs.Prelude.{Some}
 use Rattle.kr_base.specs.declared.span.Bound.{Bound}
 use Rattle.kr_base.specs.declared.span.Bound.TheVariants.{At}
 use Rattle.kr_base.specs.Entries.{entries_in}
 use Rattle.kr_mean.specs.Entries.{all_entries}
 use Rattle.kr_step.specs.declared.stage.Next.{Next}
-use Rattle.kr_scan.specs.Scans.{Scans, Finds, left, entry_at}
+use Rattle.kr_scan.specs.Scans.{Scans, Finds, left}
 use Rattle.kr_report.specs.Puts.{IsSpent}
 use Rattle.kr_report.proofs.Returns.{runs_along}
 use Rattle.kr_tally.proofs.Left.{IsLeft, all_left, few_still, one_more, none_left, one_spent, tells_spent}
@@ -18,12 +18,12 @@ loop-ending-init g c = record {
   ending = refl;
   upto = refl;
   few = omega arith;
-  so_far = all_left (left (g.R.OfProblem.problem c.args.scan.now.runner) c.args.scan.now.upto c.args.scan.now.cut);
+  so_far = all_left (left (g.S.Subject.problem c.args._subject.now) c.args.scan.now.upto c.args.scan.now.cut);
 }
 
 pub returns-in-Ok-End : goal.returns-in-Ok-End
 returns-in-Ok-End g c =
-    let P = g.R.OfProblem.problem c.args.scan.now.runner in
+    let P = g.S.Subject.problem c.args._subject.now in
     let es = entries_in (At c.args.scan.now.cut) c.args.scan.now.upto (all_entries P) in
     let inv = c.loop-ending.invariant in
     let cut = c.loop-ending.scan.cut in
@@ -37,7 +37,7 @@ returns-in-Ok-End g c =
 
 pub returns-then-is_spent : goal.returns-then-is_spent
 returns-then-is_spent g c =
-    let P = g.R.OfProblem.problem c.args.scan.now.runner in
+    let P = g.S.Subject.problem c.args._subject.now in
     let es = entries_in (At c.args.scan.now.cut) c.args.scan.now.upto (all_entries P) in
     let inv = c.loop-ending.invariant in
     let cut = c.loop-ending.scan.cut in
@@ -54,7 +54,7 @@ returns-then-is_spent g c =
 
 pub loop-ending-preserved : goal.loop-ending-preserved
 loop-ending-preserved g c =
-    let P = g.R.OfProblem.problem c.args.scan.now.runner in
+    let P = g.S.Subject.problem c.args._subject.now in
     let es = entries_in (At c.args.scan.now.cut) c.args.scan.now.upto (all_entries P) in
     let inv = c.loop-ending.invariant in
     let cut = c.loop-ending.scan.cut in

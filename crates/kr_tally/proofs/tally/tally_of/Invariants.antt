@@ -13,8 +13,8 @@ invariant-loop-ending g l = record {
   ending : g.R.Runner.ending l.scan.runner ≡ g.R.Runner.ending l.initial.scan.runner;
   upto : l.scan.upto ≡ l.initial.scan.upto;
   few : l.valid < 2 ^ 64;
-  so_far : IsLeft (entries_in (At l.initial.scan.cut) l.initial.scan.upto (all_entries (g.R.OfProblem.problem l.initial.scan.runner))) (left (g.R.OfProblem.problem l.initial.scan.runner) l.scan.upto l.scan.cut) l.valid;
+  so_far : IsLeft (entries_in (At l.initial.scan.cut) l.initial.scan.upto (all_entries (g.S.Subject.problem l._subject))) (left (g.S.Subject.problem l._subject) l.scan.upto l.scan.cut) l.valid;
 }
 
 abbrev pub decreases-loop-ending : goal.decreases-loop-ending
-decreases-loop-ending g l = length (left (g.R.OfProblem.problem l.initial.scan.runner) l.scan.upto l.scan.cut)
+decreases-loop-ending g l = length (left (g.S.Subject.problem l._subject) l.scan.upto l.scan.cut)
