@@ -1,5 +1,6 @@
-mod Along
+pub mod Along
 mod Carries
 mod Entering
 mod Gone
 mod Whole
+pub mod Moving

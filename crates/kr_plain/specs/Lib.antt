@@ -1,2 +1,3 @@
 pub mod Plain
 pub mod Keys
+pub mod Names

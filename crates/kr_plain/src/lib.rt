@@ -1,5 +1,5 @@
-//! Candidates judged by the definitions alone, without a search: whether one is the least of its class, and the entries of a
-//! span, found by trying every candidate.
+//! Candidates judged by the definitions alone, without a search: whether one is the least of its class; the entries of a span,
+//! found by trying every candidate; and candidates under other names.
 #![tactic(auto)]
 
 mod counting;
@@ -7,9 +7,11 @@ mod keeping;
 mod least;
 mod listed;
 mod plain;
+mod renaming;
 
 pub use least::is_least;
 pub use plain::list_plain;
+pub use renaming::{Perm, is_renaming, rename};
 
 #[cfg(test)]
 mod tests;

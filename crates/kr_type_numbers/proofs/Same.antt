@@ -58,7 +58,7 @@ both_true : (a b : Bool) → a ≡ true → b ≡ true → a && b ≡ true
 both_true true b e f = f
 both_true false b e f = absurd (cc)
 
-same_itself : (t : JavaType) → is_same t t ≡ true
+pub same_itself : (t : JavaType) → is_same t t ≡ true
 same_itself (ClassType c) = number_itself c
 same_itself (ArrayType t) = same_itself t
 same_itself (SetType t) = same_itself t

@@ -1,7 +1,7 @@
 -- The types that numbers stand for.
-use Rattle.std.specs.Prelude.{◌≡◌, ℕ, ◌<◌, ◌≤◌, Bool, List, [], length, map, Some, slice_get, slice_index_or}
+use Rattle.std.specs.Prelude.{◌≡◌, ℕ, ◌<◌, ◌≤◌, ◌==◌, Bool, List, [], length, map, Some, slice_get, slice_index_or}
 use Rattle.kr_ast.specs.Grow.{grow}
-use Rattle.kr_table.specs.Types.{JavaType, IntType, BooleanType, NullType, VoidType, ClassType, ArrayType, SetType, ListType, InferredType, UnknownType, AppliedType, is_known}
+use Rattle.kr_table.specs.Types.{JavaType, IntType, BooleanType, NullType, VoidType, ClassType, ArrayType, SetType, ListType, InferredType, UnknownType, AppliedType, is_known, is_same}
 use Rattle.kr_type_numbers.specs.declared.form.TypeForm.{TypeForm}
 use Rattle.kr_type_numbers.specs.declared.form.TypeForm.TheVariants as forms
 use Rattle.kr_type_numbers.specs.Listed.{AreApart}
@@ -77,6 +77,10 @@ pub record AreTypes (l : TypeList) (known : List Bool) : Type 0 where
   pub known_are : known ≡ map is_known (types_of l)
   pub forms_apart : AreApart l.forms
   pub names_apart : AreApart l.names
+
+-- equal types have one number
+abbrev pub AreDistinct : TypeList → Type 0
+AreDistinct l = (m n : ℕ) → m < count l → n < count l → is_same (type_at l m) (type_at l n) ≡ (m == n)
 
 -- more types: those that were keep their numbers
 pub record Extends (old new : TypeList) : Type 0 where

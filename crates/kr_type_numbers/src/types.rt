@@ -4,7 +4,7 @@ ghost use Rattle.kr_table.specs.Types.{IntType, BooleanType, NullType, VoidType,
 ghost use Rattle.kr_table.specs.Table.{applied};
 ghost use Rattle.kr_type_numbers.specs.declared.form.TypeForm.TheVariants.{Int, Boolean, Null, Void, Inferred, Unknown, Applied};
 ghost use Rattle.kr_type_numbers.specs.Listed.{AreApart, IsGrown};
-ghost use Rattle.kr_type_numbers.specs.Types.{Extends, IsMadeOf, IsTypeNumber, count, type_at, type_of_form};
+ghost use Rattle.kr_type_numbers.specs.Types.{AreDistinct, Extends, IsMadeOf, IsTypeNumber, count, type_at, type_of_form};
 
 use crate::form::{Forms, TypeForm};
 use crate::spellings::Spellings;
@@ -151,6 +151,13 @@ impl Types {
     {
         prove!((a as usize) < self.forms.len());
         a == b
+    }
+
+    /// Equal types have one number: what holds of all types, at no cost.
+    pub fn distinct_law(&self)
+        ensures { AreDistinct self.now }
+    {
+        prove!(0 < self.forms.len());
     }
 
     /// Whether typing rule T1 holds of a type.
