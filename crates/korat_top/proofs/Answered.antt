@@ -1,16 +1,17 @@
--- The answer to a command, from what was found of its files.
-use Rattle.std.proofs.Common.{◌≡◌, ℕ, ◌<◌, List, refl, sym, subst, arith}
-use Rattle.std.specs.Prelude.{Some, Ok, Err}
-use Rattle.kr_mean.specs.Problem.{Problem}
-use Rattle.kr_report.specs.Reports.{Answer}
+-- What was found for a command, and the statuses of refusals.
+use Rattle.std.proofs.Common.{◌≡◌, ℕ, ◌<◌, List, refl, arith}
+use Rattle.std.specs.Prelude.{Option, Result, Ok, Err}
+use Rattle.kr_args.specs.Reading.{Range}
+use Rattle.kr_posed.specs.Posed.{posed}
+use Rattle.kr_posed.specs.declared.problem.Problem.{Problem}
 use Rattle.korat_top.specs.declared.refusal.InputFile.{InputFile}
 use Rattle.korat_top.specs.declared.refusal.InputFile.TheVariants as input
-use Rattle.korat_top.specs.declared.command.Purpose.{Purpose}
-use Rattle.korat_top.specs.declared.command.Purpose.TheVariants as purposes
-use Rattle.korat_top.specs.Refusals.{Inputs, Refusal, status_of_file}
-use Rattle.korat_top.specs.Orders.{command_for, report_for}
-use Rattle.korat_top.specs.Steps.{Held, checking, Reads, AllTold}
-use Rattle.korat_top.specs.Answer.{IsAnswer, IsTold, refused, served, inputs_of, refusal_answer, report_of}
+use Rattle.korat_top.specs.declared.refusal.Stop.{Stop}
+use Rattle.korat_top.specs.declared.refusal.Stop.TheVariants.{Read, Refused, Memory}
+use Rattle.korat_top.specs.Refusals.{Inputs, status_of_file}
+use Rattle.korat_top.specs.Steps.{Held, demonstrating}
+use Rattle.korat_top.specs.Answer.{ListFiles, CheckFiles, DemoOf}
+use Rattle.korat_top.specs.Found.{Meets, CountStays, FindsIn, Finds}
 
 -- a refusal ends with 3 or 4
 pub refused_low : (file : InputFile) → status_of_file file < 6
@@ -21,29 +22,32 @@ pub refused_no_usage : (file : InputFile) → status_of_file file ≡ 2 → ⊥
 refused_no_usage input.Finitization e = omega (arith, e)
 refused_no_usage (input.Source n) e = omega (arith, e)
 
-reported : (purpose : Purpose) (inputs : Inputs) (problem : Problem) → report_of (command_for purpose inputs) problem ≡ report_for purpose problem
-reported (purposes.List asked) inputs problem = refl
-reported purposes.Check inputs problem = refl
+-- ---- by commands
 
-pub inputs_are : (purpose : Purpose) (inputs : Inputs) → inputs_of (command_for purpose inputs) ≡ inputs
-inputs_are (purposes.List asked) inputs = refl
-inputs_are purposes.Check inputs = refl
+pub list_found : {F : Type 0} (held : F → Held) (faults : F → ℕ) (last : F → Option (List ℕ)) (inputs : Inputs) (range : Range) (files files' : F) (r : Result Problem Stop)
+    → FindsIn held faults last inputs files files' r → Finds held faults last (ListFiles inputs range) files files' r
+list_found held faults last inputs range files files' (Ok f) h = h
+list_found held faults last inputs range files files' (Err (Refused x)) h = h
+list_found held faults last inputs range files files' (Err (Read failed)) h = h
+list_found held faults last inputs range files files' (Err Memory) h = h
 
--- the report of a problem
-pub listed : (held : Held) (purpose : Purpose) (inputs : Inputs) (problem : Problem) → checking held inputs (Ok problem) → IsAnswer held (Some (command_for purpose inputs)) (report_for purpose problem)
-listed held purpose inputs problem h =
-    subst (λ (a : Answer). IsAnswer held (Some (command_for purpose inputs)) a) (reported purpose inputs problem) (served problem (subst (λ (i : Inputs). checking held i (Ok problem)) (sym (inputs_are purpose inputs)) h))
+pub check_found : {F : Type 0} (held : F → Held) (faults : F → ℕ) (last : F → Option (List ℕ)) (inputs : Inputs) (files files' : F) (r : Result Problem Stop)
+    → FindsIn held faults last inputs files files' r → Finds held faults last (CheckFiles inputs) files files' r
+check_found held faults last inputs files files' (Ok f) h = h
+check_found held faults last inputs files files' (Err (Refused x)) h = h
+check_found held faults last inputs files files' (Err (Read failed)) h = h
+check_found held faults last inputs files files' (Err Memory) h = h
 
--- a refusal
-pub refused_for : (held : Held) (purpose : Purpose) (inputs : Inputs) (refusal : Refusal) → checking held inputs (Err refusal) → IsAnswer held (Some (command_for purpose inputs)) (refusal_answer inputs refusal)
-refused_for held (purposes.List asked) inputs refusal h = refused refusal h
-refused_for held purposes.Check inputs refusal h = refused refusal h
+-- the demo reads nothing
+pub demo_found : {F : Type 0} (held : F → Held) (faults : F → ℕ) (last : F → Option (List ℕ)) (n : ℕ) (files : F) (r : Result Problem Stop)
+    → Meets (demonstrating n) posed r → Finds held faults last (DemoOf n) files files r
+demo_found held faults last n files (Ok f) h = λ _. h
+demo_found held faults last n files (Err (Refused x)) h = λ _. h
+demo_found held faults last n files (Err (Read failed)) h = absurd h
+demo_found held faults last n files (Err Memory) h = tt
 
--- the files of a command
-pub told_for : (held : Held) (purpose : Purpose) (inputs : Inputs) → IsTold held (Some (command_for purpose inputs)) → AllTold held inputs
-told_for held (purposes.List asked) inputs told = told
-told_for held purposes.Check inputs told = told
-
-pub reads_for : (held : Held) (purpose : Purpose) (inputs : Inputs) (file : List ℕ) → Reads held inputs file → Reads held (inputs_of (command_for purpose inputs)) file
-reads_for held (purposes.List asked) inputs file r = r
-reads_for held purposes.Check inputs file r = r
+pub demo_count : (count n : ℕ) (r : Result Problem Stop) → Meets (demonstrating n) posed r → CountStays count count r
+demo_count count n (Ok f) h = refl
+demo_count count n (Err (Refused x)) h = refl
+demo_count count n (Err (Read failed)) h = absurd h
+demo_count count n (Err Memory) h = refl

@@ -7,8 +7,8 @@ use Rattle.kr_base.specs.Told.{Added, Stopped, Writes}
 use Rattle.kr_report.specs.Texts.{read_fault_text, memory_text, usage_text}
 use Rattle.kr_report.specs.Reports.{Answer, bytes_of, line_answer}
 use Rattle.kr_report.specs.Endings.{front_of, MayBegin, EndsListing}
-use Rattle.korat_top.specs.Answer.{Command, IsAnswer, IsTold, inputs_of, usage}
-use Rattle.korat_top.specs.Steps.{Held, Reads}
+use Rattle.korat_top.specs.Answer.{Command, IsAnswer, IsTold, ReadsFor, usage}
+use Rattle.korat_top.specs.Steps.{Held}
 use Rattle.korat_top.specs.Ends.{IsFront, MayTell, EndsFor, IsComplete}
 
 -- an answer's status
@@ -97,7 +97,7 @@ put_usage {F} {K} held read_faults last taken faults asked files out out' status
 
 -- a read that failed
 pub put_read_fault : {F K T E : Type 0} (held : F → Held) (read_faults : F → ℕ) (last : F → Option (List ℕ)) (taken : K → Option (List ℕ)) (faults : K → ℕ) (command : Command) (files files' : F) (out out' : K) (status : ℕ) (name : List ℕ) (r : Result T E)
-    → Reads (held files) (inputs_of command) name → last files' ≡ Some name → Rose (read_faults files) (read_faults files') → Writes taken faults out out' (read_fault_text name) r → status ≡ (if is_ok r then 6 else 7)
+    → ReadsFor (held files) command name → last files' ≡ Some name → Rose (read_faults files) (read_faults files') → Writes taken faults out out' (read_fault_text name) r → status ≡ (if is_ok r then 6 else 7)
     → EndsFor held read_faults last taken faults (Some command) files files' out out' status
 put_read_fault held read_faults last taken faults command files files' out out' status name (Ok v) read named cause x e = record {
   known = omega (arith, e);

@@ -20,7 +20,8 @@ use Rattle.kr_mean_examples.specs.Examples.{cell, two_ints, two_nodes, two_subcl
 use Rattle.kr_mean_examples.specs.Listings.{loops, plus}
 use Rattle.kr_report.specs.Texts.{structure_text, value_text, verdict_text, tested_text}
 use Rattle.kr_report.specs.Reports.{listing_answer, is_failing}
-use Rattle.korat_top.specs.Examples.{lines_of, told, report_of, WorkedLines}
+use Rattle.korat_top.specs.Answer.{tally_of}
+use Rattle.korat_top.specs.Examples.{lines_of, told, told_by, report_of, WorkedLines}
 
 two_nodes_lines : lines_of two_nodes ≡ codes "0.0 R#0{next=null}\n" ∷ codes "0.1 R#0{next=R#0}\n" ∷ codes "0.2.0 R#0{next=R#1} R#1{next=null}\n" ∷ codes "0.2.1 R#0{next=R#1} R#1{next=R#0}\n" ∷ codes "0.2.2 R#0{next=R#1} R#1{next=R#1}\n" ∷ []
 unfolding digits less space_of heap_of walk table_of values_of is_constant evaluated judged bind eval exec value body_of verdict_of end_on read_slots order_of mark_of all_of all_entries structure_text listing_answer
@@ -74,6 +75,14 @@ behind_spent : report_of loops (0 ∷ 1 ∷ []) 9 ≡ told 0 (codes "0.2 Cell#0{
 unfolding digits less space_of heap_of walk table_of values_of is_constant evaluated judged bind eval exec value body_of verdict_of end_on read_slots order_of mark_of all_of all_entries structure_text listing_answer
 behind_spent = refl
 
+cell_counted : told_by (tally_of 3 (cell 0 1000)) ≡ told 0 (codes "nodes 3 valid 2\n")
+unfolding digits less space_of heap_of walk table_of values_of is_constant evaluated judged bind eval exec value body_of verdict_of end_on read_slots order_of mark_of all_of all_entries structure_text listing_answer
+cell_counted = refl
+
+counted_up_to_spent : told_by (tally_of 1 loops) ≡ told 5 (codes "spent 0.1\n")
+unfolding digits less space_of heap_of walk table_of values_of is_constant evaluated judged bind eval exec value body_of verdict_of end_on read_slots order_of mark_of all_of all_entries structure_text listing_answer
+counted_up_to_spent = refl
+
 plus_report : report_of plus [] 9 ≡ told 0 (codes "0.1.0 pass (x=1) Cell#0{v=0}\nvalid 1 failing 0 tried 2\n")
 unfolding digits less space_of heap_of walk table_of values_of is_constant evaluated judged bind eval exec value body_of verdict_of end_on read_slots order_of mark_of all_of all_entries structure_text listing_answer
 plus_report = refl
@@ -109,6 +118,8 @@ worked = record {
   rows_before_spent = rows_before_spent;
   spent_at_the_limit = spent_at_the_limit;
   behind_spent = behind_spent;
+  cell_counted = cell_counted;
+  counted_up_to_spent = counted_up_to_spent;
   plus_report = plus_report;
   booleans = booleans;
   verdicts = verdicts;

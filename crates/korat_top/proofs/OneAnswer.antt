@@ -1,5 +1,5 @@
 -- Words and files have at most one answer.
-use Rattle.std.proofs.Common.{◌≡◌, ℕ, ◌<◌, ◌≤◌, ◌⊎◌, List, length, refl, sym, ap, ◌∙◌, subst, inl, inr, arith, rules}
+use Rattle.std.proofs.Common.{◌≡◌, ℕ, ◌<◌, ◌≤◌, ◌⊎◌, List, [], ◌∷◌, length, refl, sym, ap, ◌∙◌, subst, inl, inr, arith, rules}
 use Rattle.std.specs.Prelude.{Option, Some, None, Result, Ok, Err, ◌==◌, if◌then◌else◌, Bool, false, codes, nat_lt}
 use Rattle.kr_base.specs.declared.place.Place.{Place}
 use Rattle.kr_lex.specs.declared.refusal.LexRule.{LexRule}
@@ -30,8 +30,9 @@ use Rattle.kr_report.specs.Reports.{Answer, line_answer}
 use Rattle.korat_top.specs.declared.refusal.InputFile.{InputFile}
 use Rattle.korat_top.specs.declared.refusal.InputFile.TheVariants as input
 use Rattle.korat_top.specs.Refusals.{Inputs, Refusal, at_place, type_code, of_finitization}
-use Rattle.korat_top.specs.Steps.{Held, each, made, reading, lexing, parsing, growing, classing, stating, typing, spacing, purifying, from_problem, from_document, from_trees, from_table, from_grown, from_texts, checking}
-use Rattle.korat_top.specs.Answer.{Command, IsAnswer, usage, refused, served, inputs_of, refusal_answer, report_of}
+use Rattle.korat_top.specs.Steps.{Held, each, made, reading, lexing, parsing, growing, classing, stating, typing, spacing, purifying, from_problem, from_document, from_trees, from_table, from_grown, from_texts, checking, demonstrating}
+use Rattle.kr_demo.specs.Texts.{source_text, finitization_text}
+use Rattle.korat_top.specs.Answer.{Command, ListFiles, CheckFiles, DemoOf, IsAnswer, usage, refused, served, inputs_of, refusal_answer, report_of, steps_of}
 use Rattle.korat_top.specs.Ends.{OneAnswer}
 use Rattle.korat_top.proofs.Outcomes.{HasOne, one_then, one_each}
 
@@ -227,6 +228,15 @@ one_checking laws held inputs =
     one_then _ _ (one_each (λ n name. reading held (input.Source n) name) (λ n name. one_reading held (input.Source n) name) 0 inputs.sources) (λ sources.
     one_from_texts laws fin sources))
 
+one_demonstrating : Laws → (n : ℕ) → HasOne (demonstrating n)
+unfolding demonstrating
+one_demonstrating laws n = one_from_texts laws (finitization_text n) (source_text n ∷ [])
+
+one_steps : Laws → (held : Held) (command : Command) → HasOne (steps_of held command)
+one_steps laws held (ListFiles inputs range) = one_checking laws held inputs
+one_steps laws held (CheckFiles inputs) = one_checking laws held inputs
+one_steps laws held (DemoOf n) = one_demonstrating laws n
+
 -- ---- one answer
 
 -- what a command answers, by what comes of the steps
@@ -236,7 +246,7 @@ AnswerBy command (Err refusal) = refusal_answer (inputs_of command) refusal
 
 abbrev Seen : Held → Option Command → Answer → Type 0
 Seen held None a = a ≡ line_answer 2 usage_text
-Seen held (Some command) a = (x : Result Problem Refusal) × checking held (inputs_of command) x × (a ≡ AnswerBy command x)
+Seen held (Some command) a = (x : Result Problem Refusal) × steps_of held command x × (a ≡ AnswerBy command x)
 
 seen : (held : Held) (asked : Option Command) (a : Answer) → IsAnswer held asked a → Seen held asked a
 seen held asked a usage = refl
@@ -245,7 +255,7 @@ seen held asked a (served problem h) = (Ok problem, h, refl)
 
 one_seen : Laws → (held : Held) (asked : Option Command) (a b : Answer) → Seen held asked a → Seen held asked b → a ≡ b
 one_seen laws held None a b x y = x ∙ sym y
-one_seen laws held (Some command) a b x y = x.2 ∙ (ap (AnswerBy command) (one_checking laws held (inputs_of command) x.0 y.0 x.1 y.1) ∙ sym y.2)
+one_seen laws held (Some command) a b x y = x.2 ∙ (ap (AnswerBy command) (one_steps laws held command x.0 y.0 x.1 y.1) ∙ sym y.2)
 
 pub one_answer : OneListLaw → UnbrokenLaw → OneRefusal → ParsedUnbroken → OneTree → OneAnswer
 one_answer lists unbroken refusals parsed trees held asked a b x y =

@@ -1,9 +1,11 @@
--- How many tokens and nodes files have at most.
-use Rattle.std.proofs.Common.{◌≡◌, ℕ, ◌+◌, ◌*◌, ◌<◌, ◌≤◌, ◌^◌, Bool, List, [], ◌∷◌, ◌++◌, length, ap, ◌∙◌, arith}
-use Rattle.std.specs.Prelude.{All, IfOk, Result, Ok, Err}
+-- How many tokens and nodes files have at most, and how long the demo's source is.
+use Rattle.std.proofs.Common.{◌≡◌, ℕ, ◌+◌, ◌*◌, ◌<◌, ◌≤◌, ◌^◌, Bool, List, [], ◌∷◌, ◌++◌, length, refl, ap, ◌∙◌, arith}
+use Rattle.std.specs.Prelude.{All, IfOk, Result, Ok, Err, decimal}
+use Rattle.std.proofs.lemmas.Fmt.{length-decimal-le}
 use Rattle.std.proofs.lemmas.List.{length-append}
 use Rattle.std.proofs.lemmas.List.Elements.{All-head, All-tail}
 use Rattle.kr_ast.specs.Arena.{Arena}
+use Rattle.kr_demo.specs.Texts.{source_front, source_back, source_text}
 use Rattle.kr_lex.specs.Lexemes.{Lexeme}
 use Rattle.kr_lex.specs.ContractLines.{head_of, contract_spelling}
 use Rattle.kr_lex.specs.Spells.{IsTokenHere, anywhere, within, Reaches, here, gap, token, contract, Spells}
@@ -55,3 +57,11 @@ few_nodes trees n h = let most = some_nodes trees h in omega (arith, most, n)
 pub small_tree : (r : Result Arena Stop) (n : ℕ) → n ≤ LIMIT → IfOk r (λ tree. length tree.entries ≤ 3 * n + 1) → IfOk r (λ tree. length tree.entries ≤ MOST_NODES)
 small_tree (Ok tree) n l h = omega (arith, l, h)
 small_tree (Err stop) n l h = tt
+
+-- the demo's source isn't too long
+pub source_short : (n : ℕ) → n < 2 ^ 32 → length (source_text n) ≤ LIMIT
+source_short n small =
+    let front : length source_front ≡ 596 = refl in
+    let back : length source_back ≡ 8 = refl in
+    let number : length (decimal n) ≤ 10 = length-decimal-le 10 n (omega arith) (omega (arith, small)) (omega (arith, small)) in
+    omega (arith, length-append (source_front ++ decimal n) source_back, length-append source_front (decimal n), front, back, number)

@@ -13,7 +13,7 @@ use Rattle.kr_mean.specs.Problem.{Problem}
 use Rattle.kr_posed.specs.declared.problem.Problem as posing
 use Rattle.korat_top.specs.Refusals.{Inputs, Refusal, name_of, refusal_of}
 use Rattle.korat_top.specs.Steps.{Held, LIMIT, each, growing, reading, from_texts, checking, ReadsIn, Reads, AllTold}
-use Rattle.korat_top.specs.Found.{telling, telling_source, HasRead, HasReadAll, Meets, Finds}
+use Rattle.korat_top.specs.Found.{telling, telling_source, HasRead, HasReadAll, Meets, FindsIn}
 use Rattle.korat_top.proofs.Outcomes.{split_at, each_refused}
 
 -- ---- one read, of at most one byte more than is taken
@@ -178,7 +178,7 @@ stopped_at held faults last names i files before after texts Memory l e same cou
 -- sources that are not all read, behind the finitization
 pub sources_stopped : {F : Type 0} (held : F → Held) (faults : F → ℕ) (last : F → Option (List ℕ)) (inputs : Inputs) (files before after : F) (fin : List ℕ) (stop : Stop)
     → telling (held files) input.Finitization inputs.fin (Ok fin) → ((name : List ℕ) → held before name ≡ held files name) → faults before ≡ faults files
-    → HasReadAll held faults last inputs.sources before after (Err stop) → Finds held faults last inputs files after (Err stop)
+    → HasReadAll held faults last inputs.sources before after (Err stop) → FindsIn held faults last inputs files after (Err stop)
 sources_stopped held faults last inputs files before after fin (Refused r) f same count h = λ told.
     source_long (held files) inputs fin (refusal_of r) f (each_before (held files) (held before) 0 inputs.sources (Err (refusal_of r)) same h) told
 sources_stopped held faults last inputs files before after fin (Read failed) f same count h = record {
@@ -191,7 +191,7 @@ sources_stopped held faults last inputs files before after fin Memory f same cou
 -- all files were read, and judged
 pub judged_found : {F : Type 0} (held : F → Held) (faults : F → ℕ) (last : F → Option (List ℕ)) (inputs : Inputs) (files before after : F) (fin : List ℕ) (texts : List (List ℕ)) (r : Result posing.Problem Stop)
     → telling (held files) input.Finitization inputs.fin (Ok fin) → ((name : List ℕ) → held before name ≡ held files name) → each (telling_source (held before)) 0 inputs.sources (Ok texts)
-    → Meets (from_texts fin texts) posed r → Finds held faults last inputs files after r
+    → Meets (from_texts fin texts) posed r → FindsIn held faults last inputs files after r
 judged_found held faults last inputs files before after fin texts (Ok found) f same e j = λ told.
     judged (held files) inputs fin texts (Ok (posed found)) f (each_before (held files) (held before) 0 inputs.sources (Ok texts) same e) j told
 judged_found held faults last inputs files before after fin texts (Err (Refused r)) f same e j = λ told.

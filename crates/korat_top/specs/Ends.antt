@@ -5,8 +5,8 @@ use Rattle.kr_base.specs.Told.{Added, Stopped}
 use Rattle.kr_report.specs.Texts.{read_fault_text, memory_text}
 use Rattle.kr_report.specs.Reports.{Answer, bytes_of}
 use Rattle.kr_report.specs.Endings.{front_of}
-use Rattle.korat_top.specs.Steps.{Held, Reads}
-use Rattle.korat_top.specs.Answer.{Command, IsAnswer, IsTold, inputs_of}
+use Rattle.korat_top.specs.Steps.{Held}
+use Rattle.korat_top.specs.Answer.{Command, IsAnswer, IsTold, ReadsFor}
 
 -- The words' answer was given: its status, and exactly its bytes.
 pub record Gives {K : Type 0} (held : Held) (taken : K → Option (List ℕ)) (faults : K → ℕ) (asked : Option Command) (out out' : K) (status : ℕ) : Type 0 where
@@ -21,7 +21,7 @@ pub record TellsReadFault {F K : Type 0} (held : F → Held) (read_faults : F �
   pub command : Command
   pub name : List ℕ
   pub asked_for : asked ≡ Some command
-  pub read : Reads (held files) (inputs_of command) name
+  pub read : ReadsFor (held files) command name
   pub named : last files' ≡ Some name
   pub cause : Rose (read_faults files) (read_faults files')
   pub written : Added taken faults out out' (read_fault_text name)
@@ -33,7 +33,7 @@ IsFront held asked rows = (rows ≡ []) ⊎ ((answer : Answer) × IsAnswer held 
 -- a text that a call may have begun: its answer's, or that of a read fault, or that of want of memory after some rows
 abbrev pub MayTell : Held → Option Command → List ℕ → Type 0
 MayTell held asked text = ((answer : Answer) × IsAnswer held asked answer × (text ≡ bytes_of answer))
-    ⊎ ((command : Command) × (name : List ℕ) × (asked ≡ Some command) × Reads held (inputs_of command) name × (text ≡ read_fault_text name))
+    ⊎ ((command : Command) × (name : List ℕ) × (asked ≡ Some command) × ReadsFor held command name × (text ≡ read_fault_text name))
     ⊎ ((rows : List ℕ) × IsFront held asked rows × (text ≡ rows ++ memory_text))
 
 -- A fault of the sink ended the call within such a text.

@@ -13,7 +13,7 @@ use Rattle.kr_report.specs.Texts.{row_text, value_text, verdict_text, tested_tex
 use Rattle.kr_args.specs.Worked.{files, with_files}
 use Rattle.kr_report.specs.Reports.{Answer, bytes_of, rows_in, listing_answer, is_failing}
 use Rattle.kr_args.specs.Worked as words
-use Rattle.korat_top.specs.Answer.{ListFiles, CheckFiles, asked_of}
+use Rattle.korat_top.specs.Answer.{ListFiles, CheckFiles, DemoOf, asked_of, tally_of}
 
 -- the lines of all rows of a problem
 abbrev pub lines_of : Problem → List (List ℕ)
@@ -43,6 +43,8 @@ pub record WorkedLines : Type 0 where
   pub rows_before_spent : report_of loops [] 9 ≡ told 5 (codes "0.0 Cell#0{v=0}\nspent 0.1\n")
   pub spent_at_the_limit : report_of loops [] 1 ≡ told 5 (codes "0.0 Cell#0{v=0}\nspent 0.1\n")
   pub behind_spent : report_of loops (0 ∷ 1 ∷ []) 9 ≡ told 0 (codes "0.2 Cell#0{v=2}\nvalid 1 tried 1\n")
+  pub cell_counted : told_by (tally_of 3 (cell 0 1000)) ≡ told 0 (codes "nodes 3 valid 2\n")
+  pub counted_up_to_spent : told_by (tally_of 1 loops) ≡ told 5 (codes "spent 0.1\n")
   pub plus_report : report_of plus [] 9 ≡ told 0 (codes "0.1.0 pass (x=1) Cell#0{v=0}\nvalid 1 failing 0 tried 2\n")
   pub booleans : map (value_text two_ints) (Truth true ∷ Truth false ∷ []) ≡ codes "true" ∷ codes "false" ∷ []
   pub verdicts : map verdict_text (Some Pass ∷ Some (Ensures 12) ∷ Some RepOk ∷ Some (Trap NullPointerException) ∷ Some (CheckTrap ArithmeticException) ∷ Some OutOfFuel ∷ []) ≡ codes "pass " ∷ codes "ensures 12 " ∷ codes "repOk " ∷ codes "trap NullPointerException " ∷ codes "check-trap ArithmeticException " ∷ codes "spent " ∷ []
@@ -57,4 +59,6 @@ pub record WorkedCommands : Type 0 where
   pub limited : asked_of (with_files (codes "list") (codes "--limit=3" ∷ [])) ≡ Some (ListFiles (files (codes "f") (codes "a" ∷ [])) (words.range [] End 3))
   pub parted : asked_of (codes "list" ∷ codes "--from" ∷ codes "0.2" ∷ codes "f" ∷ codes "a" ∷ codes "--to" ∷ codes "1" ∷ []) ≡ Some (ListFiles (files (codes "f") (codes "a" ∷ [])) (words.range (0 ∷ 2 ∷ []) (At (1 ∷ [])) 4294967295))
   pub checking : asked_of (codes "check" ∷ codes "f" ∷ codes "a" ∷ codes "b" ∷ []) ≡ Some (CheckFiles (files (codes "f") (codes "a" ∷ codes "b" ∷ [])))
-  pub demo : asked_of (codes "demo" ∷ codes "12" ∷ []) ≡ None
+  pub demo : asked_of (codes "demo" ∷ codes "12" ∷ []) ≡ Some (DemoOf 12)
+  pub demo_of_none : asked_of (codes "demo" ∷ codes "0" ∷ []) ≡ None
+  pub demo_too_large : asked_of (codes "demo" ∷ codes "13" ∷ []) ≡ None

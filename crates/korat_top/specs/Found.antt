@@ -8,6 +8,7 @@ use Rattle.kr_shapes.specs.Shapes.{AreClasses}
 use Rattle.kr_posed.specs.declared.problem.Problem.{Problem}
 use Rattle.korat_top.specs.Refusals.{Inputs, Refusal, too_long, name_of, refusal_of}
 use Rattle.korat_top.specs.Steps.{Held, LIMIT, each, checking, ReadsIn, Reads, AllTold}
+use Rattle.korat_top.specs.Answer.{Command, IsTold, ReadsFor, inputs_of, steps_of}
 use Rattle.korat_top.specs.declared.refusal.InputFile.{InputFile}
 use Rattle.korat_top.specs.declared.refusal.InputFile.TheVariants as input
 use Rattle.korat_top.specs.declared.refusal.Stop.{Stop}
@@ -76,15 +77,22 @@ AreShaped files = All (λ a. AreClasses (root a)) files
 
 -- ---- What is found
 
--- A read failed and was counted.
-pub record FailsToRead {F : Type 0} (held : F → Held) (faults : F → ℕ) (last : F → Option (List ℕ)) (inputs : Inputs) (files files' : F) (failed : InputFile) : Type 0 where
-  pub read : Reads (held files) inputs (name_of inputs failed)
-  pub named : last files' ≡ Some (name_of inputs failed)
+-- The read of a file failed and was counted.
+pub record FailsToRead {F : Type 0} (faults : F → ℕ) (last : F → Option (List ℕ)) (reads : List ℕ → Type 0) (name : List ℕ) (files files' : F) : Type 0 where
+  pub read : reads name
+  pub named : last files' ≡ Some name
   pub cause : Rose (faults files) (faults files')
 
 -- what the steps say of what the files hold, where it is told; or a read fault; or want of memory, which is free
-abbrev pub Finds : {F : Type 0} → (F → Held) → (F → ℕ) → (F → Option (List ℕ)) → Inputs → F → F → Result Problem Stop → Type 0
-Finds held faults last inputs files files' (Ok f) = AllTold (held files) inputs → checking (held files) inputs (Ok (posed f))
-Finds held faults last inputs files files' (Err (Refused r)) = AllTold (held files) inputs → checking (held files) inputs (Err (refusal_of r))
-Finds held faults last inputs files files' (Err (Read failed)) = FailsToRead held faults last inputs files files' failed
-Finds held faults last inputs files files' (Err Memory) = Unit {0}
+abbrev pub FindsIn : {F : Type 0} → (F → Held) → (F → ℕ) → (F → Option (List ℕ)) → Inputs → F → F → Result Problem Stop → Type 0
+FindsIn held faults last inputs files files' (Ok f) = AllTold (held files) inputs → checking (held files) inputs (Ok (posed f))
+FindsIn held faults last inputs files files' (Err (Refused r)) = AllTold (held files) inputs → checking (held files) inputs (Err (refusal_of r))
+FindsIn held faults last inputs files files' (Err (Read failed)) = FailsToRead faults last (Reads (held files) inputs) (name_of inputs failed) files files'
+FindsIn held faults last inputs files files' (Err Memory) = Unit {0}
+
+-- the same of a command's steps
+abbrev pub Finds : {F : Type 0} → (F → Held) → (F → ℕ) → (F → Option (List ℕ)) → Command → F → F → Result Problem Stop → Type 0
+Finds held faults last command files files' (Ok f) = IsTold (held files) (Some command) → steps_of (held files) command (Ok (posed f))
+Finds held faults last command files files' (Err (Refused r)) = IsTold (held files) (Some command) → steps_of (held files) command (Err (refusal_of r))
+Finds held faults last command files files' (Err (Read failed)) = FailsToRead faults last (ReadsFor (held files) command) (name_of (inputs_of command) failed) files files'
+Finds held faults last command files files' (Err Memory) = Unit {0}

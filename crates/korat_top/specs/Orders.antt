@@ -1,29 +1,20 @@
--- What is done for a command, and what it answers of files of which none is refused.
+-- Which command an order is.
 use Rattle.std.specs.Prelude.{string_bytes}
 use Rattle.kr_args.specs.Reading.{Range}
-use Rattle.kr_mean.specs.Problem.{Problem}
-use Rattle.kr_report.specs.Reports.{Answer}
 use Rattle.korat_top.specs.Refusals.{Inputs}
-use Rattle.korat_top.specs.Answer.{Command, ListFiles, CheckFiles, listing_of, counts_of}
+use Rattle.korat_top.specs.Answer.{Command, ListFiles, CheckFiles, DemoOf}
 use Rattle.korat_top.specs.declared.command.Range.{Range as OwnRange}
+use Rattle.korat_top.specs.declared.command.FileNames.{FileNames}
 use Rattle.korat_top.specs.declared.command.Order.{Order}
-use Rattle.korat_top.specs.declared.command.Purpose.{Purpose}
-use Rattle.korat_top.specs.declared.command.Purpose.TheVariants as purposes
+use Rattle.korat_top.specs.declared.command.Order.TheVariants as orders
 
 abbrev pub range_of : OwnRange → Range
 range_of range = record { from = range.from; to = range.to; limit = range.limit }
 
-abbrev pub inputs_in : Order → Inputs
-inputs_in order = record { fin = string_bytes order.fin; sources = order.sources }
-
-abbrev pub command_for : Purpose → Inputs → Command
-command_for (purposes.List range) inputs = ListFiles inputs (range_of range)
-command_for purposes.Check inputs = CheckFiles inputs
+abbrev pub inputs_in : FileNames → Inputs
+inputs_in names = record { fin = string_bytes names.fin; sources = names.sources }
 
 abbrev pub command_in : Order → Command
-command_in order = command_for order.purpose (inputs_in order)
-
--- what is reported of a problem
-abbrev pub report_for : Purpose → Problem → Answer
-report_for (purposes.List asked) problem = listing_of (range_of asked) problem
-report_for purposes.Check problem = counts_of problem
+command_in (orders.List names range) = ListFiles (inputs_in names) (range_of range)
+command_in (orders.Check names) = CheckFiles (inputs_in names)
+command_in (orders.Demo nodes) = DemoOf nodes

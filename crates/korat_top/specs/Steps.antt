@@ -15,6 +15,7 @@ use Rattle.kr_table.specs.Rules.{Fault as NodeFault, class_fault}
 use Rattle.kr_typing.specs.Typing.{type_fault}
 use Rattle.kr_classes.specs.declared.refusal.ClassRule.{ClassRule}
 use Rattle.kr_classes.specs.Refusals.{rule_number, rule_code as class_code}
+use Rattle.kr_demo.specs.Texts.{source_text, finitization_text}
 use Rattle.kr_fin.specs.declared.document.FinDoc.{FinDoc}
 use Rattle.kr_fin.specs.declared.refusal.Fault.{Fault}
 use Rattle.kr_fin.specs.Order.{rule_code as fin_code}
@@ -127,6 +128,10 @@ from_grown fin trees = and_then (classing trees) (λ table. from_table fin trees
 
 abbrev pub from_texts : List ℕ → List (List ℕ) → Result Problem Refusal → Type 0
 from_texts fin sources = and_then (each growing 0 sources) (λ trees. from_grown fin trees)
+
+-- the same steps over the demo's texts, of so many nodes
+unfoldable pub demonstrating : ℕ → Result Problem Refusal → Type 0
+demonstrating n = from_texts (finitization_text n) (source_text n ∷ [])
 
 -- all steps, the finitization read first: the problem that the files pose, where none is refused
 abbrev pub checking : Held → Inputs → Result Problem Refusal → Type 0

@@ -11,15 +11,19 @@ ghost use Rattle.kr_mean.specs.Problem.{slots};
 ghost use Rattle.kr_mean.specs.WellFormed.{IsWellFormed};
 ghost use Rattle.kr_posed.specs.Posed.{IsPosed, posed};
 ghost use Rattle.korat_top.specs.Refusals.{refusal_of, too_long as too_long_of, source_start as start_of};
-ghost use Rattle.korat_top.specs.Steps.{LIMIT, lexing, parsing, growing, classing, typing, stating, MOST_NODES, spacing, purifying, from_texts, from_grown, from_table, from_trees, from_document, from_problem, each};
-ghost use Rattle.korat_top.specs.Found.{HasRead, HasReadAll, IsLater, Meets, Finds, CountStays, AreShaped};
+ghost use Rattle.korat_top.specs.Steps.{LIMIT, lexing, parsing, growing, classing, typing, stating, MOST_NODES, spacing, purifying, from_texts, from_grown, from_table, from_trees, from_document, from_problem, each, demonstrating};
+ghost use Rattle.korat_top.specs.Answer.{inputs_of};
+ghost use Rattle.korat_top.specs.Orders.{command_in};
+ghost use Rattle.korat_top.specs.Found.{HasRead, HasReadAll, IsLater, Meets, FindsIn, Finds, CountStays, AreShaped};
 
 use crate::MAX_FILE_BYTES;
+use crate::command::Order;
 use crate::refusal::{InputFile, Refusal, Stop};
 use crate::sources::Texts;
 use kr_ast::Tree;
 use kr_base::{NoMemory, Place, Words};
 use kr_classes::{ClassRefusal, ClassTable, classes};
+use kr_demo::{demo_finitization, demo_source};
 use kr_domains::SpaceRefusal;
 use kr_fin::{FinDoc, FinRefusal, read_fin};
 use kr_io::{Files, ReadRefusal};
@@ -319,15 +323,15 @@ fn judge(alloc: Global, fin: &[u8], texts: &Texts) -> Result<Accepted, Stop>
     judge_grown(alloc, fin, trees)
 }
 
-/// Reads the files of a command, the finitization first, and judges them.
-pub(crate) fn find<F: Files>(
+/// Reads files, the finitization first, and judges them.
+fn find_files<F: Files>(
     alloc: Global,
     fin: &str,
     sources: &Words,
     files: &mut F,
 ) -> Result<Accepted, Stop>
     requires few { length sources.now ≤ 16 }
-    ensures found { Finds F.held F.faults F.last (record { fin = fin.now; sources = sources.now }) files.old files.new result }
+    ensures found { FindsIn F.held F.faults F.last (record { fin = fin.now; sources = sources.now }) files.old files.new result }
     ensures count { CountStays (F.faults files.old) (F.faults files.new) result }
     ensures mode { IfOk result (λ found. (posed found).mode ≡ Listing) }
 {
@@ -335,5 +339,31 @@ pub(crate) fn find<F: Files>(
     match read_sources(alloc, sources, files) {
         Ok(texts) => judge(alloc, &bytes, &texts),
         Err(stop) => Err(stop),
+    }
+}
+
+/// Judges the demo's texts, which no file holds.
+fn find_demo(alloc: Global, nodes: u32) -> Result<Accepted, Stop>
+    ensures judged { Meets (demonstrating nodes) posed result }
+    ensures mode { IfOk result (λ found. (posed found).mode ≡ Listing) }
+{
+    let fin = demo_finitization(alloc, nodes)?;
+    let source = demo_source(alloc, nodes)?;
+    let mut texts = Texts::new(alloc);
+    texts.push(source)?;
+    judge(alloc, &fin, &texts)
+}
+
+/// Does the steps of a command, up to the problem.
+pub(crate) fn find<F: Files>(alloc: Global, order: &Order, files: &mut F) -> Result<Accepted, Stop>
+    requires few { length (inputs_of (command_in order.now)).sources ≤ 16 }
+    ensures found { Finds F.held F.faults F.last (command_in order.now) files.old files.new result }
+    ensures count { CountStays (F.faults files.old) (F.faults files.new) result }
+    ensures mode { IfOk result (λ found. (posed found).mode ≡ Listing) }
+{
+    match order {
+        Order::List(names, _) => find_files(alloc, names.fin.as_str(), &names.sources, files),
+        Order::Check(names) => find_files(alloc, names.fin.as_str(), &names.sources, files),
+        Order::Demo(nodes) => find_demo(alloc, *nodes),
     }
 }

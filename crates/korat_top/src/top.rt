@@ -2,12 +2,12 @@
 ghost use Rattle.std.specs.Prelude.{◌≡◌, ◌<◌, ◌≤◌, Some, IfOk, OnErr, is_ok, if◌then◌else◌, length};
 ghost use Rattle.kr_mean.specs.declared.mode.Mode.TheVariants.{List as Listing};
 ghost use Rattle.kr_report.specs.Endings.{EndsListing};
-ghost use Rattle.korat_top.specs.Answer.{asked_of, counts_of, listing_of};
+ghost use Rattle.korat_top.specs.Answer.{asked_of, counts_of, inputs_of, listing_of, report_of, tally_of};
 ghost use Rattle.kr_posed.specs.Posed.{posed};
-ghost use Rattle.korat_top.specs.Orders.{command_for, command_in, range_of, report_for};
+ghost use Rattle.korat_top.specs.Orders.{command_in, range_of};
 ghost use Rattle.korat_top.specs.Ends.{EndsFor, IsComplete};
 
-use crate::command::{Order, Purpose, Range, order_of};
+use crate::command::{Order, Range, order_of};
 use crate::find::find;
 use crate::refusal::Stop;
 use crate::report::{name_of, put_refused, status_of};
@@ -18,6 +18,7 @@ use kr_listing::put_subject;
 use kr_report::{put_checked, put_out_of_memory, put_read_fault, put_usage_fault};
 use kr_steps::Steps;
 use kr_subject::{Accepted, Prepared};
+use kr_tally::put_tally;
 use std::alloc::Global;
 use std::marker::Brand;
 use std::sync::ledger::{Blank, Ledger};
@@ -76,6 +77,44 @@ fn list<K: Sink, L: Ledger>(
     }
 }
 
+/// Counts the valid entries of a problem. Where memory is refused, nothing is put.
+fn put_valid<K: Sink, L: Ledger>(
+    alloc: Global,
+    found: Accepted,
+    nodes: u32,
+    out: &mut K,
+    runs: &mut Steps<L>,
+) -> Result<u8, NoMemory>
+    requires mode { (posed found).mode ≡ Listing }
+    ensures ends { IfOk result (λ status. EndsListing K.taken K.faults (tally_of nodes (posed found)) out.old out.new status) }
+    ensures nothing { OnErr result (out.new ≡ out.old) }
+{
+    let predicate = predicate_of(alloc, found.problem())?;
+    let prepared = Prepared::new(alloc, found, predicate)?;
+    put_tally(alloc, &prepared, nodes, out, runs)
+}
+
+/// Counts the valid entries of the demo's problem.
+fn demonstrate<K: Sink, L: Ledger>(
+    alloc: Global,
+    found: Accepted,
+    nodes: u32,
+    out: &mut K,
+    blank: Blank,
+) -> u8
+    requires mode { (posed found).mode ≡ Listing }
+    requires ledger { blank.name ≡ L.name }
+    requires parts { blank.parts ≡ L.parts }
+    requires some { 0 < L.parts }
+    ensures { EndsListing K.taken K.faults (tally_of nodes (posed found)) out.old out.new result }
+{
+    let mut runs = Steps::<L>::start(blank);
+    match put_valid(alloc, found, nodes, out, &mut runs) {
+        Ok(status) => status,
+        Err(NoMemory) => once_written(put_out_of_memory(out), 8),
+    }
+}
+
 /// Counts the classes and slots of a problem.
 fn count<K: Sink>(found: &Accepted, out: &mut K) -> u8
     ensures { EndsListing K.taken K.faults (counts_of (posed found.now)) out.old out.new result }
@@ -86,55 +125,32 @@ fn count<K: Sink>(found: &Accepted, out: &mut K) -> u8
     once_written(put_checked(classes, slots, out), 0)
 }
 
-/// Reports of a problem.
-fn report<K: Sink>(alloc: Global, purpose: &Purpose, found: Accepted, out: &mut K) -> u8
+/// Reports of the problem of a command.
+fn report<K: Sink>(alloc: Global, order: &Order, found: Accepted, out: &mut K) -> u8
     requires mode { (posed found).mode ≡ Listing }
-    ensures { EndsListing K.taken K.faults (report_for purpose.now (posed found)) out.old out.new result }
+    ensures { EndsListing K.taken K.faults (report_of (command_in order.now) (posed found)) out.old out.new result }
 {
-    match purpose {
-        Purpose::List(range) => list::<K, Brand>(alloc, found, range, out, Blank::new(1)),
-        Purpose::Check => count(&found, out),
-    }
-}
-
-/// Serves a command over the files that it names.
-fn serve<F: Files, K: Sink>(
-    alloc: Global,
-    purpose: &Purpose,
-    fin: &str,
-    sources: &Words,
-    files: &mut F,
-    out: &mut K,
-) -> u8
-    requires { length sources.now ≤ 16 }
-    ensures { EndsFor F.held F.faults F.last K.taken K.faults (Some (command_for purpose.now (record { fin = fin.now; sources = sources.now }))) files.old files.new out.old out.new result }
-{
-    match find(alloc, fin, sources, files) {
-        Ok(found) => report(alloc, purpose, found, out),
-        Err(Stop::Refused(refusal)) => once_written(
-            put_refused(fin, sources, &refusal, out),
-            status_of(refusal.file),
-        ),
-        Err(Stop::Read(file)) => {
-            once_written(put_read_fault(name_of(fin, sources, file), out), 6)
-        }
-        Err(Stop::Memory) => once_written(put_out_of_memory(out), 8),
+    match order {
+        Order::List(_, range) => list::<K, Brand>(alloc, found, range, out, Blank::new(1)),
+        Order::Check(_) => count(&found, out),
+        Order::Demo(nodes) => demonstrate::<K, Brand>(alloc, found, *nodes, out, Blank::new(1)),
     }
 }
 
 /// Serves an order.
-fn serve_order<F: Files, K: Sink>(alloc: Global, order: &Order, files: &mut F, out: &mut K) -> u8
-    requires { length order.now.sources ≤ 16 }
+fn serve<F: Files, K: Sink>(alloc: Global, order: &Order, files: &mut F, out: &mut K) -> u8
+    requires { length (inputs_of (command_in order.now)).sources ≤ 16 }
     ensures { EndsFor F.held F.faults F.last K.taken K.faults (Some (command_in order.now)) files.old files.new out.old out.new result }
 {
-    serve(
-        alloc,
-        &order.purpose,
-        order.fin.as_str(),
-        &order.sources,
-        files,
-        out,
-    )
+    match find(alloc, order, files) {
+        Ok(found) => report(alloc, order, found, out),
+        Err(Stop::Refused(refusal)) => once_written(
+            put_refused(name_of(order, refusal.file), &refusal, out),
+            status_of(refusal.file),
+        ),
+        Err(Stop::Read(file)) => once_written(put_read_fault(name_of(order, file), out), 6),
+        Err(Stop::Memory) => once_written(put_out_of_memory(out), 8),
+    }
 }
 
 /// All that the program does: it serves the words, which are without the program's own name, and answers the status to
@@ -151,7 +167,7 @@ pub fn run<R, F: Files, K: Sink, G: Gate + Sync>(
     ensures complete { IsComplete F.held F.faults K.taken K.faults (asked_of words.now) files.old files.new out.old out.new result }
 {
     match order_of(alloc, words) {
-        Ok(Some(order)) => serve_order(alloc, &order, files, out),
+        Ok(Some(order)) => serve(alloc, &order, files, out),
         Ok(None) => once_written(put_usage_fault(out), 2),
         Err(NoMemory) => once_written(put_out_of_memory(out), 8),
     }

@@ -13,4 +13,6 @@ returns c =
       parted = ap served_of words.spans;
       checking = ap served_of words.checked;
       demo = ap served_of words.demo;
+      demo_of_none = ap served_of words.demo_of_none;
+      demo_too_large = ap served_of words.demo_too_large;
     }

@@ -9,11 +9,11 @@ pub returns-in-Ok-Some : goal.returns-in-Ok-Some
 returns-in-Ok-Some g c =
     let words = c.args.words.now in
     let asked : asked_of words ≡ Some (command_in c.in-Ok-Some.order) = sym (rw c.in-Ok-Some.field-0-is at c.in-Ok-Some.ensures.means) in
-    let P : Option Command → Type 0 = λ a. EndsFor g.F.Files.held g.F.Files.faults g.F.Files.last g.K.Sink.taken g.K.Sink.faults a c.args.files.now c.serve_order.new.files c.args.out.now c.serve_order.new.out c.serve_order.result in
-    let ends = subst P (sym asked) c.serve_order.ensures in
+    let P : Option Command → Type 0 = λ a. EndsFor g.F.Files.held g.F.Files.faults g.F.Files.last g.K.Sink.taken g.K.Sink.faults a c.args.files.now c.serve.new.files c.args.out.now c.serve.new.out c.serve.result in
+    let ends = subst P (sym asked) c.serve.ensures in
     record {
       headline = ends;
-      complete = complete g.F.Files.held g.F.Files.faults g.F.Files.last g.K.Sink.taken g.K.Sink.faults (asked_of words) c.args.files.now c.serve_order.new.files c.args.out.now c.serve_order.new.out c.serve_order.result ends;
+      complete = complete g.F.Files.held g.F.Files.faults g.F.Files.last g.K.Sink.taken g.K.Sink.faults (asked_of words) c.args.files.now c.serve.new.files c.args.out.now c.serve.new.out c.serve.result ends;
     }
 
 pub returns-in-Ok-None : goal.returns-in-Ok-None

@@ -1,0 +1,12 @@
+use Rattle.std.proofs.Common.{subst}
+use Rattle.kr_base.specs.Told.{Writes}
+use Rattle.kr_posed.specs.Posed.{posed}
+use Rattle.kr_report.specs.Texts.{memory_text}
+use Rattle.korat_top.specs.Answer.{tally_of}
+use Rattle.korat_top.proofs.Calls.{memory_listing}
+use Rattle.korat_top.proofs.top.demonstrate.Goals as goal
+
+pub returns : goal.returns
+returns g c =
+    let written = subst (λ (old : g.row.K.Denot). Writes g.K.Sink.taken g.K.Sink.faults old c.put_out_of_memory.new.out memory_text c.put_out_of_memory.result) c.in-Err.ensures.nothing c.put_out_of_memory.ensures in
+    memory_listing g.K.Sink.taken g.K.Sink.faults c.args.out.now c.put_out_of_memory.new.out (tally_of c.args.nodes (posed c.args.found)) c.once_written.result c.put_out_of_memory.result written c.once_written.ensures
