@@ -89,7 +89,7 @@ fn plain_text<L: Ledger>(alloc: Global, blank: Blank, prepared: Prepared) -> Res
     requires some { 0 < L.parts }
 {
     let mut runs = Steps::<L>::start(blank);
-    let mut candidates = Candidates::new(alloc, prepared)?;
+    let mut candidates = Candidates::new(alloc, &prepared)?;
     let span = Span {
         after: Cut::empty(alloc),
         upto: Bound::End,
@@ -101,7 +101,7 @@ fn plain_text<L: Ledger>(alloc: Global, blank: Blank, prepared: Prepared) -> Res
 /// What a search finds from now on, up to the first spent entry.
 fn found_text<L: Ledger>(
     alloc: Global,
-    search: &mut Search<Candidates<Prepared>>,
+    search: &mut Search<Candidates<'_, Prepared>>,
     runs: &mut Steps<L>,
 ) -> Result<String, Fail> {
     let mut text = String::new(alloc);
@@ -126,7 +126,7 @@ fn searched_text<L: Ledger>(alloc: Global, blank: Blank, prepared: Prepared) -> 
     requires some { 0 < L.parts }
 {
     let mut runs = Steps::<L>::start(blank);
-    let candidates = Candidates::new(alloc, prepared)?;
+    let candidates = Candidates::new(alloc, &prepared)?;
     let mut search = Search::seek(alloc, candidates, &[], &mut runs)?;
     found_text(alloc, &mut search, &mut runs)
 }

@@ -1,6 +1,6 @@
 -- Numbers of types, collected one after another, while there come more types.
 use Rattle.std.proofs.Common.{◌≡◌, ℕ, suc, ◌+◌, ◌<◌, Bool, true, false, cond, List, [], ◌∷◌, ◌++◌, length, map, get_or, drop, refl, sym, ap, subst, ◌∙◌, append_assoc, arith}
-use Rattle.std.specs.Prelude.{◌||◌, flat_map, reverse}
+use Rattle.std.specs.Prelude.{◌||◌, ◌==◌, flat_map, reverse}
 use Rattle.std.proofs.lemmas.Bool.{cond-true, cond-false}
 use Rattle.std.proofs.lemmas.List.{drop_more, map-append, reverse-append}
 use Rattle.std.proofs.lemmas.List.Concat.{flat_map-append}
@@ -8,24 +8,23 @@ use Rattle.std.proofs.lemmas.List.Elements.{All-append, All-nil, All-from_recurs
 use Rattle.std.proofs.lemmas.List.Sums.{fold-append}
 use Rattle.kr_ast.specs.Arena.{Arena, root}
 use Rattle.kr_ast.specs.Tree.{Tree}
-use Rattle.kr_table.specs.Types.{JavaType, is_same}
+use Rattle.kr_table.specs.Types.{JavaType}
 use Rattle.kr_table.specs.Arrays.{arrays_in, is_listed}
 use Rattle.kr_table.specs.Nodes.{nodes}
-use Rattle.kr_type_numbers.specs.Types.{TypeList, Extends, count, type_at}
+use Rattle.kr_type_numbers.specs.Types.{TypeList, AreDistinct, Extends, count, type_at}
 use Rattle.kr_type_numbers.specs.Numbers.{AreNodeTypes, named_type, number_in}
 use Rattle.kr_type_numbers.proofs.Growing.{number_kept}
 use Rattle.kr_arrays.specs.Collected.{AreNumbers, collect, collected, types_shown}
+use Rattle.kr_arrays.specs.Numbers.{has_number, with_number}
 
 -- ---- whether a type is there
 
-listed_next : (l : TypeList) (t : JavaType) (ns : List ℕ) (i x : ℕ) → i < length ns → x ≡ get_or ns i x → is_listed t (types_shown l (drop i ns)) ≡ (is_same t (type_at l x) || is_listed t (types_shown l (drop (i + 1) ns)))
-listed_next l t ns i x h e = ap (λ (ms : List ℕ). is_listed t (types_shown l ms)) (drop_more ns i x h) ∙ ap (λ (n : ℕ). is_same t (type_at l n) || is_listed t (types_shown l (drop (i + 1) ns))) (sym e)
-
-pub listed_here : (l : TypeList) (t : JavaType) (ns : List ℕ) (i x : ℕ) (all b : Bool) → i < length ns → x ≡ get_or ns i x → all ≡ is_listed t (types_shown l (drop i ns)) → b ≡ is_same t (type_at l x) → b ≡ true → true ≡ all
-listed_here l t ns i x all b h e k s r = sym (k ∙ (listed_next l t ns i x h e ∙ ap (λ (c : Bool). c || is_listed t (types_shown l (drop (i + 1) ns))) (sym s ∙ r)))
-
-pub listed_on : (l : TypeList) (t : JavaType) (ns : List ℕ) (i x : ℕ) (all b : Bool) → i < length ns → x ≡ get_or ns i x → all ≡ is_listed t (types_shown l (drop i ns)) → b ≡ is_same t (type_at l x) → b ≡ false → all ≡ is_listed t (types_shown l (drop (i + 1) ns))
-listed_on l t ns i x all b h e k s r = k ∙ (listed_next l t ns i x h e ∙ ap (λ (c : Bool). c || is_listed t (types_shown l (drop (i + 1) ns))) (sym s ∙ r))
+-- types are listed where their numbers are
+pub listed_number : (l : TypeList) (ns : List ℕ) (n : ℕ) → AreDistinct l → AreNumbers l ns → n < count l → is_listed (type_at l n) (types_shown l ns) ≡ has_number ns n
+listed_number l [] n d h k = refl
+listed_number l (m ∷ ms) n d h k =
+    ap (λ (b : Bool). b || is_listed (type_at l n) (types_shown l ms)) (d n m k (h 0 m (omega arith)))
+    ∙ ap (λ (b : Bool). (n == m) || b) (listed_number l ms n d (λ i e q. h (suc i) e (omega (arith, q))) k)
 
 -- ---- one type more
 
@@ -39,6 +38,20 @@ collect_new l ns n b e h =
 
 pub numbers_more : (l : TypeList) (ns : List ℕ) (n : ℕ) → AreNumbers l ns → n < count l → AreNumbers l (ns ++ n ∷ [])
 numbers_more l ns n h k = All-append (λ (m : ℕ). m < count l) ns (n ∷ []) h (All-from_recursion (λ (m : ℕ). m < count l) (n ∷ []) (k, tt))
+
+pub collect_number : (l : TypeList) (ns ns' : List ℕ) (n : ℕ) → AreDistinct l → AreNumbers l ns → n < count l → ns' ≡ with_number ns n → types_shown l ns' ≡ collect (types_shown l ns) (type_at l n)
+collect_number l ns ns' n d h k e = ap (λ (ms : List ℕ). types_shown l ms) e ∙ go (has_number ns n) (listed_number l ns n d h k)
+  where
+    go : (b : Bool) → is_listed (type_at l n) (types_shown l ns) ≡ b → types_shown l (cond b ns (ns ++ n ∷ [])) ≡ collect (types_shown l ns) (type_at l n)
+    go true f = collect_there (types_shown l ns) (type_at l n) true (sym f) refl
+    go false f = collect_new l ns n false (sym f) refl
+
+pub numbers_with : (l : TypeList) (ns ns' : List ℕ) (n : ℕ) → AreNumbers l ns → n < count l → ns' ≡ with_number ns n → AreNumbers l ns'
+numbers_with l ns ns' n h k e = subst (λ (ms : List ℕ). AreNumbers l ms) (sym e) (go (has_number ns n))
+  where
+    go : (b : Bool) → AreNumbers l (cond b ns (ns ++ n ∷ []))
+    go true = h
+    go false = numbers_more l ns n h k
 
 pub no_numbers : (l : TypeList) (ns : List ℕ) → ns ≡ [] → AreNumbers l ns
 no_numbers l ns e = subst (λ (ms : List ℕ). AreNumbers l ms) (sym e) (All-nil (λ (m : ℕ). m < count l))
@@ -102,6 +115,10 @@ shown_kept a b [] e h = refl
 shown_kept a b (n ∷ ns) e h =
     ap (λ (t : JavaType). t ∷ types_shown b ns) (e.same n (h 0 n (omega arith)))
     ∙ ap (λ (ts : List JavaType). type_at a n ∷ ts) (shown_kept a b ns e (λ k d l. h (suc k) d (omega (arith, l))))
+
+pub collected_kept : (a b : TypeList) (ns : List ℕ) (now ts us : List JavaType) → Extends a b → AreNumbers a ns → ts ≡ us → now ≡ collected (types_shown b ns) us → now ≡ collected (types_shown a ns) ts
+collected_kept a b ns now ts us e h s k =
+    k ∙ (ap (λ (done : List JavaType). collected done us) (shown_kept a b ns e h) ∙ ap (λ (xs : List JavaType). collected (types_shown a ns) xs) (sym s))
 
 pub node_types_kept : (files : List Arena) (a b : TypeList) (ns : List (List ℕ)) → Extends a b → AreNodeTypes files a ns → AreNodeTypes files b ns
 node_types_kept files a b ns e h = λ f n. number_kept a b (number_in ns f n) (named_type files f n) e (h f n)

@@ -1,3 +1,5 @@
 pub mod Walked
 pub mod Once
 pub mod Collecting
+pub mod Marks
+pub mod Closed

@@ -2,9 +2,10 @@
 ghost use Rattle.std.specs.Prelude.{◌≡◌, ◌<◌, ◌++◌, ◌∷◌, [], IfOk, IfSome, MatchOption, OnOk, if◌then◌else◌, reverse};
 ghost use Rattle.kr_table.specs.Arrays.{arrays_in};
 ghost use Rattle.kr_type_numbers.specs.Types.{count, type_at};
-ghost use Rattle.kr_arrays.specs.Collected.{AreNumbers, collected, depth, types_shown};
+ghost use Rattle.kr_arrays.specs.Collected.{AreNumbers, IsClosed, collected, depth, types_shown};
 
 use crate::collected::add_all;
+use crate::list::Arrays;
 use kr_base::NoMemory;
 use kr_type_numbers::{TypeForm, Types};
 use std::alloc::Global;
@@ -50,35 +51,67 @@ fn add_if(found: &mut Vec<u32>, is_wanted: bool, number: u32) -> Result<(), NoMe
     Ok(())
 }
 
-/// The array types in a type, the outermost first.
-#[tactic(auto, using(crate::proofs::Collecting::inner_numbers, crate::proofs::Collecting::inner_shown))]
-fn arrays_within(alloc: Global, types: &Types, number: u32) -> Result<Vec<u32>, NoMemory>
-    requires { number < count types.now }
+/// What a type is made of, if there are array types in it that aren't listed.
+#[tactic(auto, using(crate::proofs::Closed::there_already, crate::proofs::Closed::none_in))]
+fn inner_left(types: &Types, arrays: &Arrays, number: u32) -> Option<Inner>
+    requires numbers { AreNumbers types.now arrays.now }
+    requires closed { IsClosed (types_shown types.now arrays.now) }
+    requires number { number < count types.now }
+    ensures within { IfSome result (λ i. i.number < count types.now) }
+    ensures smaller { IfSome result (λ i. depth (type_at types.now i.number) < depth (type_at types.now number)) }
+    ensures shown { MatchOption result (collected (types_shown types.now arrays.now) (arrays_in (type_at types.now number)) ≡ types_shown types.now arrays.now) (λ i. arrays_in (type_at types.now number) ≡ arrays_in (type_at types.now i.number) ++ (if i.is_of_array then type_at types.now number ∷ [] else [])) }
+{
+    types.distinct_law();
+    if arrays.has(number) {
+        return None;
+    }
+    match inner_of(types, number) {
+        None => None,
+        Some(inner) => Some(inner),
+    }
+}
+
+/// The array types in a type, the outermost first, as far as the first that is listed.
+#[tactic(auto, using(crate::proofs::Collecting::inner_numbers, crate::proofs::Collecting::inner_shown, crate::proofs::Closed::rest_there))]
+fn arrays_within(
+    alloc: Global,
+    types: &Types,
+    arrays: &Arrays,
+    number: u32,
+) -> Result<Vec<u32>, NoMemory>
+    requires numbers { AreNumbers types.now arrays.now }
+    requires closed { IsClosed (types_shown types.now arrays.now) }
+    requires number { number < count types.now }
     ensures numbers { IfOk result (λ found. AreNumbers types.now (reverse found.items)) }
-    ensures shown { IfOk result (λ found. types_shown types.now (reverse found.items) ≡ arrays_in (type_at types.now number)) }
+    ensures shown { IfOk result (λ found. collected (types_shown types.now arrays.now) (types_shown types.now (reverse found.items)) ≡ collected (types_shown types.now arrays.now) (arrays_in (type_at types.now number))) }
 {
     let mut found = Vec::new(alloc);
     let mut at = number;
-    while let Some(inner) = inner_of(types, at) {
+    while let Some(inner) = inner_left(types, arrays, at) {
         add_if(&mut found, inner.is_of_array, at)?;
         at = inner.number;
     }
     Ok(found)
 }
 
-/// Adds the array types in a type, those of elements first, where they aren't there yet.
+/// Adds the array types in a type, those of elements first, where they aren't there yet. What it takes is linear in the
+/// types that are added.
+#[tactic(auto, using(crate::proofs::Closed::closed_more))]
 pub fn add_arrays_in(
     alloc: Global,
     types: &Types,
-    arrays: &mut Vec<u32>,
+    arrays: &mut Arrays,
     number: u32,
 ) -> Result<(), NoMemory>
-    requires numbers { AreNumbers types.now arrays.old.items }
+    requires numbers { AreNumbers types.now arrays.old }
+    requires closed { IsClosed (types_shown types.now arrays.old) }
     requires number { number < count types.now }
-    ensures numbers { OnOk result (AreNumbers types.now arrays.new.items) }
-    ensures shown { OnOk result (types_shown types.now arrays.new.items ≡ collected (types_shown types.now arrays.old.items) (arrays_in (type_at types.now number))) }
+    ensures numbers { OnOk result (AreNumbers types.now arrays.new) }
+    ensures closed { OnOk result (IsClosed (types_shown types.now arrays.new)) }
+    ensures shown { OnOk result (types_shown types.now arrays.new ≡ collected (types_shown types.now arrays.old) (arrays_in (type_at types.now number))) }
 {
-    let mut found = arrays_within(alloc, types, number)?;
+    let mut found = arrays_within(alloc, types, &*arrays, number)?;
     found.reverse();
-    add_all(types, arrays, &found)
+    add_all(types, arrays, &found)?;
+    Ok(())
 }

@@ -3,10 +3,12 @@
 
 mod collected;
 mod inside;
+mod list;
 mod named;
 #[cfg(test)]
 mod tests;
 mod walk;
 
 pub use inside::add_arrays_in;
+pub use list::Arrays;
 pub use named::array_types;

@@ -7,9 +7,10 @@ ghost use Rattle.kr_table.specs.Table.{headings_of};
 ghost use Rattle.kr_names.specs.Shown.{file_at};
 ghost use Rattle.kr_type_numbers.specs.Numbers.{AreNodeTypes};
 ghost use Rattle.kr_type_numbers.specs.Types.{Extends, count, type_at};
-ghost use Rattle.kr_arrays.specs.Collected.{AreNumbers, collected, types_shown};
+ghost use Rattle.kr_arrays.specs.Collected.{AreNumbers, IsClosed, collected, types_shown};
 
 use crate::inside::add_arrays_in;
+use crate::list::Arrays;
 use crate::walk::nodes_of;
 use kr_ast::{Node, Tree};
 use kr_base::NoMemory;
@@ -43,11 +44,11 @@ fn array_named(
 }
 
 /// Adds the array types that a node names.
-#[tactic(auto, using(crate::proofs::Collecting::shown_kept, crate::proofs::Collecting::numbers_kept))]
+#[tactic(auto, using(crate::proofs::Collecting::collected_kept, crate::proofs::Collecting::shown_kept, crate::proofs::Collecting::numbers_kept, crate::proofs::Closed::closed_kept))]
 fn add_named(
     alloc: Global,
     types: &mut Types,
-    arrays: &mut Vec<u32>,
+    arrays: &mut Arrays,
     trees: &[Tree],
     numbers: &NodeTypes,
     file: u32,
@@ -56,14 +57,19 @@ fn add_named(
     requires numbers { AreNodeTypes trees.now types.old numbers.now }
     requires file { file < length trees.now }
     requires node { node < length (file_at trees.now file).entries }
-    requires arrays { AreNumbers types.old arrays.old.items }
-    ensures arrays { OnOk result (AreNumbers types.new arrays.new.items) }
-    ensures shown { OnOk result (types_shown types.new arrays.new.items ≡ collected (types_shown types.old arrays.old.items) (arrays_named (headings_of (map root trees.now)) (tree_in (file_at trees.now file) node))) }
+    requires arrays { AreNumbers types.old arrays.old }
+    requires closed { IsClosed (types_shown types.old arrays.old) }
+    ensures arrays { OnOk result (AreNumbers types.new arrays.new) }
+    ensures closed { OnOk result (IsClosed (types_shown types.new arrays.new)) }
+    ensures shown { OnOk result (types_shown types.new arrays.new ≡ collected (types_shown types.old arrays.old) (arrays_named (headings_of (map root trees.now)) (tree_in (file_at trees.now file) node))) }
     ensures extends { Extends types.old types.new }
 {
     match array_named(types, trees, numbers, file, node)? {
         None => Ok(()),
-        Some(number) => add_arrays_in(alloc, &*types, arrays, number),
+        Some(number) => {
+            add_arrays_in(alloc, &*types, arrays, number)?;
+            Ok(())
+        }
     }
 }
 
@@ -72,7 +78,7 @@ fn add_named(
 fn add_all_named(
     alloc: Global,
     types: &mut Types,
-    arrays: &mut Vec<u32>,
+    arrays: &mut Arrays,
     trees: &[Tree],
     numbers: &NodeTypes,
     file: u32,
@@ -81,9 +87,11 @@ fn add_all_named(
     requires numbers { AreNodeTypes trees.now types.old numbers.now }
     requires file { file < length trees.now }
     requires nodes { All (λ n. n < length (file_at trees.now file).entries) nodes.now }
-    requires arrays { AreNumbers types.old arrays.old.items }
-    ensures arrays { OnOk result (AreNumbers types.new arrays.new.items) }
-    ensures shown { OnOk result (types_shown types.new arrays.new.items ≡ collected (types_shown types.old arrays.old.items) (flat_map (arrays_named (headings_of (map root trees.now))) (map (tree_in (file_at trees.now file)) nodes.now))) }
+    requires arrays { AreNumbers types.old arrays.old }
+    requires closed { IsClosed (types_shown types.old arrays.old) }
+    ensures arrays { OnOk result (AreNumbers types.new arrays.new) }
+    ensures closed { OnOk result (IsClosed (types_shown types.new arrays.new)) }
+    ensures shown { OnOk result (types_shown types.new arrays.new ≡ collected (types_shown types.old arrays.old) (flat_map (arrays_named (headings_of (map root trees.now))) (map (tree_in (file_at trees.now file)) nodes.now))) }
     ensures extends { Extends types.old types.new }
 {
     for node in nodes {
@@ -96,16 +104,18 @@ fn add_all_named(
 fn add_file(
     alloc: Global,
     types: &mut Types,
-    arrays: &mut Vec<u32>,
+    arrays: &mut Arrays,
     trees: &[Tree],
     numbers: &NodeTypes,
     file: u32,
 ) -> Result<(), NoMemory>
     requires numbers { AreNodeTypes trees.now types.old numbers.now }
     requires file { file < length trees.now }
-    requires arrays { AreNumbers types.old arrays.old.items }
-    ensures arrays { OnOk result (AreNumbers types.new arrays.new.items) }
-    ensures shown { OnOk result (types_shown types.new arrays.new.items ≡ collected (types_shown types.old arrays.old.items) (flat_map (arrays_named (headings_of (map root trees.now))) (nodes (root (file_at trees.now file))))) }
+    requires arrays { AreNumbers types.old arrays.old }
+    requires closed { IsClosed (types_shown types.old arrays.old) }
+    ensures arrays { OnOk result (AreNumbers types.new arrays.new) }
+    ensures closed { OnOk result (IsClosed (types_shown types.new arrays.new)) }
+    ensures shown { OnOk result (types_shown types.new arrays.new ≡ collected (types_shown types.old arrays.old) (flat_map (arrays_named (headings_of (map root trees.now))) (nodes (root (file_at trees.now file))))) }
     ensures extends { Extends types.old types.new }
 {
     let found = nodes_of(alloc, tree_of(trees, file))?;
@@ -118,14 +128,15 @@ pub fn array_types(
     types: &mut Types,
     trees: &[Tree],
     numbers: &NodeTypes,
-) -> Result<Vec<u32>, NoMemory>
+) -> Result<Arrays, NoMemory>
     requires few { length trees.now < 65 }
     requires numbers { AreNodeTypes trees.now types.old numbers.now }
-    ensures arrays { IfOk result (λ arrays. AreNumbers types.new arrays.items) }
-    ensures shown { IfOk result (λ arrays. types_shown types.new arrays.items ≡ array_types_of (map root trees.now)) }
+    ensures arrays { IfOk result (λ arrays. AreNumbers types.new arrays) }
+    ensures closed { IfOk result (λ arrays. IsClosed (types_shown types.new arrays)) }
+    ensures shown { IfOk result (λ arrays. types_shown types.new arrays ≡ array_types_of (map root trees.now)) }
     ensures extends { Extends types.old types.new }
 {
-    let mut arrays = Vec::new(alloc);
+    let mut arrays = Arrays::new(alloc);
     let count = trees.len() as u32;
     for file in 0..count {
         add_file(alloc, types, &mut arrays, trees, numbers, file)?;

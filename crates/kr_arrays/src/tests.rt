@@ -104,7 +104,7 @@ fn three_array_types(rt: HostRuntime) -> Result<(), NoMemory> {
     let mut types = Types::new(alloc)?;
     let class = types.number(TypeForm::Class(0))?;
     let numbers = NodeTypes::read(alloc, &trees, &heads, &mut types)?;
-    let arrays = array_types(alloc, &mut types, &trees, &numbers)?;
+    let arrays = array_types(alloc, &mut types, &trees, &numbers)?.into_vec();
     let integer = types.int();
     assert_eq!(rt; arrays.len(), 3);
     assert!(rt; form_at(&types, &arrays, 0) == Some(TypeForm::Array(integer)));

@@ -19,7 +19,16 @@ use Rattle.kr_judge.specs.declared.run.Judgement.{Judgement}
 use Rattle.kr_scan.specs.Scans.{ending_of}
 use Rattle.kr_step.specs.declared.runner.Ending.{Ending}
 use Rattle.kr_step.specs.declared.runner.Ending.TheVariants.{Valid, Invalid, Spent}
-use Rattle.kr_candidates.specs.Subjects.{IsRunBy}
+use Rattle.kr_candidates.specs.Subjects.{IsRunBy, IsRunOn}
+
+-- ---- of which problem a runner's slots are
+
+-- what is laid out alike, and run by the same code
+pub kept : (problem : Problem) (b now : Bounds) (predicate other : Predicate) → now ≡ b → other ≡ predicate → IsRunOn problem b predicate → IsRunOn problem now other
+kept problem b now predicate other e f is = record { laid = subst (λ (x : Bounds). problem ≡ problem_with problem.program x) (sym e) is.laid; run = subst (λ (x : Predicate). IsRunBy problem x) (sym f) is.run }
+
+pub laid_in : (problem seen : Problem) (b now : Bounds) (predicate : Predicate) → problem ≡ seen → now ≡ b → IsRunOn problem b predicate → seen ≡ problem_with seen.program now
+laid_in problem seen b now predicate e f is = subst (λ (p : Problem). p ≡ problem_with p.program now) e (subst (λ (x : Bounds). problem ≡ problem_with problem.program x) (sym f) is.laid)
 
 module _ (problem : Problem) (b : Bounds) (laid : problem ≡ problem_with problem.program b) where
   -- ---- what is laid out

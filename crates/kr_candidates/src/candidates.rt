@@ -6,52 +6,57 @@ ghost use Rattle.kr_scan.specs.Scans.{RunsOn, ending_of};
 use crate::subject::Subject;
 use kr_base::NoMemory;
 use kr_iso::{Object, Slots};
-use kr_judge::{Judge, Judgement};
+use kr_judge::Judgement;
 use kr_step::{Ending, Runner};
-use kr_vector::{Slot, Vector};
 use std::alloc::Global;
+use std::marker::Model;
 
-/// The candidate of a problem that stands, and the order of the slots that decided the one that was run last. Each run is a
-/// fresh one, from the predicate's beginning.
+/// The candidate of a subject that stands, and the order of the slots that decided the one that was run last. Contracts see
+/// the subject, the candidate and the order.
 #[derive(Drop)]
-pub struct Candidates<S: Subject> {
-    pub subject: S,
-    vector: Vector,
-    judge: Judge,
+pub struct Candidates<'s, S: Subject> {
+    subject: &'s S,
+    runner: kr_runner::Runner<'s>,
 }
 
-impl<S: Subject + Drop> Candidates<S> {
+impl<'s, S: Subject> Model for Candidates<'s, S> {
+    ghost use Rattle.kr_candidates.specs.Subjects.{IsRunOn, Shown};
+
+    ghost Value = { Shown S };
+
+    ghost view = { λ c. record { subject = c.subject.now; vector = c.runner.vector; order = c.runner.order } };
+
+    ghost invariant = { λ c. IsRunOn (S.problem c.subject.now) c.runner.bounds c.runner.predicate };
+}
+
+impl<'s, S: Subject> Candidates<'s, S> {
     /// The candidate of index 0 in every slot stands. What a search over these candidates finds is the problem's.
-    pub fn new(alloc: Global, subject: S) -> Result<Candidates<S>, NoMemory>
-        ensures subject { IfOk result (λ candidates. candidates.subject ≡ subject) }
-        ensures first { IfOk result (λ candidates. ⟦<Candidates<S> as Runner>⟧.vector candidates ≡ replicate (⟦<Candidates<S> as Slots>⟧.space candidates).slots 0) }
-        ensures runs_on { IfOk result (λ candidates. RunsOn (S.problem subject) (⟦<Candidates<S> as Slots>⟧.space candidates) (⟦<Candidates<S> as Runner>⟧.order candidates) (⟦<Candidates<S> as Runner>⟧.ending candidates)) }
+    pub fn new(alloc: Global, subject: &'s S) -> Result<Candidates<'s, S>, NoMemory>
+        ensures subject { IfOk result (λ candidates. candidates.subject ≡ subject.now) }
+        ensures first { IfOk result (λ candidates. ⟦<Candidates<'s, S> as Runner>⟧.vector candidates ≡ replicate (⟦<Candidates<'s, S> as Slots>⟧.space candidates).slots 0) }
+        ensures runs_on { IfOk result (λ candidates. RunsOn (S.problem subject.now) (⟦<Candidates<'s, S> as Slots>⟧.space candidates) (⟦<Candidates<'s, S> as Runner>⟧.order candidates) (⟦<Candidates<'s, S> as Runner>⟧.ending candidates)) }
     {
         subject.laws();
-        let vector = Vector::zero(alloc, subject.layout().slots() as usize)?;
-        Ok(Candidates {
-            subject,
-            vector,
-            judge: Judge::new(alloc),
-        })
+        let runner = kr_runner::Runner::new(alloc, subject.layout(), subject.predicate())?;
+        Ok(Candidates { subject, runner })
     }
 }
 
-impl<S: Subject> Slots for Candidates<S> {
+impl<'s, S: Subject> Slots for Candidates<'s, S> {
     ghost use Rattle.kr_mean.specs.Space.{space_of};
 
     ghost space = { λ c. space_of (S.problem c.subject) };
 
     fn slots(&self) -> u32 {
-        self.subject.layout().slots()
+        self.runner.layout().slots()
     }
 
     fn size(&self, slot: u32) -> u32 {
-        self.subject.layout().size(slot)
+        self.runner.layout().size(slot)
     }
 
     fn object_at(&self, slot: u32, index: u32) -> Option<Object> {
-        self.subject.layout().choice(slot, index).object
+        self.runner.layout().choice(slot, index).object
     }
 }
 
@@ -67,7 +72,7 @@ fn ending_for(judgement: Judgement) -> Ending
     }
 }
 
-impl<S: Subject> Runner for Candidates<S> {
+impl<'s, S: Subject> Runner for Candidates<'s, S> {
     ghost use Rattle.kr_mean.specs.Runs.{end_on, order_of};
     ghost use Rattle.kr_scan.specs.Scans.{ending_of};
 
@@ -77,27 +82,24 @@ impl<S: Subject> Runner for Candidates<S> {
 
     ghost vector = { λ c. c.vector };
 
-    ghost last = { λ c. c.judge };
+    ghost last = { λ c. c.order };
 
     fn set(&mut self, slot: u32, index: u32) {
-        self.vector.set(Slot(slot), index);
+        self.runner.set(slot, index);
     }
 
     fn run(&mut self) -> Result<Ending, NoMemory> {
         self.subject.laws();
-        let layout = self.subject.layout();
-        let judgement = self
-            .judge
-            .run(layout, self.subject.predicate(), &self.vector)?;
+        let judgement = self.runner.run()?;
         Ok(ending_for(judgement))
     }
 
     fn last_order(&self) -> &[u32] {
-        self.judge.order()
+        self.runner.order()
     }
 
     fn index(&self, slot: u32) -> u32 {
-        self.vector.get(Slot(slot))
+        self.runner.index(slot)
     }
 
     fn laws(&self) {

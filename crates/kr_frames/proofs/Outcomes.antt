@@ -16,10 +16,11 @@ use Rattle.kr_world.specs.declared.world.Local.{Local}
 use Rattle.kr_world.specs.declared.world.World.{World}
 use Rattle.kr_world.specs.declared.world.End.{End}
 use Rattle.kr_world.specs.declared.world.Halt.{Halt}
-use Rattle.kr_world.specs.declared.world.Halt.TheVariants.{Ended, Memory}
+use Rattle.kr_world.specs.declared.world.Halt.TheVariants.{Ended, Memory, Written}
 use Rattle.kr_world.specs.Noting.{noting, noted_once, with_read}
 use Rattle.kr_world.specs.Shown.{stop_of}
-use Rattle.kr_world.specs.Worlds.{state_of, Agrees}
+use Rattle.kr_world.specs.Worlds.{Others, Allows, Keeps, Agrees, candidates_of, state_at}
+use Rattle.kr_world.proofs.Candidates.{kept_same, kept_then}
 use Rattle.kr_frames.specs.declared.frame.Frame.{Frame}
 use Rattle.kr_frames.specs.declared.frame.Frame.TheVariants as frames
 use Rattle.kr_frames.specs.declared.task.Task.{Task}
@@ -205,33 +206,53 @@ module _ (code : Code) (d : Doing) (e : Stop) (heap : List HeapObject) (fuel : �
     unit_ends (frames.Store field object ∷ fs) o x = ends_on e heap fuel reads o _ x
 
 -- what ends a part ends the run
-pub has_ended : {A : Type 0} (out : Outcome A → Outcome Value) (law : (e : Stop) (heap : List HeapObject) (fuel : ℕ) (reads : List SlotPlace) (o : Outcome A) → Ends e heap fuel reads o → Ends e heap fuel reads (out o)) (e : End) (w : World) (seen : List SlotPlace) (o : Outcome A) → noting seen o ≡ record { said = Err (stop_of e); after = state_of w; reads = w.reads } → HasEnded e w (noting seen (out o))
-has_ended {A} out law e w seen o h =
-    let x = law (stop_of e) w.heap w.fuel o.reads o (record { said = ap (λ (q : Outcome A). q.said) h; heap = ap (λ (q : Outcome A). q.after.heap) h; fuel = ap (λ (q : Outcome A). q.after.fuel) h; reads = refl }) in
-    record { said = x.said; heap = x.heap; fuel = x.fuel; reads = ap (noted_once seen) x.reads ∙ ap (λ (q : Outcome A). q.reads) h }
+pub has_ended : {A : Type 0} (out : Outcome A → Outcome Value) (law : (e : Stop) (heap : List HeapObject) (fuel : ℕ) (reads : List SlotPlace) (o : Outcome A) → Ends e heap fuel reads o → Ends e heap fuel reads (out o)) (e : End) (w : World) (x : Others) (seen : List SlotPlace) (o : Outcome A) → noting seen o ≡ record { said = Err (stop_of e); after = state_at w x; reads = w.reads } → HasEnded e w x (noting seen (out o))
+has_ended {A} out law e w x seen o h =
+    let y = law (stop_of e) (candidates_of w.candidates x ++ w.made) w.fuel o.reads o (record { said = ap (λ (q : Outcome A). q.said) h; heap = ap (λ (q : Outcome A). q.after.heap) h; fuel = ap (λ (q : Outcome A). q.after.fuel) h; reads = refl }) in
+    record { said = y.said; heap = y.heap; fuel = y.fuel; reads = ap (noted_once seen) y.reads ∙ ap (λ (q : Outcome A). q.reads) h }
 
 -- ---- both, for what the machine answers
 
-pub value_halts : (code : Code) (h : Halt) (fs gs : List Frame) (w : World) (seen : List SlotPlace) (o : Outcome Value) → Agrees {A = Value} (Err h) w seen o → Leads code (Err h) gs w seen (λ d. out_value code d fs o)
-value_halts code (Ended e) fs gs w seen o a = λ d m. has_ended (out_value code d fs) (λ s heap fuel reads q x. value_ends code d s heap fuel reads fs q x) e w seen o a
-value_halts code Memory fs gs w seen o a = tt
+-- what ends a part ends the run, in every meaning
+pub halts : {A : Type 0} (code : Code) (h : Halt) (gs : List Frame) (w before : World) (out : Doing → Outcome A → Outcome Value)
+    → ((d : Doing) (e : Stop) (heap : List HeapObject) (fuel : ℕ) (reads : List SlotPlace) (o : Outcome A) → Ends e heap fuel reads o → Ends e heap fuel reads (out d o))
+    → (o : Others → Outcome A) → Agrees {A = A} (Err h) w before o → Leads code (Err h) gs w before (λ d x. out d (o x))
+halts code (Ended e) gs w before out law o a = λ x y. let r = a x y in (r.0, λ d m. has_ended (out d) (law d) e w x before.reads (o x) r.1)
+halts code Memory gs w before out law o a = tt
+halts code Written gs w before out law o a = tt
 
-pub unit_halts : (code : Code) (h : Halt) (fs gs : List Frame) (w : World) (seen : List SlotPlace) (o : Outcome (Unit {0})) → Agrees {A = Unit {0}} (Err h) w seen o → Leads code (Err h) gs w seen (λ d. out_unit code d fs o)
-unit_halts code (Ended e) fs gs w seen o a = λ d m. has_ended (out_unit code d fs) (λ s heap fuel reads q x. unit_ends code d s heap fuel reads fs q x) e w seen o a
-unit_halts code Memory fs gs w seen o a = tt
+pub value_halts : (code : Code) (h : Halt) (fs gs : List Frame) (w before : World) (o : Others → Outcome Value) → Agrees {A = Value} (Err h) w before o → Leads code (Err h) gs w before (λ d x. out_value code d fs (o x))
+value_halts code h fs gs w before o a = halts code h gs w before (λ d q. out_value code d fs q) (λ d s heap fuel reads q y. value_ends code d s heap fuel reads fs q y) o a
 
-pub flow_halts : (code : Code) (h : Halt) (fs gs : List Frame) (w : World) (seen : List SlotPlace) (o : Outcome meaning.Flow) → Agrees {A = meaning.Flow} (Err h) w seen o → Leads code (Err h) gs w seen (λ d. out_flow code d fs o)
-flow_halts code (Ended e) fs gs w seen o a = λ d m. has_ended (out_flow code d fs) (λ s heap fuel reads q x. flow_ends code d s heap fuel reads fs q x) e w seen o a
-flow_halts code Memory fs gs w seen o a = tt
+pub unit_halts : (code : Code) (h : Halt) (fs gs : List Frame) (w before : World) (o : Others → Outcome (Unit {0})) → Agrees {A = Unit {0}} (Err h) w before o → Leads code (Err h) gs w before (λ d x. out_unit code d fs (o x))
+unit_halts code h fs gs w before o a = halts code h gs w before (λ d q. out_unit code d fs q) (λ d s heap fuel reads q y. unit_ends code d s heap fuel reads fs q y) o a
 
--- the same by another way
-pub leads_same : (code : Code) (r : Result Task Halt) (fs : List Frame) (w : World) (seen seen' : List SlotPlace) (o o' : Doing → Outcome Value) → ((d : Doing) → IsMeaning code d → noting seen (o d) ≡ noting seen' (o' d)) → Leads code r fs w seen' o' → Leads code r fs w seen o
-leads_same code (Ok task) fs w seen seen' o o' e h = λ d m. e d m ∙ h d m
-leads_same code (Err (Ended x)) fs w seen seen' o o' e h =
-    λ d m. let y = h d m in let is = e d m in record {
-      said = ap (λ (q : Outcome Value). q.said) is ∙ y.said;
-      heap = ap (λ (q : Outcome Value). q.after.heap) is ∙ y.heap;
-      fuel = ap (λ (q : Outcome Value). q.after.fuel) is ∙ y.fuel;
-      reads = ap (λ (q : Outcome Value). q.reads) is ∙ y.reads;
-    }
-leads_same code (Err Memory) fs w seen seen' o o' e h = tt
+pub flow_halts : (code : Code) (h : Halt) (fs gs : List Frame) (w before : World) (o : Others → Outcome meaning.Flow) → Agrees {A = meaning.Flow} (Err h) w before o → Leads code (Err h) gs w before (λ d x. out_flow code d fs (o x))
+flow_halts code h fs gs w before o a = halts code h gs w before (λ d q. out_flow code d fs q) (λ d s heap fuel reads q y. flow_ends code d s heap fuel reads fs q y) o a
+
+-- a step that gives something leads on
+pub value_given : (code : Code) (fs : List Frame) (v : Value) (w before : World) (o : Others → Outcome Value) → Agrees {A = Value} (Ok v) w before o → (x : Others) → Allows w x → Keeps before w x × ((d : Doing) → noting before.reads (out_value code d fs (o x)) ≡ noting w.reads (out_value code d fs (give v (state_at w x))))
+value_given code fs v w before o a = λ x y. let r = a x y in (r.0, λ d. gave_value code d fs before.reads w.reads (o x) v (state_at w x) r.1)
+
+-- the same by another way, where that is allowed
+pub leads_same : (code : Code) (r : Result Task Halt) (fs : List Frame) (w middle before : World) (o o' : Doing → Others → Outcome Value)
+    → ((x : Others) → Allows middle x → Keeps before middle x × ((d : Doing) → IsMeaning code d → noting before.reads (o d x) ≡ noting middle.reads (o' d x)))
+    → Leads code r fs w middle o' → Leads code r fs w before o
+leads_same code (Ok task) fs w middle before o o' e h = λ x a. let y = h x a in let z = e x y.0.allowed in (kept_then before middle w x z.0 y.0, λ d m. z.1 d m ∙ y.1 d m)
+leads_same code (Err (Ended end)) fs w middle before o o' e h = λ x a. let y = h x a in let z = e x y.0.allowed in (
+  kept_then before middle w x z.0 y.0,
+  λ d m. let q = y.1 d m in let is = z.1 d m in record {
+    said = ap (λ (p : Outcome Value). p.said) is ∙ q.said;
+    heap = ap (λ (p : Outcome Value). p.after.heap) is ∙ q.heap;
+    fuel = ap (λ (p : Outcome Value). p.after.fuel) is ∙ q.fuel;
+    reads = ap (λ (p : Outcome Value). p.reads) is ∙ q.reads;
+  },
+)
+leads_same code (Err Memory) fs w middle before o o' e h = tt
+leads_same code (Err Written) fs w middle before o o' e h = tt
+
+-- the same outcome
+pub leads_alike : (code : Code) (r : Result Task Halt) (fs : List Frame) (w before : World) (o o' : Doing → Others → Outcome Value)
+    → ((x : Others) (d : Doing) → IsMeaning code d → o d x ≡ o' d x)
+    → Leads code r fs w before o' → Leads code r fs w before o
+leads_alike code r fs w before o o' e h = leads_same code r fs w before before o o' (λ x a. (kept_same before x a, λ d m. ap (λ (q : Outcome Value). noting before.reads q) (e x d m))) h

@@ -1,9 +1,13 @@
 // What waits for a value, for a statement's end, or for something that gives nothing.
+ghost use Rattle.std.specs.Prelude.{IfOk};
+ghost use Rattle.kr_frames.specs.Copies.{IsCopy};
 
 use kr_ast::{BinaryOperator, StepOperator, UnaryOperator};
+use kr_base::NoMemory;
 use kr_code::{CollectionCall, Nodes};
 use kr_value::{Class, Value};
 use kr_world::{Cell, Local};
+use std::alloc::Global;
 
 /// What is done with arguments.
 #[derive(Clone, Copy, Debug)]
@@ -156,4 +160,41 @@ pub enum Frame {
     Made(Value),
     /// A field gets its initial value, on an object.
     Store(u32, Value),
+}
+
+impl Frame {
+    /// The same frame once more.
+    pub fn copy(&self, alloc: Global) -> Result<Frame, NoMemory>
+        ensures { IfOk result (λ frame. IsCopy self.now frame) }
+    {
+        match self {
+            Frame::Value(frame) => Ok(Frame::Value(*frame)),
+            Frame::Test(frame) => Ok(Frame::Test(*frame)),
+            Frame::Flow(frame) => Ok(Frame::Flow(*frame)),
+            Frame::Unit(frame) => Ok(Frame::Unit(*frame)),
+            Frame::Arguments(goal, nodes, found) => Ok(Frame::Arguments(
+                *goal,
+                *nodes,
+                found.as_slice().to_vec(alloc)?,
+            )),
+            Frame::UpArguments(up, nodes, found) => Ok(Frame::UpArguments(
+                *up,
+                *nodes,
+                found.as_slice().to_vec(alloc)?,
+            )),
+            Frame::UpEnter(up, nodes) => Ok(Frame::UpEnter(*up, *nodes)),
+            Frame::Scope(count) => Ok(Frame::Scope(*count)),
+            Frame::Leave(is_void, this, locals) => Ok(Frame::Leave(
+                *is_void,
+                *this,
+                locals.as_slice().to_vec(alloc)?,
+            )),
+            Frame::Complete => Ok(Frame::Complete),
+            Frame::Back(this, locals) => {
+                Ok(Frame::Back(*this, locals.as_slice().to_vec(alloc)?))
+            }
+            Frame::Made(object) => Ok(Frame::Made(*object)),
+            Frame::Store(field, object) => Ok(Frame::Store(*field, *object)),
+        }
+    }
 }

@@ -1,5 +1,6 @@
 // The frames that wait, the innermost one on top.
-ghost use Rattle.std.specs.Prelude.{◌≡◌, ◌∷◌, [], OnOk, MatchOption};
+ghost use Rattle.std.specs.Prelude.{◌≡◌, ◌∷◌, [], reverse, length, OnOk, IfOk, MatchOption};
+ghost use Rattle.kr_frames.specs.Copies.{GoOnAlike};
 
 use crate::Frame;
 use kr_base::NoMemory;
@@ -21,6 +22,17 @@ impl Model for Stack {
     ghost view = { λ s. reverse s.frames.items };
 }
 
+/// The same frames once more.
+fn copy_all(alloc: Global, frames: &Vec<Frame>) -> Result<Vec<Frame>, NoMemory>
+    ensures { IfOk result (λ copies. GoOnAlike (reverse frames.now.items) (reverse copies.items)) }
+{
+    let mut copies = Vec::new(alloc);
+    for frame in frames {
+        copies.push(frame.copy(alloc)?)?;
+    }
+    Ok(copies)
+}
+
 impl Stack {
     /// No frames. It takes no memory.
     pub fn new(alloc: Global) -> Self
@@ -29,6 +41,27 @@ impl Stack {
         Stack {
             frames: Vec::new(alloc),
         }
+    }
+
+    /// The same frames once more.
+    pub fn copy(&self, alloc: Global) -> Result<Stack, NoMemory>
+        ensures { IfOk result (λ stack. GoOnAlike self.now stack) }
+    {
+        Ok(Stack {
+            frames: copy_all(alloc, &self.frames)?,
+        })
+    }
+
+    /// How many frames there are.
+    pub fn len(&self) -> usize
+        ensures { result ≡ length self.now }
+    {
+        self.frames.len()
+    }
+
+    /// The topmost frame, if there is one.
+    pub fn top(&self) -> Option<&Frame> {
+        self.frames.last()
     }
 
     pub fn push(&mut self, frame: Frame) -> Result<(), NoMemory>

@@ -1,5 +1,6 @@
 // The objects of a running program, by their numbers.
-ghost use Rattle.std.specs.Prelude.{◌≡◌, [], ◌∷◌, ◌++◌, length, ◌<◌, ◌≤◌, take, OnOk, OnErr, IfOk};
+ghost use Rattle.std.specs.Prelude.{◌≡◌, [], ◌∷◌, ◌++◌, length, map, ◌<◌, ◌≤◌, take, OnOk, OnErr, IfOk};
+ghost use Rattle.kr_heap.specs.Shown.{shown};
 ghost use Rattle.std.specs.Borrow.{sem};
 ghost use Rattle.kr_value.specs.Heaps.{object_in};
 ghost use Rattle.kr_heap.specs.Objects.{found, with_value, with_values};
@@ -28,6 +29,17 @@ impl Model for Heap {
     ghost view = { λ h. map shown h.objects.items };
 }
 
+/// The same objects once more.
+fn copy_all(alloc: Global, objects: &Vec<Object>) -> Result<Vec<Object>, NoMemory>
+    ensures { IfOk result (λ copies. map shown copies.items ≡ map shown objects.now.items) }
+{
+    let mut copies = Vec::new(alloc);
+    for object in objects {
+        copies.push(object.copy(alloc)?)?;
+    }
+    Ok(copies)
+}
+
 impl Heap {
     /// No objects. It takes no memory.
     pub fn new(alloc: Global) -> Self
@@ -36,6 +48,15 @@ impl Heap {
         Heap {
             objects: Vec::new(alloc),
         }
+    }
+
+    /// The same objects once more.
+    pub fn copy(&self, alloc: Global) -> Result<Heap, NoMemory>
+        ensures { IfOk result (λ heap. heap ≡ self.now) }
+    {
+        Ok(Heap {
+            objects: copy_all(alloc, &self.objects)?,
+        })
     }
 
     pub fn len(&self) -> usize

@@ -1,5 +1,5 @@
 // What an object has, in order: fields, elements, or the members of a collection.
-ghost use Rattle.std.specs.Prelude.{◌≡◌, ◌<◌, ◌≤◌, [], ◌∷◌, ◌++◌, length, take, slice_get, slice_set, OnOk, OnErr, MatchOption};
+ghost use Rattle.std.specs.Prelude.{◌≡◌, ◌<◌, ◌≤◌, [], ◌∷◌, ◌++◌, length, take, slice_get, slice_set, OnOk, OnErr, IfOk, MatchOption};
 ghost use Rattle.std.specs.List.{remove};
 
 use kr_base::NoMemory;
@@ -44,6 +44,13 @@ impl Members {
         ensures { result ≡ items.items }
     {
         Members { items, gone: 0 }
+    }
+
+    /// The same members once more.
+    pub fn copy(&self, alloc: Global) -> Result<Members, NoMemory>
+        ensures { IfOk result (λ members. members ≡ self.now) }
+    {
+        Ok(Members::from_vec(self.as_slice().to_vec(alloc)?))
     }
 
     pub fn as_slice(&self) -> &[Value]

@@ -2,6 +2,7 @@
 use crate::Members;
 use kr_base::NoMemory;
 use kr_value::{Class, Spot, Value};
+use std::alloc::Global;
 
 /// What it is of, and its fields, elements or members.
 #[derive(Debug, Drop)]
@@ -11,7 +12,7 @@ pub struct Object {
 }
 
 impl Object {
-    ghost use Rattle.std.specs.Prelude.{◌≡◌, [], ◌∷◌, ◌++◌, slice_set, take, OnOk, OnErr};
+    ghost use Rattle.std.specs.Prelude.{◌≡◌, [], ◌∷◌, ◌++◌, slice_set, take, OnOk, OnErr, IfOk};
     ghost use Rattle.kr_heap.specs.Objects.{found};
     ghost use Rattle.kr_heap.specs.Shown.{shown};
 
@@ -30,6 +31,16 @@ impl Object {
             }
             _ => None,
         }
+    }
+
+    /// The same object once more.
+    pub fn copy(&self, alloc: Global) -> Result<Object, NoMemory>
+        ensures { IfOk result (λ object. shown object ≡ shown self.now) }
+    {
+        Ok(Object {
+            class: self.class,
+            values: self.values.copy(alloc)?,
+        })
     }
 
     pub fn write(&mut self, at: usize, value: Value)

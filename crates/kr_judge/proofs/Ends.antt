@@ -8,7 +8,7 @@ use Rattle.kr_mean.specs.Runs.{End, accepted_walk, end_of, end_on, is_accepted, 
 use Rattle.kr_mean.specs.Steps.{Outcome}
 use Rattle.kr_world.specs.Noting.{noted_once}
 use Rattle.kr_world.specs.declared.world.Halt.{Halt}
-use Rattle.kr_world.specs.declared.world.Halt.TheVariants.{Ended, Memory}
+use Rattle.kr_world.specs.declared.world.Halt.TheVariants.{Ended, Memory, Written}
 use Rattle.kr_world.specs.declared.world.World.{World}
 use Rattle.kr_problem.specs.Bounds.{Bounds, bare, problem_with}
 use Rattle.kr_judge.proofs.Orders.{once, with_all, with_both}
@@ -22,6 +22,7 @@ pub ran : (answer : Result Bool Halt) (j : Judgement) (w : World) (o : Outcome B
 ran (Ok b) j w o i m = (i ∙ ap end_of (sym (ap (λ (x : Outcome Bool). x.said) m)), sym (ap (λ (x : Outcome Bool). x.reads) m))
 ran (Err (Ended e)) j w o i m = (i ∙ ap end_of (sym m.said), sym m.reads)
 ran (Err Memory) j w o i m = absurd i
+ran (Err Written) j w o i m = absurd i
 
 -- ---- the order
 

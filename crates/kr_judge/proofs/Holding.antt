@@ -1,5 +1,5 @@
 -- How conditions follow one another.
-use Rattle.std.proofs.Common.{◌≡◌, ℕ, Bool, true, false, List, [], ◌∷◌, ◌++◌, Result, Ok, Err, refl, sym, ap, ◌∙◌, subst}
+use Rattle.std.proofs.Common.{◌≡◌, ℕ, Bool, true, false, List, [], ◌∷◌, ◌++◌, Result, Ok, Err, None, refl, sym, ap, ◌∙◌, subst}
 use Rattle.std.specs.Prelude.{map}
 use Rattle.std.proofs.lemmas.List.{append-nil}
 use Rattle.kr_value.specs.declared.value.Value.{Value}
@@ -17,13 +17,13 @@ use Rattle.kr_world.specs.declared.world.World.{World}
 use Rattle.kr_world.specs.declared.world.End.{End}
 use Rattle.kr_world.specs.declared.world.Halt.{Halt}
 use Rattle.kr_world.specs.declared.world.End.TheVariants as ends
-use Rattle.kr_world.specs.Worlds.{state_of}
+use Rattle.kr_world.specs.Worlds.{state_at, state_of}
 use Rattle.kr_world.specs.Noting.{noting, noted_once}
 use Rattle.kr_world.specs.Shown.{stop_of}
 use Rattle.kr_frames.specs.Frames.{continued}
 use Rattle.kr_frames.specs.Leads.{HasEnded}
 use Rattle.kr_frames.proofs.Outcomes.{noted_behind, outcome_is}
-use Rattle.kr_world.specs.declared.world.Halt.TheVariants.{Ended, Memory}
+use Rattle.kr_world.specs.declared.world.Halt.TheVariants.{Ended, Memory, Written}
 use Rattle.kr_run.specs.Answers.{Answers}
 use Rattle.kr_judge.specs.Judged.{hold_at, HoldsAs, MeansAs, IsEnded}
 use Rattle.kr_judge.specs.One.{OneAs}
@@ -40,7 +40,7 @@ followed {B} m f seen new s t v h =
     mk ps = record { said = (f v t).said; after = (f v t).after; reads = ps }
 
 -- what follows the end of a run
-pub ended : (m : Run Value) (f : Value → Run Bool) (seen : List SlotPlace) (s : State) (e : End) (w : World) → HasEnded e w (noting seen (m s)) → IsEnded e w (noting seen (bind m f s))
+pub ended : (m : Run Value) (f : Value → Run Bool) (seen : List SlotPlace) (s : State) (e : End) (w : World) → HasEnded e w None (noting seen (m s)) → IsEnded e w (noting seen (bind m f s))
 unfolding bind
 ended m f seen s e w x =
     let is : continued (m s) f ≡ record { said = Err (stop_of e); after = (m s).after; reads = (m s).reads } = ap (λ (r : Result Value Stop). go_on r (m s).after (m s).reads f) x.said in
@@ -72,9 +72,10 @@ stuck m rest seen s v w h is =
     }
 
 -- the end of a run is that of its conditions
-pub halted : (code : Code) (h : Halt) (w : World) (seen : List SlotPlace) (i : ℕ) (s : State) → Answers code (Err h) w seen (λ d. d.value i s) → OneAs code (Err h) w seen i s
-halted code (Ended e) w seen i s a = λ d m rest. ended (d.value i) (λ v. where_true v rest) seen s e w (a d m)
-halted code Memory w seen i s a = tt
+pub halted : (code : Code) (h : Halt) (w before : World) (i : ℕ) → Answers code (Err h) w before (λ d x. d.value i (state_at before x)) → OneAs code (Err h) w before.reads i (state_of before)
+halted code (Ended e) w before i a = λ d m rest. ended (d.value i) (λ v. where_true v rest) before.reads (state_of before) e w ((a None tt).1 d m)
+halted code Memory w before i a = tt
+halted code Written w before i a = tt
 
 -- ---- what is left of the conditions
 
@@ -94,6 +95,7 @@ one_false code all rest i s seen w v l o = λ d m. l d m ∙ o d m (hold_at d re
 pub one_halted : (code : Code) (h : Halt) (all rest : List ℕ) (i : ℕ) (s : State) (seen : List SlotPlace) (w v : World) → LeadsOn code all s seen (i ∷ rest) (state_of w) w.reads → OneAs code (Err h) v w.reads i (state_of w) → HoldsAs code (Err h) v seen (λ d. hold_at d all s)
 one_halted code (Ended e) all rest i s seen w v l o = λ d m. subst (λ (x : Outcome Bool). IsEnded e v x) (sym (l d m)) (o d m (hold_at d rest))
 one_halted code Memory all rest i s seen w v l o = λ d m. tt
+one_halted code Written all rest i s seen w v l o = λ d m. tt
 
 -- none is left
 pub none_left : (code : Code) (all : List ℕ) (s : State) (seen : List SlotPlace) (w : World) → LeadsOn code all s seen [] (state_of w) w.reads → HoldsAs code (Ok true) w seen (λ d. hold_at d all s)

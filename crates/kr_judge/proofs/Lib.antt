@@ -1,7 +1,7 @@
-mod Ends
+pub mod Ends
 mod Examples
-mod Holding
+pub mod Holding
 pub mod Orders
 pub mod Programs
 mod Spots
-mod Starts
+pub mod Starts

@@ -150,7 +150,7 @@ both_true : (a b : Bool) → (a && b) ≡ true → (a ≡ true) × (b ≡ true)
 both_true true b e = (refl, e)
 both_true false b e = absurd (cc (e))
 
-same_places : (p q : SlotPlace) → is_same_place p q ≡ true → p ≡ q
+pub same_places : (p q : SlotPlace) → is_same_place p q ≡ true → p ≡ q
 same_places This This e = refl
 same_places (Parameter i) (Parameter j) e = ap (λ (n : ℕ). Parameter n) (eqb-true i j e)
 same_places (At o s) (At p t) e =

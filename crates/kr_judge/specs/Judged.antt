@@ -1,5 +1,5 @@
 -- What is answered of conditions.
-use Rattle.std.specs.Prelude.{◌≡◌, ℕ, Bool, true, List, [], ◌∷◌, Result, Ok, Err}
+use Rattle.std.specs.Prelude.{◌≡◌, ℕ, Bool, true, List, [], ◌∷◌, ◌++◌, Result, Ok, Err}
 use Rattle.kr_mean.specs.Places.{SlotPlace}
 use Rattle.kr_mean.specs.Steps.{Outcome, Run, give, ◌>>=◌}
 use Rattle.kr_mean.specs.Runs.{where_true}
@@ -8,7 +8,7 @@ use Rattle.kr_code.specs.Doing.{Doing, IsMeaning}
 use Rattle.kr_world.specs.declared.world.World.{World}
 use Rattle.kr_world.specs.declared.world.End.{End}
 use Rattle.kr_world.specs.declared.world.Halt.{Halt}
-use Rattle.kr_world.specs.declared.world.Halt.TheVariants.{Ended, Memory}
+use Rattle.kr_world.specs.declared.world.Halt.TheVariants.{Ended, Memory, Written}
 use Rattle.kr_world.specs.Noting.{noting}
 use Rattle.kr_world.specs.Shown.{stop_of}
 use Rattle.kr_world.specs.Worlds.{state_of}
@@ -21,15 +21,17 @@ hold_at d (i ∷ is) = d.value i >>= (λ v. where_true v (hold_at d is))
 -- a run of conditions has ended so, with the world's heap and fuel, and its reads
 pub record IsEnded (e : End) (w : World) (o : Outcome Bool) : Type 0 where
   pub said : o.said ≡ Err (stop_of e)
-  pub heap : o.after.heap ≡ w.heap
+  pub heap : o.after.heap ≡ w.candidates ++ w.made
   pub fuel : o.after.fuel ≡ w.fuel
   pub reads : o.reads ≡ w.reads
 
--- the answer is the outcome's, with what was read before it and in it, each place once; where memory ran out nothing is said
+-- the answer is the outcome's, with what was read before it and in it, each place once; where memory ran
+-- out, or a candidate would have been written that must not be, nothing is said
 abbrev pub MeansAs : Result Bool Halt → World → List SlotPlace → Outcome Bool → Type 0
 MeansAs (Ok b) w seen o = noting seen o ≡ record { said = Ok b; after = state_of w; reads = w.reads }
 MeansAs (Err (Ended e)) w seen o = IsEnded e w (noting seen o)
 MeansAs (Err Memory) w seen o = Unit {0}
+MeansAs (Err Written) w seen o = Unit {0}
 
 -- in every meaning of the code
 abbrev pub HoldsAs : Code → Result Bool Halt → World → List SlotPlace → (Doing → Outcome Bool) → Type 0

@@ -7,7 +7,7 @@ use Rattle.kr_mean.specs.Runs.{End, end_of, end_on, outcome_of}
 use Rattle.kr_world.specs.Noting.{noted_once}
 use Rattle.kr_world.specs.Shown.{stop_of}
 use Rattle.kr_world.specs.declared.world.Halt.{Halt}
-use Rattle.kr_world.specs.declared.world.Halt.TheVariants.{Ended, Memory}
+use Rattle.kr_world.specs.declared.world.Halt.TheVariants.{Ended, Memory, Written}
 use Rattle.kr_judge.specs.declared.run.Judgement.{Judgement}
 use Rattle.kr_judge.specs.declared.run.Judgement.TheVariants.{True, False, Trap, Spent}
 use Rattle.kr_judge.specs.declared.run.Ran.{Ran}
@@ -25,6 +25,7 @@ IsJudged answer (Err e) = Unit {0}
 IsJudged (Ok b) (Ok j) = end_said j ≡ end_of (Ok b)
 IsJudged (Err (Ended e)) (Ok j) = end_said j ≡ end_of (Err (stop_of e))
 IsJudged (Err Memory) (Ok j) = ⊥
+IsJudged (Err Written) (Ok j) = ⊥
 
 -- the run's end, and the places that it has read, each where it is read first
 pub record IsRunOf (problem : Problem) (vector : List ℕ) (run : Ran) : Type 0 where

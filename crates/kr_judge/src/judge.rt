@@ -22,7 +22,7 @@ use kr_build::Walk;
 use kr_problem::Layout;
 use kr_steps::Steps;
 use kr_vector::Vector;
-use kr_world::SlotPlace;
+use kr_world::{Reads, SlotPlace};
 use std::alloc::Global;
 use std::marker::Model;
 use std::sync::ledger::Ledger;
@@ -113,6 +113,25 @@ impl Judge {
         }
     }
 
+    /// The order of a candidate whose run has ended so and has read these places.
+    pub fn take_order(
+        &mut self,
+        layout: &Layout,
+        vector: &Vector,
+        end: Judgement,
+        reads: &Reads,
+    ) -> Result<(), NoMemory>
+        requires well { IsWellFormed (bare layout.now) }
+        requires vector { IsVector (space_of (bare layout.now)) vector.now }
+        requires small { length (slots (bare layout.now)) < 2 ^ 31 }
+        ensures { OnOk result (self.new ≡ with_slots (with_slots [] (flat_map (slots_for (bare layout.now)) reads.now)) (if is_accepted (end_said end) then walk (bare layout.now) vector.now else [])) }
+    {
+        self.order.clear();
+        add_places(&mut self.order, layout, reads.as_slice())?;
+        add_reachable(end, &mut self.order, &mut self.walk, layout, vector)?;
+        Ok(())
+    }
+
     /// Runs the predicate on a candidate: how the run ends, and the order of the slots that decide it, those that it has read
     /// and, where it accepts, the reachable ones behind them (Korat's order of first accesses).
     pub fn run(
@@ -128,9 +147,7 @@ impl Judge {
         ensures order { OnOk result ((program : Program) (n : Numbering) → IsPredicateOf (problem_with program layout.now) predicate.now n → self.new ≡ order_of (problem_with program layout.now) vector.now) }
     {
         let ran = run(self.alloc, layout, predicate, vector)?;
-        self.order.clear();
-        add_places(&mut self.order, layout, ran.reads.as_slice())?;
-        add_reachable(ran.end, &mut self.order, &mut self.walk, layout, vector)?;
+        self.take_order(layout, vector, ran.end, &ran.reads)?;
         Ok(ran.end)
     }
 

@@ -17,4 +17,5 @@ pub use judge::Judge;
 pub use order::Order;
 pub use places::object_numbered;
 pub use predicate::Predicate;
-pub use run::Judgement;
+pub use run::{Judgement, Ran, judged};
+pub use start::world_of;

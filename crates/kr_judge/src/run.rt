@@ -31,13 +31,13 @@ pub enum Judgement {
 
 /// How a run has ended, and the places that it has read.
 #[derive(Drop)]
-pub(crate) struct Ran {
-    pub(crate) end: Judgement,
-    pub(crate) reads: Reads,
+pub struct Ran {
+    pub end: Judgement,
+    pub reads: Reads,
 }
 
 /// A run that is stuck doesn't accept.
-fn judged(answer: Result<bool, Halt>) -> Result<Judgement, NoMemory>
+pub fn judged(answer: Result<bool, Halt>) -> Result<Judgement, NoMemory>
     ensures { IsJudged answer result }
 {
     match answer {
@@ -47,6 +47,8 @@ fn judged(answer: Result<bool, Halt>) -> Result<Judgement, NoMemory>
         Err(Halt::Ended(End::OutOfFuel)) => Ok(Judgement::Spent),
         Err(Halt::Ended(End::Stuck)) => Ok(Judgement::False),
         Err(Halt::Memory) => Err(NoMemory),
+        // no run ends so in a world whose candidates aren't frozen
+        Err(Halt::Written) => Err(NoMemory),
     }
 }
 
@@ -62,7 +64,7 @@ pub(crate) fn run(
     requires small { length (slots (bare layout.now)) < 2 ^ 31 }
     ensures { IfOk result (λ run. (program : Program) (n : Numbering) → IsPredicateOf (problem_with program layout.now) predicate.now n → IsRunOf (problem_with program layout.now) vector.now run) }
 {
-    let mut world = world_of(alloc, layout, vector)?;
+    let mut world = world_of(alloc, layout, vector, false)?;
     let answer = hold_all(
         alloc,
         &predicate.code,

@@ -2,7 +2,7 @@
 ghost use Rattle.std.specs.Prelude.{◌≡◌, ◌<◌, ◌^◌, ◌∷◌, [], IfOk, length, map};
 ghost use Rattle.kr_mean.specs.Places.{This};
 ghost use Rattle.kr_mean.specs.Problem.{slots};
-ghost use Rattle.kr_mean.specs.Heaps.{value_at};
+ghost use Rattle.kr_mean.specs.Heaps.{heap_of, value_at};
 ghost use Rattle.kr_mean.specs.Runs.{parameter_values, parameters_from, start};
 ghost use Rattle.kr_mean.specs.Space.{IsVector, space_of};
 ghost use Rattle.kr_mean.specs.WellFormed.{IsWellFormed};
@@ -12,6 +12,7 @@ ghost use Rattle.kr_world.specs.Worlds.{state_of};
 
 use kr_base::NoMemory;
 use kr_build::build;
+use kr_heap::Heap;
 use kr_problem::Layout;
 use kr_value::Value;
 use kr_vector::{Slot, Vector};
@@ -53,18 +54,23 @@ fn this_read(alloc: Global) -> Result<Reads, NoMemory>
     Ok(reads)
 }
 
-/// The world in which a candidate's run begins, once `this` is read.
-pub(crate) fn world_of(alloc: Global, layout: &Layout, vector: &Vector) -> Result<World, NoMemory>
+/// The world in which a candidate's run begins, once `this` is read. Frozen candidates aren't written.
+pub fn world_of(
+    alloc: Global,
+    layout: &Layout,
+    vector: &Vector,
+    is_frozen: bool,
+) -> Result<World, NoMemory>
     requires well { IsWellFormed (bare layout.now) }
     requires vector { IsVector (space_of (bare layout.now)) vector.now }
     requires small { length (slots (bare layout.now)) < 2 ^ 31 }
     ensures state { IfOk result (λ world. state_of world ≡ start (bare layout.now) vector.now) }
     ensures reads { IfOk result (λ world. world.reads ≡ This ∷ []) }
+    ensures candidates { IfOk result (λ world. world.candidates ≡ heap_of (bare layout.now) vector.now) }
+    ensures made { IfOk result (λ world. world.made ≡ []) }
+    ensures frozen { IfOk result (λ world. world.is_frozen ≡ is_frozen) }
 {
-    let heap = build(alloc, layout, vector)?;
-    let Ok(candidates) = u32::try_from(heap.len()) else {
-        return Err(NoMemory);
-    };
+    let candidates = build(alloc, layout, vector)?;
     let locals = parameters_of(alloc, layout, vector)?;
     let reads = this_read(alloc)?;
     Ok(World {
@@ -72,8 +78,9 @@ pub(crate) fn world_of(alloc: Global, layout: &Layout, vector: &Vector) -> Resul
         locals,
         result: None,
         olds: Vec::new(alloc),
-        heap,
         candidates,
+        made: Heap::new(alloc),
+        is_frozen,
         fuel: layout.fuel(),
         reads,
     })

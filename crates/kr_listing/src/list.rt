@@ -32,7 +32,7 @@ pub fn put_subject<N: Names, K: Sink, L: Ledger>(
     ensures ends { IfOk result (λ status. EndsListing K.taken K.faults (listing_answer (N.problem subject.now) limit (entries_in (At after.now) upto (all_entries (N.problem subject.now)))) out.old out.new status) }
     ensures nothing { OnErr result (out.new ≡ out.old) }
 {
-    let candidates = match Candidates::new(alloc, Lent { subject }) {
+    let candidates = match Candidates::new(alloc, subject) {
         Ok(candidates) => candidates,
         Err(NoMemory) => return Err(NoMemory),
     };

@@ -2,7 +2,7 @@
 ghost use Rattle.kr_code.specs.Doing.{value_of, call, assigned, changed};
 ghost use Rattle.kr_frames.specs.Frames.{out_value, change_of};
 ghost use Rattle.kr_frames.specs.Leads.{Leads};
-ghost use Rattle.kr_world.specs.Worlds.{state_of};
+ghost use Rattle.kr_world.specs.Worlds.{state_at};
 ghost use Rattle.kr_code.specs.Tables.{listed};
 
 use crate::pushes::{first, then_write, write};
@@ -22,7 +22,7 @@ fn enter_call(
     callee: Callee,
     arguments: Nodes,
 ) -> Result<Task, Halt>
-    ensures { Leads code.now result stack.now world.now world.now.reads (λ d. out_value code.now d stack.now (call code.now d callee (listed code.now arguments) (state_of world.now))) }
+    ensures { Leads code.now result stack.now world.now world.now (λ d x. out_value code.now d stack.now (call code.now d callee (listed code.now arguments) (state_at world.now x))) }
 {
     let goal = match callee {
         Callee::Unknown => Goal::Stop,
@@ -45,7 +45,7 @@ fn enter_assignment(
     variable: Variable,
     node: u32,
 ) -> Result<Task, Halt>
-    ensures { Leads code.now result stack.new world.now world.now.reads (λ d. out_value code.now d stack.old (assigned code.now d variable (d.value node) (state_of world.now))) }
+    ensures { Leads code.now result stack.new world.now world.now (λ d x. out_value code.now d stack.old (assigned code.now d variable (d.value node) (state_at world.now x))) }
 {
     match variable {
         Variable::Unknown => Ok(Task::Act(Action::End(End::Stuck))),
@@ -73,7 +73,7 @@ fn enter_change(
     variable: Variable,
     change: Change,
 ) -> Result<Task, Halt>
-    ensures { Leads code.now result stack.new world.now world.now.reads (λ d. out_value code.now d stack.old (changed code.now d variable (change_of d change) (state_of world.now))) }
+    ensures { Leads code.now result stack.new world.now world.now (λ d x. out_value code.now d stack.old (changed code.now d variable (change_of d change) (state_at world.now x))) }
 {
     match variable {
         Variable::Unknown => Ok(Task::Act(Action::End(End::Stuck))),
@@ -108,7 +108,7 @@ pub fn enter_expression(
     stack: &mut Stack,
     expression: Expression,
 ) -> Result<Task, Halt>
-    ensures { Leads code.now result stack.new world.now world.now.reads (λ d. out_value code.now d stack.old (value_of code.now d expression (state_of world.now))) }
+    ensures { Leads code.now result stack.new world.now world.now (λ d x. out_value code.now d stack.old (value_of code.now d expression (state_at world.now x))) }
 {
     match expression {
         Expression::Stuck => Ok(Task::Act(Action::End(End::Stuck))),

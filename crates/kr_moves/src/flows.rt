@@ -1,7 +1,7 @@
 // A statement has led on, and comes to a frame.
 ghost use Rattle.kr_frames.specs.Frames.{out_flow, led, flow_of};
 ghost use Rattle.kr_frames.specs.Leads.{Leads};
-ghost use Rattle.kr_world.specs.Worlds.{state_of};
+ghost use Rattle.kr_world.specs.Worlds.{state_at};
 
 use kr_code::Code;
 use kr_frames::{Flow, FlowFrame, Stack, Task};
@@ -16,7 +16,7 @@ pub fn take_flow(
     frame: FlowFrame,
     flow: Flow,
 ) -> Result<Task, Halt>
-    ensures { Leads code.now result stack.now world.now world.now.reads (λ d. out_flow code.now d stack.now (led code.now d frame (flow_of flow) (state_of world.now))) }
+    ensures { Leads code.now result stack.now world.now world.now (λ d x. out_flow code.now d stack.now (led code.now d frame (flow_of flow) (state_at world.now x))) }
 {
     match frame {
         FlowFrame::Rest(others) => match flow {

@@ -6,7 +6,7 @@ ghost use Rattle.kr_code.specs.Tables.{listed};
 ghost use Rattle.kr_code.specs.Doing.{all_at, all_declared, updates_at, values_at};
 ghost use Rattle.kr_frames.specs.Frames.{out_value, out_flow, out_unit, continued, applied, upwards, onto, repeated};
 ghost use Rattle.kr_frames.specs.Leads.{Leads};
-ghost use Rattle.kr_world.specs.Worlds.{state_of};
+ghost use Rattle.kr_world.specs.Worlds.{state_at};
 
 use crate::pushes::{flow, push, test};
 use crate::values::stop;
@@ -18,7 +18,7 @@ use kr_world::{Action, Halt, World};
 /// Statements, one after another.
 #[tactic(auto, unfolding(kr_mean::specs::Steps::bind))]
 pub fn all(code: &Code, world: &World, stack: &mut Stack, nodes: Nodes) -> Result<Task, Halt>
-    ensures { Leads code.now result stack.new world.now world.now.reads (λ d. out_flow code.now d stack.old (all_at d (listed code.now nodes) (state_of world.now))) }
+    ensures { Leads code.now result stack.new world.now world.now (λ d x. out_flow code.now d stack.old (all_at d (listed code.now nodes) (state_at world.now x))) }
 {
     match code.split(nodes) {
         None => Ok(Task::Led(Flow::Next)),
@@ -32,7 +32,7 @@ pub fn all(code: &Code, world: &World, stack: &mut Stack, nodes: Nodes) -> Resul
 /// The updates of a loop.
 #[tactic(auto, unfolding(kr_mean::specs::Steps::bind))]
 pub fn update(code: &Code, world: &World, stack: &mut Stack, nodes: Nodes) -> Result<Task, Halt>
-    ensures { Leads code.now result stack.new world.now world.now.reads (λ d. out_flow code.now d stack.old (updates_at d (listed code.now nodes) (state_of world.now))) }
+    ensures { Leads code.now result stack.new world.now world.now (λ d x. out_flow code.now d stack.old (updates_at d (listed code.now nodes) (state_at world.now x))) }
 {
     match code.split(nodes) {
         None => Ok(Task::Led(Flow::Next)),
@@ -46,7 +46,7 @@ pub fn update(code: &Code, world: &World, stack: &mut Stack, nodes: Nodes) -> Re
 /// A round of a loop, if there is one more.
 #[tactic(auto, using(crate::proofs::Moves::repeats), unfolding(kr_mean::specs::Steps::bind))]
 pub fn repeat(code: &Code, world: &World, stack: &mut Stack, turn: Loop) -> Result<Task, Halt>
-    ensures { Leads code.now result stack.new world.now world.now.reads (λ d. out_flow code.now d stack.old (repeated code.now d turn (state_of world.now))) }
+    ensures { Leads code.now result stack.new world.now world.now (λ d x. out_flow code.now d stack.old (repeated code.now d turn (state_at world.now x))) }
 {
     test(stack, TestFrame::Begin(turn))?;
     Ok(Task::Act(Action::Tick))
@@ -55,7 +55,7 @@ pub fn repeat(code: &Code, world: &World, stack: &mut Stack, turn: Loop) -> Resu
 /// Declarators, one after another.
 #[tactic(auto, unfolding(kr_mean::specs::Steps::bind))]
 pub fn declare(code: &Code, world: &World, stack: &mut Stack, nodes: Nodes) -> Result<Task, Halt>
-    ensures { Leads code.now result stack.new world.now world.now.reads (λ d. out_flow code.now d stack.old (all_declared code.now d (listed code.now nodes) (state_of world.now))) }
+    ensures { Leads code.now result stack.new world.now world.now (λ d x. out_flow code.now d stack.old (all_declared code.now d (listed code.now nodes) (state_at world.now x))) }
 {
     match code.split(nodes) {
         None => Ok(Task::Led(Flow::Next)),
@@ -82,7 +82,7 @@ pub fn arguments(
     nodes: Nodes,
     found: Vec<Value>,
 ) -> Result<Task, Halt>
-    ensures { Leads code.now result stack.new world.now world.now.reads (λ d. out_value code.now d stack.old (continued (values_at d (listed code.now nodes) (state_of world.now)) (λ ws. applied code.now d goal (onto (reverse found.items) ws)))) }
+    ensures { Leads code.now result stack.new world.now world.now (λ d x. out_value code.now d stack.old (continued (values_at d (listed code.now nodes) (state_at world.now x)) (λ ws. applied code.now d goal (onto (reverse found.items) ws)))) }
 {
     match code.split(nodes) {
         None => return Ok(Task::Apply(goal, found)),
@@ -103,7 +103,7 @@ pub fn up_arguments(
     nodes: Nodes,
     found: Vec<Value>,
 ) -> Result<Task, Halt>
-    ensures { Leads code.now result stack.new world.now world.now.reads (λ d. out_unit code.now d stack.old (continued (values_at d (listed code.now nodes) (state_of world.now)) (λ ws. upwards code.now d up (onto (reverse found.items) ws)))) }
+    ensures { Leads code.now result stack.new world.now world.now (λ d x. out_unit code.now d stack.old (continued (values_at d (listed code.now nodes) (state_at world.now x)) (λ ws. upwards code.now d up (onto (reverse found.items) ws)))) }
 {
     match code.split(nodes) {
         None => {
@@ -144,7 +144,7 @@ pub fn take_argument(
     found: Vec<Value>,
     given: Value,
 ) -> Result<Task, Halt>
-    ensures { Leads code.now result stack.now world.now world.now.reads (λ d. out_value code.now d stack.now (continued (bind (values_at d (listed code.now others)) (λ ws. give (given ∷ ws)) (state_of world.now)) (λ ws. applied code.now d goal (onto (reverse found.items) ws)))) }
+    ensures { Leads code.now result stack.now world.now world.now (λ d x. out_value code.now d stack.now (continued (bind (values_at d (listed code.now others)) (λ ws. give (given ∷ ws)) (state_at world.now x)) (λ ws. applied code.now d goal (onto (reverse found.items) ws)))) }
 {
     match with_value(found, given) {
         Err(_) => return Err(Halt::Memory),
@@ -163,7 +163,7 @@ pub fn take_up_argument(
     found: Vec<Value>,
     given: Value,
 ) -> Result<Task, Halt>
-    ensures { Leads code.now result stack.now world.now world.now.reads (λ d. out_unit code.now d stack.now (continued (bind (values_at d (listed code.now others)) (λ ws. give (given ∷ ws)) (state_of world.now)) (λ ws. upwards code.now d up (onto (reverse found.items) ws)))) }
+    ensures { Leads code.now result stack.now world.now world.now (λ d x. out_unit code.now d stack.now (continued (bind (values_at d (listed code.now others)) (λ ws. give (given ∷ ws)) (state_at world.now x)) (λ ws. upwards code.now d up (onto (reverse found.items) ws)))) }
 {
     match with_value(found, given) {
         Err(_) => return Err(Halt::Memory),

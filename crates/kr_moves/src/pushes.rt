@@ -9,7 +9,7 @@ ghost use Rattle.kr_frames.specs.Frames.{out_value, got, wrote};
 ghost use Rattle.kr_frames.specs.Leads.{Leads};
 ghost use Rattle.kr_world.specs.declared.world.World.{World};
 ghost use Rattle.kr_world.specs.declared.world.Halt.TheVariants.{Memory};
-ghost use Rattle.kr_world.specs.Worlds.{state_of};
+ghost use Rattle.kr_world.specs.Worlds.{state_at};
 
 use kr_frames::{FlowFrame, Frame, Stack, Task, TestFrame, UnitFrame, ValueFrame, WriteFrame};
 use kr_world::Halt;
@@ -63,7 +63,7 @@ pub fn unit(stack: &mut Stack, frame: UnitFrame) -> Result<(), Halt>
 /// A node's value comes next, and then the frame.
 #[tactic(auto, unfolding(kr_mean::specs::Steps::bind))]
 pub fn first(stack: &mut Stack, frame: ValueFrame, node: u32) -> Result<Task, Halt>
-    ensures { (code : Code) (world : World) → Leads code result stack.new world world.reads (λ d. out_value code d stack.old (bind (d.value node) (got code d frame) (state_of world))) }
+    ensures { (code : Code) (world : World) → Leads code result stack.new world world (λ d x. out_value code d stack.old (bind (d.value node) (got code d frame) (state_at world x))) }
 {
     value(stack, frame)?;
     Ok(Task::Evaluate(node))
@@ -72,7 +72,7 @@ pub fn first(stack: &mut Stack, frame: ValueFrame, node: u32) -> Result<Task, Ha
 /// A node's value comes next, and then the frame that writes.
 #[tactic(auto, unfolding(kr_mean::specs::Steps::bind))]
 pub fn then_write(stack: &mut Stack, frame: WriteFrame, node: u32) -> Result<Task, Halt>
-    ensures { (code : Code) (world : World) → Leads code result stack.new world world.reads (λ d. out_value code d stack.old (bind (d.value node) (wrote code d frame) (state_of world))) }
+    ensures { (code : Code) (world : World) → Leads code result stack.new world world (λ d x. out_value code d stack.old (bind (d.value node) (wrote code d frame) (state_at world x))) }
 {
     write(stack, frame)?;
     Ok(Task::Evaluate(node))

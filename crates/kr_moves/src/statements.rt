@@ -2,7 +2,7 @@
 ghost use Rattle.kr_code.specs.Doing.{flow_of};
 ghost use Rattle.kr_frames.specs.Frames.{out_flow};
 ghost use Rattle.kr_frames.specs.Leads.{Leads};
-ghost use Rattle.kr_world.specs.Worlds.{state_of};
+ghost use Rattle.kr_world.specs.Worlds.{state_at};
 
 use crate::pushes::{flow, push, test};
 use crate::values::stop;
@@ -18,7 +18,7 @@ pub fn enter_statement(
     stack: &mut Stack,
     statement: Statement,
 ) -> Result<Task, Halt>
-    ensures { Leads code.now result stack.new world.now world.now.reads (λ d. out_flow code.now d stack.old (flow_of code.now d statement (state_of world.now))) }
+    ensures { Leads code.now result stack.new world.now world.now (λ d x. out_flow code.now d stack.old (flow_of code.now d statement (state_at world.now x))) }
 {
     match statement {
         Statement::Stuck => stop(code, world, stack),

@@ -7,7 +7,7 @@ ghost use Rattle.kr_frames.specs.declared.frame.WriteFrame.TheVariants as writes
 ghost use Rattle.kr_frames.specs.declared.frame.TestFrame.TheVariants as tests;
 ghost use Rattle.kr_frames.specs.Frames.{out_value, out_flow, got, wrote, tested, test_of, turned};
 ghost use Rattle.kr_frames.specs.Leads.{Leads};
-ghost use Rattle.kr_world.specs.Worlds.{state_of};
+ghost use Rattle.kr_world.specs.Worlds.{state_at};
 
 use crate::pushes::{first, flow, test, then_write, value, write};
 use kr_ast::StepOperator;
@@ -38,7 +38,7 @@ fn take_stepped(
     old: Value,
     given: Value,
 ) -> Result<Task, Halt>
-    ensures { Leads code.now result stack.now world.now world.now.reads (λ d. out_value code.now d stack.now (wrote code.now d (writes.Stepped operator cell old) given (state_of world.now))) }
+    ensures { Leads code.now result stack.now world.now world.now (λ d x. out_value code.now d stack.now (wrote code.now d (writes.Stepped operator cell old) given (state_at world.now x))) }
 {
     if gives_old(operator) {
         Ok(Task::Act(Action::Write(cell, given, old)))
@@ -56,7 +56,7 @@ fn take_write(
     frame: WriteFrame,
     given: Value,
 ) -> Result<Task, Halt>
-    ensures { Leads code.now result stack.new world.now world.now.reads (λ d. out_value code.now d stack.old (wrote code.now d frame given (state_of world.now))) }
+    ensures { Leads code.now result stack.new world.now world.now (λ d x. out_value code.now d stack.old (wrote code.now d frame given (state_at world.now x))) }
 {
     match frame {
         WriteFrame::Put(cell) => Ok(Task::Act(Action::Write(cell, given, given))),
@@ -111,7 +111,7 @@ pub fn take_value(
     frame: ValueFrame,
     given: Value,
 ) -> Result<Task, Halt>
-    ensures { Leads code.now result stack.new world.now world.now.reads (λ d. out_value code.now d stack.old (got code.now d frame given (state_of world.now))) }
+    ensures { Leads code.now result stack.new world.now world.now (λ d x. out_value code.now d stack.old (got code.now d frame given (state_at world.now x))) }
 {
     match frame {
         ValueFrame::Load(name) => Ok(Task::Act(Action::Load(name, given))),
@@ -160,7 +160,7 @@ pub fn take_value(
 /// Nothing that has a meaning: no value will come to the frame.
 #[tactic(auto, unfolding(kr_mean::specs::Steps::bind))]
 pub fn stop(code: &Code, world: &World, stack: &mut Stack) -> Result<Task, Halt>
-    ensures { Leads code.now result stack.new world.now world.now.reads (λ d. out_flow code.now d stack.old (stop_step Stuck (state_of world.now))) }
+    ensures { Leads code.now result stack.new world.now world.now (λ d x. out_flow code.now d stack.old (stop_step Stuck (state_at world.now x))) }
 {
     test(stack, TestFrame::Discard)?;
     Ok(Task::Act(Action::End(End::Stuck)))
@@ -169,7 +169,7 @@ pub fn stop(code: &Code, world: &World, stack: &mut Stack) -> Result<Task, Halt>
 /// A loop's test.
 #[tactic(auto, unfolding(kr_mean::specs::Steps::bind))]
 fn begin(code: &Code, world: &World, stack: &mut Stack, turn: Loop) -> Result<Task, Halt>
-    ensures { Leads code.now result stack.new world.now world.now.reads (λ d. out_flow code.now d stack.old (bind (test_of d turn) (turned code.now d turn) (state_of world.now))) }
+    ensures { Leads code.now result stack.new world.now world.now (λ d x. out_flow code.now d stack.old (bind (test_of d turn) (turned code.now d turn) (state_at world.now x))) }
 {
     test(stack, TestFrame::Test(turn))?;
     match turn {
@@ -182,7 +182,7 @@ fn begin(code: &Code, world: &World, stack: &mut Stack, turn: Loop) -> Result<Ta
 /// A round's body, and then the next round.
 #[tactic(auto, unfolding(kr_mean::specs::Steps::bind))]
 fn turn_round(code: &Code, world: &World, stack: &mut Stack, turn: Loop) -> Result<Task, Halt>
-    ensures { Leads code.now result stack.new world.now world.now.reads (λ d. out_flow code.now d stack.old (turned code.now d turn (Truth true) (state_of world.now))) }
+    ensures { Leads code.now result stack.new world.now world.now (λ d x. out_flow code.now d stack.old (turned code.now d turn (Truth true) (state_at world.now x))) }
 {
     flow(stack, FlowFrame::Again(turn))?;
     match turn {
@@ -205,7 +205,7 @@ fn take_declared(
     others: Nodes,
     given: Value,
 ) -> Result<Task, Halt>
-    ensures { Leads code.now result stack.new world.now world.now.reads (λ d. out_flow code.now d stack.old (tested code.now d (tests.Declared local initial others) given (state_of world.now))) }
+    ensures { Leads code.now result stack.new world.now world.now (λ d x. out_flow code.now d stack.old (tested code.now d (tests.Declared local initial others) given (state_at world.now x))) }
 {
     match initial {
         None => Ok(Task::Declare(others)),
@@ -225,7 +225,7 @@ pub fn take_test(
     frame: TestFrame,
     given: Value,
 ) -> Result<Task, Halt>
-    ensures { Leads code.now result stack.new world.now world.now.reads (λ d. out_flow code.now d stack.old (tested code.now d frame given (state_of world.now))) }
+    ensures { Leads code.now result stack.new world.now world.now (λ d x. out_flow code.now d stack.old (tested code.now d frame given (state_at world.now x))) }
 {
     match frame {
         TestFrame::Then(then) => match given {

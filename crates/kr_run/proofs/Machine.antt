@@ -1,5 +1,5 @@
 -- What the machine's steps need of the meaning.
-use Rattle.std.proofs.Common.{◌≡◌, ◌<◌, arith, ℕ, List, [], ◌∷◌, length, Result, Ok, Err, refl, sym, ap, ◌∙◌}
+use Rattle.std.proofs.Common.{◌≡◌, ◌<◌, arith, ℕ, List, [], ◌∷◌, length, Result, Ok, Err, refl, sym, ap, ◌∙◌, subst}
 use Rattle.std.specs.Prelude.{map, take, Bool, true, nat_eq}
 use Rattle.std.proofs.lemmas.Bool.{eq-eqb}
 use Rattle.std.proofs.lemmas.List.{take-map}
@@ -13,14 +13,15 @@ use Rattle.kr_mean.specs.Steps.{Stop, State, Outcome, Run, after_reads, go_on, b
 use Rattle.kr_mean.specs.Operators.{operated}
 use Rattle.kr_mean.specs.Meaning.{Flow, Change, change_to}
 use Rattle.kr_code.specs.declared.code.Code.{Code}
-use Rattle.kr_code.specs.Doing.{Doing, constructed}
+use Rattle.kr_code.specs.declared.statement.Statement.{Statement}
+use Rattle.kr_code.specs.Doing.{Doing, constructed, statement_done, flow_of}
 use Rattle.kr_world.specs.declared.world.Local.{Local}
 use Rattle.kr_world.specs.declared.world.World.{World}
 use Rattle.kr_world.specs.declared.world.Halt.{Halt}
 use Rattle.kr_world.specs.declared.world.Halt.TheVariants.{Ended, Memory}
 use Rattle.kr_world.specs.declared.action.Cell.{Cell}
 use Rattle.kr_world.specs.Noting.{noting}
-use Rattle.kr_world.specs.Worlds.{Agrees}
+use Rattle.kr_world.specs.Worlds.{Agrees, state_at}
 use Rattle.kr_world.specs.Actions.{written}
 use Rattle.kr_world.specs.Shown.{local_of}
 use Rattle.kr_frames.specs.declared.frame.Frame.{Frame}
@@ -28,7 +29,7 @@ use Rattle.kr_frames.specs.declared.frame.Change.TheVariants as changes
 use Rattle.kr_frames.specs.Frames.{continued, altered, out_value, out_flow}
 use Rattle.kr_frames.specs.Leads.{Leads}
 use Rattle.kr_moves.proofs.Moves.{given_then}
-use Rattle.kr_frames.proofs.Outcomes.{continued_reads, gave, Ends, ends_on, value_ends, flow_ends, has_ended, leads_same}
+use Rattle.kr_frames.proofs.Outcomes.{continued_reads, gave, halts, ends_on, value_ends, flow_ends, leads_alike}
 
 pub locals_cut : (locals : List Local) (n : ℕ) → take n (map local_of locals) ≡ map local_of (take n locals)
 locals_cut locals n = take-map local_of n locals
@@ -42,26 +43,25 @@ ticked out law seen new n s t v h =
     ap (λ q. noting seen (out q)) (sym (given_then tick Null (λ x. n) s))
     ∙ gave (λ q. out (continued q (λ x. n))) (λ rs q. ap out (continued_reads rs q (λ x. n)) ∙ law rs (continued q (λ x. n))) seen new (bind tick (λ u. give Null) s) v t h
 
--- what ends a part ends the run, in every meaning
-pub halts : {A : Type 0} (code : Code) (h : Halt) (gs : List Frame) (w : World) (seen : List SlotPlace) (out : Doing → Outcome A → Outcome Value)
-    → ((d : Doing) (e : Stop) (heap : List HeapObject) (fuel : ℕ) (reads : List SlotPlace) (o : Outcome A) → Ends e heap fuel reads o → Ends e heap fuel reads (out d o))
-    → (o : Outcome A) → Agrees (Err h) w seen o → Leads code (Err h) gs w seen (λ d. out d o)
-halts code (Ended e) gs w seen out law o a = λ d m. has_ended (out d) (law d) e w seen o a
-halts code Memory gs w seen out law o a = tt
+pub no_value_tick : (code : Code) (h : Halt) (fs gs : List Frame) (w before : World) (n : Doing → Run Value)
+    → Agrees {A = Value} (Err h) w before (λ x. bind tick (λ u. give Null) (state_at before x)) → Leads code (Err h) gs w before (λ d x. out_value code d fs (bind tick (λ u. n d) (state_at before x)))
+no_value_tick code h fs gs w before n a =
+    leads_alike code (Err h) gs w before _ (λ d x. out_value code d fs (continued (bind tick (λ u. give Null) (state_at before x)) (λ v. n d)))
+    (λ x d m. ap (λ (q : Outcome Value). out_value code d fs q) (sym (given_then tick Null (λ v. n d) (state_at before x))))
+    (halts code h gs w before (λ d q. out_value code d fs (continued q (λ v. n d))) (λ d e heap fuel reads o y. value_ends code d e heap fuel reads fs _ (ends_on e heap fuel reads o (λ v. n d) y)) (λ x. bind tick (λ u. give Null) (state_at before x)) a)
 
-pub no_value_tick : (code : Code) (h : Halt) (fs gs : List Frame) (w : World) (seen : List SlotPlace) (n : Doing → Run Value) (s : State)
-    → Agrees {A = Value} (Err h) w seen (bind tick (λ u. give Null) s) → Leads code (Err h) gs w seen (λ d. out_value code d fs (bind tick (λ u. n d) s))
-no_value_tick code h fs gs w seen n s a =
-    leads_same code (Err h) gs w seen seen _ (λ d. out_value code d fs (continued (bind tick (λ u. give Null) s) (λ x. n d)))
-    (λ d m. ap (λ (q : Outcome Value). noting seen (out_value code d fs q)) (sym (given_then tick Null (λ x. n d) s)))
-    (halts code h gs w seen (λ d q. out_value code d fs (continued q (λ x. n d))) (λ d e heap fuel reads o x. value_ends code d e heap fuel reads fs _ (ends_on e heap fuel reads o (λ y. n d) x)) (bind tick (λ u. give Null) s) a)
+pub no_flow_tick : (code : Code) (h : Halt) (fs gs : List Frame) (w before : World) (n : Doing → Run Flow)
+    → Agrees {A = Value} (Err h) w before (λ x. bind tick (λ u. give Null) (state_at before x)) → Leads code (Err h) gs w before (λ d x. out_flow code d fs (bind tick (λ u. n d) (state_at before x)))
+no_flow_tick code h fs gs w before n a =
+    leads_alike code (Err h) gs w before _ (λ d x. out_flow code d fs (continued (bind tick (λ u. give Null) (state_at before x)) (λ v. n d)))
+    (λ x d m. ap (λ (q : Outcome Flow). out_flow code d fs q) (sym (given_then tick Null (λ v. n d) (state_at before x))))
+    (halts code h gs w before (λ d q. out_flow code d fs (continued q (λ v. n d))) (λ d e heap fuel reads o y. flow_ends code d e heap fuel reads fs _ (ends_on e heap fuel reads o (λ v. n d) y)) (λ x. bind tick (λ u. give Null) (state_at before x)) a)
 
-pub no_flow_tick : (code : Code) (h : Halt) (fs gs : List Frame) (w : World) (seen : List SlotPlace) (n : Doing → Run Flow) (s : State)
-    → Agrees {A = Value} (Err h) w seen (bind tick (λ u. give Null) s) → Leads code (Err h) gs w seen (λ d. out_flow code d fs (bind tick (λ u. n d) s))
-no_flow_tick code h fs gs w seen n s a =
-    leads_same code (Err h) gs w seen seen _ (λ d. out_flow code d fs (continued (bind tick (λ u. give Null) s) (λ x. n d)))
-    (λ d m. ap (λ (q : Outcome Flow). noting seen (out_flow code d fs q)) (sym (given_then tick Null (λ x. n d) s)))
-    (halts code h gs w seen (λ d q. out_flow code d fs (continued q (λ x. n d))) (λ d e heap fuel reads o x. flow_ends code d e heap fuel reads fs _ (ends_on e heap fuel reads o (λ y. n d) x)) (bind tick (λ u. give Null) s) a)
+-- ---- statements
+
+-- a statement that declares nothing, by its kind
+pub done_by : (code : Code) (d : Doing) (t t' : Statement) (s : State) → t ≡ t' → statement_done code d t' s ≡ bind tick (λ u. flow_of code d t') s → statement_done code d t s ≡ bind tick (λ u. flow_of code d t) s
+done_by code d t t' s e h = subst (λ (q : Statement). statement_done code d q s ≡ bind tick (λ u. flow_of code d q) s) (sym e) h
 
 -- ---- changes
 

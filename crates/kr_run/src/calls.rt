@@ -1,7 +1,7 @@
 // Calls: a method's body comes next, on its arguments.
 ghost use Rattle.std.specs.Prelude.{◌≡◌, ◌∷◌, map, IfOk, OnOk, IfErr};
 ghost use Rattle.kr_value.specs.declared.value.Value.TheVariants.{Null};
-ghost use Rattle.kr_mean.specs.Steps.{bind, class_of, plain_local, collect as collect_step};
+ghost use Rattle.kr_mean.specs.Steps.{bind, class_of as class_step, plain_local, collect as collect_step};
 ghost use Rattle.kr_code.specs.Collections.{name_of, new_collection as collection_step};
 ghost use Rattle.kr_code.specs.Tables.{method_at};
 ghost use Rattle.kr_code.specs.Doing.{run_method as run_step, run_numbered as numbered_step, run_on as on_step};
@@ -10,7 +10,7 @@ ghost use Rattle.kr_world.specs.declared.world.Halt.TheVariants.{Memory};
 ghost use Rattle.kr_frames.specs.Frames.{out_value, applied};
 ghost use Rattle.kr_frames.specs.Leads.{Leads};
 ghost use Rattle.kr_world.specs.Shown.{local_of};
-ghost use Rattle.kr_world.specs.Worlds.{state_of};
+ghost use Rattle.kr_world.specs.Worlds.{state_at};
 
 use crate::create::create;
 use kr_base::NoMemory;
@@ -19,7 +19,7 @@ use kr_frames::{Frame, Goal, Stack, Task};
 use kr_mean::Kind;
 use kr_moves::push;
 use kr_value::{Class, Value};
-use kr_world::{Action, End, Halt, Local, World, collect};
+use kr_world::{Action, End, Halt, Local, World, class_of, collect};
 use std::alloc::Global;
 use std::mem;
 
@@ -52,8 +52,7 @@ fn enter_body(
     locals: Vec<Local>,
 ) -> Result<(), Halt>
     ensures pushed { OnOk result (stack.new ≡ frames.Leave is_void world.old.this world.old.locals ∷ stack.old) }
-    ensures state { OnOk result (state_of world.new ≡ record (state_of world.old) { this_value = receiver; locals = map local_of locals.items }) }
-    ensures reads { OnOk result (world.new.reads ≡ world.old.reads) }
+    ensures world { OnOk result (world.new ≡ record world.old { this = receiver; locals = locals }) }
     ensures memory { IfErr result (λ halt. halt ≡ Memory) }
 {
     let this = world.this;
@@ -73,7 +72,7 @@ fn run_method(
     method: Option<MethodCode>,
     arguments: &Vec<Value>,
 ) -> Result<Task, Halt>
-    ensures { Leads code.now result stack.new world.new world.old.reads (λ d. out_value code.now d stack.old (run_step code.now d receiver arguments.now.items method (state_of world.old))) }
+    ensures { Leads code.now result stack.new world.new world.old (λ d x. out_value code.now d stack.old (run_step code.now d receiver arguments.now.items method (state_at world.old x))) }
 {
     let Some(found) = method else {
         return Ok(Task::Act(Action::End(End::Stuck)));
@@ -99,7 +98,7 @@ fn run_numbered(
     method: Option<u32>,
     arguments: &Vec<Value>,
 ) -> Result<Task, Halt>
-    ensures { Leads code.now result stack.new world.new world.old.reads (λ d. out_value code.now d stack.old (numbered_step code.now d receiver arguments.now.items method (state_of world.old))) }
+    ensures { Leads code.now result stack.new world.new world.old (λ d x. out_value code.now d stack.old (numbered_step code.now d receiver arguments.now.items method (state_at world.old x))) }
 {
     match method {
         None => Ok(Task::Act(Action::End(End::Stuck))),
@@ -121,11 +120,11 @@ fn run_on(
     object: Value,
     arguments: &Vec<Value>,
 ) -> Result<Task, Halt>
-    ensures { Leads code.now result stack.new world.new world.old.reads (λ d. out_value code.now d stack.old (on_step code.now d method object arguments.now.items (state_of world.old))) }
+    ensures { Leads code.now result stack.new world.new world.old (λ d x. out_value code.now d stack.old (on_step code.now d method object arguments.now.items (state_at world.old x))) }
 {
     match object {
         Value::Ref(number) => {
-            let found = code.method_in(method, world.heap.class_of(number));
+            let found = code.method_in(method, class_of(world, number));
             run_numbered(alloc, code, world, stack, object, found, arguments)
         }
         Value::Null => Ok(Task::Act(Action::End(End::Trapped(Kind::NullPointerException)))),
@@ -144,7 +143,7 @@ fn run_static(
     object: Value,
     arguments: &Vec<Value>,
 ) -> Result<Task, Halt>
-    ensures { Leads code.now result stack.new world.new world.old.reads (λ d. out_value code.now d stack.old (bind (class_of object) (λ c. run_step code.now d Null arguments.now.items (method_at code.now method)) (state_of world.old))) }
+    ensures { Leads code.now result stack.new world.new world.old (λ d x. out_value code.now d stack.old (bind (class_step object) (λ c. run_step code.now d Null arguments.now.items (method_at code.now method)) (state_at world.old x))) }
 {
     match object {
         Value::Ref(_) => {
@@ -165,7 +164,7 @@ fn new_collection(
     class: Class,
     arguments: &Vec<Value>,
 ) -> Result<Task, Halt>
-    ensures { Leads code.now result stack.now world.now world.now.reads (λ d. out_value code.now d stack.now (collection_step class arguments.now.items (state_of world.now))) }
+    ensures { Leads code.now result stack.now world.now world.now (λ d x. out_value code.now d stack.now (collection_step class arguments.now.items (state_at world.now x))) }
 {
     match arguments.as_slice().split_first() {
         None => Ok(Task::Act(Action::NewCollection(class))),
@@ -182,7 +181,7 @@ fn collect_on(
     object: Value,
     arguments: &Vec<Value>,
 ) -> Result<Task, Halt>
-    ensures { Leads code.now result stack.now world.new world.old.reads (λ d. out_value code.now d stack.now (collect_step (name_of call) object arguments.now.items (state_of world.old))) }
+    ensures { Leads code.now result stack.now world.new world.old (λ d x. out_value code.now d stack.now (collect_step (name_of call) object arguments.now.items (state_at world.old x))) }
 {
     match collect(world, call, object, arguments) {
         Ok(given) => Ok(Task::Got(given)),
@@ -200,7 +199,7 @@ pub fn apply(
     goal: Goal,
     arguments: Vec<Value>,
 ) -> Result<Task, Halt>
-    ensures { Leads code.now result stack.new world.new world.old.reads (λ d. out_value code.now d stack.old (applied code.now d goal arguments.items (state_of world.old))) }
+    ensures { Leads code.now result stack.new world.new world.old (λ d x. out_value code.now d stack.old (applied code.now d goal arguments.items (state_at world.old x))) }
 {
     match goal {
         Goal::Stop => return Ok(Task::Act(Action::End(End::Stuck))),

@@ -8,7 +8,7 @@ ghost use Rattle.kr_frames.specs.Frames.{out_value, out_unit, done, upwards};
 ghost use Rattle.kr_frames.specs.Leads.{Leads};
 ghost use Rattle.kr_mean.specs.Steps.{Stuck, bind, within, stop as stop_step};
 ghost use Rattle.kr_world.specs.Shown.{local_of};
-ghost use Rattle.kr_world.specs.Worlds.{state_of};
+ghost use Rattle.kr_world.specs.Worlds.{state_at};
 
 use crate::calls::plain_locals;
 use kr_code::{ClassCode, Code, Constructor, Nodes};
@@ -29,7 +29,7 @@ pub fn create(
     class: u32,
     arguments: Vec<Value>,
 ) -> Result<Task, Halt>
-    ensures { Leads code.now result stack.new world.new world.old.reads (λ d. out_value code.now d stack.old (create_step code.now d class arguments.items (class_at code.now class) (state_of world.old))) }
+    ensures { Leads code.now result stack.new world.new world.old (λ d x. out_value code.now d stack.old (create_step code.now d class arguments.items (class_at code.now class) (state_at world.old x))) }
 {
     match code.class(class) {
         None => return Ok(Task::Act(Action::End(End::Stuck))),
@@ -46,23 +46,10 @@ pub fn create(
 /// Nothing that has a meaning, in place of something that gives nothing.
 #[tactic(auto, unfolding(kr_mean::specs::Steps::bind))]
 pub fn stop_unit(code: &Code, world: &World, stack: &mut Stack) -> Result<Task, Halt>
-    ensures { Leads code.now result stack.new world.now world.now.reads (λ d. out_unit code.now d stack.old (stop_step Stuck (state_of world.now))) }
+    ensures { Leads code.now result stack.new world.now world.now (λ d x. out_unit code.now d stack.old (stop_step Stuck (state_at world.now x))) }
 {
     push(stack, Frame::Store(0, Value::Null))?;
     Ok(Task::Act(Action::End(End::Stuck)))
-}
-
-/// Something is done with an object as `this` and without locals, and then they are as before.
-fn enter(world: &mut World, stack: &mut Stack, alloc: Global, object: Value) -> Result<(), Halt>
-    ensures pushed { OnOk result (stack.new ≡ frames.Back world.old.this world.old.locals ∷ stack.old) }
-    ensures state { OnOk result (state_of world.new ≡ record (state_of world.old) { this_value = object; locals = [] }) }
-    ensures reads { OnOk result (world.new.reads ≡ world.old.reads) }
-    ensures memory { IfErr result (λ halt. halt ≡ Memory) }
-{
-    let this = world.this;
-    let before = mem::replace(&mut world.locals, Vec::new(alloc));
-    world.this = object;
-    push(stack, Frame::Back(this, before))
 }
 
 /// Something is done with an object as `this` and with arguments, and then they are as before.
@@ -73,8 +60,7 @@ fn enter_with(
     locals: Vec<Local>,
 ) -> Result<(), Halt>
     ensures pushed { OnOk result (stack.new ≡ frames.Back world.old.this world.old.locals ∷ stack.old) }
-    ensures state { OnOk result (state_of world.new ≡ record (state_of world.old) { this_value = object; locals = map local_of locals.items }) }
-    ensures reads { OnOk result (world.new.reads ≡ world.old.reads) }
+    ensures world { OnOk result (world.new ≡ record world.old { this = object; locals = locals }) }
     ensures memory { IfErr result (λ halt. halt ≡ Memory) }
 {
     let this = world.this;
@@ -95,7 +81,7 @@ fn construct_plain(
     arguments: &Vec<Value>,
     others: Nodes,
 ) -> Result<Task, Halt>
-    ensures { Leads code.now result stack.new world.new world.old.reads (λ d. out_unit code.now d stack.old (within object 0 arguments.now.items (bind (constructed code.now d (listed code.now others) object []) (λ u. initialised_step code.now d object (listed code.now initialisers))) (state_of world.old))) }
+    ensures { Leads code.now result stack.new world.new world.old (λ d x. out_unit code.now d stack.old (within object 0 arguments.now.items (bind (constructed code.now d (listed code.now others) object []) (λ u. initialised_step code.now d object (listed code.now initialisers))) (state_at world.old x))) }
 {
     if arguments.len() != 0 {
         return stop_unit(code, world, stack);
@@ -119,7 +105,7 @@ fn construct_declared(
     up: Up,
     arguments: &Vec<Value>,
 ) -> Result<Task, Halt>
-    ensures { Leads code.now result stack.new world.new world.old.reads (λ d. out_unit code.now d stack.old (within up.object constructor.parameters arguments.now.items (bind (super_values code.now d constructor.call) (upwards code.now d up)) (state_of world.old))) }
+    ensures { Leads code.now result stack.new world.new world.old (λ d x. out_unit code.now d stack.old (within up.object constructor.parameters arguments.now.items (bind (super_values code.now d constructor.call) (upwards code.now d up)) (state_at world.old x))) }
 {
     if arguments.len() != constructor.parameters as usize {
         return stop_unit(code, world, stack);
@@ -155,7 +141,7 @@ fn construct_in(
     arguments: &Vec<Value>,
     others: Nodes,
 ) -> Result<Task, Halt>
-    ensures { Leads code.now result stack.new world.new world.old.reads (λ d. out_unit code.now d stack.old (constructed_in code.now d class object arguments.now.items (constructed code.now d (listed code.now others) object) (state_of world.old))) }
+    ensures { Leads code.now result stack.new world.new world.old (λ d x. out_unit code.now d stack.old (constructed_in code.now d class object arguments.now.items (constructed code.now d (listed code.now others) object) (state_at world.old x))) }
 {
     match class {
         None => stop_unit(code, world, stack),
@@ -191,7 +177,7 @@ fn construct_last(
     object: Value,
     arguments: &Vec<Value>,
 ) -> Result<Task, Halt>
-    ensures { Leads code.now result stack.new world.now world.now.reads (λ d. out_unit code.now d stack.old (constructed code.now d [] object arguments.now.items (state_of world.now))) }
+    ensures { Leads code.now result stack.new world.now world.now (λ d x. out_unit code.now d stack.old (constructed code.now d [] object arguments.now.items (state_at world.now x))) }
 {
     if arguments.len() == 0 {
         return Ok(Task::Done);
@@ -210,7 +196,7 @@ pub fn construct(
     object: Value,
     arguments: &Vec<Value>,
 ) -> Result<Task, Halt>
-    ensures { Leads code.now result stack.new world.new world.old.reads (λ d. out_unit code.now d stack.old (constructed code.now d (listed code.now line) object arguments.now.items (state_of world.old))) }
+    ensures { Leads code.now result stack.new world.new world.old (λ d x. out_unit code.now d stack.old (constructed code.now d (listed code.now line) object arguments.now.items (state_at world.old x))) }
 {
     match code.split(line) {
         None => construct_last(code, world, stack, object, arguments),
@@ -230,7 +216,7 @@ pub fn initialise(
     nodes: Nodes,
     object: Value,
 ) -> Result<Task, Halt>
-    ensures { Leads code.now result stack.new world.now world.now.reads (λ d. out_unit code.now d stack.old (initialised_step code.now d object (listed code.now nodes) (state_of world.now))) }
+    ensures { Leads code.now result stack.new world.now world.now (λ d x. out_unit code.now d stack.old (initialised_step code.now d object (listed code.now nodes) (state_at world.now x))) }
 {
     match code.split(nodes) {
         None => Ok(Task::Done),
@@ -254,12 +240,12 @@ pub fn take_unit(
     stack: &mut Stack,
     frame: UnitFrame,
 ) -> Result<Task, Halt>
-    ensures { Leads code.now result stack.new world.new world.old.reads (λ d. out_unit code.now d stack.old (done code.now d frame (state_of world.old))) }
+    ensures { Leads code.now result stack.new world.new world.old (λ d x. out_unit code.now d stack.old (done code.now d frame (state_at world.old x))) }
 {
     match frame {
         UnitFrame::Behind(object, initialisers, body) => {
             unit(stack, UnitFrame::Body(body))?;
-            enter(world, stack, alloc, object)?;
+            enter_with(world, stack, object, Vec::new(alloc))?;
             Ok(Task::Initialise(initialisers, object))
         }
         UnitFrame::Body(body) => {

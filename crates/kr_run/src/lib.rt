@@ -5,9 +5,10 @@
 mod calls;
 mod create;
 mod run;
-mod step;
+mod steps;
 
-pub use run::evaluate;
+pub use run::{evaluate, step};
+pub use steps::Step;
 
 #[cfg(test)]
 mod tests;

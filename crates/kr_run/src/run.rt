@@ -11,11 +11,11 @@ ghost use Rattle.kr_world.specs.Actions.{acted};
 ghost use Rattle.kr_frames.specs.Leads.{Leads};
 ghost use Rattle.kr_mean.specs.Steps.{bind, give, tick};
 ghost use Rattle.kr_run.specs.Answers.{StepsTo, Answers};
-ghost use Rattle.kr_world.specs.Worlds.{state_of};
+ghost use Rattle.kr_world.specs.Worlds.{state_at};
 
 use crate::calls::apply;
 use crate::create::{construct, initialise, stop_unit, take_unit};
-use crate::step::Step;
+use crate::steps::Step;
 use kr_ast::{BinaryOperator, StepOperator};
 use kr_code::{Code, Statement};
 use kr_frames::{Change, Flow, Frame, Stack, Task, ValueFrame, WriteFrame};
@@ -37,7 +37,7 @@ fn evaluate_node(
     stack: &mut Stack,
     node: u32,
 ) -> Result<Task, Halt>
-    ensures { Leads code.now result stack.new world.new world.old.reads (λ d. out_value code.now d stack.old (d.value node (state_of world.old))) }
+    ensures { Leads code.now result stack.new world.new world.old (λ d x. out_value code.now d stack.old (d.value node (state_at world.old x))) }
 {
     match act(alloc, code, Action::Tick, world) {
         Err(halt) => Err(halt),
@@ -57,7 +57,7 @@ fn tick_statement(
     stack: &mut Stack,
     statement: Statement,
 ) -> Result<Task, Halt>
-    ensures { Leads code.now result stack.new world.new world.old.reads (λ d. out_flow code.now d stack.old (bind tick (λ u. statement_flow code.now d statement) (state_of world.old))) }
+    ensures { Leads code.now result stack.new world.new world.old (λ d x. out_flow code.now d stack.old (bind tick (λ u. statement_flow code.now d statement) (state_at world.old x))) }
 {
     match act(alloc, code, Action::Tick, world) {
         Err(halt) => Err(halt),
@@ -74,7 +74,7 @@ fn execute_statement(
     stack: &mut Stack,
     statement: Statement,
 ) -> Result<Task, Halt>
-    ensures { Leads code.now result stack.new world.new world.old.reads (λ d. out_flow code.now d stack.old (statement_done code.now d statement (state_of world.old))) }
+    ensures { Leads code.now result stack.new world.new world.old (λ d x. out_flow code.now d stack.old (statement_done code.now d statement (state_at world.old x))) }
 {
     match statement {
         Statement::Declare(nodes) => Ok(Task::Declare(nodes)),
@@ -102,7 +102,7 @@ fn execute_node(
     stack: &mut Stack,
     node: u32,
 ) -> Result<Task, Halt>
-    ensures { Leads code.now result stack.new world.new world.old.reads (λ d. out_flow code.now d stack.old (d.exec node (state_of world.old))) }
+    ensures { Leads code.now result stack.new world.new world.old (λ d x. out_flow code.now d stack.old (d.exec node (state_at world.old x))) }
 {
     let statement = code.statement(node);
     execute_statement(alloc, code, world, stack, statement)
@@ -130,7 +130,7 @@ fn alter_compound(
     cell: Cell,
     old: Value,
 ) -> Result<Task, Halt>
-    ensures { Leads code.now result stack.new world.now world.now.reads (λ d. out_value code.now d stack.old (altered code.now d (changes.Compound operator node) cell old (state_of world.now))) }
+    ensures { Leads code.now result stack.new world.now world.now (λ d x. out_value code.now d stack.old (altered code.now d (changes.Compound operator node) cell old (state_at world.now x))) }
 {
     write(stack, WriteFrame::Put(cell))?;
     value(stack, ValueFrame::Right(operator, old))?;
@@ -147,7 +147,7 @@ fn alter(
     cell: Cell,
     old: Value,
 ) -> Result<Task, Halt>
-    ensures { Leads code.now result stack.new world.now world.now.reads (λ d. out_value code.now d stack.old (altered code.now d change cell old (state_of world.now))) }
+    ensures { Leads code.now result stack.new world.now world.now (λ d x. out_value code.now d stack.old (altered code.now d change cell old (state_at world.now x))) }
 {
     match change {
         Change::Step(operator) => {
@@ -170,7 +170,7 @@ fn store(
     object: Value,
     given: Value,
 ) -> Result<Task, Halt>
-    ensures { Leads code.now result stack.now world.new world.old.reads (λ d. out_unit code.now d stack.now (store_step code.now field object given (state_of world.old))) }
+    ensures { Leads code.now result stack.now world.new world.old (λ d x. out_unit code.now d stack.now (store_step code.now field object given (state_at world.old x))) }
 {
     match store_initial(code, world, field, object, given) {
         Ok(()) => Ok(Task::Done),
@@ -188,7 +188,7 @@ fn value_frame(
     frame: Frame,
     given: Value,
 ) -> Result<Task, Halt>
-    ensures { Leads code.now result stack.new world.new world.old.reads (λ d. out_value code.now d (frame ∷ stack.old) (give given (state_of world.old))) }
+    ensures { Leads code.now result stack.new world.new world.old (λ d x. out_value code.now d (frame ∷ stack.old) (give given (state_at world.old x))) }
 {
     match frame {
         Frame::Value(waiting) => return take_value(alloc, code, world, stack, waiting, given),
@@ -216,7 +216,7 @@ fn leave(
     locals: Vec<Local>,
     flow: Flow,
 ) -> Result<Task, Halt>
-    ensures { Leads code.now result stack.now world.new world.old.reads (λ d. out_value code.now d stack.now (restored this locals.items (returned is_void (flow_of flow) (state_of world.old)))) }
+    ensures { Leads code.now result stack.now world.new world.old (λ d x. out_value code.now d stack.now (restored this locals.items (returned is_void (flow_of flow) (state_at world.old x)))) }
 {
     world.this = this;
     world.locals = locals;
@@ -232,7 +232,7 @@ fn leave(
 /// A constructor's body ends.
 #[tactic(auto, unfolding(kr_mean::specs::Steps::bind))]
 fn complete(code: &Code, world: &World, stack: &mut Stack, flow: Flow) -> Result<Task, Halt>
-    ensures { Leads code.now result stack.new world.now world.now.reads (λ d. out_unit code.now d stack.old (completed (flow_of flow) (state_of world.now))) }
+    ensures { Leads code.now result stack.new world.now world.now (λ d x. out_unit code.now d stack.old (completed (flow_of flow) (state_at world.now x))) }
 {
     match flow {
         Flow::Next => Ok(Task::Done),
@@ -250,7 +250,7 @@ fn end_scope(
     count: usize,
     flow: Flow,
 ) -> Result<Task, Halt>
-    ensures { Leads code.now result stack.now world.new world.old.reads (λ d. out_flow code.now d stack.now (cut_to count (give (flow_of flow) (state_of world.old)))) }
+    ensures { Leads code.now result stack.now world.new world.old (λ d x. out_flow code.now d stack.now (cut_to count (give (flow_of flow) (state_at world.old x)))) }
 {
     world.locals.truncate(count);
     Ok(Task::Led(flow))
@@ -265,7 +265,7 @@ fn flow_frame(
     frame: Frame,
     flow: Flow,
 ) -> Result<Task, Halt>
-    ensures { Leads code.now result stack.new world.new world.old.reads (λ d. out_flow code.now d (frame ∷ stack.old) (give (flow_of flow) (state_of world.old))) }
+    ensures { Leads code.now result stack.new world.new world.old (λ d x. out_flow code.now d (frame ∷ stack.old) (give (flow_of flow) (state_at world.old x))) }
 {
     match frame {
         Frame::Flow(waiting) => return take_flow(code, world, stack, waiting, flow),
@@ -287,7 +287,7 @@ fn unit_frame(
     stack: &mut Stack,
     frame: Frame,
 ) -> Result<Task, Halt>
-    ensures { Leads code.now result stack.new world.new world.old.reads (λ d. out_unit code.now d (frame ∷ stack.old) (give tt (state_of world.old))) }
+    ensures { Leads code.now result stack.new world.new world.old (λ d x. out_unit code.now d (frame ∷ stack.old) (give tt (state_at world.old x))) }
 {
     match frame {
         Frame::Unit(waiting) => return take_unit(alloc, code, world, stack, waiting),
@@ -310,7 +310,7 @@ fn act_on(
     stack: &Stack,
     action: Action,
 ) -> Result<Task, Halt>
-    ensures { Leads code.now result stack.now world.new world.old.reads (λ d. out_value code.now d stack.now (acted code.now action (state_of world.old))) }
+    ensures { Leads code.now result stack.now world.new world.old (λ d x. out_value code.now d stack.now (acted code.now action (state_at world.old x))) }
 {
     match act(alloc, code, action, world) {
         Ok(given) => Ok(Task::Got(given)),
@@ -327,7 +327,7 @@ fn do_task(
     stack: &mut Stack,
     task: Task,
 ) -> Result<Task, Halt>
-    ensures { Leads code.now result stack.new world.new world.old.reads (λ d. resumed code.now d stack.old task (state_of world.old)) }
+    ensures { Leads code.now result stack.new world.new world.old (λ d x. resumed code.now d stack.old task (state_at world.old x)) }
 {
     match task {
         Task::Evaluate(node) => return evaluate_node(alloc, code, world, stack, node),
@@ -365,7 +365,7 @@ fn give_value(
     stack: &mut Stack,
     given: Value,
 ) -> Result<Step, Halt>
-    ensures { StepsTo code.now result stack.new world.new world.old.reads (λ d. out_value code.now d stack.old (give given (state_of world.old))) }
+    ensures { StepsTo code.now result stack.new world.new world.old (λ d x. out_value code.now d stack.old (give given (state_at world.old x))) }
 {
     match stack.pop() {
         None => return Ok(Step::Finished(given)),
@@ -379,7 +379,7 @@ fn give_value(
 /// A statement's end comes to the topmost frame.
 #[tactic(auto, unfolding(kr_mean::specs::Steps::bind))]
 fn give_flow(code: &Code, world: &mut World, stack: &mut Stack, flow: Flow) -> Result<Task, Halt>
-    ensures { Leads code.now result stack.new world.new world.old.reads (λ d. out_flow code.now d stack.old (give (flow_of flow) (state_of world.old))) }
+    ensures { Leads code.now result stack.new world.new world.old (λ d x. out_flow code.now d stack.old (give (flow_of flow) (state_at world.old x))) }
 {
     match stack.pop() {
         None => return Err(Halt::Ended(End::Stuck)),
@@ -395,7 +395,7 @@ fn give_nothing(
     world: &mut World,
     stack: &mut Stack,
 ) -> Result<Task, Halt>
-    ensures { Leads code.now result stack.new world.new world.old.reads (λ d. out_unit code.now d stack.old (give tt (state_of world.old))) }
+    ensures { Leads code.now result stack.new world.new world.old (λ d x. out_unit code.now d stack.old (give tt (state_at world.old x))) }
 {
     match stack.pop() {
         None => return Err(Halt::Ended(End::Stuck)),
@@ -404,14 +404,14 @@ fn give_nothing(
 }
 
 /// One step.
-fn step(
+pub fn step(
     alloc: Global,
     code: &Code,
     world: &mut World,
     stack: &mut Stack,
     task: Task,
 ) -> Result<Step, Halt>
-    ensures { StepsTo code.now result stack.new world.new world.old.reads (λ d. resumed code.now d stack.old task (state_of world.old)) }
+    ensures { StepsTo code.now result stack.new world.new world.old (λ d x. resumed code.now d stack.old task (state_at world.old x)) }
 {
     match task {
         Task::Got(given) => return give_value(alloc, code, world, stack, given),
@@ -433,7 +433,7 @@ fn step(
 /// Runs a node as an expression: what it gives, or how the run ends. The world is left as the run leaves it, and every
 /// first read is noted.
 pub fn evaluate(alloc: Global, code: &Code, world: &mut World, node: u32) -> Result<Value, Halt>
-    ensures { Answers code.now result world.new world.old.reads (λ d. d.value node (state_of world.old)) }
+    ensures { Answers code.now result world.new world.old (λ d x. d.value node (state_at world.old x)) }
 {
     let mut stack = Stack::new(alloc);
     let mut task = Task::Evaluate(node);
@@ -441,6 +441,7 @@ pub fn evaluate(alloc: Global, code: &Code, world: &mut World, node: u32) -> Res
         match step(alloc, code, world, &mut stack, task) {
             Err(Halt::Ended(end)) => return Err(Halt::Ended(end)),
             Err(Halt::Memory) => return Err(Halt::Memory),
+            Err(Halt::Written) => return Err(Halt::Written),
             Ok(Step::Finished(given)) => return Ok(given),
             Ok(Step::More(next)) => task = next,
         }

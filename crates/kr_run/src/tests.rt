@@ -145,14 +145,15 @@ fn code(alloc: Global) -> Result<Code, NoMemory> {
     })
 }
 
-fn world(alloc: Global, this: Value, heap: Heap, fuel: u64) -> World {
+fn world(alloc: Global, this: Value, candidates: Heap, fuel: u64) -> World {
     World {
         this,
         locals: Vec::new(alloc),
         result: None,
         olds: Vec::new(alloc),
-        heap,
-        candidates: 0,
+        candidates,
+        made: Heap::new(alloc),
+        is_frozen: false,
         fuel,
         reads: Reads::new(alloc),
     }
@@ -202,7 +203,6 @@ fn reads_and_traps(rt: HostRuntime) -> Result<(), Fail> {
     let fields = vec![in alloc; Value::Null]?;
     let _ = heap.allocate(Class::Object(0), fields)?;
     let mut world = world(alloc, Value::Ref(0), heap, 100);
-    world.candidates = 1;
     let said = evaluate(alloc, &code, &mut world, 21);
     assert!(rt; matches!(&said, Ok(Value::Int(1))));
     assert_eq!(rt; world.reads.as_slice().len(), 1);

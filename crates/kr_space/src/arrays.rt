@@ -2,13 +2,13 @@
 ghost use Rattle.std.specs.Prelude.{◌≡◌, ◌<◌, All, IfOk, OnOk, flat_map, length, map};
 ghost use Rattle.kr_table.specs.Arrays.{arrays_in};
 ghost use Rattle.kr_type_numbers.specs.Types.{Extends};
-ghost use Rattle.kr_arrays.specs.Collected.{AreNumbers, collected, types_shown};
+ghost use Rattle.kr_arrays.specs.Collected.{AreNumbers, IsClosed, collected, types_shown};
 ghost use Rattle.kr_fitting.specs.Classes.{AreTyped};
 ghost use Rattle.kr_numbers.specs.Entries.{IsBound, bound_shown};
 ghost use Rattle.kr_space.specs.Basis.{AreArrays, AreBoundsOn, setting_on};
 
 use crate::basis::Basis;
-use kr_arrays::{add_arrays_in, array_types};
+use kr_arrays::{Arrays, add_arrays_in, array_types};
 use kr_base::NoMemory;
 use kr_fin::ArrayBound;
 use kr_numbers::Bound;
@@ -19,14 +19,15 @@ use std::alloc::Global;
 fn add_bounded(
     alloc: Global,
     types: &Types,
-    arrays: &mut Vec<u32>,
+    arrays: &mut Arrays,
     all: &[ArrayBound],
     bounds: &[Bound],
 ) -> Result<(), NoMemory>
-    requires numbers { AreNumbers types.now arrays.old.items }
+    requires numbers { AreNumbers types.now arrays.old }
+    requires closed { IsClosed (types_shown types.now arrays.old) }
     requires bounds { All (IsBound types.now all.now) bounds.now }
-    ensures numbers { OnOk result (AreNumbers types.now arrays.new.items) }
-    ensures shown { OnOk result (types_shown types.now arrays.new.items ≡ collected (types_shown types.now arrays.old.items) (flat_map (λ a. arrays_in a.0) (map (bound_shown types.now all.now) bounds.now))) }
+    ensures numbers { OnOk result (AreNumbers types.now arrays.new) }
+    ensures shown { OnOk result (types_shown types.now arrays.new ≡ collected (types_shown types.now arrays.old) (flat_map (λ a. arrays_in a.0) (map (bound_shown types.now all.now) bounds.now))) }
 {
     let _ = all;
     for bound in bounds {
@@ -52,6 +53,7 @@ pub(crate) fn arrays_of(
     let all = basis.document.arrays.as_slice();
     let mut arrays = array_types(alloc, types, classes.trees, classes.numbers)?;
     add_bounded(alloc, &*types, &mut arrays, all, basis.bounds)?;
+    let arrays = arrays.into_vec();
     if arrays.len() > 0xffff_ffff {
         return Err(NoMemory);
     }

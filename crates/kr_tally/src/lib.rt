@@ -1,7 +1,6 @@
 //! How many structures a subject has: its valid entries, found by the search and counted, and the line that says so.
 #![tactic(auto)]
 
-mod lent;
 mod line;
 mod report;
 mod tally;

@@ -6,7 +6,6 @@ ghost use Rattle.kr_mean.specs.Entries.{all_entries};
 ghost use Rattle.kr_report.specs.Endings.{EndsListing};
 ghost use Rattle.kr_tally.specs.Tallies.{Tallies, tally_answer};
 
-use crate::lent::Lent;
 use crate::tally::{Tally, tally_of};
 use kr_base::{Bound, Failed, NoMemory, Sink};
 use kr_candidates::{Candidates, Subject};
@@ -23,7 +22,7 @@ fn tally_all<S: Subject, L: Ledger>(
 ) -> Result<Tally, NoMemory>
     ensures { IfOk result (Tallies (entries_in (At []) End (all_entries (S.problem subject.now)))) }
 {
-    let candidates = match Candidates::new(alloc, Lent { subject }) {
+    let candidates = match Candidates::new(alloc, subject) {
         Ok(candidates) => candidates,
         Err(NoMemory) => return Err(NoMemory),
     };

@@ -1,2 +1,4 @@
+pub mod Candidates
+mod Calls
 mod Members
 mod Locals

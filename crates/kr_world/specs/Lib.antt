@@ -3,5 +3,5 @@ pub mod Shown
 pub mod Worlds
 pub mod Actions
 pub mod Ends
-pub mod Elements
 pub mod Collecting
+pub mod Pauses

@@ -1,5 +1,5 @@
 // Steps that need no other code, each of which gives a value.
-ghost use Rattle.kr_world.specs.Worlds.{state_of, Agrees};
+ghost use Rattle.kr_world.specs.Worlds.{state_at, Agrees};
 ghost use Rattle.kr_world.specs.Actions.{acted, written};
 ghost use Rattle.kr_mean.specs.Steps.{bind, give};
 
@@ -64,7 +64,7 @@ fn write(
     value: Value,
     given: Value,
 ) -> Result<Value, Halt>
-    ensures { Agrees result world.new world.old.reads (bind (written code.now cell value) (λ u. give given) (state_of world.old)) }
+    ensures { Agrees result world.new world.old (λ x. bind (written code.now cell value) (λ u. give given) (state_at world.old x)) }
 {
     match cell {
         Cell::Local(local) => assign(world, local, value, given),
@@ -78,7 +78,7 @@ fn write(
 /// Does a step.
 #[tactic(auto, unfolding(kr_mean::specs::Steps::bind))]
 pub fn act(alloc: Global, code: &Code, action: Action, world: &mut World) -> Result<Value, Halt>
-    ensures { Agrees result world.new world.old.reads (acted code.now action (state_of world.old)) }
+    ensures { Agrees result world.new world.old (λ x. acted code.now action (state_at world.old x)) }
 {
     match action {
         Action::Give(value) => Ok(value),

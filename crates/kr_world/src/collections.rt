@@ -1,13 +1,14 @@
 // Calls on collections.
-ghost use Rattle.std.specs.Prelude.{◌≡◌, pos, min};
+ghost use Rattle.std.specs.Prelude.{◌≡◌, ◌<◌, ◌+◌, pos, min, length};
 ghost use Rattle.kr_value.specs.declared.value.Value.TheVariants.{Int, Ref as Reference};
 ghost use Rattle.kr_value.specs.declared.object.Class.TheVariants.{Set, List as ListClass};
 ghost use Rattle.kr_mean.specs.Collections.{called_with, called_alone, collected};
 ghost use Rattle.kr_mean.specs.Steps.{collect as collect_step};
 ghost use Rattle.kr_code.specs.Collections.{name_of};
 ghost use Rattle.kr_world.specs.Collecting.{Collects};
-ghost use Rattle.kr_world.specs.Worlds.{state_of, Agrees};
+ghost use Rattle.kr_world.specs.Worlds.{state_at, Agrees};
 
+use crate::memory::made_number;
 use crate::{End, Halt, World};
 use kr_code::CollectionCall;
 use kr_coll::{ListObj, SetObj};
@@ -115,27 +116,57 @@ fn list_call(
     }
 }
 
-/// A call on a collection of the heap.
-#[tactic(auto, using(crate::proofs::Members::is_there))]
-fn collect_in(
+/// A call on what has members, where it is a collection.
+fn call_on(
+    members: &mut Members,
+    class: Class,
+    call: CollectionCall,
+    arguments: &[Value],
+) -> Result<Value, Halt>
+    ensures { Collects result members.old members.new (collected class (name_of call) arguments.now members.old) }
+{
+    match class {
+        Class::Set => set_call(members, call, arguments),
+        Class::List => list_call(members, call, arguments),
+        _ => Err(Halt::Ended(End::Stuck)),
+    }
+}
+
+/// A call on a collection that the run has made.
+fn collect_made(
+    world: &mut World,
+    call: CollectionCall,
+    object: u32,
+    number: u32,
+    arguments: &Vec<Value>,
+) -> Result<Value, Halt>
+    requires { object ≡ length world.old.candidates + number }
+    ensures { Agrees result world.new world.old (λ x. collect_step (name_of call) (Reference object) arguments.now.items (state_at world.old x)) }
+{
+    if (number as usize) >= world.made.len() {
+        return Err(Halt::Ended(End::Stuck));
+    }
+    let class = world.made.class_of(number);
+    let members = world.made.members_mut(number);
+    return call_on(members, class, call, arguments.as_slice());
+}
+
+/// A call on a candidate, where it is a collection.
+fn collect_candidate(
     world: &mut World,
     call: CollectionCall,
     object: u32,
     arguments: &Vec<Value>,
 ) -> Result<Value, Halt>
-    ensures { Agrees result world.new world.old.reads (collect_step (name_of call) (Reference object) arguments.now.items (state_of world.old)) }
+    requires { object < length world.old.candidates }
+    ensures { Agrees result world.new world.old (λ x. collect_step (name_of call) (Reference object) arguments.now.items (state_at world.old x)) }
 {
-    match world.heap.class_of(object) {
-        Class::Set => {
-            let members = world.heap.members_mut(object);
-            return set_call(members, call, arguments.as_slice());
-        }
-        Class::List => {
-            let members = world.heap.members_mut(object);
-            return list_call(members, call, arguments.as_slice());
-        }
-        _ => return Err(Halt::Ended(End::Stuck)),
+    if world.is_frozen {
+        return Err(Halt::Written);
     }
+    let class = world.candidates.class_of(object);
+    let members = world.candidates.members_mut(object);
+    return call_on(members, class, call, arguments.as_slice());
 }
 
 /// A call on a collection.
@@ -145,10 +176,13 @@ pub fn collect(
     object: Value,
     arguments: &Vec<Value>,
 ) -> Result<Value, Halt>
-    ensures { Agrees result world.new world.old.reads (collect_step (name_of call) object arguments.now.items (state_of world.old)) }
+    ensures { Agrees result world.new world.old (λ x. collect_step (name_of call) object arguments.now.items (state_at world.old x)) }
 {
     match object {
-        Value::Ref(number) => collect_in(world, call, number, arguments),
+        Value::Ref(number) => match made_number(world, number) {
+            None => collect_candidate(world, call, number, arguments),
+            Some(made) => collect_made(world, call, number, made, arguments),
+        },
         Value::Null => Err(Halt::Ended(End::Trapped(Kind::NullPointerException))),
         _ => Err(Halt::Ended(End::Stuck)),
     }

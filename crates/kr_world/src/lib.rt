@@ -12,6 +12,6 @@ mod world;
 
 pub use action::{Action, Cell, act};
 pub use collections::collect;
-pub use memory::{new_object, store_initial};
+pub use memory::{class_of, new_object, store_initial};
 pub use reads::{Reads, SlotPlace};
 pub use world::{End, Halt, Local, Old, World};

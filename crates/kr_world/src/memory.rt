@@ -1,15 +1,13 @@
 // Objects: what is read and written, and their classes.
-ghost use Rattle.std.specs.Prelude.{◌≡◌, [], ◌≤◌, ◌<◌, Ok, Some, nat_lt, length, true};
-ghost use Rattle.kr_value.specs.Heaps.{object_in, has_spot};
-ghost use Rattle.kr_value.specs.declared.object.Spot.TheVariants.{Length};
-ghost use Rattle.kr_mean.specs.Places.{At};
-ghost use Rattle.kr_mean.specs.Steps.{bind, give, noted, element as element_step, element_read, index_within, load as load_step, class_or_null, make, store_index};
+ghost use Rattle.std.specs.Prelude.{◌≡◌, [], ◌++◌, ◌+◌, ◌≤◌, ◌<◌, Ok, length, true, false, MatchOption};
+ghost use Rattle.kr_value.specs.declared.value.Value.TheVariants.{Ref as Reference, Int};
 ghost use Rattle.kr_value.specs.declared.object.Class.TheVariants.{Object};
+ghost use Rattle.kr_value.specs.Heaps.{object_in};
+ghost use Rattle.kr_mean.specs.Steps.{bind, give, element as element_step, index_within, load as load_step, class_or_null, make, put as put_step, store_index};
 ghost use Rattle.kr_code.specs.Tables.{values_in};
 ghost use Rattle.kr_code.specs.Steps.{load_named as load_named_step, store_field as store_step, store_initial as store_initial_step, store_item as store_item_step, cast_to, instance_of};
 ghost use Rattle.kr_code.specs.Doing.{array_of, new_array as new_array_step};
-ghost use Rattle.kr_world.specs.Worlds.{state_of, Agrees};
-ghost use Rattle.kr_world.specs.Elements.{read_within};
+ghost use Rattle.kr_world.specs.Worlds.{state_at, Agrees, Allows, is_fixed, candidates_of, Others, IsKept, IsArray};
 
 use crate::{End, Halt, SlotPlace, World};
 use kr_code::{Code, Nodes};
@@ -17,39 +15,80 @@ use kr_mean::Kind;
 use kr_value::{Class, Spot, Value};
 use std::alloc::Global;
 
-/// A field of an object, or an array's length.
-fn load(world: &mut World, object: Value, spot: Spot) -> Result<Value, Halt>
-    ensures { Agrees result world.new world.old.reads (load_step object spot (state_of world.old)) }
+/// An object's number among those that the run has made; none where it is a candidate.
+pub(crate) fn made_number(world: &World, object: u32) -> Option<u32>
+    ensures { MatchOption result (object < length world.now.candidates) (λ k. object ≡ length world.now.candidates + k) }
 {
-    match object {
-        Value::Ref(number) => {
-            let Some(value) = world.heap.read(number, spot) else {
-                return Err(Halt::Ended(End::Stuck));
-            };
-            match note_at(world, number, spot) {
-                Ok(()) => return Ok(value),
-                Err(halt) => return Err(halt),
-            }
-        }
-        Value::Null => return Err(Halt::Ended(End::Trapped(Kind::NullPointerException))),
-        _ => return Err(Halt::Ended(End::Stuck)),
+    let count = world.candidates.len();
+    if (object as usize) < count {
+        None
+    } else {
+        Some((object as usize - count) as u32)
+    }
+}
+
+/// What an object is of.
+pub fn class_of(world: &World, object: u32) -> Class
+    ensures own { result ≡ (object_in (world.now.candidates ++ world.now.made) object).class }
+    ensures all { (x : Others) → Allows world.now x → result ≡ (object_in (candidates_of world.now.candidates x ++ world.now.made) object).class }
+{
+    match made_number(world, object) {
+        None => world.candidates.class_of(object),
+        Some(number) => world.made.class_of(number),
+    }
+}
+
+/// A field or the length of what the run has made.
+fn load_made(world: &World, object: u32, number: u32, spot: Spot) -> Result<Value, Halt>
+    requires { object ≡ length world.now.candidates + number }
+    ensures { Agrees result world.now world.now (λ x. load_step (Reference object) spot (state_at world.now x)) }
+{
+    match world.made.read(number, spot) {
+        None => Err(Halt::Ended(End::Stuck)),
+        Some(value) => Ok(value),
+    }
+}
+
+/// A field or the length of a candidate, which is read.
+fn load_candidate(world: &mut World, object: u32, spot: Spot) -> Result<Value, Halt>
+    requires candidate { object < length world.old.candidates }
+    requires fixed { is_fixed spot ≡ true }
+    ensures { Agrees result world.new world.old (λ x. load_step (Reference object) spot (state_at world.old x)) }
+{
+    let Some(value) = world.candidates.read(object, spot) else {
+        return Err(Halt::Ended(End::Stuck));
+    };
+    if world.reads.note(SlotPlace::At(object, spot)).is_err() {
+        return Err(Halt::Memory);
+    }
+    Ok(value)
+}
+
+/// A field of an object, or an array's length.
+fn load(world: &mut World, object: u32, spot: Spot) -> Result<Value, Halt>
+    requires { is_fixed spot ≡ true }
+    ensures { Agrees result world.new world.old (λ x. load_step (Reference object) spot (state_at world.old x)) }
+{
+    match made_number(world, object) {
+        None => load_candidate(world, object, spot),
+        Some(number) => load_made(world, object, number, spot),
     }
 }
 
 /// The field of a name, or an array's length.
 #[tactic(auto, unfolding(kr_mean::specs::Steps::bind))]
 pub fn load_named(code: &Code, world: &mut World, name: u32, object: Value) -> Result<Value, Halt>
-    ensures { Agrees result world.new world.old.reads (load_named_step code.now name object (state_of world.old)) }
+    ensures { Agrees result world.new world.old (λ x. load_named_step code.now name object (state_at world.old x)) }
 {
     match object {
-        Value::Ref(number) => match world.heap.class_of(number) {
+        Value::Ref(number) => match class_of(world, number) {
             Class::Object(class) => match code.position(name, class) {
-                Some(at) => load(world, object, Spot::Field(at)),
+                Some(at) => load(world, number, Spot::Field(at)),
                 None => Err(Halt::Ended(End::Stuck)),
             },
             Class::Array(_) => {
                 if name == 0 {
-                    load(world, object, Spot::Length)
+                    load(world, number, Spot::Length)
                 } else {
                     Err(Halt::Ended(End::Stuck))
                 }
@@ -59,18 +98,6 @@ pub fn load_named(code: &Code, world: &mut World, name: u32, object: Value) -> R
         Value::Null => Err(Halt::Ended(End::Trapped(Kind::NullPointerException))),
         _ => Err(Halt::Ended(End::Stuck)),
     }
-}
-
-/// A place that is read, if it is a candidate's.
-fn note_at(world: &mut World, object: u32, spot: Spot) -> Result<(), Halt>
-    ensures { Agrees result world.new world.old.reads (record { said = Ok tt; after = state_of world.old; reads = noted (nat_lt object world.old.candidates) (At object spot) }) }
-{
-    if object < world.candidates {
-        if world.reads.note(SlotPlace::At(object, spot)).is_err() {
-            return Err(Halt::Memory);
-        }
-    }
-    Ok(())
 }
 
 /// An index below a length.
@@ -89,56 +116,103 @@ fn index_below(index: i32, length: usize) -> Option<u32>
     }
 }
 
-/// An element that is there.
-fn element_there(world: &mut World, object: u32, at: u32) -> Result<Value, Halt>
-    requires array { has_spot (object_in world.old.heap object) Length ≡ true }
-    requires within { at < length (object_in world.old.heap object).values }
-    ensures { Agrees result world.new world.old.reads (read_within (nat_lt object world.old.candidates) object (Some at) (state_of world.old)) }
+/// An element of an array that the run has made.
+fn element_made(world: &World, object: u32, number: u32, index: i32) -> Result<Value, Halt>
+    requires made { object ≡ length world.now.candidates + number }
+    requires array { IsArray (object_in world.now.made number).class }
+    ensures { Agrees result world.now world.now (λ x. element_step (Reference object) (Int index) (state_at world.now x)) }
 {
-    match world.heap.read(object, Spot::Element(at)) {
-        None => Err(Halt::Ended(End::Stuck)),
-        Some(value) => match note_at(world, object, Spot::Element(at)) {
-            Err(halt) => Err(halt),
-            Ok(()) => Ok(value),
+    match index_below(index, world.made.size_of(number)) {
+        None => Err(Halt::Ended(End::Trapped(Kind::ArrayIndexOutOfBoundsException))),
+        Some(at) => match world.made.read(number, Spot::Element(at)) {
+            None => Err(Halt::Ended(End::Stuck)),
+            Some(value) => Ok(value),
         },
     }
 }
 
-/// An element of an array whose length was read.
-fn element_at(world: &mut World, object: u32, index: i32) -> Result<Value, Halt>
-    requires { has_spot (object_in world.old.heap object) Length ≡ true }
-    ensures { Agrees result world.new world.old.reads (read_within (nat_lt object world.old.candidates) object (index_within index (length (object_in world.old.heap object).values)) (state_of world.old)) }
+/// An element of a candidate: the length is read, and then the element.
+fn element_candidate(world: &mut World, object: u32, index: i32) -> Result<Value, Halt>
+    requires candidate { object < length world.old.candidates }
+    requires array { IsArray (object_in world.old.candidates object).class }
+    ensures { Agrees result world.new world.old (λ x. element_step (Reference object) (Int index) (state_at world.old x)) }
 {
-    match index_below(index, world.heap.size_of(object)) {
-        None => Err(Halt::Ended(End::Trapped(Kind::ArrayIndexOutOfBoundsException))),
-        Some(at) => element_there(world, object, at),
+    if world
+        .reads
+        .note(SlotPlace::At(object, Spot::Length))
+        .is_err()
+    {
+        return Err(Halt::Memory);
     }
-}
-
-/// The length of an array is read, and then an element of it.
-fn element_of(world: &mut World, object: u32, index: i32) -> Result<Value, Halt>
-    requires { has_spot (object_in world.old.heap object) Length ≡ true }
-    ensures { Agrees result world.new world.old.reads (element_read (index_within index (length (object_in world.old.heap object).values)) object (state_of world.old)) }
-{
-    match note_at(world, object, Spot::Length) {
-        Err(halt) => Err(halt),
-        Ok(()) => element_at(world, object, index),
+    match index_below(index, world.candidates.size_of(object)) {
+        None => Err(Halt::Ended(End::Trapped(Kind::ArrayIndexOutOfBoundsException))),
+        Some(at) => match world.candidates.read(object, Spot::Element(at)) {
+            None => Err(Halt::Ended(End::Stuck)),
+            Some(value) => {
+                if world
+                    .reads
+                    .note(SlotPlace::At(object, Spot::Element(at)))
+                    .is_err()
+                {
+                    return Err(Halt::Memory);
+                }
+                Ok(value)
+            }
+        },
     }
 }
 
 /// An element of an array.
 pub fn element(world: &mut World, array: Value, index: Value) -> Result<Value, Halt>
-    ensures { Agrees result world.new world.old.reads (element_step array index (state_of world.old)) }
+    ensures { Agrees result world.new world.old (λ x. element_step array index (state_at world.old x)) }
 {
     match (array, index) {
-        (Value::Ref(object), Value::Int(at)) => match world.heap.class_of(object) {
-            Class::Array(_) => element_of(world, object, at),
+        (Value::Ref(object), Value::Int(at)) => match class_of(world, object) {
+            Class::Array(_) => match made_number(world, object) {
+                None => element_candidate(world, object, at),
+                Some(number) => element_made(world, object, number, at),
+            },
             _ => Err(Halt::Ended(End::Stuck)),
         },
         (Value::Null, Value::Int(_)) => {
             Err(Halt::Ended(End::Trapped(Kind::NullPointerException)))
         }
         _ => Err(Halt::Ended(End::Stuck)),
+    }
+}
+
+/// Gives an object another value in one of its fields or elements.
+fn put(world: &mut World, object: u32, at: u32, value: Value) -> Result<(), Halt>
+    ensures { Agrees result world.new world.old (λ x. record { said = Ok tt; after = record (state_at world.old x) { heap = put_step (candidates_of world.old.candidates x ++ world.old.made) object at value }; reads = [] }) }
+{
+    match made_number(world, object) {
+        Some(number) => {
+            world.made.write(number, at as usize, value);
+            Ok(())
+        }
+        None => {
+            if world.is_frozen {
+                return Err(Halt::Written);
+            }
+            world.candidates.write(object, at as usize, value);
+            Ok(())
+        }
+    }
+}
+
+/// Such a step, which gives what is to be given.
+fn put_and_give(
+    world: &mut World,
+    object: u32,
+    at: u32,
+    value: Value,
+    given: Value,
+) -> Result<Value, Halt>
+    ensures { Agrees result world.new world.old (λ x. record { said = Ok given; after = record (state_at world.old x) { heap = put_step (candidates_of world.old.candidates x ++ world.old.made) object at value }; reads = [] }) }
+{
+    match put(world, object, at, value) {
+        Ok(()) => Ok(given),
+        Err(halt) => Err(halt),
     }
 }
 
@@ -152,18 +226,15 @@ pub fn store(
     value: Value,
     given: Value,
 ) -> Result<Value, Halt>
-    ensures { Agrees result world.new world.old.reads (bind (store_step code.now field object value) (λ u. give given) (state_of world.old)) }
+    ensures { Agrees result world.new world.old (λ x. bind (store_step code.now field object value) (λ u. give given) (state_at world.old x)) }
 {
     match object {
-        Value::Ref(number) => match code.spot(field, world.heap.class_of(number)) {
-            Some(at) => {
-                world.heap.write(number, at as usize, value);
-                return Ok(given);
-            }
-            None => return Err(Halt::Ended(End::Stuck)),
+        Value::Ref(number) => match code.spot(field, class_of(world, number)) {
+            Some(at) => put_and_give(world, number, at, value, given),
+            None => Err(Halt::Ended(End::Stuck)),
         },
-        Value::Null => return Err(Halt::Ended(End::Trapped(Kind::NullPointerException))),
-        _ => return Err(Halt::Ended(End::Stuck)),
+        Value::Null => Err(Halt::Ended(End::Trapped(Kind::NullPointerException))),
+        _ => Err(Halt::Ended(End::Stuck)),
     }
 }
 
@@ -175,26 +246,37 @@ pub fn store_initial(
     object: Value,
     value: Value,
 ) -> Result<(), Halt>
-    ensures { Agrees result world.new world.old.reads (store_initial_step code.now field object value (state_of world.old)) }
+    ensures { Agrees result world.new world.old (λ x. store_initial_step code.now field object value (state_at world.old x)) }
 {
     match object {
-        Value::Ref(number) => {
-            if number < world.candidates {
-                return Err(Halt::Ended(End::Stuck));
-            }
-            match code.spot(field, world.heap.class_of(number)) {
-                Some(at) => {
-                    world.heap.write(number, at as usize, value);
-                    return Ok(());
-                }
-                None => return Err(Halt::Ended(End::Stuck)),
-            }
-        }
-        _ => return Err(Halt::Ended(End::Stuck)),
+        Value::Ref(number) => match made_number(world, number) {
+            None => Err(Halt::Ended(End::Stuck)),
+            Some(_) => match code.spot(field, class_of(world, number)) {
+                Some(at) => put(world, number, at, value),
+                None => Err(Halt::Ended(End::Stuck)),
+            },
+        },
+        _ => Err(Halt::Ended(End::Stuck)),
     }
 }
 
-#[tactic(auto, unfolding(kr_mean::specs::Steps::bind))]
+/// How many values an object has.
+fn size_of(world: &World, object: u32) -> usize
+    ensures { result ≡ length (object_in (world.now.candidates ++ world.now.made) object).values }
+{
+    match made_number(world, object) {
+        None => world.candidates.size_of(object),
+        Some(number) => world.made.size_of(number),
+    }
+}
+
+/// Whether an object is a candidate that isn't written.
+fn is_kept(world: &World, object: u32) -> bool
+    ensures { IsKept world.now object result }
+{
+    world.is_frozen && (object as usize) < world.candidates.len()
+}
+
 fn put_element(
     world: &mut World,
     object: u32,
@@ -202,14 +284,14 @@ fn put_element(
     value: Value,
     given: Value,
 ) -> Result<Value, Halt>
-    ensures { Agrees result world.new world.old.reads (bind (store_index object (index_within index (length (object_in world.old.heap object).values)) value) (λ u. give given) (state_of world.old)) }
+    ensures { Agrees result world.new world.old (λ x. bind (store_index object (index_within index (length (object_in (candidates_of world.old.candidates x ++ world.old.made) object).values)) value) (λ u. give given) (state_at world.old x)) }
 {
-    match index_below(index, world.heap.size_of(object)) {
-        None => return Err(Halt::Ended(End::Trapped(Kind::ArrayIndexOutOfBoundsException))),
-        Some(at) => {
-            world.heap.write(object, at as usize, value);
-            return Ok(given);
-        }
+    if is_kept(world, object) {
+        return Err(Halt::Written);
+    }
+    match index_below(index, size_of(world, object)) {
+        None => Err(Halt::Ended(End::Trapped(Kind::ArrayIndexOutOfBoundsException))),
+        Some(at) => put_and_give(world, object, at, value, given),
     }
 }
 
@@ -224,11 +306,11 @@ pub fn store_item(
     value: Value,
     given: Value,
 ) -> Result<Value, Halt>
-    ensures { Agrees result world.new world.old.reads (bind (store_item_step code.now class array index value) (λ u. give given) (state_of world.old)) }
+    ensures { Agrees result world.new world.old (λ x. bind (store_item_step code.now class array index value) (λ u. give given) (state_at world.old x)) }
 {
     match (array, index) {
         (Value::Ref(object), Value::Int(at)) => {
-            if code.is_instance(class, world.heap.class_of(object)) {
+            if code.is_instance(class, class_of(world, object)) {
                 put_element(world, object, at, value, given)
             } else {
                 Err(Halt::Ended(End::Stuck))
@@ -244,10 +326,10 @@ pub fn store_item(
 /// Whether a value is an instance of a type.
 #[tactic(auto, unfolding(kr_mean::specs::Steps::bind))]
 pub fn instance(code: &Code, world: &World, class: u32, value: Value) -> Result<Value, Halt>
-    ensures { Agrees result world.now world.now.reads (bind (class_or_null value) (λ c. give (instance_of code.now class c)) (state_of world.now)) }
+    ensures { Agrees result world.now world.now (λ x. bind (class_or_null value) (λ c. give (instance_of code.now class c)) (state_at world.now x)) }
 {
     match value {
-        Value::Ref(object) => Ok(Value::Bool(code.is_instance(class, world.heap.class_of(object)))),
+        Value::Ref(object) => Ok(Value::Bool(code.is_instance(class, class_of(world, object)))),
         Value::Null => Ok(Value::Bool(false)),
         _ => Err(Halt::Ended(End::Stuck)),
     }
@@ -256,11 +338,11 @@ pub fn instance(code: &Code, world: &World, class: u32, value: Value) -> Result<
 /// A value that has to be of a type.
 #[tactic(auto, unfolding(kr_mean::specs::Steps::bind))]
 pub fn cast(code: &Code, world: &World, class: u32, value: Value) -> Result<Value, Halt>
-    ensures { Agrees result world.now world.now.reads (bind (class_or_null value) (cast_to code.now class value) (state_of world.now)) }
+    ensures { Agrees result world.now world.now (λ x. bind (class_or_null value) (cast_to code.now class value) (state_at world.now x)) }
 {
     match value {
         Value::Ref(object) => {
-            if code.is_instance(class, world.heap.class_of(object)) {
+            if code.is_instance(class, class_of(world, object)) {
                 Ok(value)
             } else {
                 Err(Halt::Ended(End::Trapped(Kind::ClassCastException)))
@@ -268,6 +350,23 @@ pub fn cast(code: &Code, world: &World, class: u32, value: Value) -> Result<Valu
         }
         Value::Null => Ok(value),
         _ => Err(Halt::Ended(End::Stuck)),
+    }
+}
+
+/// A new object, array or collection, behind all others.
+fn allocate(world: &mut World, class: Class, values: Vec<Value>) -> Result<Value, Halt>
+    requires { length values.items ≤ 2147483647 }
+    ensures { Agrees result world.new world.old (λ x. make class values.items (state_at world.old x)) }
+{
+    let Ok(count) = u32::try_from(world.candidates.len()) else {
+        return Err(Halt::Memory);
+    };
+    match world.made.allocate(class, values) {
+        Err(_) => Err(Halt::Memory),
+        Ok(number) => match count.checked_add(number) {
+            None => Err(Halt::Memory),
+            Some(object) => Ok(Value::Ref(object)),
+        },
     }
 }
 
@@ -279,7 +378,7 @@ fn fresh_array(
     length: usize,
 ) -> Result<Value, Halt>
     requires { length ≤ 64 }
-    ensures { Agrees result world.new world.old.reads (new_array_step length class default (state_of world.old)) }
+    ensures { Agrees result world.new world.old (λ x. new_array_step length class default (state_at world.old x)) }
 {
     let Some(number) = class else {
         return Err(Halt::Ended(End::Stuck));
@@ -287,10 +386,7 @@ fn fresh_array(
     let Ok(values) = vec![in alloc; default; length] else {
         return Err(Halt::Memory);
     };
-    match world.heap.allocate(Class::Array(number), values) {
-        Ok(object) => Ok(Value::Ref(object)),
-        Err(_) => Err(Halt::Memory),
-    }
+    allocate(world, Class::Array(number), values)
 }
 
 /// A new array.
@@ -301,7 +397,7 @@ pub fn new_array(
     default: Value,
     length: Value,
 ) -> Result<Value, Halt>
-    ensures { Agrees result world.new world.old.reads (array_of class default length (state_of world.old)) }
+    ensures { Agrees result world.new world.old (λ x. array_of class default length (state_at world.old x)) }
 {
     match length {
         Value::Int(number) => match u32::try_from(number) {
@@ -325,7 +421,7 @@ pub fn new_object(
     class: u32,
     defaults: Nodes,
 ) -> Result<Value, Halt>
-    ensures { Agrees result world.new world.old.reads (make (Object class) (values_in code.now defaults) (state_of world.old)) }
+    ensures { Agrees result world.new world.old (λ x. make (Object class) (values_in code.now defaults) (state_at world.old x)) }
 {
     let values = match code.copy_values(alloc, defaults) {
         Ok(values) => values,
@@ -334,18 +430,12 @@ pub fn new_object(
     if values.len() > 64 {
         return Err(Halt::Memory);
     }
-    match world.heap.allocate(Class::Object(class), values) {
-        Ok(object) => Ok(Value::Ref(object)),
-        Err(_) => Err(Halt::Memory),
-    }
+    allocate(world, Class::Object(class), values)
 }
 
 /// A new collection, or what else has no values.
 pub fn new_collection(alloc: Global, world: &mut World, class: Class) -> Result<Value, Halt>
-    ensures { Agrees result world.new world.old.reads (make class [] (state_of world.old)) }
+    ensures { Agrees result world.new world.old (λ x. make class [] (state_at world.old x)) }
 {
-    match world.heap.allocate(class, Vec::new(alloc)) {
-        Ok(object) => Ok(Value::Ref(object)),
-        Err(_) => Err(Halt::Memory),
-    }
+    allocate(world, class, Vec::new(alloc))
 }

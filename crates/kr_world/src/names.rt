@@ -6,7 +6,7 @@ ghost use Rattle.kr_mean.specs.Places.{Parameter};
 ghost use Rattle.kr_mean.specs.Steps.{give, bind, local_at, place_reads, tick as tick_step, declare as declare_step, assign as assign_step, read_local as read_step, get_result, get_old};
 ghost use Rattle.kr_world.specs.Shown.{local_of};
 ghost use Rattle.kr_value.specs.declared.value.Value.TheVariants.{Null};
-ghost use Rattle.kr_world.specs.Worlds.{state_of, Agrees};
+ghost use Rattle.kr_world.specs.Worlds.{state_at, Agrees};
 
 use crate::{End, Halt, Local, SlotPlace, World};
 use kr_base::Place;
@@ -15,7 +15,7 @@ use kr_value::Value;
 /// One unit of fuel.
 #[tactic(auto, unfolding(kr_mean::specs::Steps::bind))]
 pub fn tick(world: &mut World) -> Result<Value, Halt>
-    ensures { Agrees result world.new world.old.reads (bind tick_step (λ u. give Null) (state_of world.old)) }
+    ensures { Agrees result world.new world.old (λ x. bind tick_step (λ u. give Null) (state_at world.old x)) }
 {
     if world.fuel == 0 {
         return Err(Halt::Ended(End::OutOfFuel));
@@ -27,7 +27,7 @@ pub fn tick(world: &mut World) -> Result<Value, Halt>
 /// One unit of fuel, and a new local.
 #[tactic(auto, unfolding(kr_mean::specs::Steps::bind))]
 pub fn declare(world: &mut World, value: Value) -> Result<Value, Halt>
-    ensures { Agrees result world.new world.old.reads (bind tick_step (λ u. bind (declare_step value) (λ w. give Null)) (state_of world.old)) }
+    ensures { Agrees result world.new world.old (λ x. bind tick_step (λ u. bind (declare_step value) (λ w. give Null)) (state_at world.old x)) }
 {
     if world.fuel == 0 {
         return Err(Halt::Ended(End::OutOfFuel));
@@ -46,7 +46,7 @@ pub fn declare(world: &mut World, value: Value) -> Result<Value, Halt>
 /// Gives a local another value, and then what is to be given.
 #[tactic(auto, unfolding(kr_mean::specs::Steps::bind))]
 pub fn assign(world: &mut World, local: u32, value: Value, given: Value) -> Result<Value, Halt>
-    ensures { Agrees result world.new world.old.reads (bind (assign_step local value) (λ u. give given) (state_of world.old)) }
+    ensures { Agrees result world.new world.old (λ x. bind (assign_step local value) (λ u. give given) (state_at world.old x)) }
 {
     if (local as usize) < world.locals.len() {
         world.locals[local as usize] = Local {
@@ -71,7 +71,7 @@ fn local_in(locals: &Vec<Local>, local: u32) -> Option<Local>
 }
 
 fn note_parameter(world: &mut World, parameter: Option<u32>) -> Result<(), Halt>
-    ensures { Agrees result world.new world.old.reads (record { said = Ok tt; after = state_of world.old; reads = place_reads (option_map Parameter parameter) }) }
+    ensures { Agrees result world.new world.old (λ x. record { said = Ok tt; after = state_at world.old x; reads = place_reads (option_map Parameter parameter) }) }
 {
     match parameter {
         None => Ok(()),
@@ -86,7 +86,7 @@ fn note_parameter(world: &mut World, parameter: Option<u32>) -> Result<(), Halt>
 
 /// The value of a local, which is read where a candidate gives it.
 pub fn read_local(world: &mut World, local: u32) -> Result<Value, Halt>
-    ensures { Agrees result world.new world.old.reads (read_step local (state_of world.old)) }
+    ensures { Agrees result world.new world.old (λ x. read_step local (state_at world.old x)) }
 {
     match local_in(&world.locals, local) {
         None => Err(Halt::Ended(End::Stuck)),
@@ -99,7 +99,7 @@ pub fn read_local(world: &mut World, local: u32) -> Result<Value, Halt>
 
 /// What the method under test has given.
 pub fn result(world: &World) -> Result<Value, Halt>
-    ensures { Agrees result world.now world.now.reads (get_result (state_of world.now)) }
+    ensures { Agrees result world.now world.now (λ x. get_result (state_at world.now x)) }
 {
     match world.result {
         Some(value) => Ok(value),
@@ -115,7 +115,7 @@ fn is_same_place(a: Place, b: Place) -> bool
 
 /// The value of an `\old`.
 pub fn old(world: &World, place: Place) -> Result<Value, Halt>
-    ensures { Agrees result world.now world.now.reads (get_old place (state_of world.now)) }
+    ensures { Agrees result world.now world.now (λ x. get_old place (state_at world.now x)) }
 {
     for old in &world.olds {
         if is_same_place(old.place, place) {

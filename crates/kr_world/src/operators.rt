@@ -4,7 +4,7 @@ ghost use Rattle.kr_mean.specs.Steps.{say};
 ghost use Rattle.kr_mean.specs.Operators as meaning;
 ghost use Rattle.kr_operators.specs.Shown.{constant_shown, shown};
 ghost use Rattle.kr_world.specs.Ends.{IsSaid};
-ghost use Rattle.kr_world.specs.Worlds.{state_of, Agrees};
+ghost use Rattle.kr_world.specs.Worlds.{state_at, Agrees};
 
 use crate::{End, Halt, World};
 use kr_ast::{BinaryOperator, UnaryOperator};
@@ -88,7 +88,7 @@ pub fn operated(
     left: Value,
     right: Value,
 ) -> Result<Value, Halt>
-    ensures { Agrees result world.now world.now.reads (say (meaning.operated operator left right) (state_of world.now)) }
+    ensures { Agrees result world.now world.now (λ x. say (meaning.operated operator left right) (state_at world.now x)) }
 {
     match binary(operator, left, right) {
         Ok(value) => Ok(value),
@@ -98,7 +98,7 @@ pub fn operated(
 
 /// One operand.
 pub fn operated_alone(world: &World, operator: UnaryOperator, value: Value) -> Result<Value, Halt>
-    ensures { Agrees result world.now world.now.reads (say (meaning.operated_alone operator value) (state_of world.now)) }
+    ensures { Agrees result world.now world.now (λ x. say (meaning.operated_alone operator value) (state_at world.now x)) }
 {
     match alone(operator, value) {
         Ok(value) => Ok(value),

@@ -1,5 +1,5 @@
 // The places that a run has read.
-ghost use Rattle.std.specs.Prelude.{◌≡◌, [], map, OnOk, OnErr};
+ghost use Rattle.std.specs.Prelude.{◌≡◌, [], map, take, OnOk, OnErr, IfOk};
 ghost use Rattle.kr_mean.specs.Runs.{is_same_place, is_same_spot};
 ghost use Rattle.kr_world.specs.Noting.{is_read, with_read};
 ghost use Rattle.kr_world.specs.Shown.{place_of};
@@ -76,6 +76,15 @@ impl Reads {
         }
     }
 
+    /// The same places once more.
+    pub fn copy(&self, alloc: Global) -> Result<Reads, NoMemory>
+        ensures { IfOk result (λ reads. reads ≡ self.now) }
+    {
+        Ok(Reads {
+            places: self.places.as_slice().to_vec(alloc)?,
+        })
+    }
+
     /// A place that is read now.
     pub fn note(&mut self, place: SlotPlace) -> Result<(), NoMemory>
         ensures noted { OnOk result (self.new ≡ with_read self.old (place_of place)) }
@@ -86,6 +95,13 @@ impl Reads {
         }
         self.places.push(place)?;
         Ok(())
+    }
+
+    /// The first places alone.
+    pub fn truncate(&mut self, count: usize)
+        ensures { self.new ≡ take count self.old }
+    {
+        self.places.truncate(count);
     }
 
     pub fn clear(&mut self)

@@ -8,6 +8,7 @@ use Rattle.kr_names.specs.Shown.{no_file}
 use Rattle.kr_type_numbers.proofs.Growing.{extends_itself, extends_on}
 use Rattle.kr_arrays.specs.Collected.{collected, types_shown}
 use Rattle.kr_arrays.proofs.Collecting.{file_next, node_types_kept, no_numbers}
+use Rattle.kr_arrays.proofs.Closed.{closed_none}
 use Rattle.kr_arrays.proofs.Once.{once_collected}
 use Rattle.kr_arrays.proofs.named.array_types.Goals as goal
 
@@ -16,9 +17,10 @@ loop-file-init c =
     let all = flat_map (arrays_named (headings_of (map root c.args.trees.now))) (flat_map nodes (map root c.args.trees.now)) in
     record {
       numbers = c.requires.numbers;
-      arrays = no_numbers c.args.types.now c.new-arrays.result.items c.new-arrays.ensures.items;
+      arrays = no_numbers c.args.types.now c.new-arrays.result c.new-arrays.ensures;
+      closed = closed_none c.args.types.now c.new-arrays.result c.new-arrays.ensures;
       extends = extends_itself c.args.types.now;
-      shown = once_collected all ∙ ap (λ (ns : List ℕ). collected (types_shown c.args.types.now ns) all) (sym c.new-arrays.ensures.items);
+      shown = once_collected all ∙ ap (λ (ns : List ℕ). collected (types_shown c.args.types.now ns) all) (sym c.new-arrays.ensures);
     }
 
 pub loop-file-preserved : goal.loop-file-preserved
@@ -27,7 +29,8 @@ loop-file-preserved c =
     record {
       numbers = node_types_kept c.args.trees.now c.loop-file.types c.add_file.new.types c.args.numbers.now c.add_file.ensures.extends c.loop-file.invariant.numbers;
       arrays = c.in_ok-add_file.ensures.arrays;
+      closed = c.in_ok-add_file.ensures.closed;
       extends = extends_on c.args.types.now c.loop-file.types c.add_file.new.types c.loop-file.invariant.extends c.add_file.ensures.extends;
-      shown = file_next (arrays_named (headings_of (map root c.args.trees.now))) _ (types_shown c.loop-file.types c.loop-file.arrays.items) (types_shown c.add_file.new.types c.add_file.new.arrays.items) c.args.trees.now c.loop-file.file no_file inside
+      shown = file_next (arrays_named (headings_of (map root c.args.trees.now))) _ (types_shown c.loop-file.types c.loop-file.arrays) (types_shown c.add_file.new.types c.add_file.new.arrays) c.args.trees.now c.loop-file.file no_file inside
           c.loop-file.invariant.shown c.in_ok-add_file.ensures.shown;
     }

@@ -6,13 +6,14 @@ use Rattle.kr_table.specs.Nodes.{nodes}
 use Rattle.kr_table.specs.Table.{headings_of}
 use Rattle.kr_type_numbers.specs.Numbers.{AreNodeTypes}
 use Rattle.kr_type_numbers.specs.Types.{Extends}
-use Rattle.kr_arrays.specs.Collected.{AreNumbers, collected, types_shown}
+use Rattle.kr_arrays.specs.Collected.{AreNumbers, IsClosed, collected, types_shown}
 use Rattle.kr_arrays.proofs.named.array_types.Given as goal
 
 abbrev pub invariant-loop-file : goal.invariant-loop-file
 invariant-loop-file l = record {
   numbers : AreNodeTypes l.trees l.types l.numbers;
-  arrays : AreNumbers l.types l.arrays.items;
+  arrays : AreNumbers l.types l.arrays;
+  closed : IsClosed (types_shown l.types l.arrays);
   extends : Extends l.fn.types l.types;
-  shown : array_types_of (map root l.trees) ≡ collected (types_shown l.types l.arrays.items) (flat_map (arrays_named (headings_of (map root l.trees))) (flat_map nodes (map root (drop l.file l.trees))));
+  shown : array_types_of (map root l.trees) ≡ collected (types_shown l.types l.arrays) (flat_map (arrays_named (headings_of (map root l.trees))) (flat_map nodes (map root (drop l.file l.trees))));
 }

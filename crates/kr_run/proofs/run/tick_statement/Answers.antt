@@ -1,18 +1,18 @@
 use Rattle.kr_code.specs.Doing.{Doing, flow_of}
-use Rattle.kr_world.specs.Worlds.{state_of}
+use Rattle.kr_world.specs.Worlds.{state_at}
 use Rattle.kr_frames.specs.Frames.{out_flow}
 use Rattle.kr_frames.proofs.Outcomes.{leads_same, flow_reads}
 use Rattle.kr_run.proofs.Machine.{ticked, no_flow_tick}
 use Rattle.kr_run.proofs.run.tick_statement.Goals as goal
 
 pub returns-in-Err : goal.returns-in-Err
-returns-in-Err c = no_flow_tick c.args.code.now c.in-Err.halt c.args.stack.now c.args.stack.now c.act.new.world c.args.world.now.reads (λ (d : Doing). flow_of c.args.code.now d c.args.statement) (state_of c.args.world.now) c.in-Err.ensures
+returns-in-Err c = no_flow_tick c.args.code.now c.in-Err.halt c.args.stack.now c.args.stack.now c.act.new.world c.args.world.now (λ (d : Doing). flow_of c.args.code.now d c.args.statement) c.in-Err.ensures
 
 pub returns-in-Ok : goal.returns-in-Ok
 returns-in-Ok c =
     let code = c.args.code.now in
-    let s = state_of c.args.world.now in
-    let seen = c.args.world.now.reads in
-    leads_same code _ _ _ seen c.act.new.world.reads _ (λ (d : Doing). out_flow code d c.args.stack.now (flow_of code d c.args.statement (state_of c.act.new.world)))
-    (λ d m. ticked (out_flow code d c.args.stack.now) (flow_reads code d c.args.stack.now) seen c.act.new.world.reads (flow_of code d c.args.statement) s (state_of c.act.new.world) _ c.in-Ok.ensures)
+    let w = c.args.world.now in
+    let then = c.act.new.world in
+    leads_same code c.enter_statement.result c.enter_statement.new.stack then then w _ (λ d x. out_flow code d c.args.stack.now (flow_of code d c.args.statement (state_at then x)))
+    (λ x a. let r = c.in-Ok.ensures x a in (r.0, λ d m. ticked (out_flow code d c.args.stack.now) (flow_reads code d c.args.stack.now) w.reads then.reads (flow_of code d c.args.statement) (state_at w x) (state_at then x) _ r.1))
     c.enter_statement.ensures

@@ -1,10 +1,16 @@
-use Rattle.std.proofs.Common.{refl, ap, ◌∙◌, ℕ}
-use Rattle.std.specs.Prelude.{replicate}
-use Rattle.kr_candidates.proofs.Runs.{slots_are}
+use Rattle.std.proofs.Common.{ℕ, refl, ap, ◌∙◌}
+use Rattle.std.specs.Prelude.{replicate, length}
+use Rattle.kr_mean.specs.Problem.{slots}
+use Rattle.kr_problem.specs.Bounds.{bare}
+use Rattle.kr_candidates.proofs.Runs.{kept, slots_are}
 use Rattle.kr_candidates.proofs.candidates.Candidates.new.Goals as goal
 
-pub returns-clause-first : goal.returns-clause-first
-returns-clause-first g c = c.in_ok-vector.ensures ∙ ap (λ (n : ℕ). replicate n 0) (slots_are (g.S.Subject.problem c.args.subject) c.layout.result.now c.layout.ensures c.slots.result c.slots.ensures)
+pub invariant_of-result : goal.invariant_of-result
+invariant_of-result g c =
+    kept (g.S.Subject.problem c.args.subject.now) c.layout.result.now c.in_ok-runner.runner.bounds c.predicate.result.now c.in_ok-runner.runner.predicate c.in_ok-runner.ensures.bounds c.in_ok-runner.ensures.predicate
+    (record { laid = c.layout.ensures; run = c.predicate.ensures })
 
-pub returns-clause-runs_on : goal.returns-clause-runs_on
-returns-clause-runs_on g c = record { lawful = c.laws.ensures.lawful; candidates = refl; orders = λ v i. refl; ends = λ v i. refl }
+pub returns-clause-first : goal.returns-clause-first
+returns-clause-first g c =
+    c.in_ok-runner.ensures.vector
+    ∙ ap (λ (n : ℕ). replicate n 0) (slots_are (g.S.Subject.problem c.args.subject.now) c.layout.result.now c.layout.ensures (length (slots (bare c.layout.result.now))) refl)

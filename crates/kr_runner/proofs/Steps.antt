@@ -1,0 +1,377 @@
+-- Going on: steps, conditions, checkpoints.
+use Rattle.std.proofs.Common.{◌≡◌, ℕ, zero, suc, ◌+◌, ◌<◌, ◌≤◌, Bool, true, false, List, [], ◌∷◌, ◌++◌, length, drop, Result, Ok, Err, Some, None, refl, sym, ap, ◌∙◌, subst, arith}
+use Rattle.std.specs.Prelude.{map, Option, slice_get, slice_set}
+use Rattle.std.proofs.Common.{get_or}
+use Rattle.std.specs.List.{All, range_with_len}
+use Rattle.std.proofs.lemmas.List.{append-nil, get_or-set_other, get_or_append_left, get_or-append-add, length-append}
+use Rattle.std.proofs.lemmas.List.Elements.{All-append}
+use Rattle.kr_value.specs.declared.value.Value.{Value}
+use Rattle.kr_value.specs.declared.value.Value.TheVariants.{Bool as Truth}
+use Rattle.kr_value.specs.Heaps.{Heap}
+use Rattle.kr_mean.specs.Heaps.{heap_of, value_at}
+use Rattle.kr_mean.specs.Places.{SlotPlace, This}
+use Rattle.kr_mean.specs.Problem.{Problem, choices_at}
+use Rattle.kr_mean.specs.Runs.{parameter_values, parameters_from, start, where_true}
+use Rattle.kr_mean.specs.Space.{IsVector, no_choice, space_of}
+use Rattle.kr_mean.specs.Steps.{Stop, State, Outcome, Run, go_on, bind, give, stop, Stuck, Local, Old}
+use Rattle.kr_mean.specs.WellFormed.{IsWellFormed}
+use Rattle.kr_code.specs.declared.code.Code.{Code}
+use Rattle.kr_code.specs.Doing.{Doing, IsMeaning}
+use Rattle.kr_problem.specs.Bounds.{Bounds, bare}
+use Rattle.kr_world.specs.declared.world.World.{World}
+use Rattle.kr_world.specs.declared.world.End.{End}
+use Rattle.kr_world.specs.declared.world.End.TheVariants as ends
+use Rattle.kr_world.specs.declared.world.Halt.TheVariants.{Ended, Memory, Written}
+use Rattle.kr_world.specs.declared.world.Halt.{Halt}
+use Rattle.kr_world.specs.Noting.{noting, noted_once}
+use Rattle.kr_world.specs.Pauses.{IsPaused}
+use Rattle.kr_world.specs.Shown.{stop_of, local_of, old_of}
+use Rattle.kr_world.specs.Worlds.{Others, Allows, AreLike, StandFor, state_at, state_of, candidates_of}
+use Rattle.kr_frames.specs.Copies.{GoOnAlike}
+use Rattle.kr_frames.specs.declared.frame.Frame.{Frame}
+use Rattle.kr_frames.specs.declared.task.Task.{Task}
+use Rattle.kr_frames.specs.declared.task.Task.TheVariants as tasks
+use Rattle.kr_frames.specs.Frames.{continued, resumed}
+use Rattle.kr_frames.specs.Leads.{Leads, HasEnded}
+use Rattle.kr_frames.proofs.Outcomes.{noted_behind}
+use Rattle.kr_run.specs.Answers.{Gives as GivesAs, EndsSo, StepsTo}
+use Rattle.kr_run.specs.declared.steps.Step.{Step}
+use Rattle.kr_run.specs.declared.steps.Step.TheVariants as steps
+use Rattle.kr_judge.specs.Judged.{hold_at, MeansAs, HoldsAs, IsEnded}
+use Rattle.kr_judge.specs.declared.predicate.Predicate.{Predicate}
+use Rattle.kr_runner.specs.Kept.{with_heap, behind, rest_of, GoesOn, Gave, Kept, told_of, task_of, woken}
+use Rattle.kr_runner.specs.Going.{Gives, IsCheckOf}
+use Rattle.kr_runner.specs.declared.check.Check.{Check}
+use Rattle.kr_runner.specs.declared.check.Pause.{Pause}
+use Rattle.kr_runner.specs.declared.check.Pause.TheVariants as pauses
+use Rattle.kr_runner.proofs.Shapes.{stand_self, stand_told, stand_then, as_long}
+
+-- ---- outcomes that go on
+
+noted_by : {B : Type 0} → Result Value Stop → State → List SlotPlace → (Value → Run B) → Outcome B
+noted_by (Ok v) s reads f = record { said = (f v s).said; after = (f v s).after; reads = noted_once reads (f v s).reads }
+noted_by (Err e) s reads f = record { said = Err e; after = s; reads = reads }
+
+noting_continued : (seen : List SlotPlace) (o : Outcome Value) (f : Value → Run Bool) → noting seen (continued o f) ≡ noted_by o.said o.after (noted_once seen o.reads) f
+unfolding noted_by
+noting_continued seen o f = go o.said
+  where
+    go : (r : Result Value Stop) → noting seen (go_on r o.after o.reads f) ≡ noted_by r o.after (noted_once seen o.reads) f
+    go (Ok v) = ap (λ (ps : List SlotPlace). mk (f v o.after) ps) (noted_behind seen o.reads (f v o.after).reads)
+      where
+        mk : Outcome Bool → List SlotPlace → Outcome Bool
+        mk q ps = record { said = q.said; after = q.after; reads = ps }
+    go (Err e) = refl
+
+by_noted : Outcome Value → (Value → Run Bool) → Outcome Bool
+by_noted q f = noted_by q.said q.after q.reads f
+
+rest_alike : (seen new : List SlotPlace) (o o' : Outcome Value) (f : Value → Run Bool) → noting seen o ≡ noting new o' → noting seen (continued o f) ≡ noting new (continued o' f)
+unfolding by_noted
+rest_alike seen new o o' f h = noting_continued seen o f ∙ (ap (λ (q : Outcome Value). by_noted q f) h ∙ sym (noting_continued new o' f))
+
+rest_gives : (seen new : List SlotPlace) (o : Outcome Value) (v : Value) (t : State) (f : Value → Run Bool) → noting seen o ≡ record { said = Ok v; after = t; reads = new } → noting seen (continued o f) ≡ noting new (f v t)
+unfolding by_noted noted_by
+rest_gives seen new o v t f h = noting_continued seen o f ∙ ap (λ (q : Outcome Value). by_noted q f) h
+
+rest_ends : (seen : List SlotPlace) (o : Outcome Value) (f : Value → Run Bool) (e : End) (w : World) (h : Heap) → w.candidates ≡ h → HasEnded e w (Some h) (noting seen o) → IsEnded e w (noting seen (continued o f))
+unfolding noted_by
+rest_ends seen o f e w h same x =
+    let is = noting_continued seen o f ∙ ap (λ (r : Result Value Stop). noted_by r o.after (noted_once seen o.reads) f) x.said in
+    record {
+      said = ap (λ (q : Outcome Bool). q.said) is;
+      heap = ap (λ (q : Outcome Bool). q.after.heap) is ∙ (x.heap ∙ ap (λ (c : Heap). c ++ w.made) (sym same));
+      fuel = ap (λ (q : Outcome Bool). q.after.fuel) is ∙ x.fuel;
+      reads = ap (λ (q : Outcome Bool). q.reads) is ∙ x.reads;
+    }
+
+ended_by : (e : End) (w : World) (o o' : Outcome Bool) → o ≡ o' → IsEnded e w o' → IsEnded e w o
+ended_by e w o o' is x = subst (λ (q : Outcome Bool). IsEnded e w q) (sym is) x
+
+-- ---- what is allowed
+
+to_world : (w : World) (h f : Heap) → w.is_frozen ≡ true → w.candidates ≡ h → StandFor true w.reads h f → Allows w (Some f)
+to_world w h f frozen same a = subst (λ (b : Bool). StandFor b w.reads w.candidates f) (sym frozen) (subst (λ (c : Heap). StandFor true w.reads c f) (sym same) a)
+
+from_world : (w : World) (h f : Heap) → w.is_frozen ≡ true → w.candidates ≡ h → Allows w (Some f) → StandFor true w.reads h f
+from_world w h f frozen same a = subst (λ (c : Heap). StandFor true w.reads c f) same (subst (λ (b : Bool). StandFor b w.reads w.candidates f) frozen a)
+
+-- with its own candidates a world is as it is
+own_state : (w : World) (h : Heap) → w.candidates ≡ h → state_at w (Some h) ≡ state_of w
+own_state w h same = ap (λ (c : Heap). record (state_of w) { heap = c ++ w.made }) (sym same)
+
+-- ---- steps
+
+module _ (b : Bounds) (p : Predicate) (v : List ℕ) where
+  own : Heap
+  own = heap_of (bare b) v
+
+  pub goes_on : (condition : ℕ) (fs fs' : List Frame) (task task' : Task) (w w' : World) → GoesOn b p v condition fs task w → Leads p.code (Ok task') fs' w' w (λ d x. resumed p.code d fs task (state_at w x)) → GoesOn b p v condition fs' task' w'
+  goes_on condition fs fs' task task' w w' g l =
+      let k = (l None tt).0 in
+      let frozen = k.frozen g.frozen in
+      let same = k.same g.frozen ∙ g.same in
+      record {
+        frozen = frozen;
+        same = same;
+        is = λ u i a d m.
+            let f = heap_of (bare b) u in
+            let r = l (Some f) (to_world w' (heap_of (bare b) v) f frozen same a) in
+            g.is u i (from_world w (heap_of (bare b) v) f g.frozen g.same r.0.allowed) d m
+            ∙ rest_alike w.reads w'.reads (resumed p.code d fs task (state_at w (Some f))) (resumed p.code d fs' task' (state_at w' (Some f))) (λ x. where_true x (hold_at d (behind p condition))) (r.1 d m);
+      }
+
+  pub gives_on : (condition : ℕ) (fs : List Frame) (task : Task) (given : Value) (w w' : World) → GoesOn b p v condition fs task w → GivesAs p.code given w' w (λ d x. resumed p.code d fs task (state_at w x)) → Gave b p v condition given w'
+  gives_on condition fs task given w w' g l =
+      let k = (l None tt).0 in
+      let frozen = k.frozen g.frozen in
+      let same = k.same g.frozen ∙ g.same in
+      record {
+        frozen = frozen;
+        same = same;
+        is = λ u i a d m.
+            let f = heap_of (bare b) u in
+            let r = l (Some f) (to_world w' (heap_of (bare b) v) f frozen same a) in
+            g.is u i (from_world w (heap_of (bare b) v) f g.frozen g.same r.0.allowed) d m
+            ∙ rest_gives w.reads w'.reads (resumed p.code d fs task (state_at w (Some f))) given (state_at w' (Some f)) (λ x. where_true x (hold_at d (behind p condition))) (r.1 d m);
+      }
+
+  pub ends_on : (condition : ℕ) (fs : List Frame) (task : Task) (e : End) (w w' : World) → IsVector (space_of (bare b)) v → GoesOn b p v condition fs task w → EndsSo p.code e w' w (λ d x. resumed p.code d fs task (state_at w x))
+      → (d : Doing) → IsMeaning p.code d → IsEnded e w' (noting (This ∷ []) (hold_at d p.conditions.items (start (bare b) v)))
+  ends_on condition fs task e w w' i g l d m =
+      let k = (l None tt).0 in
+      let f = heap_of (bare b) v in
+      let r = l (Some f) (to_world w' f f (k.frozen g.frozen) (k.same g.frozen ∙ g.same) (stand_self w'.reads f)) in
+      ended_by e w' _ _ (g.is v i (from_world w f f g.frozen g.same r.0.allowed) d m)
+      (rest_ends w.reads (resumed p.code d fs task (state_at w (Some f))) (λ x. where_true x (hold_at d (behind p condition))) e w' f (k.same g.frozen ∙ g.same) (r.1 d m))
+
+  -- ---- conditions
+
+  drop_next : (xs : List ℕ) (k x : ℕ) → slice_get xs k ≡ Some x → drop k xs ≡ x ∷ drop (k + 1) xs
+  drop_next [] k x e = absurd (cc (e))
+  drop_next (y ∷ ys) zero x e = ap (λ (o : Option ℕ). value_or o y ∷ ys) e
+    where
+      value_or : Option ℕ → ℕ → ℕ
+      value_or (Some n) m = n
+      value_or None m = m
+  drop_next (y ∷ ys) (suc k) x e = let n : suc (k + 1) ≡ suc k + 1 = omega arith in drop_next ys k x e ∙ ap (λ (m : ℕ). x ∷ drop m (y ∷ ys)) n
+
+  -- the next condition comes
+  pub next_comes : (condition node : ℕ) (w : World) → Gave b p v condition (Truth true) w → slice_get p.conditions.items (condition + 1) ≡ Some node → GoesOn b p v (condition + 1) [] (tasks.Evaluate node) w
+  unfolding bind
+  next_comes condition node w g e = record {
+    frozen = g.frozen;
+    same = g.same;
+    is = λ u i a d m. g.is u i a d m ∙ ap (λ (is : List ℕ). noting w.reads (hold_at d is (state_at w (Some (heap_of (bare b) u))))) (drop_next p.conditions.items (condition + 1) node e);
+  }
+
+  at_own : (r : Result Bool Stop) (w : World) (given : Value) (d : Doing) (rest : List ℕ) → w.candidates ≡ heap_of (bare b) v → noting w.reads (where_true given (hold_at d rest) (state_at w (Some (heap_of (bare b) v)))) ≡ noting w.reads (where_true given (hold_at d rest) (state_of w))
+  at_own r w given d rest same = ap (λ (s : State). noting w.reads (where_true given (hold_at d rest) s)) (own_state w (heap_of (bare b) v) same)
+
+  whole : (condition : ℕ) (given : Value) (w : World) → IsVector (space_of (bare b)) v → Gave b p v condition given w → (d : Doing) → IsMeaning p.code d
+      → noting (This ∷ []) (hold_at d p.conditions.items (start (bare b) v)) ≡ noting w.reads (where_true given (hold_at d (behind p condition)) (state_of w))
+  whole condition given w i g d m = g.is v i (stand_self w.reads (heap_of (bare b) v)) d m ∙ at_own (Ok true) w given d (behind p condition) g.same
+
+  drop_past : (xs : List ℕ) (k : ℕ) → slice_get xs k ≡ None → drop k xs ≡ []
+  drop_past [] zero e = refl
+  drop_past [] (suc k) e = refl
+  drop_past (y ∷ ys) zero e = absurd (cc (e))
+  drop_past (y ∷ ys) (suc k) e = drop_past ys k e
+
+  -- all hold
+  pub all_hold : (condition : ℕ) (w : World) → IsVector (space_of (bare b)) v → Gave b p v condition (Truth true) w → slice_get p.conditions.items (condition + 1) ≡ None → HoldsAs p.code (Ok true) w (This ∷ []) (λ d. hold_at d p.conditions.items (start (bare b) v))
+  all_hold condition w i g e = λ d m. whole condition (Truth true) w i g d m ∙ ap (λ (is : List ℕ). noting w.reads (hold_at d is (state_of w))) (drop_past p.conditions.items (condition + 1) e)
+
+  -- one is false
+  pub one_false : (condition : ℕ) (w : World) → IsVector (space_of (bare b)) v → Gave b p v condition (Truth false) w → HoldsAs p.code (Ok false) w (This ∷ []) (λ d. hold_at d p.conditions.items (start (bare b) v))
+  one_false condition w i g = λ d m. whole condition (Truth false) w i g d m
+
+  -- one is no truth value
+  pub one_stuck : (condition : ℕ) (given : Value) (w : World) → IsVector (space_of (bare b)) v → Gave b p v condition given w → ((m : Run Bool) (s : State) → where_true given m s ≡ stop Stuck s) → HoldsAs p.code (Err (Ended ends.Stuck)) w (This ∷ []) (λ d. hold_at d p.conditions.items (start (bare b) v))
+  one_stuck condition given w i g h = λ d m.
+      let is = whole condition given w i g d m ∙ ap (λ (o : Outcome Bool). noting w.reads o) (h (hold_at d (behind p condition)) (state_of w)) in
+      record {
+        said = ap (λ (q : Outcome Bool). q.said) is;
+        heap = ap (λ (q : Outcome Bool). q.after.heap) is;
+        fuel = ap (λ (q : Outcome Bool). q.after.fuel) is;
+        reads = ap (λ (q : Outcome Bool). q.reads) is;
+      }
+
+  -- ---- checkpoints
+
+  resumed_alike : (code : Code) (d : Doing) (fs gs : List Frame) (pause : Pause) (s : State) → GoOnAlike fs gs → resumed code d fs (task_of pause) s ≡ resumed code d gs (task_of pause) s
+  resumed_alike code d fs gs (pauses.Got x) s a = a.value code d _
+  resumed_alike code d fs gs (pauses.Act x) s a = a.value code d _
+
+  awake : (w q : World) (h f : Heap) → IsPaused w q → w.candidates ≡ h → length f ≡ length h → state_at w (Some f) ≡ state_of (woken q f)
+  awake w q h f s same long =
+      ap (λ (t : Value). mk t (map local_of w.locals.items) w.result (map old_of w.olds.items) w.made w.fuel (length w.candidates)) (sym s.this)
+      ∙ (ap (λ (ls : List _). mk q.this (map local_of ls) w.result (map old_of w.olds.items) w.made w.fuel (length w.candidates)) (sym s.locals)
+      ∙ (ap (λ (t : Option Value). mk q.this (map local_of q.locals.items) t (map old_of w.olds.items) w.made w.fuel (length w.candidates)) (sym s.result)
+      ∙ (ap (λ (os : List _). mk q.this (map local_of q.locals.items) q.result (map old_of os) w.made w.fuel (length w.candidates)) (sym s.olds)
+      ∙ (ap (λ (t : Heap). mk q.this (map local_of q.locals.items) q.result (map old_of q.olds.items) t w.fuel (length w.candidates)) (sym s.made)
+      ∙ (ap (λ (t : ℕ). mk q.this (map local_of q.locals.items) q.result (map old_of q.olds.items) q.made t (length w.candidates)) (sym s.fuel)
+      ∙ ap (λ (t : ℕ). mk q.this (map local_of q.locals.items) q.result (map old_of q.olds.items) q.made q.fuel t) (ap length same ∙ sym long))))))
+    where
+      mk : Value → List Local → Option Value → List Old → Heap → ℕ → ℕ → State
+      mk this locals result olds made fuel n = record { this_value = this; locals = locals; result = result; olds = olds; heap = f ++ made; candidates = n; fuel = fuel }
+
+  -- where a run stands, a checkpoint is kept
+  pub keeps : (c : Check) (fs : List Frame) (w : World) → IsWellFormed (bare b) → IsVector (space_of (bare b)) v → GoesOn b p v c.condition fs (task_of c.pause) w → IsPaused w c.world → GoOnAlike fs c.stack → c.told.items ≡ told_of w.candidates w.reads → Kept b p v c
+  keeps c fs w well i g s alike told = record {
+    made_on = v;
+    vector = i;
+    told = told ∙ (ap (λ (h : Heap). told_of h w.reads) g.same ∙ ap (λ (ps : List SlotPlace). told_of (heap_of (bare b) v) ps) (sym s.reads));
+    is = λ u j a d m.
+        let f = heap_of (bare b) u in
+        let a' = subst (λ (ps : List SlotPlace). StandFor true ps (heap_of (bare b) v) f) s.reads a in
+        g.is u j a' d m
+        ∙ (ap (λ (o : Outcome Value). noting w.reads (continued o (λ x. where_true x (hold_at d (behind p c.condition))))) (resumed_alike p.code d fs c.stack c.pause (state_at w (Some f)) alike)
+        ∙ (ap (λ (t : State). noting w.reads (rest_of p.code d (behind p c.condition) c.stack (task_of c.pause) t)) (awake w c.world (heap_of (bare b) v) f s g.same a'.long)
+        ∙ ap (λ (ps : List SlotPlace). noting ps (rest_of p.code d (behind p c.condition) c.stack (task_of c.pause) (state_of (woken c.world f)))) (sym s.reads)));
+  }
+
+  -- where candidates have what a checkpoint tells, their run goes on from it
+  pub wakes : (c : Check) → IsWellFormed (bare b) → IsVector (space_of (bare b)) v → Kept b p v c → c.told.items ≡ told_of (heap_of (bare b) v) c.world.reads → GoesOn b p v c.condition c.stack (task_of c.pause) (woken c.world (heap_of (bare b) v))
+  wakes c well i k told =
+      let same = sym k.told ∙ told in
+      record {
+        frozen = refl;
+        same = refl;
+        is = λ u j a d m.
+            let f = heap_of (bare b) u in
+            k.is u j (stand_then (bare b) well c.world.reads k.made_on v u same a) d m
+            ∙ ap (λ (n : ℕ). noting c.world.reads (rest_of p.code d (behind p c.condition) c.stack (task_of c.pause) (record (state_of (woken c.world f)) { candidates = n }))) (as_long (bare b) well u v);
+      }
+
+  -- a check of where a run stands is kept
+  pub check_kept : (c : Check) (condition : ℕ) (pause : Pause) (fs : List Frame) (task : Task) (w : World) → IsWellFormed (bare b) → IsVector (space_of (bare b)) v → GoesOn b p v condition fs task w → task ≡ task_of pause → IsCheckOf condition pause fs w c → Kept b p v c
+  check_kept c condition pause fs task w well i g e k =
+      keeps c fs w well i
+      (subst (λ (n : ℕ). GoesOn b p v n fs (task_of c.pause) w) (sym k.condition_is)
+      (subst (λ (q : Pause). GoesOn b p v condition fs (task_of q) w) (sym k.pause_is)
+      (subst (λ (t : Task). GoesOn b p v condition fs t w) e g)))
+      k.world k.stack k.told
+
+  -- the same, by other words
+  pub wakes_with : (c : Check) (heap : Heap) (task : Task) → IsWellFormed (bare b) → IsVector (space_of (bare b)) v → heap ≡ heap_of (bare b) v → task ≡ task_of c.pause → Kept b p v c → c.told.items ≡ told_of heap c.world.reads → GoesOn b p v c.condition c.stack task (woken c.world heap)
+  wakes_with c heap task well i same e k told =
+      subst (λ (t : Task). GoesOn b p v c.condition c.stack t (woken c.world heap)) (sym e)
+      (subst (λ (h : Heap). GoesOn b p v c.condition c.stack (task_of c.pause) (woken c.world h)) (sym same)
+      (wakes c well i k (told ∙ ap (λ (h : Heap). told_of h c.world.reads) same)))
+
+  -- a run begins
+  pub begins : (fs : List Frame) (node : ℕ) (w : World) → fs ≡ [] → slice_get p.conditions.items 0 ≡ Some node → state_of w ≡ start (bare b) v → w.reads ≡ This ∷ [] → w.candidates ≡ heap_of (bare b) v → w.made ≡ [] → w.is_frozen ≡ true → GoesOn b p v 0 fs (tasks.Evaluate node) w
+  unfolding bind
+  begins fs node w none first state reads same made frozen = record {
+    frozen = frozen;
+    same = same;
+    is = λ u i a d m.
+        let f = heap_of (bare b) u in
+        let begun : with_heap (start (bare b) v) f ≡ state_at w (Some f) =
+        ap (λ (s : State). with_heap s f) (sym state) ∙ ap (λ (h : Heap). with_heap (state_of w) h) (sym (append-nil f) ∙ ap (λ (h : Heap). f ++ h) (sym made)) in
+        ap (λ (is : List ℕ). noting (This ∷ []) (hold_at d is (with_heap (start (bare b) v) f))) (drop_next p.conditions.items 0 node first)
+        ∙ (ap (λ (s : State). noting (This ∷ []) (rest_of p.code d (behind p 0) [] (tasks.Evaluate node) s)) begun
+        ∙ (ap (λ (ps : List SlotPlace). noting ps (rest_of p.code d (behind p 0) [] (tasks.Evaluate node) (state_at w (Some f)))) (sym reads)
+        ∙ ap (λ (gs : List Frame). noting w.reads (rest_of p.code d (behind p 0) gs (tasks.Evaluate node) (state_at w (Some f)))) (sym none)));
+  }
+
+-- ---- another index
+
+get_set : (v : List ℕ) (s t i : ℕ) → (t ≡ s → ⊥) → get_or (slice_set v s i) t 0 ≡ get_or v t 0
+get_set v s t i h = get_or-set_other v s t i 0 h
+
+value_set : (problem : Problem) (v : List ℕ) (s t i : ℕ) → (t ≡ s → ⊥) → value_at problem (slice_set v s i) t ≡ value_at problem v t
+value_set problem v s t i h = ap (λ (n : ℕ). (get_or (choices_at problem t) n no_choice).value) (get_set v s t i h)
+
+map_range : (f g : ℕ → Value) (a n : ℕ) → ((k : ℕ) → a ≤ k → k < a + n → f k ≡ g k) → map f (range_with_len a n) ≡ map g (range_with_len a n)
+map_range f g a zero h = refl
+map_range f g a (suc n) h =
+    ap (λ (x : Value). x ∷ map f (range_with_len (a + 1) n)) (h a (omega arith) (omega arith))
+    ∙ ap (λ (xs : List Value). g a ∷ xs) (map_range f g (a + 1) n (λ k l t. h k (omega (arith, l)) (omega (arith, t))))
+
+-- where no root changes a run begins alike
+pub begun_set : (problem : Problem) (v : List ℕ) (s i : ℕ) (heap : Heap) → length problem.parameters < s → with_heap (start problem (slice_set v s i)) heap ≡ with_heap (start problem v) heap
+begun_set problem v s i heap lt =
+    ap (λ (x : Value). mk x (parameters_from 0 (parameter_values problem (slice_set v s i)))) (value_set problem v s 0 i (λ e. omega (arith, lt, e)))
+    ∙ ap (λ (vs : List Value). mk (value_at problem v 0) (parameters_from 0 vs)) (map_range (λ k. value_at problem (slice_set v s i) (k + 1)) (λ k. value_at problem v (k + 1)) 0 (length problem.parameters) (λ k l t. value_set problem v s (k + 1) i (λ e. omega (arith, lt, t, e))))
+  where
+    mk : Value → List Local → State
+    mk this locals = record (start problem v) { this_value = this; locals = locals; heap = heap }
+
+pub kept_set : (b : Bounds) (p : Predicate) (v : List ℕ) (s i : ℕ) (c : Check) → length b.parameters < s → Kept b p v c → Kept b p (slice_set v s i) c
+kept_set b p v s i c lt k = record {
+  made_on = k.made_on;
+  vector = k.vector;
+  told = k.told;
+  is = λ u j a d m. ap (λ (t : State). noting (This ∷ []) (hold_at d p.conditions.items t)) (begun_set (bare b) v s i (heap_of (bare b) u) lt) ∙ k.is u j a d m;
+}
+
+-- ---- all of a list
+
+pub all_map : {X : Type 0} (P Q : X → Type 0) → ((x : X) → P x → Q x) → (xs : List X) → All P xs → All Q xs
+all_map P Q f xs a = λ k d lt. f (get_or xs k d) (a k d lt)
+
+pub all_front : {X : Type 0} (P : X → Type 0) (xs : List X) (x : X) (ys : List X) → ys ≡ xs ++ x ∷ [] → All P ys → All P xs
+all_front P xs x ys e a = λ k d lt.
+    let h = subst (All P) e a in
+    let in_both : k < length (xs ++ x ∷ []) = omega (arith, lt, length-append xs (x ∷ [])) in
+    subst P (get_or_append_left xs (x ∷ []) d k lt) (h k d in_both)
+
+pub all_last : {X : Type 0} (P : X → Type 0) (xs : List X) (x : X) (ys : List X) → ys ≡ xs ++ x ∷ [] → All P ys → P x
+all_last P xs x ys e a =
+    let h = subst (All P) e a in
+    let in_both : length xs + 0 < length (xs ++ x ∷ []) = omega (arith, length-append xs (x ∷ [])) in
+    subst P (get_or-append-add xs (x ∷ []) 0 x) (h (length xs + 0) x in_both)
+
+all_one : {X : Type 0} (P : X → Type 0) (x : X) → P x → All P (x ∷ [])
+all_one P x h zero d lt = h
+all_one P x h (suc k) d lt = absurd (omega (arith, lt))
+
+pub all_more : {X : Type 0} (P : X → Type 0) (xs ys : List X) (x : X) → ys ≡ xs ++ x ∷ [] → All P xs → P x → All P ys
+all_more P xs ys x e a h = subst (All P) (sym e) (All-append P xs (x ∷ []) a (all_one P x h))
+
+-- ---- what the code answers
+
+module _ (b : Bounds) (p : Predicate) (v : List ℕ) (i : IsVector (space_of (bare b)) v) where
+  all : Doing → Outcome Bool
+  all d = hold_at d p.conditions.items (start (bare b) v)
+
+  -- a step that doesn't lead on
+  pub halts_on : (condition : ℕ) (fs fs' : List Frame) (task : Task) (halt : Halt) (w w' : World) → GoesOn b p v condition fs task w → StepsTo p.code (Err halt) fs' w' w (λ d x. resumed p.code d fs task (state_at w x)) → Gives b p v condition (Err halt) w'
+  halts_on condition fs fs' task (Ended e) w w' g l = ends_on b p v condition fs task e w w' i g l
+  halts_on condition fs fs' task Memory w w' g l = tt
+  halts_on condition fs fs' task Written w w' g l = tt
+
+  pub finishes_on : (condition : ℕ) (fs fs' : List Frame) (task : Task) (stepped : Step) (given : Value) (w w' : World) → stepped ≡ steps.Finished given → GoesOn b p v condition fs task w → StepsTo p.code (Ok stepped) fs' w' w (λ d x. resumed p.code d fs task (state_at w x)) → Gave b p v condition given w'
+  finishes_on condition fs fs' task stepped given w w' e g l = gives_on b p v condition fs task given w w' g (subst (λ (s : Step). StepsTo p.code (Ok s) fs' w' w (λ d x. resumed p.code d fs task (state_at w x))) e l)
+
+  pub more_on : (condition : ℕ) (fs fs' : List Frame) (task : Task) (stepped : Step) (more : Task) (w w' : World) → stepped ≡ steps.More more → GoesOn b p v condition fs task w → StepsTo p.code (Ok stepped) fs' w' w (λ d x. resumed p.code d fs task (state_at w x)) → GoesOn b p v condition fs' more w'
+  more_on condition fs fs' task stepped more w w' e g l = goes_on b p v condition fs fs' task more w w' g (subst (λ (s : Step). StepsTo p.code (Ok s) fs' w' w (λ d x. resumed p.code d fs task (state_at w x))) e l)
+
+  -- a condition that doesn't give a value
+  pub halted_so : (condition : ℕ) (halt : Halt) (w : World) → Gives b p v condition (Err halt) w → HoldsAs p.code (Err halt) w (This ∷ []) (λ d. hold_at d p.conditions.items (start (bare b) v))
+  halted_so condition (Ended e) w g = g
+  halted_so condition Memory w g = λ d m. tt
+  halted_so condition Written w g = λ d m. tt
+
+  truth_is : (condition : ℕ) (given : Value) (truth t : Bool) (w : World) → given ≡ Truth truth → truth ≡ t → Gave b p v condition given w → Gave b p v condition (Truth t) w
+  truth_is condition given truth t w e is g = subst (λ (x : Value). Gave b p v condition x w) (e ∙ ap (λ (x : Bool). Truth x) is) g
+
+  pub all_hold_so : (condition following : ℕ) (found : Option ℕ) (given : Value) (truth : Bool) (w : World) → given ≡ Truth truth → truth ≡ true → following ≡ condition + 1 → found ≡ slice_get p.conditions.items following → found ≡ None → Gave b p v condition given w
+      → HoldsAs p.code (Ok true) w (This ∷ []) (λ d. hold_at d p.conditions.items (start (bare b) v))
+  all_hold_so condition following found given truth w e is next at none g =
+      all_hold b p v condition w i (truth_is condition given truth true w e is g) (ap (λ (k : ℕ). slice_get p.conditions.items k) (sym next) ∙ (sym at ∙ none))
+
+  pub next_so : (condition following node : ℕ) (found : Option ℕ) (given : Value) (truth : Bool) (fs : List Frame) (w : World) → given ≡ Truth truth → truth ≡ true → following ≡ condition + 1 → found ≡ slice_get p.conditions.items following → found ≡ Some node → fs ≡ [] → Gave b p v condition given w
+      → GoesOn b p v following fs (tasks.Evaluate node) w
+  next_so condition following node found given truth fs w e is next at some none g =
+      subst (λ (k : ℕ). GoesOn b p v k fs (tasks.Evaluate node) w) (sym next)
+      (subst (λ (gs : List Frame). GoesOn b p v (condition + 1) gs (tasks.Evaluate node) w) (sym none)
+      (next_comes b p v condition node w (truth_is condition given truth true w e is g) (ap (λ (k : ℕ). slice_get p.conditions.items k) (sym next) ∙ (sym at ∙ some))))
+
+  pub false_so : (condition : ℕ) (given : Value) (truth : Bool) (w : World) → given ≡ Truth truth → truth ≡ false → Gave b p v condition given w → HoldsAs p.code (Ok false) w (This ∷ []) (λ d. hold_at d p.conditions.items (start (bare b) v))
+  false_so condition given truth w e is g = one_false b p v condition w i (truth_is condition given truth false w e is g)
+
+  pub stuck_so : (condition : ℕ) (given other : Value) (w : World) → given ≡ other → ((m : Run Bool) (s : State) → where_true other m s ≡ stop Stuck s) → Gave b p v condition given w → HoldsAs p.code (Err (Ended ends.Stuck)) w (This ∷ []) (λ d. hold_at d p.conditions.items (start (bare b) v))
+  stuck_so condition given other w e h g = one_stuck b p v condition other w i (subst (λ (x : Value). Gave b p v condition x w) e g) h

@@ -1,0 +1,154 @@
+// Runs of candidates that go on from before the first place that changed.
+ghost use Rattle.std.specs.Prelude.{◌≡◌, ◌<◌, ◌^◌, [], IfOk, OnOk, length, replicate, slice_index, slice_set};
+ghost use Rattle.std.specs.List.{All};
+ghost use Rattle.kr_code.specs.Resolved.{Numbering};
+ghost use Rattle.kr_mean.specs.Problem.{slots};
+ghost use Rattle.kr_mean.specs.Program.{Program};
+ghost use Rattle.kr_mean.specs.Runs.{end_on, order_of};
+ghost use Rattle.kr_mean.specs.Space.{IsVector, space_of};
+ghost use Rattle.kr_mean.specs.WellFormed.{IsWellFormed};
+ghost use Rattle.kr_problem.specs.Bounds.{bare, problem_with};
+ghost use Rattle.kr_judge.specs.Predicates.{IsPredicateOf};
+ghost use Rattle.kr_judge.specs.Runs.{end_said};
+ghost use Rattle.kr_runner.specs.Kept.{Kept};
+
+use crate::check::Check;
+use crate::going::run;
+use kr_base::NoMemory;
+use kr_judge::{Judge, Judgement, Predicate};
+use kr_problem::Layout;
+use kr_vector::{Slot, Vector};
+use std::alloc::Global;
+use std::marker::Model;
+
+/// A candidate that can be changed slot by slot and run. A run goes on from the last checkpoint of earlier runs at which the
+/// candidate can't be told from theirs. Contracts see the problem's slots and domains, its predicate, the candidate and the
+/// order of slots of the last run.
+#[derive(Drop)]
+pub struct Runner<'s> {
+    alloc: Global,
+    layout: &'s Layout,
+    predicate: &'s Predicate,
+    vector: Vector,
+    checks: Vec<Check>,
+    judge: Judge,
+}
+
+impl<'s> Model for Runner<'s> {
+    ghost use Rattle.std.specs.List.{All};
+    ghost use Rattle.kr_runner.specs.Kept.{Kept};
+    ghost use Rattle.kr_runner.specs.Seen.{Seen};
+
+    ghost Value = { Seen };
+
+    ghost view = { λ r. record { bounds = r.layout.now; predicate = r.predicate.now; vector = r.vector; order = r.judge } };
+
+    ghost invariant = { λ r. All (Kept r.layout.now r.predicate.now r.vector) r.checks.items };
+}
+
+/// Gives a slot another index. No checkpoint stays where a root changes.
+fn change(
+    layout: &Layout,
+    predicate: &Predicate,
+    vector: &mut Vector,
+    checks: &mut Vec<Check>,
+    slot: u32,
+    index: u32,
+)
+    requires slot { slot < length vector.old }
+    requires kept { All (Kept layout.now predicate.now vector.old) checks.old.items }
+    ensures vector { vector.new ≡ slice_set vector.old slot index }
+    ensures kept { All (Kept layout.now predicate.now vector.new) checks.new.items }
+{
+    if (slot as usize) <= layout.parameters() {
+        checks.clear();
+        vector.set(Slot(slot), index);
+        return;
+    }
+    vector.set(Slot(slot), index);
+}
+
+impl<'s> Runner<'s> {
+    /// The candidate of index 0 in every slot stands.
+    pub fn new(
+        alloc: Global,
+        layout: &'s Layout,
+        predicate: &'s Predicate,
+    ) -> Result<Runner<'s>, NoMemory>
+        ensures bounds { IfOk result (λ runner. runner.bounds ≡ layout.now) }
+        ensures predicate { IfOk result (λ runner. runner.predicate ≡ predicate.now) }
+        ensures vector { IfOk result (λ runner. runner.vector ≡ replicate (length (slots (bare layout.now))) 0) }
+    {
+        let vector = Vector::zero(alloc, layout.slots() as usize)?;
+        Ok(Runner {
+            alloc,
+            layout,
+            predicate,
+            vector,
+            checks: Vec::new(alloc),
+            judge: Judge::new(alloc),
+        })
+    }
+
+    /// What is run.
+    pub fn layout(&self) -> &'s Layout
+        ensures { result.now ≡ self.now.bounds }
+    {
+        self.layout
+    }
+
+    /// The index of a slot.
+    pub fn index(&self, slot: u32) -> u32
+        requires { slot < length self.now.vector }
+        ensures { result ≡ slice_index self.now.vector slot }
+    {
+        self.vector.get(Slot(slot))
+    }
+
+    /// Gives a slot another index.
+    pub fn set(&mut self, slot: u32, index: u32)
+        requires { slot < length self.old.vector }
+        ensures { self.new ≡ record self.old { vector = slice_set self.old.vector slot index } }
+    {
+        change(
+            self.layout,
+            self.predicate,
+            &mut self.vector,
+            &mut self.checks,
+            slot,
+            index,
+        );
+    }
+
+    /// Runs the predicate on the candidate: how the run ends, and the order of the slots that decide it.
+    pub fn run(&mut self) -> Result<Judgement, NoMemory>
+        requires well { IsWellFormed (bare self.old.bounds) }
+        requires vector { IsVector (space_of (bare self.old.bounds)) self.old.vector }
+        requires small { length (slots (bare self.old.bounds)) < 2 ^ 31 }
+        ensures ends { IfOk result (λ end. (program : Program) (n : Numbering) → IsPredicateOf (problem_with program self.old.bounds) self.old.predicate n → end_said end ≡ end_on (problem_with program self.old.bounds) self.old.vector) }
+        ensures order { OnOk result ((program : Program) (n : Numbering) → IsPredicateOf (problem_with program self.old.bounds) self.old.predicate n → self.new.order ≡ order_of (problem_with program self.old.bounds) self.old.vector) }
+        ensures others { self.new ≡ record self.old { order = self.new.order } }
+    {
+        match run(
+            self.alloc,
+            self.layout,
+            self.predicate,
+            &self.vector,
+            &mut self.checks,
+        )? {
+            Some(ran) => {
+                self.judge
+                    .take_order(self.layout, &self.vector, ran.end, &ran.reads)?;
+                Ok(ran.end)
+            }
+            None => self.judge.run(self.layout, self.predicate, &self.vector),
+        }
+    }
+
+    /// The order of the last candidate.
+    pub fn order(&self) -> &[u32]
+        ensures { result.now ≡ self.now.order }
+    {
+        self.judge.order()
+    }
+}
