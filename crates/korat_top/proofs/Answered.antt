@@ -1,7 +1,8 @@
 -- What was found for a command, and the statuses of refusals.
-use Rattle.std.proofs.Common.{◌≡◌, ℕ, ◌<◌, List, refl, arith}
+use Rattle.std.proofs.Common.{◌≡◌, ℕ, ◌<◌, List, [], ◌∷◌, refl, arith}
 use Rattle.std.specs.Prelude.{Option, Result, Ok, Err}
 use Rattle.kr_args.specs.Reading.{Range}
+use Rattle.kr_demo.specs.Texts.{source_text, finitization_text}
 use Rattle.kr_posed.specs.Posed.{posed}
 use Rattle.kr_posed.specs.declared.problem.Problem.{Problem}
 use Rattle.korat_top.specs.declared.refusal.InputFile.{InputFile}
@@ -9,7 +10,7 @@ use Rattle.korat_top.specs.declared.refusal.InputFile.TheVariants as input
 use Rattle.korat_top.specs.declared.refusal.Stop.{Stop}
 use Rattle.korat_top.specs.declared.refusal.Stop.TheVariants.{Read, Refused, Memory}
 use Rattle.korat_top.specs.Refusals.{Inputs, status_of_file}
-use Rattle.korat_top.specs.Steps.{Held, demonstrating}
+use Rattle.korat_top.specs.Steps.{Held, demonstrating, from_texts}
 use Rattle.korat_top.specs.Answer.{ListFiles, CheckFiles, DemoOf}
 use Rattle.korat_top.specs.Found.{Meets, CountStays, FindsIn, Finds}
 
@@ -37,6 +38,11 @@ check_found held faults last inputs files files' (Ok f) h = h
 check_found held faults last inputs files files' (Err (Refused x)) h = h
 check_found held faults last inputs files files' (Err (Read failed)) h = h
 check_found held faults last inputs files files' (Err Memory) h = h
+
+-- the demo's texts have the steps of files
+pub demo_judged : (n : ℕ) (r : Result Problem Stop) → Meets (from_texts (finitization_text n) (source_text n ∷ [])) posed r → Meets (demonstrating n) posed r
+unfolding demonstrating
+demo_judged n r h = h
 
 -- the demo reads nothing
 pub demo_found : {F : Type 0} (held : F → Held) (faults : F → ℕ) (last : F → Option (List ℕ)) (n : ℕ) (files : F) (r : Result Problem Stop)

@@ -1,5 +1,5 @@
 -- How many tokens and nodes files have at most, and how long the demo's source is.
-use Rattle.std.proofs.Common.{◌≡◌, ℕ, ◌+◌, ◌*◌, ◌<◌, ◌≤◌, ◌^◌, Bool, List, [], ◌∷◌, ◌++◌, length, refl, ap, ◌∙◌, arith}
+use Rattle.std.proofs.Common.{◌≡◌, ℕ, zero, suc, ◌+◌, ◌*◌, ◌<◌, ◌≤◌, ◌^◌, Bool, List, [], ◌∷◌, ◌++◌, length, refl, ap, ◌∙◌, arith}
 use Rattle.std.specs.Prelude.{All, IfOk, Result, Ok, Err, decimal}
 use Rattle.std.proofs.lemmas.Fmt.{length-decimal-le}
 use Rattle.std.proofs.lemmas.List.{length-append}
@@ -65,3 +65,7 @@ source_short n small =
     let back : length source_back ≡ 8 = refl in
     let number : length (decimal n) ≤ 10 = length-decimal-le 10 n (omega arith) (omega (arith, small)) (omega (arith, small)) in
     omega (arith, length-append (source_front ++ decimal n) source_back, length-append source_front (decimal n), front, back, number)
+
+pub one_short : (n : ℕ) → n < 2 ^ 32 → All (λ text. length text ≤ LIMIT) (source_text n ∷ [])
+one_short n small zero d l = source_short n small
+one_short n small (suc k) d l = absurd (omega (arith, l))
