@@ -1,0 +1,1 @@
+class D extends A { } class A extends B { } class B extends A { }

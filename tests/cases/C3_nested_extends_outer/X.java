@@ -1,0 +1,1 @@
+class A extends A.B { static class B extends C { } } class C { static class D extends A { } }

@@ -1,0 +1,1 @@
+class A { int x; static final int x = 1; }

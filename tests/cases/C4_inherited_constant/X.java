@@ -1,0 +1,1 @@
+class A extends B { int K; } class B { static final int K = 1; }

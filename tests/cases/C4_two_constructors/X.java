@@ -1,0 +1,1 @@
+class A { A() { } int x; A(int x) { } }

@@ -1,0 +1,1 @@
+class A { void m(int x) { } } class B extends A { } class C extends B { void m(boolean x) { } }

@@ -1,0 +1,1 @@
+class A { static void m() { } void m() { } }

@@ -1,0 +1,1 @@
+class A { static class I { } void m(A.I x, HashSet<I> y) { } } class B extends A { void m(I y, HashSet<A.I> z) { } }

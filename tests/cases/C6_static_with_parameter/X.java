@@ -1,0 +1,1 @@
+class A { static int hashCode(int x) { return x; } }

@@ -1,0 +1,1 @@
+class A { A[] m() { return null; } } class B extends A { B[] m() { return null; } }

@@ -1,0 +1,1 @@
+class A { A m() { return null; } } class B extends A { } class C extends B { C m() { return this; } }

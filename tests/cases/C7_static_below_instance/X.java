@@ -1,0 +1,1 @@
+class A { void m() { } } class B extends A { static void m() { } }

@@ -1,0 +1,1 @@
+class A { int a0, a1, a2, a3, a4, a5, a6, a7, a8, a9, a10, a11, a12, a13, a14, a15, a16, a17, a18, a19; } class B extends A { int b0, b1, b2, b3, b4, b5, b6, b7, b8, b9, b10, b11, b12, b13; static final int K = 1; }

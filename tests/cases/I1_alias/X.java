@@ -1,0 +1,1 @@
+class Cell { int v; boolean repOk() { Cell c = this; c.v++; return true; } }

@@ -1,0 +1,1 @@
+class Cell { int v; boolean repOk() { return new int[2].length == 2; } }

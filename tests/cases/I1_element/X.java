@@ -1,0 +1,1 @@
+class Cell { int v; boolean repOk() { int[] a = null; a[0]++; return true; } }

@@ -1,0 +1,1 @@
+class Cell { int v; boolean repOk() { B b = new B(); return b.w == 1; } } class A { int w; } class B extends A { B() { w = 1; } }

@@ -1,0 +1,1 @@
+class Cell { int v; boolean repOk() { A a = new A(); a.w = 1; return true; } } class A { int w; } class B extends A { }

@@ -1,0 +1,1 @@
+class B { boolean m(Cell c) { c.v = 2; return true; } }

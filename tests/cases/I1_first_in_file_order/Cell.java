@@ -1,0 +1,1 @@
+class Cell { int v; boolean repOk() { v = 1; return new B().m(this); } }

@@ -1,0 +1,1 @@
+class Cell { int v; boolean repOk() { return new B().m(); } } class A { int w; boolean m() { return true; } } class B extends A { } class C extends A { Cell c; boolean m() { c.v = 1; return true; } }

@@ -1,0 +1,1 @@
+class Cell { int v; boolean repOk() { return new H().c == null; } } class H { Cell c = new Cell(); }

@@ -1,0 +1,1 @@
+class Cell { int v; boolean repOk() { return U.f(this) == 0; } } class U { static int f(Cell c) { return c.v = 0; } }

@@ -1,0 +1,1 @@
+class N { N n; } class H { N n; } class R { N a; boolean repOk() { H h = new H(); h.n = a; h.n.n = null; return true; } }

@@ -1,0 +1,1 @@
+class O { static class I { boolean repOk() { return true; } } }

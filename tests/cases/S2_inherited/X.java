@@ -1,0 +1,1 @@
+class B { int a; } class N extends B { boolean repOk() { return true; } }

@@ -1,0 +1,1 @@
+class A { } class B extends A { } class N { A[] b; boolean repOk() { return true; } }

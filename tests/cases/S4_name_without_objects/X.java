@@ -1,0 +1,1 @@
+class A { } class B extends A { } class N { B b; boolean repOk() { return true; } }

@@ -1,0 +1,1 @@
+class N { void m(boolean x) { } boolean repOk() { return true; } }

@@ -1,0 +1,1 @@
+class N { int repOk; }

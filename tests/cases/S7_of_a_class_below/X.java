@@ -1,0 +1,1 @@
+class N { } class M extends N { boolean repOk() { return true; } }

@@ -1,0 +1,1 @@
+class N { static boolean repOk() { return true; } }

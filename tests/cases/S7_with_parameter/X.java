@@ -1,0 +1,1 @@
+class N { boolean repOk(int x) { return true; } }

@@ -1,0 +1,1 @@
+class N { static final int K = 1; boolean repOk() { return true; } }

@@ -1,0 +1,1 @@
+class A { boolean m(HashSet<A> s) { return null == null && new HashSet<>() != s && s == null; } }

@@ -1,0 +1,1 @@
+class A { boolean m(B b, C c) { return b != c; } } class B extends A { } class C extends A { }

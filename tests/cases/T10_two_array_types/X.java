@@ -1,0 +1,1 @@
+class A { boolean m(int[] a, boolean[] b) { return a == b; } }

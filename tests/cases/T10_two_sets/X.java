@@ -1,0 +1,1 @@
+class A { boolean m(HashSet<A> a, HashSet<B> b) { return a == b; } } class B extends A { }

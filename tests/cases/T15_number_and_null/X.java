@@ -1,0 +1,1 @@
+class A { void m(boolean b) { A a = b ? 1 : null; } }

@@ -1,0 +1,1 @@
+class A { A m(boolean b, B x) { return b ? null : b ? x : this; } } class B extends A { }

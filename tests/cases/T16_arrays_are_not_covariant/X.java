@@ -1,0 +1,1 @@
+class A { void m(A[] a, B[] b) { a = b; } } class B extends A { }

@@ -1,0 +1,1 @@
+class A { int n() { return 1; } void m() { n()--; } }

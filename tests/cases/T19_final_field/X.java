@@ -1,0 +1,1 @@
+class A { final int f = 1; void m(final int p) { f = 2; p = 3; final int l = 4; l = 5; } }

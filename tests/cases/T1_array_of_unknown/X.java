@@ -1,0 +1,1 @@
+class A { int m() { return new B[1].length; } }

@@ -1,0 +1,1 @@
+class A { LinkedList<HashSet<A> > x; }

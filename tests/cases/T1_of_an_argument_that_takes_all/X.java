@@ -1,0 +1,1 @@
+class A { void m() { n(1); n(1, 2); } void n(A a, A b) { } }

@@ -1,0 +1,1 @@
+class A { X m(Y y) { return 1; } }

@@ -1,0 +1,1 @@
+class A { int m() { return b.x + n().y + c[0]; } Foo b; Foo[] c; Foo n() { return null; } }

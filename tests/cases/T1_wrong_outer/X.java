@@ -1,0 +1,1 @@
+class A { B.C x; } class B { } class C { }

@@ -1,0 +1,1 @@
+class A { HashSet<A> m(HashSet<A> s) { return (HashSet<A>) s; } }

@@ -1,0 +1,1 @@
+class A { C m(B b) { return (C) b; } } class B extends A { } class C extends A { }

@@ -1,0 +1,1 @@
+class A { boolean m(HashSet<A> s) { return s instanceof A; } }

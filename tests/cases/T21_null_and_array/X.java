@@ -1,0 +1,1 @@
+class A { boolean m(int[] a) { return null instanceof A || a instanceof int[]; } }

@@ -1,0 +1,1 @@
+class A { boolean m() { return null instanceof HashSet<A>; } }

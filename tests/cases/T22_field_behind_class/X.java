@@ -1,0 +1,1 @@
+class A { int v; int m() { return A.v; } }

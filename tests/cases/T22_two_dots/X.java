@@ -1,0 +1,1 @@
+class A { int m() { return A.B.K; } static class B { static final int K = 1; } }

@@ -1,0 +1,1 @@
+class A { int m(A a) { return a[0]; } }

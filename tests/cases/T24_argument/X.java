@@ -1,0 +1,1 @@
+class A { void m(B b) { } void n() { m(this); } } class B extends A { }

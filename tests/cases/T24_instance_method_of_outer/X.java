@@ -1,0 +1,1 @@
+class A { void n() { } static class B { void m() { n(); } } }

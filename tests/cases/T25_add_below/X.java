@@ -1,0 +1,1 @@
+class A { void m(LinkedList<B> l) { l.add(this); } } class B extends A { }

@@ -1,0 +1,1 @@
+class A { boolean m(LinkedList<B> l, int[] a) { return l.contains(this) && l.remove(a) && l.contains(null) && l.add(new B()); } } class B extends A { }

@@ -1,0 +1,1 @@
+class A { void m(LinkedList<A> l) { l.get(0); } }

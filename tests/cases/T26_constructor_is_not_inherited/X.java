@@ -1,0 +1,1 @@
+class A { A(int x) { } } class B extends A { B() { super(1); } void m() { new B(1); } }

@@ -1,0 +1,3 @@
+class A { int v;
+  //@ requires v;
+  void m() { } }

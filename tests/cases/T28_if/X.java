@@ -1,0 +1,1 @@
+class A { void m() { if (1) return 1; } }

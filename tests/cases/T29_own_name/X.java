@@ -1,0 +1,1 @@
+class A { int m() { int x = x + 1, y = x; return y; } }

@@ -1,0 +1,1 @@
+class A { void m() { A a = new B(); } } class B { }

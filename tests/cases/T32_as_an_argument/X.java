@@ -1,0 +1,1 @@
+class A { void n() { } void m(A a) { m(n()); } }

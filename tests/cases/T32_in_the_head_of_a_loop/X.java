@@ -1,0 +1,1 @@
+class A { void n() { } void m() { for (n(), n(); false; n()) n(); } }

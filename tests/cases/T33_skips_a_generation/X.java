@@ -1,0 +1,1 @@
+class A { int n() { return 1; } } class B extends A { } class C extends B { int n() { return super.n(); } }

@@ -1,0 +1,1 @@
+class A { static int n() { return 1; } } class B extends A { int m() { return super.n(); } }

@@ -1,0 +1,1 @@
+class A { A() { } } class B extends A { } class C extends B { C() { super(); } } class D { D() { super(); } }

@@ -1,0 +1,1 @@
+class A { static int m() { return 1; } static final int K = m(); }

@@ -1,0 +1,1 @@
+class A { static final int K = true ? 1 : 1 / 0; static final boolean T = false && 1 / 0 == 1 || (boolean) !(null != null); }

@@ -1,0 +1,1 @@
+class A { static final int K = B.L; }

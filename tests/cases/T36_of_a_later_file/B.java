@@ -1,0 +1,1 @@
+class B { static final int L = 1; }

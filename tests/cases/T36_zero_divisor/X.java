@@ -1,0 +1,1 @@
+class A { static final int K = 1 % (2 - 2); }

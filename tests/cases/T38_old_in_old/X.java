@@ -1,0 +1,3 @@
+class A { int v;
+//@ ensures \old(\old(v)) == v;
+void m() { } }

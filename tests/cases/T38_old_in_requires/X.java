@@ -1,0 +1,3 @@
+class A { int v;
+//@ requires \old(v) == 1;
+void m() { } }

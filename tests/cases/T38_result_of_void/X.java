@@ -1,0 +1,3 @@
+class A {
+//@ ensures \result == 1;
+void m() { } }

@@ -1,0 +1,3 @@
+class A {
+//@ requires new A() != null;
+void m() { } }

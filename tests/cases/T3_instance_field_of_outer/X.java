@@ -1,0 +1,1 @@
+class A { int w; static class B { int m() { return w; } } }

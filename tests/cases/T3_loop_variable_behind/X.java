@@ -1,0 +1,1 @@
+class A { int m() { for (int i = 0; i < 1; i++) { } return i; } }

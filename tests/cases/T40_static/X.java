@@ -1,0 +1,3 @@
+class A {
+  //@ ensures \result;
+  static boolean m() { return true; } }

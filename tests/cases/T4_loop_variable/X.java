@@ -1,0 +1,1 @@
+class A { void m() { for (int i = 0; ; ) { int i; } } }

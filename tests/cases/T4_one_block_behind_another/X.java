@@ -1,0 +1,1 @@
+class A { int i; void m() { for (int i = 0; i < 1; i++) { } for (int i = 0; i < 1; i++) { } { int j; } int j; } }

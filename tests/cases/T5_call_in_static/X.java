@@ -1,0 +1,1 @@
+class A { void n() { } static void m() { n(); } }

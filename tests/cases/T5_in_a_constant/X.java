@@ -1,0 +1,1 @@
+class A { int v; static final int K = v; }

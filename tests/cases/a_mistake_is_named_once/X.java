@@ -1,0 +1,1 @@
+class A { boolean m() { return !(1 + null) == x; } }

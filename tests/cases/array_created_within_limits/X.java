@@ -1,0 +1,1 @@
+class Cell { int v;  boolean repOk() { boolean[] a = new boolean[v]; return a.length == v && !a[v - 1]; } }

@@ -1,0 +1,1 @@
+class S { int[] a; boolean repOk() { return a.length != 1 || a[0] == 8; } }

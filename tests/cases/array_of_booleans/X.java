@@ -1,0 +1,1 @@
+class S { boolean[] a; boolean repOk() { return a[0] ^ a[1]; } }

@@ -1,0 +1,1 @@
+class N { int v; } class M extends N { } class S { N[] a; boolean repOk() { return a[1] instanceof M || a[0] == a[1]; } }

@@ -1,0 +1,1 @@
+class Cell { int v;  boolean repOk() { int[] a = new int[3]; int i = 0; a[i++] = i; a[i++] += i; a[i] -= 5; return a[0] == 1 && a[1] == 2 && a[2] == -5 && i == 2; } }

@@ -1,0 +1,1 @@
+class S { int v; boolean repOk() { return v == 1; } }

@@ -1,0 +1,1 @@
+class S { int[] a; boolean repOk() { return a == null; } }

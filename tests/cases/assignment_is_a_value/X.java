@@ -1,0 +1,1 @@
+class Cell { int v;  boolean repOk() { int x; x = v; int y = x = x + 1; return y == v + 1 && x == y; } }

@@ -1,0 +1,1 @@
+class A { void m() { while (1) { int x = true; } } }

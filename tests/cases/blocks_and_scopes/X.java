@@ -1,0 +1,1 @@
+class Cell { int v;  boolean repOk() { { int a = 1; { int b = a; a = b + v; } int b = a; return b == 2; } } }

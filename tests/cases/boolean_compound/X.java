@@ -1,0 +1,1 @@
+class Cell { int v;  boolean repOk() { boolean b = v > 0; b &= v < 2; b |= v == 3; b ^= v == 2; return b; } }

@@ -1,0 +1,1 @@
+class Cell { int v;  boolean repOk() { while (true) { while (true) { if (v == 1) break; return v == 2; } return true; } } }

@@ -1,0 +1,1 @@
+class Cell { int v;  boolean repOk() { HashSet<Cell> s = null; return v == 0 || s.add(this); } }

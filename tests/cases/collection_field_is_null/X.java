@@ -1,0 +1,1 @@
+class N { HashSet<N> s; boolean repOk() { return s == null; } }

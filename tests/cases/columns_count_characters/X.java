@@ -1,0 +1,1 @@
+class Größe { int é𝒳; int m() { /* äöü€𝒳 */	return z; } }

@@ -1,0 +1,1 @@
+class Cell { int v;  boolean repOk() { int i = v; i += i++ + ++i; return i == 3 * v + 2; } }

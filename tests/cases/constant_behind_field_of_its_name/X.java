@@ -1,0 +1,1 @@
+class A { A B; int v; boolean repOk() { return B.v == 2; } } class B { static final int v = 1; }

@@ -1,0 +1,1 @@
+class A { static final int K = 1 << 1; static final boolean T = K == 2 && !false; } class B extends A { int v; boolean repOk() { return T && (v == K || v == C.K + 1); } } class C extends B { }

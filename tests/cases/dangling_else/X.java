@@ -1,0 +1,1 @@
+class Cell { int v;  boolean repOk() { if (v > 0) if (v > 1) return true; else return false; return true; } }

@@ -1,0 +1,1 @@
+class R { int v; boolean repOk() { D d = new D(v); return d.seen == 0 && d.x == 7 && d.y == v + 1; } } class B { int seen; B(int n) { seen = peek(); } int peek() { return 99; } } class D extends B { int x = 7; int y; D(int n) { super(n); y = n + 1; } int peek() { return x; } }

@@ -1,0 +1,1 @@
+class Base { int k; int area() { return k; } } class P extends Base { int area() { return k + 1; } } class Q extends P { int z; int area() { return super.area() * 10; } } class R { Base x; boolean repOk() { return x.area() > 0; } }

@@ -1,0 +1,1 @@
+class Cell { int v;  boolean repOk() { return 6 / v == 2 || 6 % v == 0; } }

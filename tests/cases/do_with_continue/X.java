@@ -1,0 +1,1 @@
+class Cell { int v;  boolean repOk() { int n = 0; int i = 0; do { i++; if (i == 2) continue; n += i; } while (i < 3); return n == 4 + v; } }

@@ -1,0 +1,1 @@
+class N { boolean b; boolean repOk() { return b; } }

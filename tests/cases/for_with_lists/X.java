@@ -1,0 +1,1 @@
+class Cell { int v;  boolean repOk() { int i, j; for (i = 0, j = v; i < j; i++, j--) ; return i == 1; } }

@@ -1,0 +1,1 @@
+class Cell { int v;  boolean repOk() { int n = 0; for (int i = 0; ; i++) { if (i == 5) break; if (i % 2 == v) continue; n += i; } return n == (v == 0 ? 4 : v == 1 ? 6 : 10); } }

@@ -1,0 +1,1 @@
+class Cell { int v;  boolean repOk() { Cell c = (Cell) this; return c instanceof Cell && (int) v == 0; } }

@@ -1,0 +1,1 @@
+class Cell { int v; static final int K = 1 + 2; boolean repOk() { return K == Cell.K && C.M() == -2147483648; } } class C { static int M() { return -2147483648; } }

@@ -1,0 +1,1 @@
+class Cell { int v;  boolean repOk() { return new D(v).x == 3; } } class B { int x = 1 + 2; B() { } } class D extends B { int y = x; D(int n) { super(); y = n; } }

@@ -1,0 +1,1 @@
+class Cell { int v;  boolean repOk() { int i = 0; do { i++; } while (i < 2); return true; } }

@@ -1,0 +1,1 @@
+class Cell { int v;  boolean repOk() { Box b = new Box(); b.w++; b.w += v; return b.w == 0 + 1; } } class Box { int w; }

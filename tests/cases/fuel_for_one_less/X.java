@@ -1,0 +1,1 @@
+class Cell { int v;  boolean repOk() { for (int i = 0; i < 2; i++) ; return true; } }

@@ -1,0 +1,1 @@
+class Cell { int v;  boolean repOk() { int a = 1, b, c = a; return c == 1; } }

@@ -1,0 +1,1 @@
+class Cell { int v;  boolean repOk() { return new D().x == 3; } } class B { int x = 1 + 2; } class D extends B { D() { } }

@@ -1,0 +1,1 @@
+class Cell { int v; int f(int n) { return n == 0 ? 0 : f(n - 1); } boolean repOk() { return f(1000) == 0; } }

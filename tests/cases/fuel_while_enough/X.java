@@ -1,0 +1,1 @@
+class Cell { int v;  boolean repOk() { int i = 2; while (i > 0) i -= 1; return true; } }

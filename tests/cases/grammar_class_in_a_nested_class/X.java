@@ -1,0 +1,1 @@
+class A { static class B { static class C { } } }

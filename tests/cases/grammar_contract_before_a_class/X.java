@@ -1,0 +1,2 @@
+//@ requires true;
+class A { }

@@ -1,0 +1,1 @@
+class A { void m(HashSet<A> s) { for (A a : s) { } } }

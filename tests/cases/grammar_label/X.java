@@ -1,0 +1,1 @@
+class A { void m() { x: while (true) { } } }

@@ -1,0 +1,1 @@
+class var { int record, yield, _, $x, requires, ensures, java; var m(var _1) { return _1; } }

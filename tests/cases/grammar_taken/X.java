@@ -1,0 +1,1 @@
+class A { int d(int a) { return (a) - 1 + (a) -1; } boolean c(A a, int x, int y) { return (A) a == a && (x < y) && !(boolean) (x > y) == (x <= y); } int[] n() { return (new int[3])[0] == 0 ? new int[2] : null; } @Override public final void f() { ; } ; protected A() { } public public int g; }; ;

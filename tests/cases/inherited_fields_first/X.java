@@ -1,0 +1,1 @@
+class B { int a; B n; } class R extends B { boolean b; boolean repOk() { return b || n == this; } }

@@ -1,0 +1,1 @@
+class B { int a; boolean repOk() { return ok(); } boolean ok() { return a == 2; } }

@@ -1,0 +1,1 @@
+class R extends B { boolean ok() { return a == 1 || super.ok(); } }

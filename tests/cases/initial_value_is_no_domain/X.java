@@ -1,0 +1,1 @@
+class R { int v = 9; R() { } boolean repOk() { return v != 9; } }

@@ -1,0 +1,1 @@
+class R { int v; boolean repOk() { H h = new H(); return h.a == 0 && h.b == 2 && h.c == 3 && h.h == null; } } class H { int a = this.b; int b = 2; int c = b + 1; H h; }

@@ -1,0 +1,1 @@
+class N { int b; boolean repOk() { return b + 1 < b || b - 1 > b; } }

@@ -1,0 +1,3 @@
+class A {
+  int m() {    return
+ z; } }

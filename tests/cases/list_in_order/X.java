@@ -1,0 +1,1 @@
+class Cell { int v;  boolean repOk() { HashSet<Cell> s = new HashSet<Cell>(); LinkedList<Cell> l = new LinkedList<>(); l.add(this); l.add(null); l.add(this); return l.size() == 3 && l.remove(this) && l.size() == 2 && l.removeFirst() == null && l.removeFirst() == this && l.isEmpty() && !l.contains(this); } }

@@ -1,0 +1,1 @@
+class N { N next; } class L { N head; boolean repOk() { int n = 0; for (N x = head; x != null; x = x.next) { int k = 0; for (N y = head; k < n; y = y.next) { if (y == x) return false; k++; } n++; } return n == 64 || n < 2; } }

@@ -1,0 +1,1 @@
+class Cell { int v;  boolean repOk() { int n = 0; for (int i = 0; i < 3; i++) { int x; x += i; n += x; } return n == 3; } }

@@ -1,0 +1,1 @@
+class Größe { int é; boolean repOk() { return é == 2; } }

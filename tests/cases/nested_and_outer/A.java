@@ -1,0 +1,1 @@
+class Outer { static final int K = 2, M = K * K; int w; static int twice(int n) { return n + n; } static class Inner { Outer o; int v; boolean repOk() { return v >= K && o.w == M && twice(v) != Outer.M + 2 && Outer.twice(K) == M; } } }

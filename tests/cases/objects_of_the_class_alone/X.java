@@ -1,0 +1,1 @@
+class A { } class B extends A { } class R { A x; boolean repOk() { return !(x instanceof B); } }

@@ -1,0 +1,1 @@
+class B { void m(int x) { } } class N extends B { N next; static void s(N y) { } boolean repOk() { return true; } } class M extends N { }

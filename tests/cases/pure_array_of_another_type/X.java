@@ -1,0 +1,1 @@
+class Cell { int v; boolean repOk() { boolean[] a = new boolean[2]; a[v] = true; return a[1]; } }

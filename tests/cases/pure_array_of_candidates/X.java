@@ -1,0 +1,1 @@
+class N { N n; } class R { N a; boolean repOk() { N[] t = new N[3]; int k = 0; for (N x = a; x != null; x = x.n) { for (int i = 0; i < k; i++) if (t[i] == x) return false; t[k++] = x; } return k == 2; } }

@@ -1,0 +1,1 @@
+class Cell { int v; boolean repOk() { B b = new B(); b.x = v; return b.x + b.w == 4; } } class A { int w = 3; } class B extends A { int x; }

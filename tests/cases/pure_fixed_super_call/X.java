@@ -1,0 +1,1 @@
+class Cell extends A { int v; boolean m() { v = 1; return true; } boolean repOk() { return super.m(); } } class A { boolean m() { return true; } }

@@ -1,0 +1,1 @@
+class N { N n; } class H { N n; H up; } class R { N a; boolean repOk() { H h = new H(); h.n = a; h.up = new H(); h.up.n = h.n.n; h.n = h.up.n; return h.n == a; } }

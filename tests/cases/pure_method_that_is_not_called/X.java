@@ -1,0 +1,1 @@
+class Cell { int v; void set(int n) { v = n; } Cell copy() { return new Cell(); } boolean repOk() { return v == 1; } }

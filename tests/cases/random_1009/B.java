@@ -1,0 +1,2 @@
+class H { int x = 2 + 3; N n; H(int a) { x += a; } int inc() { return ++x; } }
+class R { static final int K = 2; N a; M m; int[] p; N[] q; int k; boolean repOk() { if (true == (false || true)) { int x1 = 0; do { x1++; if (true) return !false; } while (x1 < 2); } else { if (false) { if (false) return true || false; if ((((N) null).f(k)) < (this.m.v)) return this.a.b; } int[] x2 = p; } if (false) { if ((this.m.b) && (m.b)) return true && true; } H x3 = new H(this.p.length); } }

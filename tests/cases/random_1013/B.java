@@ -1,0 +1,2 @@
+class R { static final int K = -3 % 2; N a; M m; int[] p; N[] q; int k; boolean repOk() { if (((this.a) instanceof M) && (true == true)) return false; if (m != (this.m)) return m != m; return ((false || false) || (2 > K)) && (((this.a) != (this.m)) | (7 == (this.k))); } }
+class M extends N { N other; int f(int y) { return super.f(y) + ((R.K) & v); } }

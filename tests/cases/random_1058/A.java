@@ -1,0 +1,2 @@
+class N { int v; N next; boolean b; int f(int y) { return (((int[]) null)[((N[]) null).length]) - (this.v); } static int g(int a, boolean c) { return c ? a : a + 1; } }
+class R { static final int K = -3 % 2; N a; M m; int[] p; N[] q; int k; boolean repOk() { if (((this.a) == m) || ((this.p) == null)) return true; for (int i0 = 0; i0 < 3; i0++) { if ((this.p) == null) return !true; } N x2 = q[k]; while (x2 != null) { if (a.b) return false == true; x2 = x2.next; if ((this.p) != null) break; } return 2 > (N.g((this.k) & 7, m != m)); } }

@@ -1,0 +1,2 @@
+class M extends N { N other; int f(int y) { return super.f(y) + (this.v); } }
+class R { static final int K = -3 % 2; N a; M m; int[] p; N[] q; int k; boolean repOk() { if ((true & false) && (this.a.b)) return m instanceof N; int x1 = 0; do { x1++; if (false) return false; } while (x1 < 2); if ((p == null) && (7 >= (this.k))) return (this.m) != a; return (((N[]) null)[+x1]) != (((N[]) null)[+(R.K)]); } }

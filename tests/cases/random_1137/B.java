@@ -1,0 +1,2 @@
+class H { int x = R.K; N n; H(int a) { x += a; } int inc() { return ++x; } }
+class R { static final int K = -3 % 2; N a; M m; int[] p; N[] q; int k; boolean repOk() { if (true) return (R.K) < k; if (((N) ((true ? m : m))).b) return (this.m) instanceof N; return a instanceof N; } }

@@ -1,0 +1,2 @@
+class R { static final int K = -3 % 2; N a; M m; int[] p; N[] q; int k; boolean repOk() { if (q != null) return true ^ true; if (a instanceof M) return (this.m) != (this.m); return true || ((this.a) instanceof M); } }
+class M extends N { N other; int f(int y) { return super.f(y) + (~7); } }

@@ -1,0 +1,2 @@
+class N { int v; N next; boolean b; int f(int y) { return ((N[]) null).length; } static int g(int a, boolean c) { return c ? a : a + 1; } }
+class R { static final int K = 2; N a; M m; int[] p; N[] q; int k; boolean repOk() { if (true | ((this.k) != (R.K))) return m != null; return a instanceof N; } }

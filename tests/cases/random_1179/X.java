@@ -1,0 +1,4 @@
+class M extends N { N other; int f(int y) { return super.f(y) + 7; } }
+class N { int v; N next; boolean b; int f(int y) { return ((int[]) null)[((int[]) null)[((int[]) null)[y]]]; } static int g(int a, boolean c) { return c ? a : a + 1; } }
+class R { static final int K = 1 << 2; N a; M m; int[] p; N[] q; int k; boolean repOk() { if (true) { if (a == null) return (R.K) != k; if (!(true && false)) { if (!(K < (R.K))) return null == a; } else { if ((this.p) != null) return 7 == K; if ((this.m) instanceof M) return m == a; } } if (((int) (this.k)) > ((true ? 3 : 7))) return m != (this.m); if ((true && true) == true) { if ((true && false) | (!false)) { int x1; if ((true || false) && (7 > 0)) return p == null; } else { if (true) return true || true; if (false) return p == null; } N x2 = m; } HashSet<N> x3 = new HashSet<N>(); return this.m.b; } }
+class H { int x = 1; N n; H(int a) { x += a; } int inc() { return ++x; } }

@@ -1,0 +1,2 @@
+class H { int x = R.K; N n; H(int a) { x += a; } int inc() { return ++x; } }
+class M extends N { N other; int f(int y) { return ~((this.f(v)) + (7 / 3)); } }

@@ -1,0 +1,1 @@
+class N { R r; int v; } class R { N a; N b; boolean repOk() { return b != null && b.v == 8 && a != b; } }

@@ -1,0 +1,1 @@
+class Cell { int v;  boolean repOk() { HashSet<Cell> s = new HashSet<Cell>(); LinkedList<Cell> l = new LinkedList<>(); if (v == 1) s.add(this); if (v == 2) l.add(null); return v == 0 ? s.isEmpty() : v == 1 ? s.contains(this) : l.removeFirst() == null && l.removeFirst() == null; } }

@@ -1,0 +1,1 @@
+class R { int v; boolean repOk() { return new H(v == 0).a == 1; } } class H { int a = 1; H(boolean b) { if (b) return; a = 2; } }

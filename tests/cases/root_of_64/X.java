@@ -1,0 +1,1 @@
+class E { boolean repOk() { return true; } }

@@ -1,0 +1,1 @@
+class Cell { int v;  boolean repOk() { HashSet<int[]> s = new HashSet<int[]>(); int[] a = new int[v]; s.add(a); s.add(new int[v]); s.add(a); return s.size() == 2 && s.contains(a) && !s.contains(new int[v]); } }

@@ -1,0 +1,1 @@
+import java.util.*; class N { N n; } class T { N a; N b; boolean repOk() { HashSet<N> seen = new HashSet<N>(); return seen.add(a) && seen.add(b) && seen.add(a.n); } }

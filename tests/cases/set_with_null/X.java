@@ -1,0 +1,1 @@
+class Cell { int v;  boolean repOk() { HashSet<Cell> s = new HashSet<Cell>(); LinkedList<Cell> l = new LinkedList<>(); return s.add(null) && !s.add(null) && s.contains(null) && s.size() == 1 && s.remove(null) && !s.remove(null) && s.isEmpty(); } }

@@ -1,0 +1,1 @@
+class N { int a; N b; static final int K = 1; static class In { } } class S { int v; boolean repOk() { return true; } }

@@ -1,0 +1,1 @@
+class R { R x; static boolean t() { return true; } boolean repOk() { return x.t(); } }

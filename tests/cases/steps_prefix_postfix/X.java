@@ -1,0 +1,1 @@
+class Cell { int v;  boolean repOk() { int i = v; int j = i++ + ++i; return j == v + v + 2 && i-- - --i == 2 && i == v; } }

@@ -1,0 +1,1 @@
+class N { } class T { N a; N b; N c; boolean repOk() { return c != a && b != c; } }

@@ -1,0 +1,1 @@
+class N { N next; int v; boolean repOk() { return next != this && (next == null || next.next == this) && v == 0; } }

@@ -1,0 +1,1 @@
+class N { int v; N n; } class R { boolean repOk() { return true; } }
