@@ -2,6 +2,14 @@
 #![tactic(auto)]
 
 #[cfg(test)]
+mod listing;
+#[cfg(test)]
+mod pieces;
+#[cfg(test)]
+mod random;
+#[cfg(test)]
 mod reading;
 #[cfg(test)]
-mod tests;
+mod sources;
+#[cfg(test)]
+mod worked;

@@ -1,0 +1,141 @@
+// A problem's entries, found by the search and by the plain listing.
+ghost use Rattle.std.specs.Prelude.{◌≡◌, ◌<◌};
+
+use crate::reading::read;
+use crate::sources::Pair;
+use kr_base::{Bound, Cut, Entry, Mark, Span};
+use kr_candidates::Candidates;
+use kr_plain::list_plain;
+use kr_step::{Ending, Next, Search};
+use kr_steps::Steps;
+use kr_subject::Prepared;
+use std::alloc::Global;
+use std::marker::Brand;
+use std::sync::ledger::{Blank, Ledger};
+use std::test::Fail;
+
+/// Adds a key with a sign.
+pub(crate) fn push_entry(
+    alloc: Global,
+    text: &mut String,
+    key: &[u32],
+    sign: &str,
+) -> Result<(), Fail> {
+    let key = format!(in alloc; "{:?}", key)?;
+    text.push_str(key.as_str())?;
+    text.push_str(sign)?;
+    Ok(())
+}
+
+fn sign_of(mark: &Mark<()>) -> &'static str {
+    match mark {
+        Mark::Valid(()) => "+",
+        Mark::Invalid => "-",
+        Mark::Spent => "?",
+    }
+}
+
+pub(crate) fn sign_at(ending: Ending) -> &'static str {
+    match ending {
+        Ending::Valid => "+",
+        Ending::Invalid => "-",
+        Ending::Spent => "?",
+    }
+}
+
+/// The entries, each by its key and its mark.
+fn text_of(alloc: Global, entries: &[Entry<()>]) -> Result<String, Fail> {
+    let mut text = String::new(alloc);
+    for entry in entries {
+        push_entry(alloc, &mut text, entry.key.numbers(), sign_of(&entry.mark))?;
+    }
+    Ok(text)
+}
+
+/// All that stands above a cut.
+fn above(alloc: Global, after: &[u32]) -> Result<Span, Fail> {
+    Ok(Span {
+        after: Cut::new(after.to_vec(alloc)?),
+        upto: Bound::End,
+    })
+}
+
+/// The keys of the plain listing above a cut, each with its mark.
+fn plain_text<L: Ledger>(
+    alloc: Global,
+    blank: Blank,
+    prepared: Prepared,
+    after: &[u32],
+) -> Result<String, Fail>
+    requires ledger { blank.name ≡ L.name }
+    requires parts { blank.parts ≡ L.parts }
+    requires some { 0 < L.parts }
+{
+    let span = above(alloc, after)?;
+    let mut runs = Steps::<L>::start(blank);
+    let mut candidates = Candidates::new(alloc, &prepared)?;
+    let entries = list_plain(alloc, &mut candidates, &span, &mut runs)?;
+    text_of(alloc, entries.as_slice())
+}
+
+/// What a search finds from now on, up to the first spent entry.
+fn found_text<L: Ledger>(
+    alloc: Global,
+    search: &mut Search<Candidates<'_, Prepared>>,
+    runs: &mut Steps<L>,
+) -> Result<String, Fail> {
+    let mut text = String::new(alloc);
+    for _ in 0..10000 {
+        match search.next(runs)? {
+            Next::End => return Ok(text),
+            Next::Found(ending) => {
+                push_entry(alloc, &mut text, search.cut(), sign_at(ending))?;
+                if ending == Ending::Spent {
+                    return Ok(text);
+                }
+            }
+        }
+    }
+    Ok(text)
+}
+
+/// The same of the search.
+fn searched_text<L: Ledger>(
+    alloc: Global,
+    blank: Blank,
+    prepared: Prepared,
+    after: &[u32],
+) -> Result<String, Fail>
+    requires ledger { blank.name ≡ L.name }
+    requires parts { blank.parts ≡ L.parts }
+    requires some { 0 < L.parts }
+{
+    let mut runs = Steps::<L>::start(blank);
+    let candidates = Candidates::new(alloc, &prepared)?;
+    let mut search = Search::seek(alloc, candidates, after, &mut runs)?;
+    found_text(alloc, &mut search, &mut runs)
+}
+
+/// The entries above a cut, by trying every candidate.
+pub(crate) fn plain_of(alloc: Global, prepared: Prepared, after: &[u32]) -> Result<String, Fail> {
+    plain_text::<Brand>(alloc, Blank::new(1), prepared, after)
+}
+
+/// The entries above a cut, by the search.
+pub(crate) fn searched_of(
+    alloc: Global,
+    prepared: Prepared,
+    after: &[u32],
+) -> Result<String, Fail> {
+    searched_text::<Brand>(alloc, Blank::new(1), prepared, after)
+}
+
+/// The entries of the plain listing, where the search finds the same.
+pub(crate) fn agreed(alloc: Global, pair: &Pair) -> Result<String, Fail> {
+    let plain = plain_of(alloc, read(alloc, pair.source, pair.fin)?, &[])?;
+    let searched = searched_of(alloc, read(alloc, pair.source, pair.fin)?, &[])?;
+    if plain.as_str() != searched.as_str() {
+        return Ok(String::new(alloc));
+    }
+    Ok(plain)
+}
