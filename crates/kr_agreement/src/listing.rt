@@ -64,7 +64,7 @@ fn above(alloc: Global, after: &[u32]) -> Result<Span, Fail> {
 fn plain_text<L: Ledger>(
     alloc: Global,
     blank: Blank,
-    prepared: Prepared,
+    prepared: &Prepared,
     after: &[u32],
 ) -> Result<String, Fail>
     requires ledger { blank.name ≡ L.name }
@@ -73,7 +73,7 @@ fn plain_text<L: Ledger>(
 {
     let span = above(alloc, after)?;
     let mut runs = Steps::<L>::start(blank);
-    let mut candidates = Candidates::new(alloc, &prepared)?;
+    let mut candidates = Candidates::new(alloc, prepared)?;
     let entries = list_plain(alloc, &mut candidates, &span, &mut runs)?;
     text_of(alloc, entries.as_slice())
 }
@@ -103,7 +103,7 @@ fn found_text<L: Ledger>(
 fn searched_text<L: Ledger>(
     alloc: Global,
     blank: Blank,
-    prepared: Prepared,
+    prepared: &Prepared,
     after: &[u32],
 ) -> Result<String, Fail>
     requires ledger { blank.name ≡ L.name }
@@ -111,14 +111,14 @@ fn searched_text<L: Ledger>(
     requires some { 0 < L.parts }
 {
     let mut runs = Steps::<L>::start(blank);
-    let candidates = Candidates::new(alloc, &prepared)?;
+    let candidates = Candidates::new(alloc, prepared)?;
     let mut search = Search::seek(alloc, candidates, after, &mut runs)?;
     found_text(alloc, &mut search, &mut runs)
 }
 
 /// The entries above a cut, by trying every candidate.
 pub(crate) fn plain_of(alloc: Global, prepared: Prepared, after: &[u32]) -> Result<String, Fail> {
-    plain_text::<Brand>(alloc, Blank::new(1), prepared, after)
+    plain_text::<Brand>(alloc, Blank::new(1), &prepared, after)
 }
 
 /// The entries above a cut, by the search.
@@ -127,7 +127,7 @@ pub(crate) fn searched_of(
     prepared: Prepared,
     after: &[u32],
 ) -> Result<String, Fail> {
-    searched_text::<Brand>(alloc, Blank::new(1), prepared, after)
+    searched_text::<Brand>(alloc, Blank::new(1), &prepared, after)
 }
 
 /// The entries of the plain listing, where the search finds the same.
