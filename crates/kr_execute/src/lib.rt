@@ -1,0 +1,11 @@
+//! A method run on values in a heap, exactly as the program means it: how the run ends, and the heap and the fuel that it
+//! leaves.
+#![tactic(auto)]
+
+mod executed;
+mod run;
+#[cfg(test)]
+mod tests;
+
+pub use executed::{Ending, Executed, Method};
+pub use run::execute;
