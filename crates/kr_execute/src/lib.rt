@@ -3,9 +3,11 @@
 #![tactic(auto)]
 
 mod executed;
+mod laws;
 mod run;
 #[cfg(test)]
 mod tests;
 
 pub use executed::{Ending, Executed, Method};
+pub use laws::spent_law;
 pub use run::execute;

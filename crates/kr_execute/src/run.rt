@@ -5,6 +5,7 @@ ghost use Rattle.kr_code.specs.Resolved.{IsCodeOf, Numbering};
 ghost use Rattle.kr_code.specs.Tables.{method_at};
 ghost use Rattle.kr_execute.specs.Answers.{IsEnding};
 ghost use Rattle.kr_execute.specs.Executed.{IsMethodOf, begun, executed, executed_at, gives_nothing, left_by};
+ghost use Rattle.kr_execute.specs.Fits.{IsUnstuck};
 ghost use Rattle.kr_frames.specs.Frames.{resumed};
 ghost use Rattle.kr_mean.specs.Program.{Program};
 ghost use Rattle.kr_run.specs.Answers.{Answers};
@@ -151,6 +152,7 @@ pub fn execute(
 ) -> Result<Executed, NoMemory>
     ensures means { IfOk result (λ run. (d : Doing) → IsMeaning code.now d → run ≡ executed_at code.now d method values.now heap fuel) }
     ensures executes { IfOk result (λ run. (program : Program) (n : Numbering) (m : TableMethod) → IsCodeOf program code.now n → IsMethodOf code.now n m method → run ≡ executed program m values.now heap fuel) }
+    ensures unstuck { IfOk result (IsUnstuck code.now method values.now heap) }
 {
     run_method(alloc, code, heap, method, values, fuel)
 }
