@@ -1,0 +1,4 @@
+pub mod Programs
+pub mod Runs
+pub mod Unstuck
+pub mod Costs

@@ -1,0 +1,4 @@
+pub mod Executed
+pub mod Answers
+pub mod Fits
+pub mod Costs

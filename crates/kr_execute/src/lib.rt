@@ -1,0 +1,13 @@
+//! A method run on values in a heap, exactly as the program means it: how the run ends, and the heap and the fuel that it
+//! leaves.
+#![tactic(auto)]
+
+mod executed;
+mod laws;
+mod run;
+#[cfg(test)]
+mod tests;
+
+pub use executed::{Ending, Executed, Method};
+pub use laws::spent_law;
+pub use run::execute;
