@@ -2,3 +2,4 @@ pub mod Candidates
 mod Calls
 mod Members
 mod Locals
+mod Reading
