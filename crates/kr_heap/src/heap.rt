@@ -40,6 +40,46 @@ fn copy_all(alloc: Global, objects: &Vec<Object>) -> Result<Vec<Object>, NoMemor
     Ok(copies)
 }
 
+/// The first objects become those at their numbers among others.
+fn copy_into(objects: &mut Vec<Object>, others: &[Object]) -> Result<(), NoMemory>
+    requires { length objects.old.items ≤ length others.now }
+    ensures long { length objects.new.items ≡ length objects.old.items }
+    ensures copied { OnOk result (map shown objects.new.items ≡ take (length objects.old.items) (map shown others.now)) }
+{
+    'objects: for number in 0..objects.len() {
+        objects[number].copy_from(&others[number])?;
+    }
+    Ok(())
+}
+
+/// Copies of objects come behind all others.
+fn append_copies(
+    alloc: Global,
+    objects: &mut Vec<Object>,
+    others: &[Object],
+) -> Result<(), NoMemory>
+    ensures { OnOk result (map shown objects.new.items ≡ map shown objects.old.items ++ map shown others.now) }
+{
+    for other in others {
+        objects.push(other.copy(alloc)?)?;
+    }
+    Ok(())
+}
+
+/// Others' objects in place of these, in the room that is there.
+fn copy_objects(
+    alloc: Global,
+    objects: &mut Vec<Object>,
+    others: &[Object],
+) -> Result<(), NoMemory>
+    ensures { OnOk result (map shown objects.new.items ≡ map shown others.now) }
+{
+    objects.truncate(others.len());
+    copy_into(objects, others)?;
+    append_copies(alloc, objects, &others[objects.len()..])?;
+    Ok(())
+}
+
 impl Heap {
     /// No objects. It takes no memory.
     pub fn new(alloc: Global) -> Self
@@ -57,6 +97,13 @@ impl Heap {
         Ok(Heap {
             objects: copy_all(alloc, &self.objects)?,
         })
+    }
+
+    /// Others' objects in place of these, in the room that is there.
+    pub fn copy_from(&mut self, alloc: Global, other: &Heap) -> Result<(), NoMemory>
+        ensures { OnOk result (self.new ≡ other.now) }
+    {
+        copy_objects(alloc, &mut self.objects, other.objects.as_slice())
     }
 
     pub fn len(&self) -> usize

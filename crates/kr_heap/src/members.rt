@@ -53,6 +53,16 @@ impl Members {
         Ok(Members::from_vec(self.as_slice().to_vec(alloc)?))
     }
 
+    /// Others' members in place of these, in the room that is there.
+    pub fn copy_from(&mut self, others: &Members) -> Result<(), NoMemory>
+        ensures { OnOk result (self.new ≡ others.now) }
+    {
+        self.items.clear();
+        self.gone = 0;
+        self.items.extend_from_slice(others.as_slice())?;
+        Ok(())
+    }
+
     pub fn as_slice(&self) -> &[Value]
         ensures members { result.now ≡ self.now }
         ensures few { length result.now ≤ 2147483647 }

@@ -43,6 +43,14 @@ impl Object {
         })
     }
 
+    /// Another's class and values in place of these, in the room that is there.
+    pub fn copy_from(&mut self, other: &Object) -> Result<(), NoMemory>
+        ensures { OnOk result (shown self.new ≡ shown other.now) }
+    {
+        self.class = other.class;
+        self.values.copy_from(&other.values)
+    }
+
     pub fn write(&mut self, at: usize, value: Value)
         ensures class { self.new.class ≡ self.old.class }
         ensures values { self.new.values ≡ slice_set self.old.values at value }

@@ -10,17 +10,7 @@ use kr_world::{Action, SlotPlace, World};
 
 /// Whether a candidate's spot wasn't read yet.
 fn is_unread(world: &World, object: Obj, spot: Spot) -> bool {
-    if (object as usize) >= world.candidates.len() {
-        return false;
-    }
-    for place in world.reads.as_slice() {
-        if let SlotPlace::At(other, known) = *place {
-            if other == object && known == spot {
-                return false;
-            }
-        }
-    }
-    true
+    (object as usize) < world.candidates.len() && !world.reads.contains(SlotPlace::At(object, spot))
 }
 
 /// Whether loading the field of a name, or an array's length, reads a place for the first time.
@@ -54,15 +44,6 @@ fn reads_unread(world: &World, array: Value, index: Value) -> bool {
     }
 }
 
-/// Whether a value that comes to a frame makes it read a place for the first time.
-fn frame_reads(code: &Code, world: &World, frame: &Frame, given: Value) -> bool {
-    match frame {
-        Frame::Value(ValueFrame::Load(name)) => loads_unread(code, world, *name, given),
-        Frame::Value(ValueFrame::ElementAt(array)) => reads_unread(world, *array, given),
-        _ => false,
-    }
-}
-
 /// Whether a step reads a place for the first time.
 fn action_reads(code: &Code, world: &World, action: Action) -> bool {
     match action {
@@ -90,27 +71,21 @@ fn is_small(world: &World, stack: &Stack) -> bool {
 }
 
 /// Where a run pauses: before it reads a place for the first time, where a copy is small.
-pub(crate) fn pause_of(code: &Code, world: &World, stack: &Stack, task: &Task) -> Option<Pause>
-    ensures { IfSome result (λ pause. task.now ≡ task_of pause) }
+#[inline(always)]
+pub(crate) fn pause_of(
+    code: &Code,
+    world: &World,
+    stack: &Stack,
+    task: &Task,
+) -> Option<Action>
+    ensures { IfSome result (λ action. task.now ≡ Act action) }
 {
-    match task {
-        Task::Got(given) => match stack.top() {
-            None => None,
-            Some(frame) => {
-                if frame_reads(code, world, frame, *given) && is_small(world, stack) {
-                    Some(Pause::Got(*given))
-                } else {
-                    None
-                }
-            }
-        },
-        Task::Act(action) => {
-            if action_reads(code, world, *action) && is_small(world, stack) {
-                Some(Pause::Act(*action))
-            } else {
-                None
-            }
-        }
-        _ => None,
+    let Task::Act(action) = task else {
+        return None;
+    };
+    if action_reads(code, world, *action) && is_small(world, stack) {
+        Some(*action)
+    } else {
+        None
     }
 }

@@ -2,3 +2,4 @@ pub mod Candidates
 pub mod Calls
 mod Members
 pub mod Locals
+mod Reading

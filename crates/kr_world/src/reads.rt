@@ -33,6 +33,7 @@ impl Model for Reads {
     ghost view = { λ r. map place_of r.places.items };
 }
 
+#[inline(always)]
 fn is_same_spot(a: Spot, b: Spot) -> bool
     ensures { result ≡ is_same_spot a b }
 {
@@ -44,6 +45,7 @@ fn is_same_spot(a: Spot, b: Spot) -> bool
     }
 }
 
+#[inline(always)]
 fn is_same(a: SlotPlace, b: SlotPlace) -> bool
     ensures { result ≡ is_same_place (place_of a) (place_of b) }
 {
@@ -55,11 +57,14 @@ fn is_same(a: SlotPlace, b: SlotPlace) -> bool
     }
 }
 
-fn contains(places: &Vec<SlotPlace>, place: SlotPlace) -> bool
-    ensures { result ≡ is_read (place_of place) (map place_of places.now.items) }
+/// Looks from the last one on: what a run reads again it has mostly read a short while ago.
+fn contains(places: &[SlotPlace], place: SlotPlace) -> bool
+    ensures { result ≡ is_read (place_of place) (map place_of places.now) }
 {
-    for read in places {
-        if is_same(*read, place) {
+    let mut left = places.len();
+    'reads: while left > 0 {
+        left -= 1;
+        if is_same(places[left], place) {
             return true;
         }
     }
@@ -85,16 +90,32 @@ impl Reads {
         })
     }
 
+    /// Others' places in place of these, in the room that is there.
+    pub fn copy_from(&mut self, others: &Reads) -> Result<(), NoMemory>
+        ensures { OnOk result (self.new ≡ others.now) }
+    {
+        self.places.clear();
+        self.places.extend_from_slice(others.places.as_slice())?;
+        Ok(())
+    }
+
     /// A place that is read now.
     pub fn note(&mut self, place: SlotPlace) -> Result<(), NoMemory>
         ensures noted { OnOk result (self.new ≡ with_read self.old (place_of place)) }
         ensures unchanged { OnErr result (self.new ≡ self.old) }
     {
-        if contains(&self.places, place) {
+        if contains(self.places.as_slice(), place) {
             return Ok(());
         }
         self.places.push(place)?;
         Ok(())
+    }
+
+    /// Whether a place was read.
+    pub fn contains(&self, place: SlotPlace) -> bool
+        ensures { result ≡ is_read (place_of place) self.now }
+    {
+        contains(self.places.as_slice(), place)
     }
 
     /// The first places alone.

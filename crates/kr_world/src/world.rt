@@ -1,5 +1,5 @@
 // What a run changes.
-ghost use Rattle.std.specs.Prelude.{IfOk};
+ghost use Rattle.std.specs.Prelude.{◌≡◌, IfOk, OnOk};
 ghost use Rattle.kr_world.specs.Pauses.{IsPaused};
 
 use crate::Reads;
@@ -54,6 +54,16 @@ pub struct World {
     pub reads: Reads,
 }
 
+/// Others in place of these, in the room that is there.
+#[inline(always)]
+fn refill<T: Copy + Drop>(items: &mut Vec<T>, others: &[T]) -> Result<(), NoMemory>
+    ensures { OnOk result (items.new.items ≡ others.now) }
+{
+    items.clear();
+    items.extend_from_slice(others)?;
+    Ok(())
+}
+
 impl World {
     /// The world once more, but for the candidates: none are there.
     pub fn pause(&self, alloc: Global) -> Result<World, NoMemory>
@@ -70,5 +80,21 @@ impl World {
             fuel: self.fuel,
             reads: self.reads.copy(alloc)?,
         })
+    }
+
+    /// Another world's state in place of this one's, in the room that is there; the candidates stay.
+    pub fn copy_from(&mut self, alloc: Global, other: &World) -> Result<(), NoMemory>
+        ensures copied { OnOk result (IsPaused other.now self.new) }
+        ensures candidates { self.new.candidates ≡ self.old.candidates }
+        ensures frozen { self.new.is_frozen ≡ self.old.is_frozen }
+    {
+        self.this = other.this;
+        self.result = other.result;
+        self.fuel = other.fuel;
+        refill(&mut self.locals, other.locals.as_slice())?;
+        refill(&mut self.olds, other.olds.as_slice())?;
+        self.made.copy_from(alloc, &other.made)?;
+        self.reads.copy_from(&other.reads)?;
+        Ok(())
     }
 }

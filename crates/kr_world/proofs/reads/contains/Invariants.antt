@@ -1,8 +1,12 @@
-use Rattle.std.proofs.Common.{◌≡◌, drop}
+use Rattle.std.proofs.Common.{◌≡◌, ◌≤◌, drop, length, false}
 use Rattle.std.specs.Prelude.{map}
 use Rattle.kr_world.specs.Noting.{is_read}
 use Rattle.kr_world.specs.Shown.{place_of}
 use Rattle.kr_world.proofs.reads.contains.Given as goal
 
-abbrev pub invariant-loop-read : goal.invariant-loop-read
-invariant-loop-read l = is_read (place_of l.place) (map place_of l.places.items) ≡ is_read (place_of l.place) (map place_of (drop l.read-index l.places.items))
+-- the place is none of those that were looked at
+abbrev pub invariant-reads : goal.invariant-reads
+invariant-reads l = l.left ≤ length l.places × is_read (place_of l.place) (map place_of (drop l.left l.places)) ≡ false
+
+abbrev pub decreases-reads : goal.decreases-reads
+decreases-reads l = l.left
