@@ -18,7 +18,7 @@ use kr_vector::{Slot, Vector};
 use std::alloc::Global;
 
 /// The slots of an object whose values it keeps: an array's length is how many elements it has.
-fn kept(class: Class, stretch: Stretch) -> Stretch
+pub(crate) fn kept(class: Class, stretch: Stretch) -> Stretch
     requires { (j : ℕ) → j < stretch.count → stretch.first + j < 2 ^ 31 }
     ensures are { (f : ℕ → Value) → map f (range_with_len result.first result.count) ≡ values_there class (map f (range_with_len stretch.first stretch.count)) }
     ensures inside { (j : ℕ) → j < result.count → (k : ℕ) × (k < stretch.count) × (result.first + j ≡ stretch.first + k) }

@@ -6,9 +6,11 @@ mod marks;
 mod objects;
 #[cfg(test)]
 mod tests;
+mod updates;
 mod walk;
 
 pub use heap::build;
 pub use marks::{is_marked, mark};
 pub use objects::{Stretch, slots_of};
+pub use updates::update;
 pub use walk::Walk;

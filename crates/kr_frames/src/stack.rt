@@ -22,15 +22,19 @@ impl Model for Stack {
     ghost view = { λ s. reverse s.frames.items };
 }
 
-/// The same frames once more.
-fn copy_all(alloc: Global, frames: &Vec<Frame>) -> Result<Vec<Frame>, NoMemory>
-    ensures { IfOk result (λ copies. GoOnAlike (reverse frames.now.items) (reverse copies.items)) }
+/// The same frames once more, where there are none.
+fn append_copies(
+    alloc: Global,
+    copies: &mut Vec<Frame>,
+    frames: &Vec<Frame>,
+) -> Result<(), NoMemory>
+    requires { copies.old.items ≡ [] }
+    ensures { OnOk result (GoOnAlike (reverse frames.now.items) (reverse copies.new.items)) }
 {
-    let mut copies = Vec::new(alloc);
     for frame in frames {
         copies.push(frame.copy(alloc)?)?;
     }
-    Ok(copies)
+    Ok(())
 }
 
 impl Stack {
@@ -43,13 +47,19 @@ impl Stack {
         }
     }
 
-    /// The same frames once more.
-    pub fn copy(&self, alloc: Global) -> Result<Stack, NoMemory>
-        ensures { IfOk result (λ stack. GoOnAlike self.now stack) }
+    /// No frames; the room stays.
+    pub fn clear(&mut self)
+        ensures { self.new ≡ [] }
     {
-        Ok(Stack {
-            frames: copy_all(alloc, &self.frames)?,
-        })
+        self.frames.clear();
+    }
+
+    /// Another stack's frames in place of these, in the room that is there.
+    pub fn copy_from(&mut self, alloc: Global, other: &Stack) -> Result<(), NoMemory>
+        ensures { OnOk result (GoOnAlike other.now self.new) }
+    {
+        self.frames.clear();
+        append_copies(alloc, &mut self.frames, &other.frames)
     }
 
     /// How many frames there are.

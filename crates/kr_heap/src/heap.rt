@@ -67,11 +67,7 @@ fn append_copies(
 }
 
 /// Others' objects in place of these, in the room that is there.
-fn copy_objects(
-    alloc: Global,
-    objects: &mut Vec<Object>,
-    others: &[Object],
-) -> Result<(), NoMemory>
+fn copy_objects(alloc: Global, objects: &mut Vec<Object>, others: &[Object]) -> Result<(), NoMemory>
     ensures { OnOk result (map shown objects.new.items ≡ map shown others.now) }
 {
     objects.truncate(others.len());

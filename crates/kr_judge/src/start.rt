@@ -1,5 +1,5 @@
 // The world that a candidate's run begins in.
-ghost use Rattle.std.specs.Prelude.{◌≡◌, ◌<◌, ◌^◌, ◌∷◌, [], IfOk, length, map};
+ghost use Rattle.std.specs.Prelude.{◌≡◌, ◌<◌, ◌^◌, ◌∷◌, [], IfOk, OnOk, length, map};
 ghost use Rattle.kr_mean.specs.Places.{This};
 ghost use Rattle.kr_mean.specs.Problem.{slots};
 ghost use Rattle.kr_mean.specs.Heaps.{heap_of, value_at};
@@ -84,4 +84,31 @@ pub fn world_of(
         fuel: layout.fuel(),
         reads,
     })
+}
+
+/// Begins a candidate's run, once `this` is read, in a world that has its candidates.
+pub fn begin(
+    alloc: Global,
+    layout: &Layout,
+    vector: &Vector,
+    world: &mut World,
+) -> Result<(), NoMemory>
+    requires vector { IsVector (space_of (bare layout.now)) vector.now }
+    requires small { length (slots (bare layout.now)) < 2 ^ 31 }
+    requires candidates { world.old.candidates ≡ heap_of (bare layout.now) vector.now }
+    ensures state { OnOk result (state_of world.new ≡ start (bare layout.now) vector.now) }
+    ensures reads { OnOk result (world.new.reads ≡ This ∷ []) }
+    ensures made { OnOk result (world.new.made ≡ []) }
+    ensures candidates { world.new.candidates ≡ world.old.candidates }
+    ensures frozen { world.new.is_frozen ≡ world.old.is_frozen }
+{
+    world.this = value_in(layout, vector, 0);
+    world.locals = parameters_of(alloc, layout, vector)?;
+    world.result = None;
+    world.olds.clear();
+    world.made.truncate(0);
+    world.fuel = layout.fuel();
+    world.reads.clear();
+    world.reads.note(SlotPlace::This)?;
+    Ok(())
 }

@@ -1,10 +1,10 @@
 -- Going on: steps, conditions, checkpoints.
 use Rattle.std.proofs.Common.{◌≡◌, ℕ, zero, suc, ◌+◌, ◌<◌, ◌≤◌, Bool, true, false, List, [], ◌∷◌, ◌++◌, length, drop, Result, Ok, Err, Some, None, refl, sym, ap, ◌∙◌, subst, arith}
-use Rattle.std.specs.Prelude.{map, Option, slice_get, slice_set}
+use Rattle.std.specs.Prelude.{map, take, Option, slice_get, slice_set}
 use Rattle.std.proofs.Common.{get_or}
 use Rattle.std.specs.List.{All, range_with_len}
 use Rattle.std.proofs.lemmas.List.{append-nil, get_or-set_other, get_or_append_left, get_or-append-add, length-append}
-use Rattle.std.proofs.lemmas.List.Elements.{All-append}
+use Rattle.std.proofs.lemmas.List.Elements.{All-append, All-take}
 use Rattle.kr_value.specs.declared.value.Value.{Value}
 use Rattle.kr_value.specs.declared.value.Value.TheVariants.{Bool as Truth}
 use Rattle.kr_value.specs.Heaps.{Heap}
@@ -18,6 +18,7 @@ use Rattle.kr_mean.specs.WellFormed.{IsWellFormed}
 use Rattle.kr_code.specs.declared.code.Code.{Code}
 use Rattle.kr_code.specs.Doing.{Doing, IsMeaning}
 use Rattle.kr_problem.specs.Bounds.{Bounds, bare}
+use Rattle.kr_world.specs.declared.action.Action.{Action}
 use Rattle.kr_world.specs.declared.world.World.{World}
 use Rattle.kr_world.specs.declared.world.End.{End}
 use Rattle.kr_world.specs.declared.world.End.TheVariants as ends
@@ -38,12 +39,13 @@ use Rattle.kr_run.specs.Answers.{Gives as GivesAs, EndsSo, StepsTo}
 use Rattle.kr_run.specs.declared.steps.Step.{Step}
 use Rattle.kr_run.specs.declared.steps.Step.TheVariants as steps
 use Rattle.kr_judge.specs.Judged.{hold_at, MeansAs, HoldsAs, IsEnded}
+use Rattle.kr_judge.specs.Runs.{IsJudged}
 use Rattle.kr_judge.specs.declared.predicate.Predicate.{Predicate}
-use Rattle.kr_runner.specs.Kept.{with_heap, behind, rest_of, GoesOn, Gave, Kept, told_of, task_of, woken}
-use Rattle.kr_runner.specs.Going.{Gives, IsCheckOf}
+use Rattle.kr_judge.specs.declared.run.Judgement.{Judgement}
+use Rattle.kr_runner.specs.Kept.{with_heap, behind, rest_of, GoesOn, Gave, Kept, told_of, woken}
+use Rattle.kr_runner.specs.Going.{Gives, IsCheckOf, IsKnown, Stays, Wakes}
 use Rattle.kr_runner.specs.declared.check.Check.{Check}
-use Rattle.kr_runner.specs.declared.check.Pause.{Pause}
-use Rattle.kr_runner.specs.declared.check.Pause.TheVariants as pauses
+use Rattle.kr_runner.specs.declared.checks.Start.{Start}
 use Rattle.kr_runner.proofs.Shapes.{stand_self, stand_told, stand_then, as_long}
 
 -- ---- outcomes that go on
@@ -99,6 +101,33 @@ from_world w h f frozen same a = subst (λ (c : Heap). StandFor true w.reads c f
 -- with its own candidates a world is as it is
 own_state : (w : World) (h : Heap) → w.candidates ≡ h → state_at w (Some h) ≡ state_of w
 own_state w h same = ap (λ (c : Heap). record (state_of w) { heap = c ++ w.made }) (sym same)
+
+-- ---- all of a list
+
+pub all_map : {X : Type 0} (P Q : X → Type 0) → ((x : X) → P x → Q x) → (xs : List X) → All P xs → All Q xs
+all_map P Q f xs a = λ k d lt. f (get_or xs k d) (a k d lt)
+
+pub all_front : {X : Type 0} (P : X → Type 0) (xs : List X) (x : X) (ys : List X) → ys ≡ xs ++ x ∷ [] → All P ys → All P xs
+all_front P xs x ys e a = λ k d lt.
+    let h = subst (All P) e a in
+    let in_both : k < length (xs ++ x ∷ []) = omega (arith, lt, length-append xs (x ∷ [])) in
+    subst P (get_or_append_left xs (x ∷ []) d k lt) (h k d in_both)
+
+pub all_last : {X : Type 0} (P : X → Type 0) (xs : List X) (x : X) (ys : List X) → ys ≡ xs ++ x ∷ [] → All P ys → P x
+all_last P xs x ys e a =
+    let h = subst (All P) e a in
+    let in_both : length xs + 0 < length (xs ++ x ∷ []) = omega (arith, length-append xs (x ∷ [])) in
+    subst P (get_or-append-add xs (x ∷ []) 0 x) (h (length xs + 0) x in_both)
+
+pub all_cut : {X : Type 0} (P : X → Type 0) (xs ys : List X) → (n : ℕ) × (ys ≡ take n xs) → All P xs → All P ys
+all_cut P xs ys e a = subst (All P) (sym e.1) (All-take P e.0 xs a)
+
+all_one : {X : Type 0} (P : X → Type 0) (x : X) → P x → All P (x ∷ [])
+all_one P x h zero d lt = h
+all_one P x h (suc k) d lt = absurd (omega (arith, lt))
+
+pub all_more : {X : Type 0} (P : X → Type 0) (xs ys : List X) (x : X) → ys ≡ xs ++ x ∷ [] → All P xs → P x → All P ys
+all_more P xs ys x e a h = subst (All P) (sym e) (All-append P xs (x ∷ []) a (all_one P x h))
 
 -- ---- steps
 
@@ -199,9 +228,8 @@ module _ (b : Bounds) (p : Predicate) (v : List ℕ) where
 
   -- ---- checkpoints
 
-  resumed_alike : (code : Code) (d : Doing) (fs gs : List Frame) (pause : Pause) (s : State) → GoOnAlike fs gs → resumed code d fs (task_of pause) s ≡ resumed code d gs (task_of pause) s
-  resumed_alike code d fs gs (pauses.Got x) s a = a.value code d _
-  resumed_alike code d fs gs (pauses.Act x) s a = a.value code d _
+  resumed_alike : (code : Code) (d : Doing) (fs gs : List Frame) (action : Action) (s : State) → GoOnAlike fs gs → resumed code d fs (tasks.Act action) s ≡ resumed code d gs (tasks.Act action) s
+  resumed_alike code d fs gs action s a = a.value code d _
 
   awake : (w q : World) (h f : Heap) → IsPaused w q → w.candidates ≡ h → length f ≡ length h → state_at w (Some f) ≡ state_of (woken q f)
   awake w q h f s same long =
@@ -217,7 +245,7 @@ module _ (b : Bounds) (p : Predicate) (v : List ℕ) where
       mk this locals result olds made fuel n = record { this_value = this; locals = locals; result = result; olds = olds; heap = f ++ made; candidates = n; fuel = fuel }
 
   -- where a run stands, a checkpoint is kept
-  pub keeps : (c : Check) (fs : List Frame) (w : World) → IsWellFormed (bare b) → IsVector (space_of (bare b)) v → GoesOn b p v c.condition fs (task_of c.pause) w → IsPaused w c.world → GoOnAlike fs c.stack → c.told.items ≡ told_of w.candidates w.reads → Kept b p v c
+  pub keeps : (c : Check) (fs : List Frame) (w : World) → IsWellFormed (bare b) → IsVector (space_of (bare b)) v → GoesOn b p v c.condition fs (tasks.Act c.action) w → IsPaused w c.world → GoOnAlike fs c.stack → c.told.items ≡ told_of w.candidates w.reads → Kept b p v c
   keeps c fs w well i g s alike told = record {
     made_on = v;
     vector = i;
@@ -226,39 +254,44 @@ module _ (b : Bounds) (p : Predicate) (v : List ℕ) where
         let f = heap_of (bare b) u in
         let a' = subst (λ (ps : List SlotPlace). StandFor true ps (heap_of (bare b) v) f) s.reads a in
         g.is u j a' d m
-        ∙ (ap (λ (o : Outcome Value). noting w.reads (continued o (λ x. where_true x (hold_at d (behind p c.condition))))) (resumed_alike p.code d fs c.stack c.pause (state_at w (Some f)) alike)
-        ∙ (ap (λ (t : State). noting w.reads (rest_of p.code d (behind p c.condition) c.stack (task_of c.pause) t)) (awake w c.world (heap_of (bare b) v) f s g.same a'.long)
-        ∙ ap (λ (ps : List SlotPlace). noting ps (rest_of p.code d (behind p c.condition) c.stack (task_of c.pause) (state_of (woken c.world f)))) (sym s.reads)));
+        ∙ (ap (λ (o : Outcome Value). noting w.reads (continued o (λ x. where_true x (hold_at d (behind p c.condition))))) (resumed_alike p.code d fs c.stack c.action (state_at w (Some f)) alike)
+        ∙ (ap (λ (t : State). noting w.reads (rest_of p.code d (behind p c.condition) c.stack (tasks.Act c.action) t)) (awake w c.world (heap_of (bare b) v) f s g.same a'.long)
+        ∙ ap (λ (ps : List SlotPlace). noting ps (rest_of p.code d (behind p c.condition) c.stack (tasks.Act c.action) (state_of (woken c.world f)))) (sym s.reads)));
   }
 
+  paused_back : (w q : World) → IsPaused w q → IsPaused q w
+  paused_back w q s = record { this = sym s.this; locals = sym s.locals; result = sym s.result; olds = sym s.olds; made = sym s.made; fuel = sym s.fuel; reads = sym s.reads }
+
   -- where candidates have what a checkpoint tells, their run goes on from it
-  pub wakes : (c : Check) → IsWellFormed (bare b) → IsVector (space_of (bare b)) v → Kept b p v c → c.told.items ≡ told_of (heap_of (bare b) v) c.world.reads → GoesOn b p v c.condition c.stack (task_of c.pause) (woken c.world (heap_of (bare b) v))
-  wakes c well i k told =
-      let same = sym k.told ∙ told in
-      record {
-        frozen = refl;
-        same = refl;
-        is = λ u j a d m.
-            let f = heap_of (bare b) u in
-            k.is u j (stand_then (bare b) well c.world.reads k.made_on v u same a) d m
-            ∙ ap (λ (n : ℕ). noting c.world.reads (rest_of p.code d (behind p c.condition) c.stack (task_of c.pause) (record (state_of (woken c.world f)) { candidates = n }))) (as_long (bare b) well u v);
-      }
+  wakes : (c : Check) (fs : List Frame) (w : World) → IsWellFormed (bare b) → Kept b p v c → w.candidates ≡ heap_of (bare b) v → w.is_frozen ≡ true → c.told.items ≡ told_of w.candidates c.world.reads → GoOnAlike c.stack fs → IsPaused c.world w → GoesOn b p v c.condition fs (tasks.Act c.action) w
+  wakes c fs w well k same frozen told alike s = record {
+    frozen = frozen;
+    same = same;
+    is = λ u j a d m.
+        let f = heap_of (bare b) u in
+        let a' = subst (λ (ps : List SlotPlace). StandFor true ps (heap_of (bare b) v) f) s.reads a in
+        let alike' = sym k.told ∙ (told ∙ ap (λ (h : Heap). told_of h c.world.reads) same) in
+        k.is u j (stand_then (bare b) well c.world.reads k.made_on v u alike' a') d m
+        ∙ (ap (λ (o : Outcome Value). noting c.world.reads (continued o (λ x. where_true x (hold_at d (behind p c.condition))))) (resumed_alike p.code d c.stack fs c.action (state_of (woken c.world f)) alike)
+        ∙ (ap (λ (t : State). noting c.world.reads (rest_of p.code d (behind p c.condition) fs (tasks.Act c.action) t)) (sym (awake w c.world (heap_of (bare b) v) f (paused_back c.world w s) same a'.long))
+        ∙ ap (λ (ps : List SlotPlace). noting ps (rest_of p.code d (behind p c.condition) fs (tasks.Act c.action) (state_at w (Some f)))) (sym s.reads)));
+  }
+
+  -- a run goes on from the last checkpoint
+  pub goes_on_from : (checks : List Check) (start : Start) (fs : List Frame) (w : World) → IsWellFormed (bare b) → w.candidates ≡ heap_of (bare b) v → w.is_frozen ≡ true → All (Kept b p v) checks → Wakes checks start fs w → GoesOn b p v start.condition fs start.task w
+  goes_on_from checks start fs w well same frozen kept r =
+      subst (λ (n : ℕ). GoesOn b p v n fs start.task w) (sym r.condition_is)
+      (subst (λ (t : Task). GoesOn b p v r.check.condition fs t w) (sym r.task_is)
+      (wakes r.check fs w well (all_last (Kept b p v) r.last.0 r.check checks r.last.1 kept) same frozen r.told r.stack r.world))
 
   -- a check of where a run stands is kept
-  pub check_kept : (c : Check) (condition : ℕ) (pause : Pause) (fs : List Frame) (task : Task) (w : World) → IsWellFormed (bare b) → IsVector (space_of (bare b)) v → GoesOn b p v condition fs task w → task ≡ task_of pause → IsCheckOf condition pause fs w c → Kept b p v c
-  check_kept c condition pause fs task w well i g e k =
+  pub check_kept : (c : Check) (condition : ℕ) (action : Action) (fs : List Frame) (task : Task) (w : World) → IsWellFormed (bare b) → IsVector (space_of (bare b)) v → GoesOn b p v condition fs task w → task ≡ tasks.Act action → IsCheckOf condition action fs w c → Kept b p v c
+  check_kept c condition action fs task w well i g e k =
       keeps c fs w well i
-      (subst (λ (n : ℕ). GoesOn b p v n fs (task_of c.pause) w) (sym k.condition_is)
-      (subst (λ (q : Pause). GoesOn b p v condition fs (task_of q) w) (sym k.pause_is)
+      (subst (λ (n : ℕ). GoesOn b p v n fs (tasks.Act c.action) w) (sym k.condition_is)
+      (subst (λ (q : Action). GoesOn b p v condition fs (tasks.Act q) w) (sym k.action_is)
       (subst (λ (t : Task). GoesOn b p v condition fs t w) e g)))
       k.world k.stack k.told
-
-  -- the same, by other words
-  pub wakes_with : (c : Check) (heap : Heap) (task : Task) → IsWellFormed (bare b) → IsVector (space_of (bare b)) v → heap ≡ heap_of (bare b) v → task ≡ task_of c.pause → Kept b p v c → c.told.items ≡ told_of heap c.world.reads → GoesOn b p v c.condition c.stack task (woken c.world heap)
-  wakes_with c heap task well i same e k told =
-      subst (λ (t : Task). GoesOn b p v c.condition c.stack t (woken c.world heap)) (sym e)
-      (subst (λ (h : Heap). GoesOn b p v c.condition c.stack (task_of c.pause) (woken c.world h)) (sym same)
-      (wakes c well i k (told ∙ ap (λ (h : Heap). told_of h c.world.reads) same)))
 
   -- a run begins
   pub begins : (fs : List Frame) (node : ℕ) (w : World) → fs ≡ [] → slice_get p.conditions.items 0 ≡ Some node → state_of w ≡ start (bare b) v → w.reads ≡ This ∷ [] → w.candidates ≡ heap_of (bare b) v → w.made ≡ [] → w.is_frozen ≡ true → GoesOn b p v 0 fs (tasks.Evaluate node) w
@@ -307,30 +340,6 @@ kept_set b p v s i c lt k = record {
   is = λ u j a d m. ap (λ (t : State). noting (This ∷ []) (hold_at d p.conditions.items t)) (begun_set (bare b) v s i (heap_of (bare b) u) lt) ∙ k.is u j a d m;
 }
 
--- ---- all of a list
-
-pub all_map : {X : Type 0} (P Q : X → Type 0) → ((x : X) → P x → Q x) → (xs : List X) → All P xs → All Q xs
-all_map P Q f xs a = λ k d lt. f (get_or xs k d) (a k d lt)
-
-pub all_front : {X : Type 0} (P : X → Type 0) (xs : List X) (x : X) (ys : List X) → ys ≡ xs ++ x ∷ [] → All P ys → All P xs
-all_front P xs x ys e a = λ k d lt.
-    let h = subst (All P) e a in
-    let in_both : k < length (xs ++ x ∷ []) = omega (arith, lt, length-append xs (x ∷ [])) in
-    subst P (get_or_append_left xs (x ∷ []) d k lt) (h k d in_both)
-
-pub all_last : {X : Type 0} (P : X → Type 0) (xs : List X) (x : X) (ys : List X) → ys ≡ xs ++ x ∷ [] → All P ys → P x
-all_last P xs x ys e a =
-    let h = subst (All P) e a in
-    let in_both : length xs + 0 < length (xs ++ x ∷ []) = omega (arith, length-append xs (x ∷ [])) in
-    subst P (get_or-append-add xs (x ∷ []) 0 x) (h (length xs + 0) x in_both)
-
-all_one : {X : Type 0} (P : X → Type 0) (x : X) → P x → All P (x ∷ [])
-all_one P x h zero d lt = h
-all_one P x h (suc k) d lt = absurd (omega (arith, lt))
-
-pub all_more : {X : Type 0} (P : X → Type 0) (xs ys : List X) (x : X) → ys ≡ xs ++ x ∷ [] → All P xs → P x → All P ys
-all_more P xs ys x e a h = subst (All P) (sym e) (All-append P xs (x ∷ []) a (all_one P x h))
-
 -- ---- what the code answers
 
 module _ (b : Bounds) (p : Predicate) (v : List ℕ) (i : IsVector (space_of (bare b)) v) where
@@ -348,6 +357,26 @@ module _ (b : Bounds) (p : Predicate) (v : List ℕ) (i : IsVector (space_of (ba
 
   pub more_on : (condition : ℕ) (fs fs' : List Frame) (task : Task) (stepped : Step) (more : Task) (w w' : World) → stepped ≡ steps.More more → GoesOn b p v condition fs task w → StepsTo p.code (Ok stepped) fs' w' w (λ d x. resumed p.code d fs task (state_at w x)) → GoesOn b p v condition fs' more w'
   more_on condition fs fs' task stepped more w w' e g l = goes_on b p v condition fs fs' task more w w' g (subst (λ (s : Step). StepsTo p.code (Ok s) fs' w' w (λ d x. resumed p.code d fs task (state_at w x))) e l)
+
+  -- candidates stay
+  pub stays_on : (condition : ℕ) (fs fs' : List Frame) (task : Task) (halt : Halt) (w w' : World) → GoesOn b p v condition fs task w → StepsTo p.code (Err halt) fs' w' w (λ d x. resumed p.code d fs task (state_at w x)) → Stays {A = Value} b v (Err halt) w'
+  stays_on condition fs fs' task (Ended e) w w' g l = (l None tt).0.same g.frozen ∙ g.same
+  stays_on condition fs fs' task Memory w w' g l = tt
+  stays_on condition fs fs' task Written w w' g l = tt
+
+  pub stays_halted : (halt : Halt) (w : World) → Stays {A = Value} b v (Err halt) w → Stays {A = Bool} b v (Err halt) w
+  stays_halted (Ended e) w s = s
+  stays_halted Memory w s = tt
+  stays_halted Written w s = tt
+
+  pub stays_known : (answer : Result Bool Halt) (j : Judgement) (u : List ℕ) (w : World) → IsJudged answer (Ok j) → Stays b v answer w → u ≡ v → IsKnown b (Some u) w.candidates
+  stays_known answer j u w q s e = (subst (λ (x : List ℕ). IsVector (space_of (bare b)) x) (sym e) i, same answer q s ∙ ap (heap_of (bare b)) (sym e))
+    where
+      same : (a : Result Bool Halt) → IsJudged a (Ok j) → Stays b v a w → w.candidates ≡ heap_of (bare b) v
+      same (Ok t) q s = s
+      same (Err (Ended e)) q s = s
+      same (Err Memory) q s = absurd q
+      same (Err Written) q s = absurd q
 
   -- a condition that doesn't give a value
   pub halted_so : (condition : ℕ) (halt : Halt) (w : World) → Gives b p v condition (Err halt) w → HoldsAs p.code (Err halt) w (This ∷ []) (λ d. hold_at d p.conditions.items (start (bare b) v))

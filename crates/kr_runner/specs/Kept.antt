@@ -21,8 +21,6 @@ use Rattle.kr_frames.specs.Frames.{continued, resumed}
 use Rattle.kr_judge.specs.Judged.{hold_at}
 use Rattle.kr_judge.specs.declared.predicate.Predicate.{Predicate}
 use Rattle.kr_runner.specs.declared.check.Check.{Check}
-use Rattle.kr_runner.specs.declared.check.Pause.{Pause}
-use Rattle.kr_runner.specs.declared.check.Pause.TheVariants as pauses
 
 -- ---- what a run has left to do
 
@@ -63,10 +61,6 @@ value_told heap (Parameter i) = None
 abbrev pub told_of : Heap → List SlotPlace → List (Option Value)
 told_of heap places = map (value_told heap) places
 
-abbrev pub task_of : Pause → Task
-task_of (pauses.Got v) = tasks.Got v
-task_of (pauses.Act a) = tasks.Act a
-
 -- a world that pauses, with candidates
 abbrev pub woken : World → Heap → World
 woken w heap = record w { candidates = heap; is_frozen = true }
@@ -78,4 +72,4 @@ pub record Kept (b : Bounds) (p : Predicate) (v : List ℕ) (c : Check) : Type 0
   pub vector : IsVector (space_of (bare b)) made_on
   pub told : c.told.items ≡ told_of (heap_of (bare b) made_on) c.world.reads
   pub is : (u : List ℕ) → IsVector (space_of (bare b)) u → StandFor true c.world.reads (heap_of (bare b) made_on) (heap_of (bare b) u) → (d : Doing) → IsMeaning p.code d
-      → noting (This ∷ []) (hold_at d p.conditions.items (with_heap (start (bare b) v) (heap_of (bare b) u))) ≡ noting c.world.reads (rest_of p.code d (behind p c.condition) c.stack (task_of c.pause) (state_of (woken c.world (heap_of (bare b) u))))
+      → noting (This ∷ []) (hold_at d p.conditions.items (with_heap (start (bare b) v) (heap_of (bare b) u))) ≡ noting c.world.reads (rest_of p.code d (behind p c.condition) c.stack (tasks.Act c.action) (state_of (woken c.world (heap_of (bare b) u))))

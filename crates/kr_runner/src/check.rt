@@ -1,40 +1,25 @@
 // Where a run stood, and what it had read until then.
-ghost use Rattle.std.specs.Prelude.{◌≡◌, map, IfOk, IfSome, true};
+ghost use Rattle.std.specs.Prelude.{◌≡◌, ◌++◌, map, OnOk, true};
 ghost use Rattle.kr_world.specs.Shown.{place_of};
-ghost use Rattle.kr_runner.specs.Kept.{value_told, told_of, task_of};
+ghost use Rattle.kr_runner.specs.Kept.{value_told, told_of};
+ghost use Rattle.kr_runner.specs.Going.{IsCheckOf};
 
 use kr_base::NoMemory;
-use kr_frames::{Stack, Task};
+use kr_frames::Stack;
 use kr_heap::Heap;
 use kr_value::Value;
 use kr_world::{Action, Reads, SlotPlace, World};
 use std::alloc::Global;
 
-/// What comes next where a run pauses.
-#[derive(Clone, Copy, Debug)]
-pub enum Pause {
-    Got(Value),
-    Act(Action),
-}
-
-/// Where a run stood: at which condition, what came next, the frames that waited, the world but for its candidates, and
-/// what the candidates had where they were read.
+/// Where a run stood: at which condition, what it was about to do, the frames that waited, the world but for its candidates,
+/// and what the candidates had where they were read.
 #[derive(Drop)]
 pub struct Check {
     pub condition: usize,
-    pub pause: Pause,
+    pub action: Action,
     pub stack: Stack,
     pub world: World,
     pub told: Vec<Option<Value>>,
-}
-
-pub(crate) fn task_of(pause: Pause) -> Task
-    ensures { result ≡ task_of pause }
-{
-    match pause {
-        Pause::Got(value) => Task::Got(value),
-        Pause::Act(action) => Task::Act(action),
-    }
 }
 
 /// What candidates have at a place.
@@ -48,26 +33,14 @@ fn value_told(heap: &Heap, place: SlotPlace) -> Option<Value>
     }
 }
 
-/// What candidates have at places.
-fn told_at(alloc: Global, heap: &Heap, places: &[SlotPlace]) -> Result<Vec<Option<Value>>, NoMemory>
-    ensures { IfOk result (λ told. told.items ≡ told_of heap.now (map place_of places.now)) }
+/// What candidates have at places comes behind what is told.
+fn tell(told: &mut Vec<Option<Value>>, heap: &Heap, places: &[SlotPlace]) -> Result<(), NoMemory>
+    ensures { OnOk result (told.new.items ≡ told.old.items ++ told_of heap.now (map place_of places.now)) }
 {
-    let mut told = Vec::new(alloc);
     for place in places {
         told.push(value_told(heap, *place))?;
     }
-    Ok(told)
-}
-
-/// What candidates have where they were read.
-pub(crate) fn told_by(
-    alloc: Global,
-    heap: &Heap,
-    reads: &Reads,
-) -> Result<Vec<Option<Value>>, NoMemory>
-    ensures { IfOk result (λ told. told.items ≡ told_of heap.now reads.now) }
-{
-    told_at(alloc, heap, reads.as_slice())
+    Ok(())
 }
 
 fn is_same(a: Option<Value>, b: Option<Value>) -> bool
@@ -99,10 +72,56 @@ fn are_told(heap: &Heap, places: &[SlotPlace], told: &[Option<Value>]) -> bool
 }
 
 impl Check {
+    /// A checkpoint that is to be filled. It takes no memory.
+    pub(crate) fn blank(alloc: Global) -> Check {
+        Check {
+            condition: 0,
+            action: Action::This,
+            stack: Stack::new(alloc),
+            world: blank_world(alloc),
+            told: Vec::new(alloc),
+        }
+    }
+
+    /// Becomes a checkpoint of where a run stands, in the room that is there.
+    pub(crate) fn fill(
+        &mut self,
+        alloc: Global,
+        condition: usize,
+        action: Action,
+        stack: &Stack,
+        world: &World,
+    ) -> Result<(), NoMemory>
+        ensures { OnOk result (IsCheckOf condition action stack.now world.now self.new) }
+    {
+        self.condition = condition;
+        self.action = action;
+        self.stack.copy_from(alloc, stack)?;
+        self.world.copy_from(alloc, world)?;
+        self.told.clear();
+        tell(&mut self.told, &world.candidates, world.reads.as_slice())?;
+        Ok(())
+    }
+
     /// Whether candidates have what was told.
     pub(crate) fn holds(&self, heap: &Heap) -> bool
         ensures { result ≡ true → self.now.told.items ≡ told_of heap.now self.now.world.reads }
     {
         are_told(heap, self.world.reads.as_slice(), self.told.as_slice())
+    }
+}
+
+/// A world without anything. It takes no memory.
+pub(crate) fn blank_world(alloc: Global) -> World {
+    World {
+        this: Value::Null,
+        locals: Vec::new(alloc),
+        result: None,
+        olds: Vec::new(alloc),
+        candidates: Heap::new(alloc),
+        made: Heap::new(alloc),
+        is_frozen: true,
+        fuel: 0,
+        reads: Reads::new(alloc),
     }
 }

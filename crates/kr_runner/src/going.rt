@@ -1,5 +1,5 @@
 // A run that goes on from where it stands, with a checkpoint before each first read.
-ghost use Rattle.std.specs.Prelude.{◌≡◌, ◌<◌, ◌^◌, ◌∷◌, [], IfErr, IfOk, IfSome, Some, length, slice_get, true};
+ghost use Rattle.std.specs.Prelude.{◌≡◌, ◌<◌, ◌^◌, ◌∷◌, [], IfOk, IfSome, Some, length, slice_get, true};
 ghost use Rattle.std.specs.List.{All};
 ghost use Rattle.kr_code.specs.Resolved.{Numbering};
 ghost use Rattle.kr_mean.specs.Heaps.{heap_of};
@@ -12,18 +12,16 @@ ghost use Rattle.kr_mean.specs.WellFormed.{IsWellFormed};
 ghost use Rattle.kr_problem.specs.Bounds.{bare, problem_with};
 ghost use Rattle.kr_judge.specs.Judged.{HoldsAs, hold_at};
 ghost use Rattle.kr_judge.specs.Predicates.{IsPredicateOf};
-ghost use Rattle.kr_judge.specs.Runs.{IsRunOf};
-ghost use Rattle.kr_world.specs.declared.world.Halt.TheVariants.{Memory};
-ghost use Rattle.kr_runner.specs.Kept.{GoesOn, Kept, told_of};
-ghost use Rattle.kr_runner.specs.Going.{Gives, IsCheckOf, Stands};
+ghost use Rattle.kr_runner.specs.Going.{IsRunTo};
+ghost use Rattle.kr_runner.specs.Kept.{GoesOn, Kept};
+ghost use Rattle.kr_runner.specs.Going.{Gives, IsKnown, Stays};
 
-use crate::check::{Check, Pause, task_of, told_by};
+use crate::checks::{Checks, Start};
+use crate::fresh::refresh;
 use crate::pauses::pause_of;
 use kr_base::NoMemory;
-use kr_build::build;
 use kr_frames::{Stack, Task};
-use kr_heap::Heap;
-use kr_judge::{Predicate, Ran, judged, world_of};
+use kr_judge::{Judgement, Predicate, begin, judged};
 use kr_problem::Layout;
 use kr_run::{Step, step};
 use kr_value::Value;
@@ -31,62 +29,29 @@ use kr_vector::Vector;
 use kr_world::{End, Halt, World};
 use std::alloc::Global;
 
-/// Where a run stands.
-#[derive(Drop)]
-pub struct Stand {
-    pub condition: usize,
-    pub task: Task,
-    pub stack: Stack,
-    pub world: World,
-}
-
-fn check_of(
-    alloc: Global,
-    condition: usize,
-    pause: Pause,
-    stack: &Stack,
-    world: &World,
-) -> Result<Check, NoMemory>
-    ensures { IfOk result (λ check. IsCheckOf condition pause stack.now world.now check) }
-{
-    let told = told_by(alloc, &world.candidates, &world.reads)?;
-    Ok(Check {
-        condition,
-        pause,
-        stack: stack.copy(alloc)?,
-        world: world.pause(alloc)?,
-        told,
-    })
-}
-
 /// Keeps where a run stands, if the next step reads a place for the first time.
+#[inline(always)]
 fn consider(
     alloc: Global,
     layout: &Layout,
     vector: &Vector,
     predicate: &Predicate,
     world: &World,
-    checks: &mut Vec<Check>,
+    checks: &mut Checks,
     condition: usize,
     task: &Task,
     stack: &Stack,
-) -> Result<(), Halt>
+) -> Result<(), NoMemory>
     requires well { IsWellFormed (bare layout.now) }
     requires vector { IsVector (space_of (bare layout.now)) vector.now }
     requires goes_on { GoesOn layout.now predicate.now vector.now condition stack.now task.now world.now }
-    requires kept { All (Kept layout.now predicate.now vector.now) checks.old.items }
-    ensures kept { All (Kept layout.now predicate.now vector.now) checks.new.items }
-    ensures memory { IfErr result (λ halt. halt ≡ Memory) }
+    requires kept { All (Kept layout.now predicate.now vector.now) checks.old }
+    ensures kept { All (Kept layout.now predicate.now vector.now) checks.new }
 {
-    let Some(pause) = pause_of(&predicate.code, world, stack, task) else {
+    let Some(action) = pause_of(&predicate.code, world, stack, task) else {
         return Ok(());
     };
-    let Ok(check) = check_of(alloc, condition, pause, stack, world) else {
-        return Err(Halt::Memory);
-    };
-    if checks.push(check).is_err() {
-        return Err(Halt::Memory);
-    }
+    checks.keep(alloc, condition, action, stack, world)?;
     Ok(())
 }
 
@@ -97,33 +62,33 @@ fn give(
     vector: &Vector,
     predicate: &Predicate,
     world: &mut World,
-    checks: &mut Vec<Check>,
+    checks: &mut Checks,
     condition: usize,
     task: Task,
-    stack: Stack,
+    stack: &mut Stack,
 ) -> Result<Value, Halt>
     requires well { IsWellFormed (bare layout.now) }
     requires vector { IsVector (space_of (bare layout.now)) vector.now }
-    requires goes_on { GoesOn layout.now predicate.now vector.now condition stack task world.old }
-    requires kept { All (Kept layout.now predicate.now vector.now) checks.old.items }
+    requires goes_on { GoesOn layout.now predicate.now vector.now condition stack.old task world.old }
+    requires kept { All (Kept layout.now predicate.now vector.now) checks.old }
     ensures gives { Gives layout.now predicate.now vector.now condition result world.new }
-    ensures kept { All (Kept layout.now predicate.now vector.now) checks.new.items }
+    ensures stays { Stays layout.now vector.now result world.new }
+    ensures kept { All (Kept layout.now predicate.now vector.now) checks.new }
 {
-    let mut frames = stack;
     let mut next = task;
     'steps: for _ in 0..u64::MAX {
-        match consider(
-            alloc, layout, vector, predicate, world, checks, condition, &next, &frames,
-        ) {
-            Ok(()) => {}
-            Err(_) => return Err(Halt::Memory),
-        }
-        match step(alloc, &predicate.code, world, &mut frames, next) {
+        match step(alloc, &predicate.code, world, stack, next) {
             Err(halt) => return Err(halt),
             Ok(stepped) => match stepped {
                 Step::Finished(given) => return Ok(given),
                 Step::More(more) => next = more,
             },
+        }
+        match consider(
+            alloc, layout, vector, predicate, world, checks, condition, &next, stack,
+        ) {
+            Ok(()) => {}
+            Err(_) => return Err(Halt::Memory),
         }
     }
     Err(Halt::Memory)
@@ -143,24 +108,24 @@ fn go_on(
     vector: &Vector,
     predicate: &Predicate,
     world: &mut World,
-    checks: &mut Vec<Check>,
+    checks: &mut Checks,
     condition: usize,
     task: Task,
-    stack: Stack,
+    stack: &mut Stack,
 ) -> Result<bool, Halt>
     requires well { IsWellFormed (bare layout.now) }
     requires vector { IsVector (space_of (bare layout.now)) vector.now }
-    requires goes_on { GoesOn layout.now predicate.now vector.now condition stack task world.old }
-    requires kept { All (Kept layout.now predicate.now vector.now) checks.old.items }
+    requires goes_on { GoesOn layout.now predicate.now vector.now condition stack.old task world.old }
+    requires kept { All (Kept layout.now predicate.now vector.now) checks.old }
     ensures means { HoldsAs predicate.now.code result world.new (This ∷ []) (λ d. hold_at d predicate.now.conditions.items (start (bare layout.now) vector.now)) }
-    ensures kept { All (Kept layout.now predicate.now vector.now) checks.new.items }
+    ensures stays { Stays layout.now vector.now result world.new }
+    ensures kept { All (Kept layout.now predicate.now vector.now) checks.new }
 {
     let mut at = condition;
     let mut next = task;
-    let mut frames = stack;
     'conditions: for _ in 0..u64::MAX {
         match give(
-            alloc, layout, vector, predicate, world, checks, at, next, frames,
+            alloc, layout, vector, predicate, world, checks, at, next, stack,
         ) {
             Err(halt) => return Err(halt),
             Ok(given) => match given {
@@ -176,7 +141,7 @@ fn go_on(
                         Some(node) => {
                             at = following;
                             next = Task::Evaluate(node);
-                            frames = Stack::new(alloc);
+                            stack.clear();
                         }
                     }
                 }
@@ -189,155 +154,83 @@ fn go_on(
     Err(Halt::Memory)
 }
 
-/// The last checkpoint that candidates hold to; those behind it go.
-fn last_holding(
+/// Where a candidate's run goes on, or begins.
+fn stand(
+    alloc: Global,
     layout: &Layout,
-    predicate: &Predicate,
     vector: &Vector,
-    heap: &Heap,
-    checks: &mut Vec<Check>,
-) -> Option<Check>
-    requires { All (Kept layout.now predicate.now vector.now) checks.old.items }
-    ensures kept { All (Kept layout.now predicate.now vector.now) checks.new.items }
-    ensures holds { IfSome result (λ check. Kept layout.now predicate.now vector.now check × (check.told.items ≡ told_of heap.now check.world.reads)) }
+    predicate: &Predicate,
+    checks: &mut Checks,
+    world: &mut World,
+    stack: &mut Stack,
+    node: u32,
+) -> Result<Start, NoMemory>
+    requires well { IsWellFormed (bare layout.now) }
+    requires vector { IsVector (space_of (bare layout.now)) vector.now }
+    requires small { length (slots (bare layout.now)) < 2 ^ 31 }
+    requires candidates { world.old.candidates ≡ heap_of (bare layout.now) vector.now }
+    requires frozen { world.old.is_frozen ≡ true }
+    requires first { slice_get predicate.now.conditions.items 0 ≡ Some node }
+    requires kept { All (Kept layout.now predicate.now vector.now) checks.old }
+    ensures goes_on { IfOk result (λ start. GoesOn layout.now predicate.now vector.now start.condition stack.new start.task world.new) }
+    ensures kept { All (Kept layout.now predicate.now vector.now) checks.new }
 {
-    'checks: for _ in 0..u64::MAX {
-        match checks.pop() {
-            None => return None,
-            Some(check) => {
-                if check.holds(heap) {
-                    return Some(check);
-                }
-            }
+    match checks.wake(alloc, world, stack)? {
+        Some(start) => Ok(start),
+        None => {
+            begin(alloc, layout, vector, world)?;
+            stack.clear();
+            Ok(Start {
+                condition: 0,
+                task: Task::Evaluate(node),
+            })
         }
     }
-    None
 }
 
-/// Where a run begins.
-fn beginning(
-    alloc: Global,
-    layout: &Layout,
-    vector: &Vector,
-    predicate: &Predicate,
-    node: u32,
-) -> Result<Stand, NoMemory>
-    requires well { IsWellFormed (bare layout.now) }
-    requires vector { IsVector (space_of (bare layout.now)) vector.now }
-    requires small { length (slots (bare layout.now)) < 2 ^ 31 }
-    requires first { slice_get predicate.now.conditions.items 0 ≡ Some node }
-    ensures { IfOk result (λ stand. Stands layout.now predicate.now vector.now stand) }
-{
-    let world = world_of(alloc, layout, vector, true)?;
-    Ok(Stand {
-        condition: 0,
-        task: Task::Evaluate(node),
-        stack: Stack::new(alloc),
-        world,
-    })
-}
-
-/// A checkpoint with candidates.
-fn woken(layout: &Layout, predicate: &Predicate, vector: &Vector, heap: Heap, check: Check) -> Stand
-    requires well { IsWellFormed (bare layout.now) }
-    requires vector { IsVector (space_of (bare layout.now)) vector.now }
-    requires heap { heap ≡ heap_of (bare layout.now) vector.now }
-    requires kept { Kept layout.now predicate.now vector.now check }
-    requires holds { check.told.items ≡ told_of heap check.world.reads }
-    ensures { Stands layout.now predicate.now vector.now result }
-{
-    let mut world = check.world;
-    world.candidates = heap;
-    world.is_frozen = true;
-    Stand {
-        condition: check.condition,
-        task: task_of(check.pause),
-        stack: check.stack,
-        world,
-    }
-}
-
-/// Where a candidate's run goes on, or begins.
-fn standing(
-    alloc: Global,
-    layout: &Layout,
-    vector: &Vector,
-    predicate: &Predicate,
-    checks: &mut Vec<Check>,
-    node: u32,
-) -> Result<Stand, NoMemory>
-    requires well { IsWellFormed (bare layout.now) }
-    requires vector { IsVector (space_of (bare layout.now)) vector.now }
-    requires small { length (slots (bare layout.now)) < 2 ^ 31 }
-    requires first { slice_get predicate.now.conditions.items 0 ≡ Some node }
-    requires kept { All (Kept layout.now predicate.now vector.now) checks.old.items }
-    ensures stands { IfOk result (λ stand. Stands layout.now predicate.now vector.now stand) }
-    ensures kept { All (Kept layout.now predicate.now vector.now) checks.new.items }
-{
-    let heap = build(alloc, layout, vector)?;
-    match last_holding(layout, predicate, vector, &heap, checks) {
-        None => beginning(alloc, layout, vector, predicate, node),
-        Some(check) => Ok(woken(layout, predicate, vector, heap, check)),
-    }
-}
-
-/// The run from where it stands; none where it would have written a candidate.
-fn ran(
-    alloc: Global,
-    layout: &Layout,
-    predicate: &Predicate,
-    vector: &Vector,
-    checks: &mut Vec<Check>,
-    stand: Stand,
-) -> Result<Option<Ran>, NoMemory>
-    requires well { IsWellFormed (bare layout.now) }
-    requires vector { IsVector (space_of (bare layout.now)) vector.now }
-    requires stands { Stands layout.now predicate.now vector.now stand }
-    requires kept { All (Kept layout.now predicate.now vector.now) checks.old.items }
-    ensures runs { IfOk result (λ found. IfSome found (λ run. (program : Program) (n : Numbering) → IsPredicateOf (problem_with program layout.now) predicate.now n → IsRunOf (problem_with program layout.now) vector.now run)) }
-    ensures kept { All (Kept layout.now predicate.now vector.now) checks.new.items }
-{
-    let mut world = stand.world;
-    let answer = go_on(
-        alloc,
-        layout,
-        vector,
-        predicate,
-        &mut world,
-        checks,
-        stand.condition,
-        stand.task,
-        stand.stack,
-    );
-    if matches!(&answer, Err(Halt::Written)) {
-        return Ok(None);
-    }
-    let end = judged(answer)?;
-    Ok(Some(Ran {
-        end,
-        reads: world.reads,
-    }))
-}
-
-/// The run of a candidate, with checkpoints of earlier runs; none where it has no conditions, or would have written a
-/// candidate.
+/// The run of a candidate, with checkpoints of earlier runs, in a world and on a stack whose room is used: how it ends, and
+/// the places that the world then has read; none where the candidate has no conditions, or would have been written. The known vector
+/// is whose heap the world has.
 pub(crate) fn run(
     alloc: Global,
     layout: &Layout,
     predicate: &Predicate,
     vector: &Vector,
-    checks: &mut Vec<Check>,
-) -> Result<Option<Ran>, NoMemory>
+    known: &mut Option<Vector>,
+    checks: &mut Checks,
+    world: &mut World,
+    stack: &mut Stack,
+) -> Result<Option<Judgement>, NoMemory>
     requires well { IsWellFormed (bare layout.now) }
     requires vector { IsVector (space_of (bare layout.now)) vector.now }
     requires small { length (slots (bare layout.now)) < 2 ^ 31 }
-    requires kept { All (Kept layout.now predicate.now vector.now) checks.old.items }
-    ensures runs { IfOk result (λ found. IfSome found (λ run. (program : Program) (n : Numbering) → IsPredicateOf (problem_with program layout.now) predicate.now n → IsRunOf (problem_with program layout.now) vector.now run)) }
-    ensures kept { All (Kept layout.now predicate.now vector.now) checks.new.items }
+    requires known { IsKnown layout.now known.old world.old.candidates }
+    requires kept { All (Kept layout.now predicate.now vector.now) checks.old }
+    ensures runs { IfOk result (λ found. IfSome found (λ end. (program : Program) (n : Numbering) → IsPredicateOf (problem_with program layout.now) predicate.now n → IsRunTo (problem_with program layout.now) vector.now end world.new.reads)) }
+    ensures known { IsKnown layout.now known.new world.new.candidates }
+    ensures kept { All (Kept layout.now predicate.now vector.now) checks.new }
 {
     let Some(node) = condition_at(predicate, 0) else {
         return Ok(None);
     };
-    let stand = standing(alloc, layout, vector, predicate, checks, node)?;
-    ran(alloc, layout, predicate, vector, checks, stand)
+    let built = refresh(alloc, layout, vector, known.take(), &mut world.candidates)?;
+    world.is_frozen = true;
+    let start = stand(alloc, layout, vector, predicate, checks, world, stack, node)?;
+    let answer = go_on(
+        alloc,
+        layout,
+        vector,
+        predicate,
+        world,
+        checks,
+        start.condition,
+        start.task,
+        stack,
+    );
+    if matches!(&answer, Err(Halt::Written)) {
+        return Ok(None);
+    }
+    let end = judged(answer)?;
+    *known = Some(built);
+    Ok(Some(end))
 }

@@ -3,6 +3,8 @@
 #![tactic(auto)]
 
 mod check;
+mod checks;
+mod fresh;
 mod going;
 mod pauses;
 mod runner;

@@ -1,10 +1,9 @@
 // Before which steps a run pauses: correctness doesn't depend on it.
 ghost use Rattle.std.specs.Prelude.{◌≡◌, IfSome};
-ghost use Rattle.kr_runner.specs.Kept.{task_of};
+ghost use Rattle.kr_frames.specs.declared.task.Task.TheVariants.{Act};
 
-use crate::check::Pause;
 use kr_code::Code;
-use kr_frames::{Frame, Stack, Task, ValueFrame};
+use kr_frames::{Stack, Task};
 use kr_value::{Class, Obj, Spot, Value};
 use kr_world::{Action, SlotPlace, World};
 
@@ -72,12 +71,7 @@ fn is_small(world: &World, stack: &Stack) -> bool {
 
 /// Where a run pauses: before it reads a place for the first time, where a copy is small.
 #[inline(always)]
-pub(crate) fn pause_of(
-    code: &Code,
-    world: &World,
-    stack: &Stack,
-    task: &Task,
-) -> Option<Action>
+pub(crate) fn pause_of(code: &Code, world: &World, stack: &Stack, task: &Task) -> Option<Action>
     ensures { IfSome result (λ action. task.now ≡ Act action) }
 {
     let Task::Act(action) = task else {

@@ -12,12 +12,15 @@ ghost use Rattle.kr_judge.specs.Predicates.{IsPredicateOf};
 ghost use Rattle.kr_judge.specs.Runs.{end_said};
 ghost use Rattle.kr_runner.specs.Kept.{Kept};
 
-use crate::check::Check;
+use crate::check::blank_world;
+use crate::checks::Checks;
 use crate::going::run;
 use kr_base::NoMemory;
+use kr_frames::Stack;
 use kr_judge::{Judge, Judgement, Predicate};
 use kr_problem::Layout;
 use kr_vector::{Slot, Vector};
+use kr_world::World;
 use std::alloc::Global;
 use std::marker::Model;
 
@@ -30,12 +33,16 @@ pub struct Runner<'s> {
     layout: &'s Layout,
     predicate: &'s Predicate,
     vector: Vector,
-    checks: Vec<Check>,
+    checks: Checks,
+    known: Option<Vector>,
+    world: World,
+    stack: Stack,
     judge: Judge,
 }
 
 impl<'s> Model for Runner<'s> {
     ghost use Rattle.std.specs.List.{All};
+    ghost use Rattle.kr_runner.specs.Going.{IsKnown};
     ghost use Rattle.kr_runner.specs.Kept.{Kept};
     ghost use Rattle.kr_runner.specs.Seen.{Seen};
 
@@ -43,7 +50,7 @@ impl<'s> Model for Runner<'s> {
 
     ghost view = { λ r. record { bounds = r.layout.now; predicate = r.predicate.now; vector = r.vector; order = r.judge } };
 
-    ghost invariant = { λ r. All (Kept r.layout.now r.predicate.now r.vector) r.checks.items };
+    ghost invariant = { λ r. All (Kept r.layout.now r.predicate.now r.vector) r.checks × IsKnown r.layout.now r.known r.world.candidates };
 }
 
 /// Gives a slot another index. No checkpoint stays where a root changes.
@@ -51,14 +58,14 @@ fn change(
     layout: &Layout,
     predicate: &Predicate,
     vector: &mut Vector,
-    checks: &mut Vec<Check>,
+    checks: &mut Checks,
     slot: u32,
     index: u32,
 )
     requires slot { slot < length vector.old }
-    requires kept { All (Kept layout.now predicate.now vector.old) checks.old.items }
+    requires kept { All (Kept layout.now predicate.now vector.old) checks.old }
     ensures vector { vector.new ≡ slice_set vector.old slot index }
-    ensures kept { All (Kept layout.now predicate.now vector.new) checks.new.items }
+    ensures kept { All (Kept layout.now predicate.now vector.new) checks.new }
 {
     if (slot as usize) <= layout.parameters() {
         checks.clear();
@@ -85,7 +92,10 @@ impl<'s> Runner<'s> {
             layout,
             predicate,
             vector,
-            checks: Vec::new(alloc),
+            checks: Checks::new(alloc),
+            known: None,
+            world: blank_world(alloc),
+            stack: Stack::new(alloc),
             judge: Judge::new(alloc),
         })
     }
@@ -134,12 +144,15 @@ impl<'s> Runner<'s> {
             self.layout,
             self.predicate,
             &self.vector,
+            &mut self.known,
             &mut self.checks,
+            &mut self.world,
+            &mut self.stack,
         )? {
-            Some(ran) => {
+            Some(end) => {
                 self.judge
-                    .take_order(self.layout, &self.vector, ran.end, &ran.reads)?;
-                Ok(ran.end)
+                    .take_order(self.layout, &self.vector, end, &self.world.reads)?;
+                Ok(end)
             }
             None => self.judge.run(self.layout, self.predicate, &self.vector),
         }

@@ -4,4 +4,4 @@ use Rattle.kr_runner.proofs.going.give.Given as goal
 
 -- what is left to do is the run, and checkpoints are kept
 abbrev pub invariant-steps : goal.invariant-steps
-invariant-steps l = GoesOn l.layout l.predicate l.vector l.condition l.frames l.next l.world × All (Kept l.layout l.predicate l.vector) l.checks.items
+invariant-steps l = GoesOn l.layout l.predicate l.vector l.condition l.stack l.next l.world × All (Kept l.layout l.predicate l.vector) l.checks

@@ -11,5 +11,5 @@ returns-clause-kept c =
     let p = c.args.predicate.now in
     let v = c.args.vector.now in
     let lt : length b.parameters < c.args.slot = search arith in
-    subst (λ (u : List ℕ). All (Kept b p u) c.args.checks.now.items) (sym c.set-2.ensures)
-    (all_map (Kept b p v) (Kept b p (slice_set v c.args.slot c.args.index)) (λ x k. kept_set b p v c.args.slot c.args.index x lt k) c.args.checks.now.items c.requires.kept)
+    subst (λ (u : List ℕ). All (Kept b p u) c.args.checks.now) (sym c.set-2.ensures)
+    (all_map (Kept b p v) (Kept b p (slice_set v c.args.slot c.args.index)) (λ x k. kept_set b p v c.args.slot c.args.index x lt k) c.args.checks.now c.requires.kept)

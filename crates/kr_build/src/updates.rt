@@ -1,0 +1,116 @@
+// A heap that is brought from one candidate to another.
+ghost use Rattle.std.specs.Prelude.{◌≡◌, ◌<◌, ◌≤◌, ◌+◌, ◌^◌, ◌++◌, ℕ, OnOk, length, map, slice_set};
+ghost use Rattle.std.specs.List.{range_with_len};
+ghost use Rattle.kr_heap.specs.Objects.{with_values};
+ghost use Rattle.kr_iso.specs.Objects.{object_of};
+ghost use Rattle.kr_mean.specs.Heaps.{heap_object, heap_of, value_at};
+ghost use Rattle.kr_mean.specs.Problem.{choices_at, domain_at, heap_number, slots};
+ghost use Rattle.kr_mean.specs.Space.{IsVector, space_of};
+ghost use Rattle.kr_mean.specs.WellFormed.{IsWellFormed};
+ghost use Rattle.kr_problem.specs.Bounds.{bare};
+ghost use Rattle.kr_value.specs.Heaps.{object_in};
+
+use crate::heap::kept;
+use crate::objects::{Stretch, slots_of};
+use kr_base::NoMemory;
+use kr_heap::Heap;
+use kr_iso::Object;
+use kr_problem::Layout;
+use kr_value::Obj;
+use kr_vector::{Slot, Vector};
+
+/// Adds the values that a candidate has at slots that stand one after another behind those of an object.
+fn push_values(
+    heap: &mut Heap,
+    layout: &Layout,
+    vector: &Vector,
+    object: Obj,
+    stretch: Stretch,
+) -> Result<(), NoMemory>
+    requires vector { IsVector (space_of (bare layout.now)) vector.now }
+    requires small { length (slots (bare layout.now)) < 2 ^ 31 }
+    requires inside { (j : ℕ) → j < stretch.count → stretch.first + j < length (slots (bare layout.now)) }
+    ensures { OnOk result (heap.new ≡ with_values heap.old object ((object_in heap.old object).values ++ map (value_at (bare layout.now) vector.now) (range_with_len stretch.first stretch.count))) }
+{
+    for number in 0..stretch.count {
+        let slot = stretch.first + number;
+        heap.push_value(object, layout.value(slot, vector.get(Slot(slot))))?;
+    }
+    Ok(())
+}
+
+/// Gives an object of a heap what a candidate has there, in the room that is there.
+fn rebuild(
+    heap: &mut Heap,
+    layout: &Layout,
+    vector: &Vector,
+    object: Object,
+) -> Result<(), NoMemory>
+    requires well { IsWellFormed (bare layout.now) }
+    requires vector { IsVector (space_of (bare layout.now)) vector.now }
+    requires small { length (slots (bare layout.now)) < 2 ^ 31 }
+    requires domain { object.domain < length layout.now.domains }
+    requires number { object.number < (domain_at (bare layout.now) object.domain).count }
+    ensures { OnOk result (heap.new ≡ with_values heap.old (heap_number (bare layout.now) (object_of object)) (heap_object (bare layout.now) vector.now (object_of object)).values) }
+{
+    let class = layout.class(object.domain);
+    let stretch = kept(class, slots_of(layout, vector, object));
+    let number = layout.heap_number(object);
+    heap.truncate_values(number, 0);
+    push_values(heap, layout, vector, number, stretch)?;
+    Ok(())
+}
+
+/// Gives a slot of a candidate an index, in its heap too.
+fn change(
+    heap: &mut Heap,
+    vector: &mut Vector,
+    layout: &Layout,
+    slot: u32,
+    index: u32,
+) -> Result<(), NoMemory>
+    requires well { IsWellFormed (bare layout.now) }
+    requires vector { IsVector (space_of (bare layout.now)) vector.old }
+    requires small { length (slots (bare layout.now)) < 2 ^ 31 }
+    requires slot { slot < length (slots (bare layout.now)) }
+    requires index { index < length (choices_at (bare layout.now) slot) }
+    requires heap { heap.old ≡ heap_of (bare layout.now) vector.old }
+    ensures vector { vector.new ≡ slice_set vector.old slot index }
+    ensures heap { OnOk result (heap.new ≡ heap_of (bare layout.now) vector.new) }
+{
+    if vector.get(Slot(slot)) == index {
+        return Ok(());
+    }
+    vector.set(Slot(slot), index);
+    match layout.owner(slot) {
+        None => Ok(()),
+        Some(object) => {
+            rebuild(heap, layout, vector, object)?;
+            Ok(())
+        }
+    }
+}
+
+/// Brings the heap that one candidate spells to another candidate: only objects whose slots changed are built anew, in the
+/// room that is there.
+pub fn update(
+    heap: &mut Heap,
+    built: &mut Vector,
+    layout: &Layout,
+    vector: &Vector,
+) -> Result<(), NoMemory>
+    requires well { IsWellFormed (bare layout.now) }
+    requires built { IsVector (space_of (bare layout.now)) built.old }
+    requires vector { IsVector (space_of (bare layout.now)) vector.now }
+    requires small { length (slots (bare layout.now)) < 2 ^ 31 }
+    requires heap { heap.old ≡ heap_of (bare layout.now) built.old }
+    ensures built { OnOk result (built.new ≡ vector.now) }
+    ensures heap { OnOk result (heap.new ≡ heap_of (bare layout.now) vector.now) }
+    ensures long { length built.new ≡ length built.old }
+{
+    'each: for slot in 0..layout.slots() {
+        let index = vector.get(Slot(slot));
+        change(heap, built, layout, slot, index)?;
+    }
+    Ok(())
+}

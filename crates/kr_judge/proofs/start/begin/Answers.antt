@@ -1,0 +1,18 @@
+use Rattle.std.proofs.Common.{◌++◌, ap, ◌∙◌, length, List}
+use Rattle.std.specs.Prelude.{map}
+use Rattle.std.proofs.lemmas.List.{append-nil}
+use Rattle.kr_value.specs.Heaps.{HeapObject}
+use Rattle.kr_problem.specs.Bounds.{bare}
+use Rattle.kr_world.specs.Shown.{old_of}
+use Rattle.kr_world.specs.declared.world.Old.{Old}
+use Rattle.kr_judge.proofs.Starts.{begins, heap_long}
+use Rattle.kr_judge.proofs.start.begin.Goals as goal
+
+pub returns-clause-state : goal.returns-clause-state
+returns-clause-state c =
+    let p = bare c.args.layout.now in
+    let v = c.args.vector.now in
+    let own = c.args.world.now.candidates in
+    let heap = ap (λ (h : List HeapObject). own ++ h) c.truncate.ensures ∙ (append-nil own ∙ c.requires.candidates) in
+    let long = ap (λ (h : List HeapObject). length h) c.requires.candidates ∙ heap_long p v in
+    begins p v c.value_in-world.ensures c.in_ok-world.ensures (ap (λ (os : List Old). map old_of os) c.clear.ensures.items) heap long c.fuel-world.ensures
