@@ -1,5 +1,5 @@
 -- The notes of a file's nodes. What is known of a list is spelled with the node of its rest, which stands before it.
-use Rattle.std.specs.Prelude.{◌≡◌, ℕ, ◌<◌, List, [], Some, slice_get}
+use Rattle.std.specs.Prelude.{◌≡◌, ℕ, ◌<◌, List, [], ◌++◌, None, Some, map, slice_get}
 use Rattle.kr_ast.specs.Grow.{grow}
 use Rattle.kr_typing.specs.Rules as rules
 use Rattle.kr_scopes.specs.Noting as noting
@@ -9,6 +9,14 @@ use Rattle.kr_type_rules.specs.declared.known.Known.TheVariants as known
 use Rattle.kr_type_rules.specs.declared.notes.Note.{Note}
 use Rattle.kr_type_rules.specs.Shown.{IsNoteWithin, note_shown}
 use Rattle.kr_expressions.specs.Links.{IsLinked}
+
+-- the note of a node in which nothing is broken
+abbrev pub sound_note : Known → Note
+sound_note k = record { known = k; least = None }
+
+-- the notes of some nodes in which nothing is broken, and of those behind them
+abbrev pub all_notes : List Known → List Note → List Note
+all_notes ks ns = map sound_note ks ++ ns
 
 -- what is known of the nodes that these notes are of
 abbrev pub known_of : List noting.Note → ℕ → rules.Typed

@@ -15,6 +15,7 @@ ghost use Rattle.kr_expressions.specs.Notes.{AreNotesWithin, IsRestBelow, typed_
 ghost use Rattle.kr_expressions.specs.Parts.{with_list, with_one_and_list};
 
 use crate::lists::value_types;
+use crate::note_list::NoteList;
 use crate::parts::part_type;
 use kr_ast::Tree;
 use kr_base::{NoMemory, Place};
@@ -57,7 +58,7 @@ pub fn call_note(
     types: &Types,
     members: &Members,
     node_types: &NodeTypes,
-    notes: &[Note],
+    notes: &NoteList,
     here: Within,
     place: Place,
     class: u32,
@@ -113,7 +114,7 @@ pub fn super_call_note(
     types: &Types,
     members: &Members,
     node_types: &NodeTypes,
-    notes: &[Note],
+    notes: &NoteList,
     here: Within,
     place: Place,
     class: u32,
@@ -199,7 +200,7 @@ pub fn method_call_note(
     types: &Types,
     members: &Members,
     node_types: &NodeTypes,
-    notes: &[Note],
+    notes: &NoteList,
     here: Within,
     place: Place,
     name: &[u8],

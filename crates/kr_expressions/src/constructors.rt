@@ -15,6 +15,7 @@ ghost use Rattle.kr_expressions.specs.Parts.{with_list, with_one_and_list, with_
 
 use crate::creations::{array_creation_rule, creation_rule, super_constructor_rule};
 use crate::lists::value_types;
+use crate::note_list::NoteList;
 use crate::parts::part_type;
 use kr_ast::Tree;
 use kr_base::{NoMemory, Place};
@@ -59,7 +60,7 @@ pub fn creation_note(
     types: &Types,
     members: &Members,
     node_types: &NodeTypes,
-    notes: &[Note],
+    notes: &NoteList,
     here: Within,
     place: Place,
     x: Note,
@@ -152,7 +153,7 @@ pub fn constructor_call_note(
     types: &Types,
     members: &Members,
     node_types: &NodeTypes,
-    notes: &[Note],
+    notes: &NoteList,
     here: Within,
     place: Place,
     class: u32,

@@ -12,6 +12,7 @@ mod elements;
 mod leaves;
 mod lists;
 mod names;
+mod note_list;
 mod operators;
 mod parts;
 #[cfg(test)]
@@ -27,5 +28,6 @@ pub use elements::element_note;
 pub use leaves::{jump_note, null_note, number_note, truth_note};
 pub use lists::{absent_note, list_note, value_types};
 pub use names::{class_of, this_note, variable_note};
+pub use note_list::NoteList;
 pub use operators::{binary_note, cast_note, instance_note, unary_note};
 pub use parts::part_type;

@@ -9,6 +9,7 @@ ghost use Rattle.kr_expressions.specs.Links.{IsLinked};
 ghost use Rattle.kr_expressions.specs.Notes.{AreNotesWithin, IsRestBelow, typed_in};
 ghost use Rattle.kr_expressions.specs.Parts.{values_in};
 
+use crate::note_list::NoteList;
 use crate::parts::part_type;
 use kr_base::NoMemory;
 use kr_type_numbers::Types;
@@ -63,7 +64,7 @@ pub fn list_note(x: Note, rest: u32, y: Note) -> Note
 pub fn value_types(
     alloc: Global,
     types: &Types,
-    notes: &[Note],
+    notes: &NoteList,
     list: Known,
 ) -> Result<Option<Vec<u32>>, NoMemory>
     requires notes { AreNotesWithin types.now notes.now }
@@ -76,7 +77,7 @@ pub fn value_types(
     let mut at = list;
     while let Known::More { first, rest } = at {
         found.push(first)?;
-        at = notes[rest as usize].known;
+        at = notes.at(rest).known;
     }
     match at {
         Known::Absent => Ok(Some(found)),

@@ -7,8 +7,8 @@ ghost use Rattle.kr_type_rules.specs.Shown.{HasNoRest, IsNoteWithin};
 ghost use Rattle.kr_expressions.specs.Notes.{AreNotesWithin, IsRestBelow};
 
 use crate::{
-    absent_note, array_creation_note, call_note, constructor_call_note, creation_note, list_note,
-    method_call_note, super_call_note, this_note, value_types,
+    NoteList, absent_note, array_creation_note, call_note, constructor_call_note, creation_note,
+    list_note, method_call_note, super_call_note, this_note, value_types,
 };
 use kr_ast::Tree;
 use kr_base::{NoMemory, Place};
@@ -44,21 +44,21 @@ fn broken(note: Note) -> u32 {
 }
 
 /// A note that stands there.
-fn standing(types: &Types, notes: &[Note], at: usize) -> Note
+fn standing(types: &Types, notes: &NoteList, at: u32) -> Note
     requires notes { AreNotesWithin types.now notes.now }
     requires at { at < length notes.now }
     ensures within { IsNoteWithin types.now result }
     ensures below { IsRestBelow (length notes.now) result.known }
 {
-    notes[at]
+    notes.at(at)
 }
 
 /// The end of a list, and a list of one int.
-fn one_int(alloc: Global, types: &Types) -> Result<Vec<Note>, NoMemory>
-    ensures count { IfOk result (λ notes. length notes.items ≡ 2) }
-    ensures within { IfOk result (λ notes. AreNotesWithin types.now notes.items) }
+fn one_int(alloc: Global, types: &Types) -> Result<NoteList, NoMemory>
+    ensures count { IfOk result (λ notes. length notes ≡ 2) }
+    ensures within { IfOk result (λ notes. AreNotesWithin types.now notes) }
 {
-    let mut notes = Vec::new(alloc);
+    let mut notes = NoteList::with_room(alloc, 2)?;
     let end = absent_note();
     notes.push(end)?;
     let list = list_note(value_note(types.int()), 0, end);
@@ -88,7 +88,7 @@ fn broken_calls(
     types: &Types,
     members: &Members,
     numbers: &NodeTypes,
-    notes: &[Note],
+    notes: &NoteList,
     x: Note,
 ) -> Result<(u32, u32), NoMemory>
     requires members { AreMembers trees.now members.now }
@@ -114,7 +114,7 @@ fn broken_creations(
     types: &Types,
     members: &Members,
     numbers: &NodeTypes,
-    notes: &[Note],
+    notes: &NoteList,
     x: Note,
 ) -> Result<(u32, u32, u32), NoMemory>
     requires members { AreMembers trees.now members.now }
@@ -149,7 +149,7 @@ fn broken_with_one_int(
     requires numbers { AreNodeTypes trees.now types.now numbers.now }
 {
     let list = one_int(alloc, types)?;
-    let notes = list.as_slice();
+    let notes = &list;
     let x = standing(types, notes, 1);
     let (call, above) = broken_calls(alloc, trees, types, members, numbers, notes, x)?;
     let (created, constructor, through) = broken_creations(
@@ -171,7 +171,7 @@ fn broken_rules(alloc: Global, trees: &[Tree]) -> Result<[u32; 5], NoMemory>
 /// How many types the values of a list of one int have.
 fn one_given(alloc: Global, types: &Types) -> Result<usize, NoMemory> {
     let list = one_int(alloc, types)?;
-    let notes = list.as_slice();
+    let notes = &list;
     let x = standing(types, notes, 1);
     match value_types(alloc, types, notes, x.known)? {
         None => Ok(0),

@@ -48,5 +48,5 @@ pub(crate) fn type_of(program: &Program, site: Site) -> Option<u32>
     ensures shown { option_map (type_at program.now.table.types) result ≡ type_in (judged (scope_at program.now site) (tree_at program.now site)).typed }
 {
     let notes = &site.typed(program).notes;
-    part_type(notes[site.node as usize].known)
+    part_type(notes.at(site.node).known)
 }

@@ -23,12 +23,12 @@ use Rattle.kr_types.proofs.Single.{none_broken}
 use Rattle.kr_types.specs.Refusals.{faults_in, root_faults, tree_faults}
 
 -- the note of the last node has the first broken node of the file
-pub root_least : (files : List Arena) (l : TypeList) (f : ℕ) (t : TypedFile) (i : ℕ) (n : Note) → IsTypedFile files l f t → i + 1 ≡ length (file_at files f).entries → slice_get t.notes.items i ≡ Some n → least_shown n.least ≡ least (root_faults files f)
+pub root_least : (files : List Arena) (l : TypeList) (f : ℕ) (t : TypedFile) (i : ℕ) (n : Note) → IsTypedFile files l f t → i + 1 ≡ length (file_at files f).entries → slice_get t.notes i ≡ Some n → least_shown n.least ≡ least (root_faults files f)
 root_least files l f t i n h e is =
     let a = file_at files f in
     let at : i ≡ length a.entries - 1 = omega (arith, e) in
     let scoped = h.scopes (table_in files) (values_of (table_in files)) in
-    sym (ap (λ (x : noting.Note). x.least) (shown_at l t.notes.items h.within i n is))
+    sym (ap (λ (x : noting.Note). x.least) (shown_at l t.notes h.within i n is))
     ∙ ap (λ (x : noting.Note). x.least) (h.judged i (omega (arith, e)))
     ∙ ap (λ (s : Scope). least (judged s (tree_in a i)).faults) (scoped.root i e)
     ∙ ap (λ (k : ℕ). least (judged (outside (table_in files)) (tree_in a k)).faults) at
@@ -61,8 +61,8 @@ pub typed_kept : (files : List Arena) (a b : TypeList) (f : ℕ) (t : TypedFile)
 typed_kept files a b f t x h = record {
   scopes = h.scopes;
   long = h.long;
-  within = within_kept a b t.notes.items x h.within;
-  judged = λ i l. ap (λ (ns : List noting.Note). noting.note_at ns i) (notes_same a b t.notes.items x h.within) ∙ h.judged i l;
+  within = within_kept a b t.notes x h.within;
+  judged = λ i l. ap (λ (ns : List noting.Note). noting.note_at ns i) (notes_same a b t.notes x h.within) ∙ h.judged i l;
 }
 
 -- one file more
@@ -82,6 +82,6 @@ unfolding type_fault
 well_typed files e = none_broken _ e
 
 -- the type that the note of a node has is that of its judgement
-pub type_there : (files : List Arena) (l : TypeList) (f : ℕ) (t : TypedFile) (i : ℕ) (n : Note) (found : Option ℕ) → IsTypedFile files l f t → i < length (file_at files f).entries → slice_get t.notes.items i ≡ Some n
-    → option_map (type_at l) found ≡ type_in (known_shown l (typed_in l t.notes.items) n.known) → option_map (type_at l) found ≡ type_in (judged (scope_there files f t i) (tree_in (file_at files f) i)).typed
-type_there files l f t i n found h lt is e = e ∙ ap (λ (x : noting.Note). type_in x.typed) (sym (shown_at l t.notes.items h.within i n is) ∙ h.judged i lt)
+pub type_there : (files : List Arena) (l : TypeList) (f : ℕ) (t : TypedFile) (i : ℕ) (n : Note) (found : Option ℕ) → IsTypedFile files l f t → i < length (file_at files f).entries → slice_get t.notes i ≡ Some n
+    → option_map (type_at l) found ≡ type_in (known_shown l (typed_in l t.notes) n.known) → option_map (type_at l) found ≡ type_in (judged (scope_there files f t i) (tree_in (file_at files f) i)).typed
+type_there files l f t i n found h lt is e = e ∙ ap (λ (x : noting.Note). type_in x.typed) (sym (shown_at l t.notes h.within i n is) ∙ h.judged i lt)

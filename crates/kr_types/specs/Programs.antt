@@ -27,9 +27,9 @@ scope_there files f t i = scope_at (setting_in files f) t.scopes.bindings.items 
 -- Of each node of the file there is its scope, and what is kept of its judgement.
 pub record IsTypedFile (files : List Arena) (l : TypeList) (f : ℕ) (t : TypedFile) : Type 0 where
   pub scopes : AreScopes (file_at files f) t.scopes.bindings.items t.scopes.within.items
-  pub long : length t.notes.items ≡ length (file_at files f).entries
-  pub within : AreNotesWithin l t.notes.items
-  pub judged : (i : ℕ) → i < length (file_at files f).entries → note_at (shown_notes l t.notes.items) i ≡ kept (judged (scope_there files f t i) (tree_in (file_at files f) i))
+  pub long : length t.notes ≡ length (file_at files f).entries
+  pub within : AreNotesWithin l t.notes
+  pub judged : (i : ℕ) → i < length (file_at files f).entries → note_at (shown_notes l t.notes) i ≡ kept (judged (scope_there files f t i) (tree_in (file_at files f) i))
 
 -- of all files, of which there are so many
 pub record AreTypedFiles (files : List Arena) (l : TypeList) (n : ℕ) (ts : List TypedFile) : Type 0 where

@@ -9,7 +9,7 @@ ghost use Rattle.kr_types.specs.Kinds.{IsCall};
 use crate::site::{Site, part_note};
 use kr_ast::Node;
 use kr_base::{NoMemory, Place};
-use kr_expressions::{call_note, constructor_call_note, creation_note, super_call_note};
+use kr_expressions::{NoteList, call_note, constructor_call_note, creation_note, super_call_note};
 use kr_scopes::Within;
 use kr_type_numbers::Types;
 use kr_type_rules::{Note, plain};
@@ -20,7 +20,7 @@ pub(crate) fn call_group_note(
     alloc: Global,
     site: &Site<'_>,
     types: &Types,
-    notes: &[Note],
+    notes: &NoteList,
     here: Within,
     place: Place,
     node: Node,

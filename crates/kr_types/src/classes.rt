@@ -9,6 +9,7 @@ ghost use Rattle.kr_types.specs.Kinds.{IsDeclaration};
 use crate::site::{Site, part_note};
 use kr_ast::Node;
 use kr_base::Place;
+use kr_expressions::NoteList;
 use kr_scopes::Within;
 use kr_statements::{class_note, constructor_note};
 use kr_type_numbers::Types;
@@ -18,7 +19,7 @@ use kr_type_rules::{Note, plain};
 pub(crate) fn declaration_note(
     site: &Site<'_>,
     types: &Types,
-    notes: &[Note],
+    notes: &NoteList,
     here: Within,
     place: Place,
     node: Node,

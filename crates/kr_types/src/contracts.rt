@@ -9,7 +9,7 @@ ghost use Rattle.kr_types.specs.Kinds.{IsContract};
 use crate::site::{Site, part_note};
 use kr_ast::Node;
 use kr_base::Place;
-use kr_expressions::{contract_note, old_note};
+use kr_expressions::{NoteList, contract_note, old_note};
 use kr_scopes::Within;
 use kr_type_numbers::Types;
 use kr_type_rules::{Note, plain};
@@ -18,7 +18,7 @@ use kr_type_rules::{Note, plain};
 pub(crate) fn line_note(
     site: &Site<'_>,
     types: &Types,
-    notes: &[Note],
+    notes: &NoteList,
     here: Within,
     place: Place,
     node: Node,

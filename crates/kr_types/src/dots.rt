@@ -10,7 +10,7 @@ ghost use Rattle.kr_types.specs.Kinds.{IsAccess};
 use crate::site::{Site, part_note};
 use kr_ast::Node;
 use kr_base::{NoMemory, Place};
-use kr_expressions::{field_note, method_call_note};
+use kr_expressions::{NoteList, field_note, method_call_note};
 use kr_scopes::Within;
 use kr_type_numbers::Types;
 use kr_type_rules::{Note, plain};
@@ -21,7 +21,7 @@ pub(crate) fn access_note(
     alloc: Global,
     site: &Site<'_>,
     types: &Types,
-    notes: &[Note],
+    notes: &NoteList,
     here: Within,
     at: u32,
     place: Place,

@@ -98,7 +98,7 @@ fn fault_of(trees: &[Tree], types: &Types, file: u32, typed: &TypedFile) -> Opti
     ensures { least_shown result ≡ least (root_faults trees.now file) }
 {
     let nodes = tree_of(trees, file).nodes();
-    typed.notes[nodes as usize - 1].least
+    typed.notes.at(nodes - 1).least
 }
 
 /// The first broken node of all files.

@@ -10,7 +10,7 @@ ghost use Rattle.kr_types.specs.Kinds.{IsGrowing};
 use crate::site::{Site, part_note};
 use kr_ast::Node;
 use kr_base::{NoMemory, Place};
-use kr_expressions::{array_creation_note, this_note};
+use kr_expressions::{NoteList, array_creation_note, this_note};
 use kr_scopes::Within;
 use kr_type_numbers::Types;
 use kr_type_rules::{Note, plain};
@@ -19,7 +19,7 @@ use kr_type_rules::{Note, plain};
 pub(crate) fn growing_note(
     site: &Site<'_>,
     types: &mut Types,
-    notes: &[Note],
+    notes: &NoteList,
     here: Within,
     place: Place,
     node: Node,

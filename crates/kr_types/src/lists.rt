@@ -11,12 +11,12 @@ ghost use Rattle.kr_types.specs.Kinds.{IsList};
 
 use crate::site::part_note;
 use kr_ast::Node;
-use kr_expressions::{absent_note, list_note};
+use kr_expressions::{NoteList, absent_note, list_note};
 use kr_type_numbers::Types;
 use kr_type_rules::{Note, plain};
 
 /// The note of a list, or of what is absent, wherever it stands.
-pub(crate) fn link_note(types: &Types, notes: &[Note], node: Node) -> Note
+pub(crate) fn link_note(types: &Types, notes: &NoteList, node: Node) -> Note
     requires notes { AreNotesWithin types.now notes.now }
     requires parts { AreBelow (length notes.now) (parts node) }
     requires kind { IsList node }

@@ -10,7 +10,7 @@ ghost use Rattle.kr_types.specs.Kinds.{IsNamed};
 use crate::site::{Site, part_note};
 use kr_ast::Node;
 use kr_base::Place;
-use kr_expressions::variable_note;
+use kr_expressions::{NoteList, variable_note};
 use kr_scopes::Within;
 use kr_statements::{declarator_note, parameter_note};
 use kr_type_numbers::Types;
@@ -20,7 +20,7 @@ use kr_type_rules::{Note, plain};
 pub(crate) fn name_note(
     site: &Site<'_>,
     types: &Types,
-    notes: &[Note],
+    notes: &NoteList,
     here: Within,
     at: u32,
     place: Place,

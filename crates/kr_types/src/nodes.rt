@@ -25,6 +25,7 @@ use crate::types::type_note;
 use crate::writes::write_note;
 use kr_ast::Node;
 use kr_base::{NoMemory, Place};
+use kr_expressions::NoteList;
 use kr_scopes::Within;
 use kr_type_numbers::Types;
 use kr_type_rules::Note;
@@ -35,7 +36,7 @@ pub(crate) fn node_note(
     alloc: Global,
     site: &Site<'_>,
     types: &mut Types,
-    notes: &[Note],
+    notes: &NoteList,
     here: Within,
     at: u32,
     place: Place,

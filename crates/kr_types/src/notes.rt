@@ -11,6 +11,7 @@ ghost use Rattle.kr_types.specs.Sites.{AreNoted, IsNoteOf, IsSite, scope_of, tre
 use crate::nodes::node_note;
 use crate::site::Site;
 use kr_base::NoMemory;
+use kr_expressions::NoteList;
 use kr_type_numbers::Types;
 use kr_type_rules::Note;
 use std::alloc::Global;
@@ -20,7 +21,7 @@ fn next_note(
     alloc: Global,
     site: &Site<'_>,
     types: &mut Types,
-    notes: &[Note],
+    notes: &NoteList,
     at: u32,
 ) -> Result<Note, NoMemory>
     requires site { IsSite site.now types.old }
@@ -40,15 +41,15 @@ pub(crate) fn notes_of(
     alloc: Global,
     site: &Site<'_>,
     types: &mut Types,
-) -> Result<Vec<Note>, NoMemory>
+) -> Result<NoteList, NoMemory>
     requires { IsSite site.now types.old }
     ensures extends { Extends types.old types.new }
-    ensures long { IfOk result (λ notes. length notes.items ≡ length (tree_there site.now).entries) }
-    ensures within { IfOk result (λ notes. AreNotesWithin types.new notes.items) }
-    ensures judged { IfOk result (λ notes. (i : ℕ) → i < length (tree_there site.now).entries → note_at (shown_notes types.new notes.items) i ≡ kept (judged (scope_of site.now i) (tree_in (tree_there site.now) i))) }
+    ensures long { IfOk result (λ notes. length notes ≡ length (tree_there site.now).entries) }
+    ensures within { IfOk result (λ notes. AreNotesWithin types.new notes) }
+    ensures judged { IfOk result (λ notes. (i : ℕ) → i < length (tree_there site.now).entries → note_at (shown_notes types.new notes) i ≡ kept (judged (scope_of site.now i) (tree_in (tree_there site.now) i))) }
 {
-    let mut notes = Vec::new(alloc);
     let nodes = site.tree().nodes();
+    let mut notes = NoteList::with_room(alloc, nodes as usize)?;
     for at in 0..nodes {
         let note = next_note(alloc, site, types, &notes, at)?;
         notes.push(note)?;

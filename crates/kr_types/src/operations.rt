@@ -10,7 +10,7 @@ use crate::site::{Site, part_note};
 use kr_ast::Node;
 use kr_base::Place;
 use kr_expressions::{
-    binary_note, cast_note, choice_note, element_note, instance_note, unary_note,
+    NoteList, binary_note, cast_note, choice_note, element_note, instance_note, unary_note,
 };
 use kr_scopes::Within;
 use kr_type_numbers::Types;
@@ -20,7 +20,7 @@ use kr_type_rules::{Note, plain};
 pub(crate) fn operation_note(
     site: &Site<'_>,
     types: &Types,
-    notes: &[Note],
+    notes: &NoteList,
     here: Within,
     place: Place,
     node: Node,

@@ -11,15 +11,14 @@ ghost use Rattle.kr_types.specs.declared.program.TypedFile.{TypedFile as Typed};
 use kr_ast::Tree;
 use kr_base::Place;
 use kr_classes::ClassTable;
-use kr_expressions::part_type;
+use kr_expressions::{NoteList, part_type};
 use kr_scopes::Scopes;
-use kr_type_rules::Note;
 
 /// What is known of the nodes of a file: the scope of each, and its type.
 #[derive(Drop)]
 pub struct TypedFile {
     pub scopes: Scopes,
-    pub notes: Vec<Note>,
+    pub notes: NoteList,
 }
 
 /// The files of a program, their class table with all types by number, and what is known of the nodes of each file.
@@ -66,6 +65,6 @@ impl Program {
         ensures shown { (t : Typed) → slice_get self.now.files.items file ≡ Some t → option_map (type_at self.now.table.types) result ≡ type_in (judged (scope_there self.now.trees.items file t node) (tree_in (file_at self.now.trees.items file) node)).typed }
     {
         let notes = &self.files[file as usize].notes;
-        part_type(notes[node as usize].known)
+        part_type(notes.at(node).known)
     }
 }

@@ -15,7 +15,7 @@ ghost use Rattle.kr_types.specs.Sites.{scope_here, tree_there};
 
 use kr_ast::Tree;
 use kr_constants::Values;
-use kr_expressions::{class_before, class_of};
+use kr_expressions::{NoteList, class_before, class_of};
 use kr_members::Members;
 use kr_names::{Heads, tree_of};
 use kr_scopes::{Scopes, Within};
@@ -95,7 +95,7 @@ impl<'a> Site<'a> {
 }
 
 /// What is kept of a part.
-pub(crate) fn part_note(types: &Types, notes: &[Note], part: u32) -> Note
+pub(crate) fn part_note(types: &Types, notes: &NoteList, part: u32) -> Note
     requires notes { AreNotesWithin types.now notes.now }
     requires part { part < length notes.now }
     ensures within { IsNoteWithin types.now result }
@@ -103,5 +103,5 @@ pub(crate) fn part_note(types: &Types, notes: &[Note], part: u32) -> Note
     ensures linked { IsLinked (typed_in types.now notes.now) result.known }
     ensures shown { note_shown types.now (typed_in types.now notes.now) result ≡ note_at (shown_notes types.now notes.now) part }
 {
-    notes[part as usize]
+    notes.at(part)
 }

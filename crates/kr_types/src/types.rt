@@ -11,6 +11,7 @@ ghost use Rattle.kr_types.specs.Kinds.{IsType, IsTypeName};
 use crate::site::{Site, part_note};
 use kr_ast::Node;
 use kr_base::{NoMemory, Place};
+use kr_expressions::NoteList;
 use kr_scopes::Within;
 use kr_statements::{array_type_note, diamond_type_note, generic_type_note, named_type_note};
 use kr_type_numbers::Types;
@@ -51,7 +52,7 @@ fn type_name_note(
 pub(crate) fn type_note(
     site: &Site<'_>,
     types: &mut Types,
-    notes: &[Note],
+    notes: &NoteList,
     here: Within,
     at: u32,
     place: Place,

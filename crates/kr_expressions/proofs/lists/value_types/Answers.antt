@@ -1,5 +1,8 @@
-use Rattle.std.proofs.Common.{sym, ap, subst, ◌∙◌, ◌<◌, length, map, get_or, arith}
-use Rattle.std.specs.Prelude.{None}
+use Rattle.std.proofs.Common.{◌≡◌, sym, ap, subst, ◌∙◌, ◌<◌, length, map, get_or, arith}
+use Rattle.std.specs.Prelude.{Some, None}
+use Rattle.std.proofs.lemmas.Option.{slice_get-get_or}
+use Rattle.kr_typing.specs.Rules as rules
+use Rattle.kr_typing.specs.Typing.{joined}
 use Rattle.std.proofs.lemmas.Grind.{common_steps}
 use Rattle.kr_type_numbers.specs.Types.{count, type_at}
 use Rattle.kr_type_rules.specs.declared.known.Typed.TheVariants as typed
@@ -21,12 +24,14 @@ loop-at-preserved c =
     let rest = c.in-More.rest in
     let d : Note = record { known = known.One typed.Untyped; least = None } in
     let inside : rest < length ns = subst (λ (k : Known). IsRestBelow (length ns) k) c.in-More.is c.loop-at.invariant.below in
-    let next = (get_or ns rest d).known in
+    let there = slice_get-get_or ns rest d inside in
+    let both : Some (get_or ns rest d) ≡ Some c.at-at.result = sym there ∙ c.at-at.ensures in
+    let is : get_or ns rest d ≡ c.at-at.result = cc in
     record {
       within = let fits : first < count l = subst (λ (k : Known). IsKnownWithin l k) c.in-More.is c.loop-at.invariant.known in let so_far = c.loop-at.invariant.within in grind (arith, common_steps);
-      known = rest_within l ns w first rest d inside;
-      below = below_weaker rest (length ns) next inside (rest_below l ns w first rest d inside);
-      shown = one_more l ns c.loop-at.found.items c.push.new.self.items first rest c.loop-at.at next (known_shown l (typed_in l ns) c.args.list) c.in-More.is c.in_ok-push.ensures.items (rest_shown l ns w first rest d inside) c.loop-at.invariant.shown;
+      known = subst (λ (n : Note). IsKnownWithin l n.known) is (rest_within l ns w first rest d inside);
+      below = subst (λ (n : Note). IsRestBelow (length ns) n.known) is (below_weaker rest (length ns) (get_or ns rest d).known inside (rest_below l ns w first rest d inside));
+      shown = one_more l ns c.loop-at.found.items c.push.new.self.items first rest c.loop-at.at c.at-at.result.known (known_shown l (typed_in l ns) c.args.list) c.in-More.is c.in_ok-push.ensures.items (subst (λ (n : Note). known_shown l (typed_in l ns) (known.More first rest) ≡ joined (rules.Value (type_at l first)) (known_shown l (typed_in l ns) n.known)) is (rest_shown l ns w first rest d inside)) c.loop-at.invariant.shown;
     }
 
 pub returns-in-Absent : goal.returns-in-Absent

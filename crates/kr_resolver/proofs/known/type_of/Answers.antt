@@ -1,5 +1,4 @@
 use Rattle.std.proofs.Common.{ap, sym, ◌∙◌, Option}
-use Rattle.std.proofs.lemmas.Option.{slice_get_read}
 use Rattle.kr_typing.specs.Typing.{judged, type_in}
 use Rattle.kr_scopes.specs.Noting as noting
 use Rattle.kr_expressions.specs.Notes.{typed_in}
@@ -16,7 +15,7 @@ returns-clause-shown c =
     let l = p.table.types in
     let t = c.typed.result.now in
     let is = c.requires.program.files s.file t c.typed.ensures in
-    let n = c.index.result.now in
-    let there = slice_get_read t.notes.items _ s.node n (sym is.long) c.requires.site.node c.index.ensures in
-    let known = sym (shown_at l t.notes.items is.within s.node n there) ∙ is.judged s.node c.requires.site.node in
-    c.part_type.ensures.shown l (typed_in l t.notes.items) ∙ (ap (λ (x : noting.Note). type_in x.typed) known ∙ ap (λ (o : Option TypedFile). type_in (judged (scope_in p s.file s.node o) (tree_at p s)).typed) (sym c.typed.ensures))
+    let n = c.at.result in
+    let there = c.at.ensures in
+    let known = sym (shown_at l t.notes is.within s.node n there) ∙ is.judged s.node c.requires.site.node in
+    c.part_type.ensures.shown l (typed_in l t.notes) ∙ (ap (λ (x : noting.Note). type_in x.typed) known ∙ ap (λ (o : Option TypedFile). type_in (judged (scope_in p s.file s.node o) (tree_at p s)).typed) (sym c.typed.ensures))

@@ -1,5 +1,4 @@
-use Rattle.std.proofs.Common.{refl, ap, ◌+◌, ◌-◌, ◌≡◌, ◌<◌, length, arith}
-use Rattle.std.proofs.lemmas.Option.{slice_get_read}
+use Rattle.std.proofs.Common.{ap, ◌+◌, ◌-◌, ◌≡◌, length, arith}
 use Rattle.kr_ast.specs.Arena.{Arena}
 use Rattle.kr_names.specs.Shown.{file_at}
 use Rattle.kr_types.proofs.Faults.{root_least}
@@ -12,5 +11,4 @@ returns c =
     let nodes = ap (λ (t : Arena). length t.entries) c.tree_of.ensures in
     let some = c.nodes-nodes.ensures.arena.some in
     let last : c.nodes-nodes.result - 1 + 1 ≡ length (file_at files f).entries = omega (arith, nodes, some, c.nodes-nodes.ensures.count) in
-    let lt : c.nodes-nodes.result - 1 < length c.args.typed.now.notes.items = omega (arith, last, c.requires.typed.long) in
-    root_least files c.args.types.now f c.args.typed.now (c.nodes-nodes.result - 1) c.index.result.now c.requires.typed last (slice_get_read _ _ _ _ refl lt c.index.ensures)
+    root_least files c.args.types.now f c.args.typed.now (c.nodes-nodes.result - 1) c.at.result c.requires.typed last c.at.ensures

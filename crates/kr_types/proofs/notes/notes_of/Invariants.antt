@@ -7,6 +7,6 @@ abbrev pub invariant-loop-at : goal.invariant-loop-at
 invariant-loop-at l = record {
   extends : Extends l.initial.types l.types;
   site : IsSite l.site l.types;
-  count : length l.notes.items ≡ l.at;
-  noted : AreNoted l.site l.types l.notes.items;
+  count : length l.notes ≡ l.at;
+  noted : AreNoted l.site l.types l.notes;
 }
