@@ -103,7 +103,8 @@ fn run_on(
     ensures { IfOk result (λ run. (d : Doing) → IsMeaning code.now d → run ≡ left_by (gives_nothing (method_at code.now method)) (run_step code.now d receiver arguments.now (method_at code.now method) (begun heap fuel))) }
 {
     let mut world = world_of(alloc, heap, fuel);
-    let task = Task::Apply(Goal::Run(receiver, Some(method)), arguments.to_vec(alloc)?);
+    let given = arguments.to_vec(alloc)?;
+    let task = Task::Apply(Goal::Run(receiver, Some(method)), given);
     let said = run(alloc, code, &mut world, task);
     let end = ending_of(is_void(code, method), said)?;
     Ok(Executed {

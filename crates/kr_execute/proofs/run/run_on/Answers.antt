@@ -13,7 +13,7 @@ returns c = λ d m.
     let code = c.args.code.now in
     let before = c.world_of-world.result in
     let found = method_at code c.args.method in
-    let given = c.in_ok-to_vec.field-0.items in
+    let given = c.in_ok-given.given.items in
     let items : given ≡ c.args.arguments.now = search rules in
     leaves code c.is_void.result c.run-said.result c.in_ok-end.end c.run-said.new.world before (λ e x. run_method code e c.args.receiver given found (state_at before x)) c.world_of-world.ensures.candidates c.world_of-world.ensures.frozen c.in_ok-end.ensures c.run-said.ensures d m
     ∙ ap (λ (void : Bool). left_by void (run_method code d c.args.receiver given found (state_of before))) c.is_void.ensures
