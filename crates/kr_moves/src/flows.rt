@@ -3,6 +3,7 @@ ghost use Rattle.kr_frames.specs.Frames.{out_flow, led, flow_of};
 ghost use Rattle.kr_frames.specs.Leads.{Leads};
 ghost use Rattle.kr_world.specs.Worlds.{state_at};
 
+use crate::lists::all;
 use kr_code::Code;
 use kr_frames::{Flow, FlowFrame, Stack, Task};
 use kr_world::{Halt, World};
@@ -12,15 +13,15 @@ use kr_world::{Halt, World};
 pub fn take_flow(
     code: &Code,
     world: &World,
-    stack: &Stack,
+    stack: &mut Stack,
     frame: FlowFrame,
     flow: Flow,
 ) -> Result<Task, Halt>
-    ensures { Leads code.now result stack.now world.now world.now (λ d x. out_flow code.now d stack.now (led code.now d frame (flow_of flow) (state_at world.now x))) }
+    ensures { Leads code.now result stack.new world.now world.now (λ d x. out_flow code.now d stack.old (led code.now d frame (flow_of flow) (state_at world.now x))) }
 {
     match frame {
         FlowFrame::Rest(others) => match flow {
-            Flow::Next => Ok(Task::All(others)),
+            Flow::Next => all(code, world, stack, others),
             _ => Ok(Task::Led(flow)),
         },
         FlowFrame::Again(turn) => match flow {

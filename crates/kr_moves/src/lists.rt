@@ -15,6 +15,14 @@ use kr_frames::{Flow, FlowFrame, Frame, Goal, Loop, Stack, Task, TestFrame, Unit
 use kr_value::Value;
 use kr_world::{Action, Halt, World};
 
+/// The last one of some statements: none waits for it.
+fn last(code: &Code, world: &World, stack: &Stack, node: u32, others: Nodes) -> Result<Task, Halt>
+    requires { others.count ≡ 0 }
+    ensures { Leads code.now result stack.now world.now world.now (λ d x. out_flow code.now d stack.now (all_at d (node ∷ listed code.now others) (state_at world.now x))) }
+{
+    Ok(Task::Execute(node))
+}
+
 /// Statements, one after another.
 #[tactic(auto, unfolding(kr_mean::specs::Steps::bind))]
 pub fn all(code: &Code, world: &World, stack: &mut Stack, nodes: Nodes) -> Result<Task, Halt>
@@ -23,6 +31,9 @@ pub fn all(code: &Code, world: &World, stack: &mut Stack, nodes: Nodes) -> Resul
     match code.split(nodes) {
         None => Ok(Task::Led(Flow::Next)),
         Some((node, others)) => {
+            if others.count == 0 {
+                return last(code, world, stack, node, others);
+            }
             flow(stack, FlowFrame::Rest(others))?;
             Ok(Task::Execute(node))
         }

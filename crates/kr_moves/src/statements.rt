@@ -4,8 +4,9 @@ ghost use Rattle.kr_frames.specs.Frames.{out_flow};
 ghost use Rattle.kr_frames.specs.Leads.{Leads};
 ghost use Rattle.kr_world.specs.Worlds.{state_at};
 
-use crate::pushes::{flow, push, test};
-use crate::values::stop;
+use crate::lists::all;
+use crate::pushes::{flow, push};
+use crate::values::{stop, test_next};
 use kr_code::{Code, Statement};
 use kr_frames::{Flow, FlowFrame, Frame, Loop, Stack, Task, TestFrame};
 use kr_world::{Halt, World};
@@ -14,35 +15,34 @@ use kr_world::{Halt, World};
 #[tactic(auto, using(crate::proofs::Moves::locals_long), unfolding(kr_mean::specs::Steps::bind))]
 pub fn enter_statement(
     code: &Code,
-    world: &World,
+    world: &mut World,
     stack: &mut Stack,
     statement: Statement,
 ) -> Result<Task, Halt>
-    ensures { Leads code.now result stack.new world.now world.now (λ d x. out_flow code.now d stack.old (flow_of code.now d statement (state_at world.now x))) }
+    ensures { Leads code.now result stack.new world.new world.old (λ d x. out_flow code.now d stack.old (flow_of code.now d statement (state_at world.old x))) }
 {
     match statement {
         Statement::Stuck => stop(code, world, stack),
         Statement::Empty => Ok(Task::Led(Flow::Next)),
         Statement::Block(statements) => {
             push(stack, Frame::Scope(world.locals.len()))?;
-            Ok(Task::All(statements))
+            all(code, world, stack, statements)
         }
-        Statement::Evaluate(node) => {
-            test(stack, TestFrame::Discard)?;
-            Ok(Task::Evaluate(node))
-        }
+        Statement::Evaluate(node) => test_next(code, world, stack, TestFrame::Discard, node),
         Statement::IfThen { condition, then } => {
-            test(stack, TestFrame::Then(then))?;
-            Ok(Task::Evaluate(condition))
+            test_next(code, world, stack, TestFrame::Then(then), condition)
         }
         Statement::IfElse {
             condition,
             then,
             otherwise,
-        } => {
-            test(stack, TestFrame::Branch(then, otherwise))?;
-            Ok(Task::Evaluate(condition))
-        }
+        } => test_next(
+            code,
+            world,
+            stack,
+            TestFrame::Branch(then, otherwise),
+            condition,
+        ),
         Statement::While { condition, body } => Ok(Task::Repeat(Loop::While(condition, body))),
         Statement::Do { body, condition } => {
             flow(stack, FlowFrame::Again(Loop::While(condition, body)))?;
@@ -61,10 +61,7 @@ pub fn enter_statement(
         Statement::Break => Ok(Task::Led(Flow::Broke)),
         Statement::Continue => Ok(Task::Led(Flow::Continued)),
         Statement::Leave => Ok(Task::Led(Flow::Left)),
-        Statement::Return(node) => {
-            test(stack, TestFrame::Return)?;
-            Ok(Task::Evaluate(node))
-        }
+        Statement::Return(node) => test_next(code, world, stack, TestFrame::Return, node),
         Statement::Declare(_) => stop(code, world, stack),
     }
 }

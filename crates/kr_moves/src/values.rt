@@ -2,7 +2,10 @@
 ghost use Rattle.std.specs.Prelude.{◌≡◌, true};
 ghost use Rattle.kr_value.specs.declared.value.Value.TheVariants.{Bool as Truth};
 ghost use Rattle.kr_mean.specs.Operators.{gives_old as gives_old_step};
-ghost use Rattle.kr_mean.specs.Steps.{Stuck, bind, stop as stop_step};
+ghost use Rattle.kr_mean.specs.Operators.{operated as operated_step, operated_alone as alone_step};
+ghost use Rattle.kr_mean.specs.Steps.{Stuck, bind, say, stop as stop_step};
+ghost use Rattle.kr_code.specs.Steps.{load_named};
+ghost use Rattle.kr_mean.specs.Steps.{element as element_step};
 ghost use Rattle.kr_frames.specs.declared.frame.WriteFrame.TheVariants as writes;
 ghost use Rattle.kr_frames.specs.declared.frame.TestFrame.TheVariants as tests;
 ghost use Rattle.kr_frames.specs.Frames.{out_value, out_flow, got, wrote, tested, test_of, turned};
@@ -10,11 +13,12 @@ ghost use Rattle.kr_frames.specs.Leads.{Leads};
 ghost use Rattle.kr_world.specs.Worlds.{state_at};
 
 use crate::pushes::{first, flow, test, then_write, value, write};
-use kr_ast::StepOperator;
+use kr_ast::{BinaryOperator, StepOperator, UnaryOperator};
 use kr_code::{Code, Nodes};
 use kr_frames::{Flow, FlowFrame, Goal, Loop, Stack, Task, TestFrame, ValueFrame, WriteFrame};
+use kr_known::at_once;
 use kr_value::Value;
-use kr_world::{Action, Cell, End, Halt, World};
+use kr_world::{Action, Cell, End, Halt, World, operated, operated_alone};
 use std::alloc::Global;
 
 fn gives_old(operator: StepOperator) -> bool
@@ -101,29 +105,93 @@ fn take_write(
     }
 }
 
+/// An operator has its operand.
+fn operate_alone(
+    code: &Code,
+    world: &World,
+    stack: &Stack,
+    operator: UnaryOperator,
+    given: Value,
+) -> Result<Task, Halt>
+    ensures { Leads code.now result stack.now world.now world.now (λ d x. out_value code.now d stack.now (say (alone_step operator given) (state_at world.now x))) }
+{
+    match operated_alone(world, operator, given) {
+        Ok(value) => Ok(Task::Got(value)),
+        Err(halt) => Err(halt),
+    }
+}
+
+/// An operator has its operands.
+fn operate(
+    code: &Code,
+    world: &World,
+    stack: &Stack,
+    operator: BinaryOperator,
+    left: Value,
+    right: Value,
+) -> Result<Task, Halt>
+    ensures { Leads code.now result stack.now world.now world.now (λ d x. out_value code.now d stack.now (say (operated_step operator left right) (state_at world.now x))) }
+{
+    match operated(world, operator, left, right) {
+        Ok(value) => Ok(Task::Got(value)),
+        Err(halt) => Err(halt),
+    }
+}
+
+/// An operator has its left operand; the right one comes next, unless it is known.
+fn take_left(
+    code: &Code,
+    world: &mut World,
+    stack: &mut Stack,
+    operator: BinaryOperator,
+    right: u32,
+    given: Value,
+) -> Result<Task, Halt>
+    ensures { Leads code.now result stack.new world.new world.old (λ d x. out_value code.now d stack.old (bind (d.value right) (λ w. say (operated_step operator given w)) (state_at world.old x))) }
+{
+    match at_once(code, world, right) {
+        Some(value) => operate(code, world, stack, operator, given, value),
+        None => first(stack, ValueFrame::Right(operator, given), right),
+    }
+}
+
+/// An array is there; the index comes next, unless it is known.
+pub fn take_array(
+    code: &Code,
+    world: &mut World,
+    stack: &mut Stack,
+    index: u32,
+    array: Value,
+) -> Result<Task, Halt>
+    ensures { Leads code.now result stack.new world.new world.old (λ d x. out_value code.now d stack.old (bind (d.value index) (element_step array) (state_at world.old x))) }
+{
+    match at_once(code, world, index) {
+        Some(at) => Ok(Task::Act(Action::Element(array, at))),
+        None => first(stack, ValueFrame::ElementAt(array), index),
+    }
+}
+
 /// A value of which a value is made.
 #[tactic(auto, unfolding(kr_mean::specs::Steps::bind))]
 pub fn take_value(
     alloc: Global,
     code: &Code,
-    world: &World,
+    world: &mut World,
     stack: &mut Stack,
     frame: ValueFrame,
     given: Value,
 ) -> Result<Task, Halt>
-    ensures { Leads code.now result stack.new world.now world.now (λ d x. out_value code.now d stack.old (got code.now d frame given (state_at world.now x))) }
+    ensures { Leads code.now result stack.new world.new world.old (λ d x. out_value code.now d stack.old (got code.now d frame given (state_at world.old x))) }
 {
     match frame {
         ValueFrame::Load(name) => Ok(Task::Act(Action::Load(name, given))),
-        ValueFrame::ElementOf(index) => first(stack, ValueFrame::ElementAt(given), index),
+        ValueFrame::ElementOf(index) => take_array(code, world, stack, index, given),
         ValueFrame::ElementAt(array) => Ok(Task::Act(Action::Element(array, given))),
-        ValueFrame::Unary(operator) => Ok(Task::Act(Action::Unary(operator, given))),
-        ValueFrame::Left(operator, right) => first(
-            stack,
-            ValueFrame::Right(operator, given),
-            right,
-        ),
-        ValueFrame::Right(operator, left) => Ok(Task::Act(Action::Binary(operator, left, given))),
+        ValueFrame::Unary(operator) => operate_alone(code, world, stack, operator, given),
+        ValueFrame::Left(operator, right) => {
+            take_left(code, world, stack, operator, right, given)
+        }
+        ValueFrame::Right(operator, left) => operate(code, world, stack, operator, left, given),
         ValueFrame::AndThen(right) => match given {
             Value::Bool(true) => Ok(Task::Evaluate(right)),
             Value::Bool(false) => Ok(Task::Got(Value::Bool(false))),
@@ -256,4 +324,35 @@ pub fn take_test(
             _ => stop(code, world, stack),
         },
     }
+}
+
+/// A test's value comes next; where it is known, the frame has it at once.
+pub fn test_next(
+    code: &Code,
+    world: &mut World,
+    stack: &mut Stack,
+    frame: TestFrame,
+    node: u32,
+) -> Result<Task, Halt>
+    ensures { Leads code.now result stack.new world.new world.old (λ d x. out_flow code.now d stack.old (bind (d.value node) (tested code.now d frame) (state_at world.old x))) }
+{
+    match at_once(code, world, node) {
+        Some(given) => take_test(code, world, stack, frame, given),
+        None => wait_for_test(code, world, stack, frame, node),
+    }
+}
+
+/// A test's value comes next.
+#[tactic(auto, unfolding(kr_mean::specs::Steps::bind))]
+fn wait_for_test(
+    code: &Code,
+    world: &World,
+    stack: &mut Stack,
+    frame: TestFrame,
+    node: u32,
+) -> Result<Task, Halt>
+    ensures { Leads code.now result stack.new world.now world.now (λ d x. out_flow code.now d stack.old (bind (d.value node) (tested code.now d frame) (state_at world.now x))) }
+{
+    test(stack, frame)?;
+    Ok(Task::Evaluate(node))
 }

@@ -179,9 +179,9 @@ fn collect_on(
     stack: &Stack,
     call: CollectionCall,
     object: Value,
-    arguments: &Vec<Value>,
+    arguments: &[Value],
 ) -> Result<Task, Halt>
-    ensures { Leads code.now result stack.now world.new world.old (λ d x. out_value code.now d stack.now (collect_step (name_of call) object arguments.now.items (state_at world.old x))) }
+    ensures { Leads code.now result stack.now world.new world.old (λ d x. out_value code.now d stack.now (collect_step (name_of call) object arguments.now (state_at world.old x))) }
 {
     match collect(world, call, object, arguments) {
         Ok(given) => Ok(Task::Got(given)),
@@ -221,7 +221,7 @@ pub fn apply(
             return new_collection(code, world, stack, class, &arguments);
         }
         Goal::Collect(call, object) => {
-            return collect_on(code, world, stack, call, object, &arguments);
+            return collect_on(code, world, stack, call, object, arguments.as_slice());
         }
     }
 }

@@ -19,6 +19,7 @@ use crate::steps::Step;
 use kr_ast::{BinaryOperator, StepOperator};
 use kr_code::{Code, Statement};
 use kr_frames::{Change, Flow, Frame, Stack, Task, ValueFrame, WriteFrame};
+use kr_known::at_once;
 use kr_mean::Kind;
 use kr_moves::{
     all, arguments, declare, enter_expression, enter_statement, repeat, take_argument, take_flow,
@@ -30,7 +31,7 @@ use std::alloc::Global;
 
 /// A unit of fuel, and then the expression.
 #[tactic(auto, unfolding(kr_mean::specs::Steps::bind))]
-fn evaluate_node(
+fn enter_node(
     alloc: Global,
     code: &Code,
     world: &mut World,
@@ -45,6 +46,22 @@ fn evaluate_node(
             let expression = code.expression(node);
             enter_expression(alloc, code, world, stack, expression)
         }
+    }
+}
+
+/// An expression: at once where its value is known, else part by part.
+fn evaluate_node(
+    alloc: Global,
+    code: &Code,
+    world: &mut World,
+    stack: &mut Stack,
+    node: u32,
+) -> Result<Task, Halt>
+    ensures { Leads code.now result stack.new world.new world.old (λ d x. out_value code.now d stack.old (d.value node (state_at world.old x))) }
+{
+    match at_once(code, world, node) {
+        Some(given) => Ok(Task::Got(given)),
+        None => enter_node(alloc, code, world, stack, node),
     }
 }
 

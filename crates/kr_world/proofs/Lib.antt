@@ -1,4 +1,4 @@
 pub mod Candidates
-mod Calls
+pub mod Calls
 mod Members
-mod Locals
+pub mod Locals

@@ -17,7 +17,7 @@ use kr_mean::Kind;
 use kr_value::{Class, Value};
 
 /// A size, which is at most the greatest int.
-fn size_value(size: usize) -> Value
+pub fn size_value(size: usize) -> Value
     ensures { result ≡ Int (pos (min size 2147483647)) }
 {
     Value::Int(size.min(2147483647) as i32)
@@ -138,17 +138,17 @@ fn collect_made(
     call: CollectionCall,
     object: u32,
     number: u32,
-    arguments: &Vec<Value>,
+    arguments: &[Value],
 ) -> Result<Value, Halt>
     requires { object ≡ length world.old.candidates + number }
-    ensures { Agrees result world.new world.old (λ x. collect_step (name_of call) (Reference object) arguments.now.items (state_at world.old x)) }
+    ensures { Agrees result world.new world.old (λ x. collect_step (name_of call) (Reference object) arguments.now (state_at world.old x)) }
 {
     if (number as usize) >= world.made.len() {
         return Err(Halt::Ended(End::Stuck));
     }
     let class = world.made.class_of(number);
     let members = world.made.members_mut(number);
-    return call_on(members, class, call, arguments.as_slice());
+    return call_on(members, class, call, arguments);
 }
 
 /// A call on a candidate, where it is a collection.
@@ -156,17 +156,17 @@ fn collect_candidate(
     world: &mut World,
     call: CollectionCall,
     object: u32,
-    arguments: &Vec<Value>,
+    arguments: &[Value],
 ) -> Result<Value, Halt>
     requires { object < length world.old.candidates }
-    ensures { Agrees result world.new world.old (λ x. collect_step (name_of call) (Reference object) arguments.now.items (state_at world.old x)) }
+    ensures { Agrees result world.new world.old (λ x. collect_step (name_of call) (Reference object) arguments.now (state_at world.old x)) }
 {
     if world.is_frozen {
         return Err(Halt::Written);
     }
     let class = world.candidates.class_of(object);
     let members = world.candidates.members_mut(object);
-    return call_on(members, class, call, arguments.as_slice());
+    return call_on(members, class, call, arguments);
 }
 
 /// A call on a collection.
@@ -174,9 +174,9 @@ pub fn collect(
     world: &mut World,
     call: CollectionCall,
     object: Value,
-    arguments: &Vec<Value>,
+    arguments: &[Value],
 ) -> Result<Value, Halt>
-    ensures { Agrees result world.new world.old (λ x. collect_step (name_of call) object arguments.now.items (state_at world.old x)) }
+    ensures { Agrees result world.new world.old (λ x. collect_step (name_of call) object arguments.now (state_at world.old x)) }
 {
     match object {
         Value::Ref(number) => match made_number(world, number) {

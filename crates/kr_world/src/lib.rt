@@ -11,7 +11,9 @@ mod reads;
 mod world;
 
 pub use action::{Action, Cell, act};
-pub use collections::collect;
-pub use memory::{class_of, new_object, store_initial};
+pub use collections::{collect, size_value};
+pub use memory::{class_of, index_below, made_number, new_object, store_initial};
+pub use names::{assign, declare, tick};
+pub use operators::{alone, binary, operated, operated_alone};
 pub use reads::{Reads, SlotPlace};
 pub use world::{End, Halt, Local, Old, World};

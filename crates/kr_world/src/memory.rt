@@ -16,7 +16,7 @@ use kr_value::{Class, Spot, Value};
 use std::alloc::Global;
 
 /// An object's number among those that the run has made; none where it is a candidate.
-pub(crate) fn made_number(world: &World, object: u32) -> Option<u32>
+pub fn made_number(world: &World, object: u32) -> Option<u32>
     ensures { MatchOption result (object < length world.now.candidates) (λ k. object ≡ length world.now.candidates + k) }
 {
     let count = world.candidates.len();
@@ -101,7 +101,7 @@ pub fn load_named(code: &Code, world: &mut World, name: u32, object: Value) -> R
 }
 
 /// An index below a length.
-fn index_below(index: i32, length: usize) -> Option<u32>
+pub fn index_below(index: i32, length: usize) -> Option<u32>
     ensures { result ≡ index_within index length }
 {
     match u32::try_from(index) {

@@ -57,7 +57,8 @@ fn said(is_division: bool, found: Option<Constant>) -> Result<Value, End>
     }
 }
 
-fn binary(operator: BinaryOperator, left: Value, right: Value) -> Result<Value, End>
+/// What an operator gives of two operands.
+pub fn binary(operator: BinaryOperator, left: Value, right: Value) -> Result<Value, End>
     ensures { IsSaid result (meaning.operated operator left right) }
 {
     match (left, right) {
@@ -71,7 +72,8 @@ fn binary(operator: BinaryOperator, left: Value, right: Value) -> Result<Value, 
     }
 }
 
-fn alone(operator: UnaryOperator, value: Value) -> Result<Value, End>
+/// What an operator gives of one operand.
+pub fn alone(operator: UnaryOperator, value: Value) -> Result<Value, End>
     ensures { IsSaid result (meaning.operated_alone operator value) }
 {
     match value {

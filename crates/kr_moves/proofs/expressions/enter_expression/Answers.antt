@@ -2,19 +2,19 @@
 use Rattle.kr_moves.proofs.expressions.enter_expression.Goals as goal
 
 pub returns-in-FieldOf : goal.returns-in-FieldOf
-returns-in-FieldOf c = rw c.in-FieldOf.is (c.first.ensures c.args.code.now c.args.world.now)
+returns-in-FieldOf c = rw c.in-FieldOf.is c.enter_field.ensures
 
 pub returns-in-Element : goal.returns-in-Element
-returns-in-Element c = rw c.in-Element.is (c.first-in-Element.ensures c.args.code.now c.args.world.now)
+returns-in-Element c = rw c.in-Element.is c.enter_element.ensures
 
 pub returns-in-CallOn : goal.returns-in-CallOn
-returns-in-CallOn c = rw c.in-CallOn.is (c.first-in-CallOn.ensures c.args.code.now c.args.world.now)
+returns-in-CallOn c = rw c.in-CallOn.is (c.first.ensures c.args.code.now c.args.world.now)
 
 pub returns-in-StaticCallOn : goal.returns-in-StaticCallOn
 returns-in-StaticCallOn c = rw c.in-StaticCallOn.is (c.first-in-StaticCallOn.ensures c.args.code.now c.args.world.now)
 
 pub returns-in-CallCollection : goal.returns-in-CallCollection
-returns-in-CallCollection c = rw c.in-CallCollection.is (c.first-in-CallCollection.ensures c.args.code.now c.args.world.now)
+returns-in-CallCollection c = rw c.in-CallCollection.is c.enter_collection.ensures
 
 pub returns-in-NewArray : goal.returns-in-NewArray
 returns-in-NewArray c = rw c.in-NewArray.is (c.first-in-NewArray.ensures c.args.code.now c.args.world.now)

@@ -1,34 +1,11 @@
-use Rattle.std.proofs.Common.{Err, ap, sym, ◌∙◌}
-use Rattle.kr_value.specs.declared.value.Value.{Value}
-use Rattle.kr_mean.specs.Steps.{Outcome, bind, tick}
-use Rattle.kr_code.specs.declared.expression.Expression.{Expression}
-use Rattle.kr_code.specs.Doing.{Doing, value_of}
-use Rattle.kr_code.specs.Tables.{node_at, expression_of}
-use Rattle.kr_world.specs.Noting.{noting}
+use Rattle.kr_code.specs.Doing.{Doing}
 use Rattle.kr_world.specs.Worlds.{state_at}
-use Rattle.kr_frames.specs.Frames.{out_value}
-use Rattle.kr_frames.proofs.Outcomes.{leads_same, leads_alike, value_reads}
-use Rattle.kr_run.proofs.Machine.{ticked, no_value_tick}
+use Rattle.kr_frames.proofs.Outcomes.{gave_value}
 use Rattle.kr_run.proofs.run.evaluate_node.Goals as goal
 
-pub returns-in-Err : goal.returns-in-Err
-returns-in-Err c =
-    let code = c.args.code.now in
+pub returns-in-Some : goal.returns-in-Some
+returns-in-Some c = λ x a.
     let w = c.args.world.now in
-    leads_alike code (Err c.in-Err.halt) c.args.stack.now c.act.new.world w (λ d x. out_value code d c.args.stack.now (d.value c.args.node (state_at w x))) (λ d x. out_value code d c.args.stack.now (bind tick (λ u. value_of code d (expression_of (node_at code c.args.node))) (state_at w x)))
-    (λ x d m. ap (λ (q : Outcome Value). out_value code d c.args.stack.now q) (m.value_is c.args.node (state_at w x)))
-    (no_value_tick code c.in-Err.halt c.args.stack.now c.args.stack.now c.act.new.world w (λ (d : Doing). value_of code d (expression_of (node_at code c.args.node))) c.in-Err.ensures)
-
-pub returns-in-Ok : goal.returns-in-Ok
-returns-in-Ok c =
-    let code = c.args.code.now in
-    let w = c.args.world.now in
-    let then = c.act.new.world in
-    leads_same code c.enter_expression.result c.enter_expression.new.stack then then w (λ d x. out_value code d c.args.stack.now (d.value c.args.node (state_at w x))) (λ d x. out_value code d c.args.stack.now (value_of code d c.expression-expression.result (state_at then x)))
-    (λ x a. let r = c.in-Ok.ensures x a in (
-      r.0,
-      λ d m. ap (λ (q : Outcome Value). noting w.reads (out_value code d c.args.stack.now q)) (m.value_is c.args.node (state_at w x))
-          ∙ ap (λ (e : Expression). noting w.reads (out_value code d c.args.stack.now (bind tick (λ u. value_of code d e) (state_at w x)))) (sym c.expression-expression.ensures)
-          ∙ ticked (out_value code d c.args.stack.now) (value_reads code d c.args.stack.now) w.reads then.reads (value_of code d c.expression-expression.result) (state_at w x) (state_at then x) _ r.1,
-    ))
-    c.enter_expression.ensures
+    let then = c.at_once.new.world in
+    let r = c.in-Some.ensures x a in
+    (r.0, λ d m. gave_value c.args.code.now d c.args.stack.now w.reads then.reads (d.value c.args.node (state_at w x)) c.in-Some.given (state_at then x) (r.1 d m))

@@ -13,6 +13,6 @@ returns-in-Ok c =
     let code = c.args.code.now in
     let w = c.args.world.now in
     let then = c.act.new.world in
-    leads_same code c.enter_statement.result c.enter_statement.new.stack then then w _ (λ d x. out_flow code d c.args.stack.now (flow_of code d c.args.statement (state_at then x)))
+    leads_same code c.enter_statement.result c.enter_statement.new.stack c.enter_statement.new.world then w _ (λ d x. out_flow code d c.args.stack.now (flow_of code d c.args.statement (state_at then x)))
     (λ x a. let r = c.in-Ok.ensures x a in (r.0, λ d m. ticked (out_flow code d c.args.stack.now) (flow_reads code d c.args.stack.now) w.reads then.reads (flow_of code d c.args.statement) (state_at w x) (state_at then x) _ r.1))
     c.enter_statement.ensures

@@ -1,3 +1,4 @@
+use Rattle.std.proofs.Common.{refl}
 use Rattle.kr_value.specs.Heaps.{object_in}
 use Rattle.kr_code.specs.Collections.{name_of}
 use Rattle.kr_world.proofs.Calls.{collects_made, collects_at}
@@ -7,5 +8,5 @@ pub returns : goal.returns
 returns c =
     let w = c.args.world.now in
     let r = object_in w.made c.args.number in
-    collects_made c.call_on.result w (name_of c.args.call) c.args.object c.args.number c.args.arguments.now.items c.call_on.new.members c.requires
-    (collects_at c.call_on.result c.class_of-class.result r.class (name_of c.args.call) c.as_slice.result.now c.args.arguments.now.items c.members_mut-members.result.now r.values c.call_on.new.members c.class_of-class.ensures c.as_slice.ensures.value c.members_mut-members.ensures.members c.call_on.ensures)
+    collects_made c.call_on.result w (name_of c.args.call) c.args.object c.args.number c.args.arguments.now c.call_on.new.members c.requires
+    (collects_at c.call_on.result c.class_of-class.result r.class (name_of c.args.call) c.args.arguments.now c.args.arguments.now c.members_mut-members.result.now r.values c.call_on.new.members c.class_of-class.ensures refl c.members_mut-members.ensures.members c.call_on.ensures)

@@ -1,0 +1,79 @@
+-- What was read already.
+use Rattle.std.proofs.Common.{◌≡◌, ℕ, suc, ◌<◌, Bool, true, false, List, [], ◌∷◌, length, get_or, refl, ap, arith, ◌∙◌}
+use Rattle.std.specs.Prelude.{zero, map, ◌||◌, nat_eq, Option, Some, Ok, option_map, slice_get, if◌then◌else◌, min, pos}
+use Rattle.std.proofs.Common.{◌+◌, ◌++◌, sym, rules}
+use Rattle.std.proofs.lemmas.List.{set-get_or}
+use Rattle.kr_value.specs.declared.value.Value.{Value}
+use Rattle.kr_value.specs.declared.value.Value.TheVariants.{Bool as Truth, Int, Ref as Reference}
+use Rattle.kr_value.specs.declared.object.Class.{Class}
+use Rattle.kr_value.specs.declared.object.Class.TheVariants.{Object, Array, Set, List as ListClass}
+use Rattle.kr_value.specs.Heaps.{Heap, object_in, no_object}
+use Rattle.kr_mean.specs.Collections.{collected, gives, is_collection, is_empty}
+use Rattle.kr_mean.specs.Steps as steps
+use Rattle.kr_mean.specs.Steps.{collect, local_at, local_given, place_reads, read_local}
+use Rattle.kr_code.specs.Collections.{name_of}
+use Rattle.kr_code.specs.declared.collections.CollectionCall.TheVariants as calls
+use Rattle.kr_world.specs.declared.world.World.{World}
+use Rattle.kr_world.specs.declared.world.Local.{Local}
+use Rattle.kr_world.specs.Worlds.{candidates_of}
+use Rattle.kr_world.proofs.Calls.{collects_made}
+use Rattle.kr_world.proofs.Locals.{local_there}
+use Rattle.kr_known.specs.Knowing.{Shows, fuelled}
+use Rattle.kr_mean.specs.Places as places
+use Rattle.kr_mean.specs.Runs.{is_same_place}
+use Rattle.kr_world.specs.declared.reads.SlotPlace.{SlotPlace}
+use Rattle.kr_world.specs.Noting.{is_read, noted_once, noting}
+use Rattle.kr_world.specs.Shown.{local_of, place_of}
+
+or_true : (b : Bool) → (b || true) ≡ true
+or_true true = refl
+or_true false = refl
+
+-- a place among those that were read
+pub read_at : (p : places.SlotPlace) (qs : List SlotPlace) (i : ℕ) (none : SlotPlace) → i < length qs → is_same_place (place_of (get_or qs i none)) p ≡ true → is_read p (map place_of qs) ≡ true
+read_at p [] i none lt h = absurd (omega (arith, lt))
+read_at p (q ∷ qs) zero none lt h = ap (λ (b : Bool). b || is_read p (map place_of qs)) h
+read_at p (q ∷ qs) (suc i) none lt h = ap (λ (b : Bool). is_same_place (place_of q) p || b) (read_at p qs i none (omega (arith, lt)) h) ∙ or_true (is_same_place (place_of q) p)
+
+-- a parameter that was read
+pub read_again : (p : places.SlotPlace) (seen : List places.SlotPlace) → is_read p seen ≡ true → noted_once seen (p ∷ []) ≡ seen
+read_again p seen is = ap (λ (b : Bool). if b then seen else seen ++ p ∷ []) is
+
+-- a local that needs no read
+pub local_known : (w : World) (k : ℕ) (l : Local) → slice_get w.locals.items k ≡ Some l → noted_once w.reads (place_reads (option_map (λ i. places.Parameter i) l.parameter)) ≡ w.reads → Shows w l.value (read_local k)
+local_known w k l is told = λ x a n.
+    let at : local_at (map local_of w.locals.items) k ≡ Some (local_of l) = sym (local_there w.locals.items k) ∙ ap (option_map local_of) is in
+    ap (λ (o : Option steps.Local). noting w.reads (local_given o (fuelled w n x))) at
+    ∙ ap (λ (rs : List places.SlotPlace). record { said = Ok l.value; after = fuelled w n x; reads = rs }) told
+
+-- ---- questions about collections that the run has made
+
+asks : (w : World) (n : List ℕ) (o k : ℕ) (v : Value) → o ≡ length w.candidates + k → collected (object_in w.made k).class n [] (object_in w.made k).values ≡ gives v (object_in w.made k).values → Shows w v (collect n (Reference o) [])
+asks w n o k v at is = λ x a m.
+    (collects_made (Ok v) (record w { fuel = m }) n o k [] (object_in w.made k).values at is x a).1
+    ∙ ap (λ (heap : Heap). record { said = Ok v; after = record (fuelled w m x) { heap = candidates_of w.candidates x ++ heap }; reads = w.reads }) (set-get_or w.made k no_object)
+
+no_zero : (n : ℕ) → nat_eq (suc n) 0 ≡ false
+no_zero n = search rules
+
+empty_is : (ms : List Value) (b : Bool) → b ≡ nat_eq (length ms) 0 → b ≡ is_empty ms
+empty_is [] b e = e
+empty_is (m ∷ ms) b e = e ∙ no_zero (length ms)
+
+asks_empty : (c : Class) (ms : List Value) (b : Bool) → is_collection c ≡ true → b ≡ is_empty ms → collected c (name_of calls.IsEmpty) [] ms ≡ gives (Truth b) ms
+asks_empty (Object k) ms b is e = absurd (cc (is))
+asks_empty (Array k) ms b is e = absurd (cc (is))
+asks_empty Set ms b is e = ap (λ (t : Bool). gives (Truth t) ms) (sym e)
+asks_empty ListClass ms b is e = ap (λ (t : Bool). gives (Truth t) ms) (sym e)
+
+pub asked_empty : (w : World) (o k : ℕ) (b : Bool) → o ≡ length w.candidates + k → is_collection (object_in w.made k).class ≡ true → b ≡ nat_eq (length (object_in w.made k).values) 0 → Shows w (Truth b) (collect (name_of calls.IsEmpty) (Reference o) [])
+asked_empty w o k b at is e = asks w (name_of calls.IsEmpty) o k (Truth b) at (asks_empty (object_in w.made k).class (object_in w.made k).values b is (empty_is (object_in w.made k).values b e))
+
+asks_size : (c : Class) (ms : List Value) (v : Value) → is_collection c ≡ true → v ≡ Int (pos (min (length ms) 2147483647)) → collected c (name_of calls.Size) [] ms ≡ gives v ms
+asks_size (Object k) ms v is e = absurd (cc (is))
+asks_size (Array k) ms v is e = absurd (cc (is))
+asks_size Set ms v is e = ap (λ (t : Value). gives t ms) (sym e)
+asks_size ListClass ms v is e = ap (λ (t : Value). gives t ms) (sym e)
+
+pub asked_size : (w : World) (o k : ℕ) (v : Value) → o ≡ length w.candidates + k → is_collection (object_in w.made k).class ≡ true → v ≡ Int (pos (min (length (object_in w.made k).values) 2147483647)) → Shows w v (collect (name_of calls.Size) (Reference o) [])
+asked_size w o k v at is e = asks w (name_of calls.Size) o k v at (asks_size (object_in w.made k).class (object_in w.made k).values v is e)

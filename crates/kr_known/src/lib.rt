@@ -1,0 +1,11 @@
+//! Expressions whose values are known at once: those whose parts are literals, `this`, locals, and places of objects that were read
+//! already or that the run has made itself. Nothing is written and nothing is read for the first time; only fuel is spent.
+//! What would trap, spend more than there is, or is nested deeper than four levels isn't known: it is run part by part.
+#![tactic(auto)]
+
+mod known;
+mod levels;
+mod noted;
+mod places;
+
+pub use known::{Known, at_once};

@@ -1,0 +1,191 @@
+// Locals, fields and elements whose values are known.
+ghost use Rattle.std.specs.Prelude.{◌≡◌, ◌+◌, ◌<◌, [], true, IfSome, length, option_map, slice_get};
+ghost use Rattle.kr_value.specs.declared.value.Value.TheVariants.{Int, Ref as Reference};
+ghost use Rattle.kr_value.specs.Heaps.{object_in};
+ghost use Rattle.kr_code.specs.Steps.{load_named};
+ghost use Rattle.kr_mean.specs.Steps.{bind, collect as collect_step, element as element_step, load as load_step, place_reads, read_local};
+ghost use Rattle.kr_mean.specs.Places.{Parameter};
+ghost use Rattle.kr_mean.specs.Collections.{is_collection};
+ghost use Rattle.kr_world.specs.Noting.{noted_once};
+ghost use Rattle.kr_code.specs.Collections.{name_of};
+ghost use Rattle.kr_world.specs.Worlds.{IsArray, is_fixed};
+ghost use Rattle.kr_known.specs.Knowing.{Shows};
+
+use crate::noted::is_noted;
+use kr_code::{Code, CollectionCall};
+use kr_value::{Class, Obj, Spot, Value};
+use kr_world::{Local, SlotPlace, World, class_of, index_below, made_number, size_value};
+
+fn found_in(locals: &Vec<Local>, local: u32) -> Option<Local>
+    ensures { result ≡ slice_get locals.now.items local }
+{
+    locals.get(local as usize).copied()
+}
+
+/// Whether a local is no parameter that a candidate gives, or one that was read.
+fn is_free(world: &World, parameter: Option<u32>) -> bool
+    ensures { result ≡ true → noted_once world.now.reads (place_reads (option_map Parameter parameter)) ≡ world.now.reads }
+{
+    match parameter {
+        None => true,
+        Some(number) => is_noted(world, SlotPlace::Parameter(number)),
+    }
+}
+
+/// A local that no candidate gives, or that was read.
+pub(crate) fn local(world: &World, local: u32) -> Option<Value>
+    ensures { IfSome result (λ v. Shows world.now v (read_local local)) }
+{
+    match found_in(&world.locals, local) {
+        None => None,
+        Some(found) => {
+            if is_free(world, found.parameter) {
+                Some(found.value)
+            } else {
+                None
+            }
+        }
+    }
+}
+
+/// A field or the length of a candidate, that was read.
+fn told(world: &World, object: Obj, spot: Spot) -> Option<Value>
+    requires candidate { object < length world.now.candidates }
+    requires fixed { is_fixed spot ≡ true }
+    ensures { IfSome result (λ v. Shows world.now v (load_step (Reference object) spot)) }
+{
+    if !is_noted(world, SlotPlace::At(object, spot)) {
+        return None;
+    }
+    world.candidates.read(object, spot)
+}
+
+/// A field or the length of what the run has made.
+fn made(world: &World, object: Obj, number: u32, spot: Spot) -> Option<Value>
+    requires { object ≡ length world.now.candidates + number }
+    ensures { IfSome result (λ v. Shows world.now v (load_step (Reference object) spot)) }
+{
+    world.made.read(number, spot)
+}
+
+/// A field, or an array's length.
+fn loaded(world: &World, object: Obj, spot: Spot) -> Option<Value>
+    requires { is_fixed spot ≡ true }
+    ensures { IfSome result (λ v. Shows world.now v (load_step (Reference object) spot)) }
+{
+    match made_number(world, object) {
+        None => told(world, object, spot),
+        Some(number) => made(world, object, number, spot),
+    }
+}
+
+/// The field of a name, or an array's length.
+#[tactic(auto, unfolding(kr_mean::specs::Steps::bind))]
+pub(crate) fn field(code: &Code, world: &World, name: u32, object: Value) -> Option<Value>
+    ensures { IfSome result (λ v. Shows world.now v (load_named code.now name object)) }
+{
+    match object {
+        Value::Ref(number) => match class_of(world, number) {
+            Class::Object(class) => match code.position(name, class) {
+                Some(at) => loaded(world, number, Spot::Field(at)),
+                None => None,
+            },
+            Class::Array(_) => {
+                if name == 0 {
+                    loaded(world, number, Spot::Length)
+                } else {
+                    None
+                }
+            }
+            _ => None,
+        },
+        _ => None,
+    }
+}
+
+/// An element of a candidate, whose length and which itself was read.
+fn element_told(world: &World, object: Obj, index: i32) -> Option<Value>
+    requires candidate { object < length world.now.candidates }
+    requires array { IsArray (object_in world.now.candidates object).class }
+    ensures { IfSome result (λ v. Shows world.now v (element_step (Reference object) (Int index))) }
+{
+    match index_below(index, world.candidates.size_of(object)) {
+        None => None,
+        Some(at) => {
+            if !is_noted(world, SlotPlace::At(object, Spot::Element(at))) {
+                return None;
+            }
+            if !is_noted(world, SlotPlace::At(object, Spot::Length)) {
+                return None;
+            }
+            world.candidates.read(object, Spot::Element(at))
+        }
+    }
+}
+
+/// An element of an array that the run has made.
+fn element_made(world: &World, object: Obj, number: u32, index: i32) -> Option<Value>
+    requires made { object ≡ length world.now.candidates + number }
+    requires array { IsArray (object_in world.now.made number).class }
+    ensures { IfSome result (λ v. Shows world.now v (element_step (Reference object) (Int index))) }
+{
+    match index_below(index, world.made.size_of(number)) {
+        None => None,
+        Some(at) => world.made.read(number, Spot::Element(at)),
+    }
+}
+
+/// An element of an array.
+pub(crate) fn element(world: &World, array: Value, index: Value) -> Option<Value>
+    ensures { IfSome result (λ v. Shows world.now v (element_step array index)) }
+{
+    match (array, index) {
+        (Value::Ref(object), Value::Int(at)) => match class_of(world, object) {
+            Class::Array(_) => match made_number(world, object) {
+                None => element_told(world, object, at),
+                Some(number) => element_made(world, object, number, at),
+            },
+            _ => None,
+        },
+        _ => None,
+    }
+}
+
+/// How many members a collection has, or whether it has none.
+fn asked_of(world: &World, call: CollectionCall, object: Obj, number: u32) -> Option<Value>
+    requires made { object ≡ length world.now.candidates + number }
+    requires collection { is_collection (object_in world.now.made number).class ≡ true }
+    ensures { IfSome result (λ v. Shows world.now v (collect_step (name_of call) (Reference object) [])) }
+{
+    match call {
+        CollectionCall::IsEmpty => Some(Value::Bool(world.made.size_of(number) == 0)),
+        CollectionCall::Size => Some(size_value(world.made.size_of(number))),
+        _ => None,
+    }
+}
+
+/// A question about what the run has made.
+fn asked_made(world: &World, call: CollectionCall, object: Obj, number: u32) -> Option<Value>
+    requires { object ≡ length world.now.candidates + number }
+    ensures { IfSome result (λ v. Shows world.now v (collect_step (name_of call) (Reference object) [])) }
+{
+    match world.made.class_of(number) {
+        Class::Set => asked_of(world, call, object, number),
+        Class::List => asked_of(world, call, object, number),
+        Class::Object(_) => None,
+        Class::Array(_) => None,
+    }
+}
+
+/// Such a question about a collection.
+pub(crate) fn asked(world: &World, call: CollectionCall, object: Value) -> Option<Value>
+    ensures { IfSome result (λ v. Shows world.now v (collect_step (name_of call) object [])) }
+{
+    match object {
+        Value::Ref(number) => match made_number(world, number) {
+            None => None,
+            Some(made) => asked_made(world, call, number, made),
+        },
+        _ => None,
+    }
+}

@@ -1,0 +1,31 @@
+use Rattle.std.proofs.Common.{◌≡◌, Ok, refl, rules}
+use Rattle.kr_value.specs.declared.value.Value.{Value}
+use Rattle.kr_mean.specs.Steps.{bind, collect, element, say}
+use Rattle.kr_mean.specs.Operators.{operated}
+use Rattle.kr_code.specs.Collections.{name_of}
+use Rattle.kr_code.specs.Doing.{Doing, values_at}
+use Rattle.kr_code.specs.Steps.{load_named}
+use Rattle.kr_code.specs.Tables.{listed}
+use Rattle.kr_world.specs.declared.action.Action.TheVariants as actions
+use Rattle.kr_world.specs.declared.world.World.{World}
+use Rattle.kr_world.specs.Worlds.{Others, state_at}
+use Rattle.kr_world.proofs.Candidates.{kept_same}
+use Rattle.kr_frames.specs.declared.task.Task.TheVariants as tasks
+use Rattle.kr_frames.specs.Frames.{out_value, out_flow, tested}
+use Rattle.kr_moves.proofs.Going.{value_then, flow_then, leads_from}
+use Rattle.kr_moves.proofs.expressions.enter_element.Goals as goal
+
+pub returns-in-Some : goal.returns-in-Some
+returns-in-Some c =
+    let code = c.args.code.now in
+    let w = c.args.world.now in
+    let then = c.at_once.new.world in
+    value_then code c.take_array.result c.args.stack.now c.take_array.new.stack c.take_array.new.world then w (λ (d : Doing). d.value c.args.array) (λ (d : Doing) (u : Value). bind (d.value c.args.index) (element u)) c.in-Some.value c.in-Some.ensures c.take_array.ensures
+
+pub returns-in-None : goal.returns-in-None
+returns-in-None c =
+    let code = c.args.code.now in
+    let w = c.args.world.now in
+    let then = c.at_once.new.world in
+    let same : then ≡ w = search rules in
+    leads_from code c.first.result c.first.new.stack then w (λ (u : World) (d : Doing) (x : Others). out_value code d c.args.stack.now (bind (d.value c.args.array) ((λ (d : Doing) (u : Value). bind (d.value c.args.index) (element u)) d) (state_at u x))) same (c.first.ensures code then)
