@@ -5,7 +5,6 @@ use Rattle.std.proofs.lemmas.Bool.{eq-eqb}
 use Rattle.std.proofs.lemmas.List.{take-map}
 use Rattle.kr_value.specs.declared.value.Value.{Value}
 use Rattle.kr_value.specs.declared.value.Value.TheVariants.{Null}
-use Rattle.kr_value.specs.Heaps.{HeapObject}
 use Rattle.kr_ast.specs.declared.node.BinaryOperator.{BinaryOperator}
 use Rattle.kr_mean.specs.Places.{SlotPlace}
 use Rattle.kr_mean.specs.Steps as steps
@@ -18,7 +17,6 @@ use Rattle.kr_code.specs.Doing.{Doing, constructed, statement_done, flow_of}
 use Rattle.kr_world.specs.declared.world.Local.{Local}
 use Rattle.kr_world.specs.declared.world.World.{World}
 use Rattle.kr_world.specs.declared.world.Halt.{Halt}
-use Rattle.kr_world.specs.declared.world.Halt.TheVariants.{Ended, Memory}
 use Rattle.kr_world.specs.declared.action.Cell.{Cell}
 use Rattle.kr_world.specs.Noting.{noting}
 use Rattle.kr_world.specs.Worlds.{Agrees, state_at}

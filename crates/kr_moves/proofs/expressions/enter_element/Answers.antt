@@ -1,18 +1,11 @@
-use Rattle.std.proofs.Common.{◌≡◌, Ok, refl, rules}
+use Rattle.std.proofs.Common.{◌≡◌, rules}
 use Rattle.kr_value.specs.declared.value.Value.{Value}
-use Rattle.kr_mean.specs.Steps.{bind, collect, element, say}
-use Rattle.kr_mean.specs.Operators.{operated}
-use Rattle.kr_code.specs.Collections.{name_of}
-use Rattle.kr_code.specs.Doing.{Doing, values_at}
-use Rattle.kr_code.specs.Steps.{load_named}
-use Rattle.kr_code.specs.Tables.{listed}
-use Rattle.kr_world.specs.declared.action.Action.TheVariants as actions
+use Rattle.kr_mean.specs.Steps.{bind, element}
+use Rattle.kr_code.specs.Doing.{Doing}
 use Rattle.kr_world.specs.declared.world.World.{World}
 use Rattle.kr_world.specs.Worlds.{Others, state_at}
-use Rattle.kr_world.proofs.Candidates.{kept_same}
-use Rattle.kr_frames.specs.declared.task.Task.TheVariants as tasks
-use Rattle.kr_frames.specs.Frames.{out_value, out_flow, tested}
-use Rattle.kr_moves.proofs.Going.{value_then, flow_then, leads_from}
+use Rattle.kr_frames.specs.Frames.{out_value}
+use Rattle.kr_moves.proofs.Going.{value_then, leads_from}
 use Rattle.kr_moves.proofs.expressions.enter_element.Goals as goal
 
 pub returns-in-Some : goal.returns-in-Some

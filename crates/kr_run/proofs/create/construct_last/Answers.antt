@@ -1,6 +1,6 @@
 use Rattle.std.proofs.Common.{◌<◌, [], length, arith, ap}
 use Rattle.kr_mean.specs.Steps.{Outcome, Stuck, stop}
-use Rattle.kr_code.specs.Doing.{Doing, constructed}
+use Rattle.kr_code.specs.Doing.{constructed}
 use Rattle.kr_world.specs.Worlds.{state_at}
 use Rattle.kr_frames.specs.Frames.{out_unit}
 use Rattle.kr_frames.proofs.Outcomes.{leads_alike}

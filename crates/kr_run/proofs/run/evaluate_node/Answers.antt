@@ -1,4 +1,3 @@
-use Rattle.kr_code.specs.Doing.{Doing}
 use Rattle.kr_world.specs.Worlds.{state_at}
 use Rattle.kr_frames.proofs.Outcomes.{gave_value}
 use Rattle.kr_run.proofs.run.evaluate_node.Goals as goal

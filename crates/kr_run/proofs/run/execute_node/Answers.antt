@@ -2,7 +2,7 @@ use Rattle.std.proofs.Common.{ap, sym, ◌∙◌}
 use Rattle.kr_mean.specs.Steps.{Outcome}
 use Rattle.kr_mean.specs.Meaning.{Flow}
 use Rattle.kr_code.specs.declared.statement.Statement.{Statement}
-use Rattle.kr_code.specs.Doing.{Doing, statement_done}
+use Rattle.kr_code.specs.Doing.{statement_done}
 use Rattle.kr_world.specs.Worlds.{state_at}
 use Rattle.kr_frames.specs.Frames.{out_flow}
 use Rattle.kr_frames.proofs.Outcomes.{leads_alike}
