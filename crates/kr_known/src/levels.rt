@@ -43,7 +43,7 @@ impl Look for Below {
 }
 
 /// The expression that is a node, if it is one.
-fn expression_at(code: &Code, node: u32) -> Option<&Expression>
+pub fn expression_at(code: &Code, node: u32) -> Option<&Expression>
     ensures { MatchOption result (expression_of (node_at code.now node) ≡ NoExpression) (λ e. e.now ≡ expression_of (node_at code.now node)) }
 {
     match code.nodes.get(node as usize) {

@@ -9,3 +9,4 @@ mod noted;
 mod places;
 
 pub use known::{Known, at_once};
+pub use levels::expression_at;

@@ -7,15 +7,15 @@ ghost use Rattle.kr_code.specs.Doing.{value_of, call, assigned, changed, values_
 ghost use Rattle.kr_frames.specs.Frames.{out_value, change_of};
 ghost use Rattle.kr_frames.specs.Leads.{Leads};
 ghost use Rattle.kr_world.specs.Worlds.{state_at};
-ghost use Rattle.kr_code.specs.Tables.{listed};
+ghost use Rattle.kr_code.specs.Tables.{expression_of, listed, node_at};
 
 use crate::pushes::{first, then_write, write};
 use crate::values::take_array;
 use kr_code::{Callee, Code, CollectionCall, Expression, Nodes, Variable};
 use kr_frames::{Change, Goal, Stack, Task, ValueFrame, WriteFrame};
-use kr_known::at_once;
+use kr_known::{at_once, expression_at};
 use kr_value::{Class, Value};
-use kr_world::{Action, Cell, End, Halt, World, collect};
+use kr_world::{Action, Cell, End, Halt, World, collect, tick};
 use std::alloc::Global;
 
 /// A call: its arguments come first.
@@ -249,74 +249,78 @@ fn enter_collection(
 
 /// An expression, after its unit.
 #[tactic(auto, unfolding(kr_mean::specs::Steps::bind))]
-pub fn enter_expression(
+fn enter_expression(
     alloc: Global,
     code: &Code,
     world: &mut World,
     stack: &mut Stack,
-    expression: Expression,
+    expression: &Expression,
 ) -> Result<Task, Halt>
-    ensures { Leads code.now result stack.new world.new world.old (λ d x. out_value code.now d stack.old (value_of code.now d expression (state_at world.old x))) }
+    ensures { Leads code.now result stack.new world.new world.old (λ d x. out_value code.now d stack.old (value_of code.now d expression.now (state_at world.old x))) }
 {
     match expression {
         Expression::Stuck => Ok(Task::Act(Action::End(End::Stuck))),
-        Expression::Literal(literal) => Ok(Task::Got(literal)),
+        Expression::Literal(literal) => Ok(Task::Got(*literal)),
         Expression::This => Ok(Task::Act(Action::This)),
-        Expression::Local(local) => Ok(Task::Act(Action::ReadLocal(local))),
-        Expression::OwnField(name) => Ok(Task::Act(Action::Load(name, world.this))),
-        Expression::FieldOf { object, name } => enter_field(code, world, stack, object, name),
-        Expression::Element { array, index } => enter_element(code, world, stack, array, index),
+        Expression::Local(local) => Ok(Task::Act(Action::ReadLocal(*local))),
+        Expression::OwnField(name) => Ok(Task::Act(Action::Load(*name, world.this))),
+        Expression::FieldOf { object, name } => enter_field(code, world, stack, *object, *name),
+        Expression::Element { array, index } => enter_element(code, world, stack, *array, *index),
         Expression::Call { callee, arguments } => {
-            enter_call(alloc, code, world, stack, callee, arguments)
+            enter_call(alloc, code, world, stack, *callee, *arguments)
         }
         Expression::CallOn {
             object,
             method,
             arguments,
-        } => first(stack, ValueFrame::CallOn(method, arguments), object),
+        } => first(stack, ValueFrame::CallOn(*method, *arguments), *object),
         Expression::StaticCallOn {
             object,
             method,
             arguments,
-        } => first(stack, ValueFrame::StaticCallOn(method, arguments), object),
+        } => first(
+            stack,
+            ValueFrame::StaticCallOn(*method, *arguments),
+            *object,
+        ),
         Expression::CallCollection {
             object,
             call,
             arguments,
-        } => enter_collection(alloc, code, world, stack, object, call, arguments),
+        } => enter_collection(alloc, code, world, stack, *object, *call, *arguments),
         Expression::NewArray {
             class,
             default,
             length,
-        } => first(stack, ValueFrame::NewArray(class, default), length),
+        } => first(stack, ValueFrame::NewArray(*class, *default), *length),
         Expression::Unary { operator, operand } => first(
             stack,
-            ValueFrame::Unary(operator),
-            operand,
+            ValueFrame::Unary(*operator),
+            *operand,
         ),
-        Expression::And { left, right } => first(stack, ValueFrame::AndThen(right), left),
-        Expression::Or { left, right } => first(stack, ValueFrame::OrElse(right), left),
+        Expression::And { left, right } => first(stack, ValueFrame::AndThen(*right), *left),
+        Expression::Or { left, right } => first(stack, ValueFrame::OrElse(*right), *left),
         Expression::Binary {
             operator,
             left,
             right,
-        } => first(stack, ValueFrame::Left(operator, right), left),
+        } => first(stack, ValueFrame::Left(*operator, *right), *left),
         Expression::InstanceOf { operand, class } => first(
             stack,
-            ValueFrame::Instance(class),
-            operand,
+            ValueFrame::Instance(*class),
+            *operand,
         ),
         Expression::Conditional {
             condition,
             then,
             otherwise,
-        } => first(stack, ValueFrame::Choose(then, otherwise), condition),
-        Expression::Cast { class, operand } => first(stack, ValueFrame::Cast(class), operand),
-        Expression::Same(operand) => Ok(Task::Evaluate(operand)),
+        } => first(stack, ValueFrame::Choose(*then, *otherwise), *condition),
+        Expression::Cast { class, operand } => first(stack, ValueFrame::Cast(*class), *operand),
+        Expression::Same(operand) => Ok(Task::Evaluate(*operand)),
         Expression::Assign {
             variable,
             value: node,
-        } => enter_assignment(code, world, stack, variable, node),
+        } => enter_assignment(code, world, stack, *variable, *node),
         Expression::Compound {
             operator,
             variable,
@@ -325,13 +329,46 @@ pub fn enter_expression(
             code,
             world,
             stack,
-            variable,
-            Change::Compound(operator, node),
+            *variable,
+            Change::Compound(*operator, *node),
         ),
         Expression::Step { operator, variable } => {
-            enter_change(code, world, stack, variable, Change::Step(operator))
+            enter_change(code, world, stack, *variable, Change::Step(*operator))
         }
         Expression::Result => Ok(Task::Act(Action::Result)),
-        Expression::Old(place) => Ok(Task::Act(Action::Old(place))),
+        Expression::Old(place) => Ok(Task::Act(Action::Old(*place))),
+    }
+}
+
+/// A node as an expression, after its unit.
+fn enter_ticked(
+    alloc: Global,
+    code: &Code,
+    world: &mut World,
+    stack: &mut Stack,
+    node: u32,
+) -> Result<Task, Halt>
+    ensures { Leads code.now result stack.new world.new world.old (λ d x. out_value code.now d stack.old (value_of code.now d (expression_of (node_at code.now node)) (state_at world.old x))) }
+{
+    match expression_at(code, node) {
+        None => Ok(Task::Act(Action::End(End::Stuck))),
+        Some(expression) => enter_expression(alloc, code, world, stack, expression),
+    }
+}
+
+/// A unit of fuel, and then the expression, part by part.
+#[tactic(auto, unfolding(kr_mean::specs::Steps::bind))]
+pub fn enter_node(
+    alloc: Global,
+    code: &Code,
+    world: &mut World,
+    stack: &mut Stack,
+    node: u32,
+) -> Result<Task, Halt>
+    ensures { Leads code.now result stack.new world.new world.old (λ d x. out_value code.now d stack.old (d.value node (state_at world.old x))) }
+{
+    match tick(world) {
+        Err(halt) => Err(halt),
+        Ok(_) => enter_ticked(alloc, code, world, stack, node),
     }
 }

@@ -9,7 +9,7 @@ mod pushes;
 mod statements;
 mod values;
 
-pub use expressions::enter_expression;
+pub use expressions::enter_node;
 pub use flows::take_flow;
 pub use lists::{
     all, arguments, declare, repeat, take_argument, take_up_argument, up_arguments, update,

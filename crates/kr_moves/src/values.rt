@@ -12,6 +12,7 @@ ghost use Rattle.kr_frames.specs.Frames.{out_value, out_flow, got, wrote, tested
 ghost use Rattle.kr_frames.specs.Leads.{Leads};
 ghost use Rattle.kr_world.specs.Worlds.{state_at};
 
+use crate::expressions::enter_node;
 use crate::pushes::{first, flow, test, then_write, value, write};
 use kr_ast::{BinaryOperator, StepOperator, UnaryOperator};
 use kr_code::{Code, Nodes};
@@ -328,6 +329,7 @@ pub fn take_test(
 
 /// A test's value comes next; where it is known, the frame has it at once.
 pub fn test_next(
+    alloc: Global,
     code: &Code,
     world: &mut World,
     stack: &mut Stack,
@@ -338,21 +340,22 @@ pub fn test_next(
 {
     match at_once(code, world, node) {
         Some(given) => take_test(code, world, stack, frame, given),
-        None => wait_for_test(code, world, stack, frame, node),
+        None => wait_for_test(alloc, code, world, stack, frame, node),
     }
 }
 
-/// A test's value comes next.
+/// A test's value, which isn't known, comes next.
 #[tactic(auto, unfolding(kr_mean::specs::Steps::bind))]
 fn wait_for_test(
+    alloc: Global,
     code: &Code,
-    world: &World,
+    world: &mut World,
     stack: &mut Stack,
     frame: TestFrame,
     node: u32,
 ) -> Result<Task, Halt>
-    ensures { Leads code.now result stack.new world.now world.now (λ d x. out_flow code.now d stack.old (bind (d.value node) (tested code.now d frame) (state_at world.now x))) }
+    ensures { Leads code.now result stack.new world.new world.old (λ d x. out_flow code.now d stack.old (bind (d.value node) (tested code.now d frame) (state_at world.old x))) }
 {
     test(stack, frame)?;
-    Ok(Task::Evaluate(node))
+    enter_node(alloc, code, world, stack, node)
 }

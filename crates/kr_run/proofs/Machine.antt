@@ -4,56 +4,25 @@ use Rattle.std.specs.Prelude.{map, take, Bool, true, nat_eq}
 use Rattle.std.proofs.lemmas.Bool.{eq-eqb}
 use Rattle.std.proofs.lemmas.List.{take-map}
 use Rattle.kr_value.specs.declared.value.Value.{Value}
-use Rattle.kr_value.specs.declared.value.Value.TheVariants.{Null}
 use Rattle.kr_ast.specs.declared.node.BinaryOperator.{BinaryOperator}
 use Rattle.kr_mean.specs.Places.{SlotPlace}
 use Rattle.kr_mean.specs.Steps as steps
-use Rattle.kr_mean.specs.Steps.{Stop, State, Outcome, Run, after_reads, go_on, bind, give, stop, Stuck, say, tick, declare, within, entered, back_to, plain_local}
+use Rattle.kr_mean.specs.Steps.{Stop, State, Run, after_reads, go_on, bind, give, stop, Stuck, say, tick, within, entered, back_to, plain_local}
 use Rattle.kr_mean.specs.Operators.{operated}
-use Rattle.kr_mean.specs.Meaning.{Flow, Change, change_to}
+use Rattle.kr_mean.specs.Meaning.{Change, change_to}
 use Rattle.kr_code.specs.declared.code.Code.{Code}
 use Rattle.kr_code.specs.declared.statement.Statement.{Statement}
 use Rattle.kr_code.specs.Doing.{Doing, constructed, statement_done, flow_of}
 use Rattle.kr_world.specs.declared.world.Local.{Local}
-use Rattle.kr_world.specs.declared.world.World.{World}
-use Rattle.kr_world.specs.declared.world.Halt.{Halt}
 use Rattle.kr_world.specs.declared.action.Cell.{Cell}
-use Rattle.kr_world.specs.Noting.{noting}
-use Rattle.kr_world.specs.Worlds.{Agrees, state_at}
 use Rattle.kr_world.specs.Actions.{written}
 use Rattle.kr_world.specs.Shown.{local_of}
-use Rattle.kr_frames.specs.declared.frame.Frame.{Frame}
 use Rattle.kr_frames.specs.declared.frame.Change.TheVariants as changes
-use Rattle.kr_frames.specs.Frames.{continued, altered, out_value, out_flow}
-use Rattle.kr_frames.specs.Leads.{Leads}
-use Rattle.kr_moves.proofs.Moves.{given_then}
-use Rattle.kr_frames.proofs.Outcomes.{continued_reads, gave, halts, ends_on, value_ends, flow_ends, leads_alike}
+use Rattle.kr_frames.specs.Frames.{continued, altered}
+use Rattle.kr_frames.proofs.Outcomes.{continued_reads}
 
 pub locals_cut : (locals : List Local) (n : ℕ) → take n (map local_of locals) ≡ map local_of (take n locals)
 locals_cut locals n = take-map local_of n locals
-
--- ---- steps that give something, and then go on
-
--- a unit of fuel, and then something
-pub ticked : {A : Type 0} (out : Outcome A → Outcome Value) → ((rs : List SlotPlace) (o : Outcome A) → out (after_reads rs o) ≡ after_reads rs (out o)) → (seen new : List SlotPlace) (n : Run A) (s t : State) (v : Value)
-    → noting seen (bind tick (λ u. give Null) s) ≡ record { said = Ok v; after = t; reads = new } → noting seen (out (bind tick (λ u. n) s)) ≡ noting new (out (n t))
-ticked out law seen new n s t v h =
-    ap (λ q. noting seen (out q)) (sym (given_then tick Null (λ x. n) s))
-    ∙ gave (λ q. out (continued q (λ x. n))) (λ rs q. ap out (continued_reads rs q (λ x. n)) ∙ law rs (continued q (λ x. n))) seen new (bind tick (λ u. give Null) s) v t h
-
-pub no_value_tick : (code : Code) (h : Halt) (fs gs : List Frame) (w before : World) (n : Doing → Run Value)
-    → Agrees {A = Value} (Err h) w before (λ x. bind tick (λ u. give Null) (state_at before x)) → Leads code (Err h) gs w before (λ d x. out_value code d fs (bind tick (λ u. n d) (state_at before x)))
-no_value_tick code h fs gs w before n a =
-    leads_alike code (Err h) gs w before _ (λ d x. out_value code d fs (continued (bind tick (λ u. give Null) (state_at before x)) (λ v. n d)))
-    (λ x d m. ap (λ (q : Outcome Value). out_value code d fs q) (sym (given_then tick Null (λ v. n d) (state_at before x))))
-    (halts code h gs w before (λ d q. out_value code d fs (continued q (λ v. n d))) (λ d e heap fuel reads o y. value_ends code d e heap fuel reads fs _ (ends_on e heap fuel reads o (λ v. n d) y)) (λ x. bind tick (λ u. give Null) (state_at before x)) a)
-
-pub no_flow_tick : (code : Code) (h : Halt) (fs gs : List Frame) (w before : World) (n : Doing → Run Flow)
-    → Agrees {A = Value} (Err h) w before (λ x. bind tick (λ u. give Null) (state_at before x)) → Leads code (Err h) gs w before (λ d x. out_flow code d fs (bind tick (λ u. n d) (state_at before x)))
-no_flow_tick code h fs gs w before n a =
-    leads_alike code (Err h) gs w before _ (λ d x. out_flow code d fs (continued (bind tick (λ u. give Null) (state_at before x)) (λ v. n d)))
-    (λ x d m. ap (λ (q : Outcome Flow). out_flow code d fs q) (sym (given_then tick Null (λ v. n d) (state_at before x))))
-    (halts code h gs w before (λ d q. out_flow code d fs (continued q (λ v. n d))) (λ d e heap fuel reads o y. flow_ends code d e heap fuel reads fs _ (ends_on e heap fuel reads o (λ v. n d) y)) (λ x. bind tick (λ u. give Null) (state_at before x)) a)
 
 -- ---- statements
 

@@ -1,5 +1,6 @@
 // The machine: one task after another, until the run ends.
-ghost use Rattle.std.specs.Prelude.{◌≡◌, ◌∷◌};
+ghost use Rattle.std.specs.Prelude.{◌≡◌, ◌∷◌, MatchOption};
+ghost use Rattle.kr_code.specs.declared.statement.Statement.TheVariants.{Stuck as NoStatement};
 ghost use Rattle.kr_code.specs.Doing.{statement_done, flow_of as statement_flow};
 ghost use Rattle.kr_code.specs.Steps.{store_initial as store_step};
 ghost use Rattle.kr_code.specs.Tables.{node_at, statement_of};
@@ -17,37 +18,17 @@ use crate::calls::apply;
 use crate::create::{construct, initialise, stop_unit, take_unit};
 use crate::steps::Step;
 use kr_ast::{BinaryOperator, StepOperator};
-use kr_code::{Code, Statement};
+use kr_code::{Code, Node, Statement};
 use kr_frames::{Change, Flow, Frame, Stack, Task, ValueFrame, WriteFrame};
 use kr_known::at_once;
 use kr_mean::Kind;
 use kr_moves::{
-    all, arguments, declare, enter_expression, enter_statement, repeat, take_argument, take_flow,
+    all, arguments, declare, enter_node, enter_statement, repeat, take_argument, take_flow,
     take_test, take_up_argument, take_value, up_arguments, update, value, write,
 };
 use kr_value::Value;
-use kr_world::{Action, Cell, End, Halt, Local, World, act, store_initial};
+use kr_world::{Action, Cell, End, Halt, Local, World, act, store_initial, tick};
 use std::alloc::Global;
-
-/// A unit of fuel, and then the expression.
-#[tactic(auto, unfolding(kr_mean::specs::Steps::bind))]
-fn enter_node(
-    alloc: Global,
-    code: &Code,
-    world: &mut World,
-    stack: &mut Stack,
-    node: u32,
-) -> Result<Task, Halt>
-    ensures { Leads code.now result stack.new world.new world.old (λ d x. out_value code.now d stack.old (d.value node (state_at world.old x))) }
-{
-    match act(alloc, code, Action::Tick, world) {
-        Err(halt) => Err(halt),
-        Ok(_) => {
-            let expression = code.expression(node);
-            enter_expression(alloc, code, world, stack, expression)
-        }
-    }
-}
 
 /// An expression: at once where its value is known, else part by part.
 fn evaluate_node(
@@ -72,13 +53,13 @@ fn tick_statement(
     code: &Code,
     world: &mut World,
     stack: &mut Stack,
-    statement: Statement,
+    statement: &Statement,
 ) -> Result<Task, Halt>
-    ensures { Leads code.now result stack.new world.new world.old (λ d x. out_flow code.now d stack.old (bind tick (λ u. statement_flow code.now d statement) (state_at world.old x))) }
+    ensures { Leads code.now result stack.new world.new world.old (λ d x. out_flow code.now d stack.old (bind tick (λ u. statement_flow code.now d statement.now) (state_at world.old x))) }
 {
-    match act(alloc, code, Action::Tick, world) {
+    match tick(world) {
         Err(halt) => Err(halt),
-        Ok(_) => enter_statement(code, world, stack, statement),
+        Ok(_) => enter_statement(alloc, code, world, stack, statement),
     }
 }
 
@@ -89,12 +70,12 @@ fn execute_statement(
     code: &Code,
     world: &mut World,
     stack: &mut Stack,
-    statement: Statement,
+    statement: &Statement,
 ) -> Result<Task, Halt>
-    ensures { Leads code.now result stack.new world.new world.old (λ d x. out_flow code.now d stack.old (statement_done code.now d statement (state_at world.old x))) }
+    ensures { Leads code.now result stack.new world.new world.old (λ d x. out_flow code.now d stack.old (statement_done code.now d statement.now (state_at world.old x))) }
 {
     match statement {
-        Statement::Declare(nodes) => Ok(Task::Declare(nodes)),
+        Statement::Declare(nodes) => Ok(Task::Declare(*nodes)),
         Statement::Stuck => tick_statement(alloc, code, world, stack, statement),
         Statement::Empty => tick_statement(alloc, code, world, stack, statement),
         Statement::Block(_) => tick_statement(alloc, code, world, stack, statement),
@@ -111,6 +92,16 @@ fn execute_statement(
     }
 }
 
+/// The statement that is a node, if it is one.
+fn statement_at(code: &Code, node: u32) -> Option<&Statement>
+    ensures { MatchOption result (statement_of (node_at code.now node) ≡ NoStatement) (λ t. t.now ≡ statement_of (node_at code.now node)) }
+{
+    match code.nodes.get(node as usize) {
+        Some(Node::Statement(statement)) => Some(statement),
+        _ => None,
+    }
+}
+
 /// A node as a statement.
 fn execute_node(
     alloc: Global,
@@ -121,8 +112,10 @@ fn execute_node(
 ) -> Result<Task, Halt>
     ensures { Leads code.now result stack.new world.new world.old (λ d x. out_flow code.now d stack.old (d.exec node (state_at world.old x))) }
 {
-    let statement = code.statement(node);
-    execute_statement(alloc, code, world, stack, statement)
+    match statement_at(code, node) {
+        None => execute_statement(alloc, code, world, stack, &Statement::Stuck),
+        Some(statement) => execute_statement(alloc, code, world, stack, statement),
+    }
 }
 
 fn step_operator(operator: StepOperator) -> BinaryOperator

@@ -5,7 +5,7 @@ use Rattle.kr_code.specs.Doing.{Doing}
 use Rattle.kr_world.specs.declared.world.World.{World}
 use Rattle.kr_world.specs.Worlds.{Others, state_at}
 use Rattle.kr_frames.specs.Frames.{out_flow, tested}
-use Rattle.kr_moves.proofs.Going.{flow_then, leads_from}
+use Rattle.kr_moves.proofs.Going.{flow_then, leads_behind}
 use Rattle.kr_moves.proofs.values.test_next.Goals as goal
 
 pub returns-in-Some : goal.returns-in-Some
@@ -21,4 +21,4 @@ returns-in-None c =
     let w = c.args.world.now in
     let then = c.at_once.new.world in
     let same : then ≡ w = search rules in
-    leads_from code c.wait_for_test.result c.wait_for_test.new.stack then w (λ (u : World) (d : Doing) (x : Others). out_flow code d c.args.stack.now (bind (d.value c.args.node) ((λ (d : Doing) (u : Value). tested c.args.code.now d c.args.frame u) d) (state_at u x))) same c.wait_for_test.ensures
+    leads_behind code c.wait_for_test.result c.wait_for_test.new.stack c.wait_for_test.new.world then w (λ (u : World) (d : Doing) (x : Others). out_flow code d c.args.stack.now (bind (d.value c.args.node) ((λ (d : Doing) (u : Value). tested c.args.code.now d c.args.frame u) d) (state_at u x))) same c.wait_for_test.ensures
