@@ -71,6 +71,10 @@ pub repeats : (code : Code) (d : Doing) (l : Loop) (s : State) → IsMeaning cod
 repeats code d (loops.While e a) s m = m.while_is e a s ∙ sym (given_then tick Null (λ v. bind (test_of d (loops.While e a)) (turned code d (loops.While e a))) s)
 repeats code d (loops.For e us a) s m = m.for_is e a (listed code us) s ∙ sym (given_then tick Null (λ v. bind (test_of d (loops.For e us a)) (turned code d (loops.For e us a))) s)
 
+-- a unit, and then the round
+pub rounds : (code : Code) (d : Doing) (l : Loop) (s : State) → IsMeaning code d → repeated code d l s ≡ bind tick (λ u. bind (test_of d l) (turned code d l)) s
+rounds code d l s m = repeats code d l s m ∙ given_then tick Null (λ v. bind (test_of d l) (turned code d l)) s
+
 -- ---- changes
 
 pub steps_on : (code : Code) (d : Doing) (o : StepOperator) (cell : Cell) (v w given : Value) (s : State) (b : Bool) → gives_old o ≡ b → given ≡ (change_from b v w).given → (change_from b v w).new ≡ w → wrote code d (writes.Stepped o cell v) w s ≡ bind (written code cell w) (λ u. give given) s

@@ -9,11 +9,12 @@ ghost use Rattle.kr_frames.specs.Leads.{Leads};
 ghost use Rattle.kr_world.specs.Worlds.{state_at};
 
 use crate::pushes::{flow, push, test};
-use crate::values::stop;
+use crate::values::{begin_round, stop};
 use kr_code::{Code, Nodes};
 use kr_frames::{Flow, FlowFrame, Frame, Goal, Loop, Stack, Task, TestFrame, UnitFrame, Up};
 use kr_value::Value;
-use kr_world::{Action, Halt, World};
+use kr_world::{Action, Halt, World, tick};
+use std::alloc::Global;
 
 /// The last one of some statements: none waits for it.
 fn last(code: &Code, world: &World, stack: &Stack, node: u32, others: Nodes) -> Result<Task, Halt>
@@ -55,12 +56,20 @@ pub fn update(code: &Code, world: &World, stack: &mut Stack, nodes: Nodes) -> Re
 }
 
 /// A round of a loop, if there is one more.
-#[tactic(auto, using(crate::proofs::Moves::repeats), unfolding(kr_mean::specs::Steps::bind))]
-pub fn repeat(code: &Code, world: &World, stack: &mut Stack, turn: Loop) -> Result<Task, Halt>
-    ensures { Leads code.now result stack.new world.now world.now (λ d x. out_flow code.now d stack.old (repeated code.now d turn (state_at world.now x))) }
+#[tactic(auto, unfolding(kr_mean::specs::Steps::bind))]
+pub fn repeat(
+    alloc: Global,
+    code: &Code,
+    world: &mut World,
+    stack: &mut Stack,
+    turn: Loop,
+) -> Result<Task, Halt>
+    ensures { Leads code.now result stack.new world.new world.old (λ d x. out_flow code.now d stack.old (repeated code.now d turn (state_at world.old x))) }
 {
-    test(stack, TestFrame::Begin(turn))?;
-    Ok(Task::Act(Action::Tick))
+    match tick(world) {
+        Err(halt) => Err(halt),
+        Ok(_) => begin_round(alloc, code, world, stack, turn),
+    }
 }
 
 /// Declarators, one after another.

@@ -344,6 +344,28 @@ pub fn test_next(
     }
 }
 
+/// A loop's test; where its value is known, the round begins at once.
+#[tactic(auto, unfolding(kr_mean::specs::Steps::bind))]
+pub fn begin_round(
+    alloc: Global,
+    code: &Code,
+    world: &mut World,
+    stack: &mut Stack,
+    turn: Loop,
+) -> Result<Task, Halt>
+    ensures { Leads code.now result stack.new world.new world.old (λ d x. out_flow code.now d stack.old (bind (test_of d turn) (turned code.now d turn) (state_at world.old x))) }
+{
+    match turn {
+        Loop::While(condition, _) => {
+            test_next(alloc, code, world, stack, TestFrame::Test(turn), condition)
+        }
+        Loop::For(Some(condition), _, _) => {
+            test_next(alloc, code, world, stack, TestFrame::Test(turn), condition)
+        }
+        Loop::For(None, _, _) => begin(code, world, stack, turn),
+    }
+}
+
 /// A test's value, which isn't known, comes next.
 #[tactic(auto, unfolding(kr_mean::specs::Steps::bind))]
 fn wait_for_test(

@@ -354,7 +354,7 @@ fn do_task(
         Task::All(nodes) => return all(code, world, stack, nodes),
         Task::Declare(nodes) => return declare(code, world, stack, nodes),
         Task::Update(nodes) => return update(code, world, stack, nodes),
-        Task::Repeat(turn) => return repeat(code, world, stack, turn),
+        Task::Repeat(turn) => return repeat(alloc, code, world, stack, turn),
         Task::Construct(line, object, found) => {
             return construct(alloc, code, world, stack, line, object, &found);
         }
