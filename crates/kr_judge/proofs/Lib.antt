@@ -2,6 +2,7 @@ pub mod Ends
 mod Examples
 pub mod Holding
 pub mod Orders
+mod Follows
 pub mod Programs
 mod Spots
 pub mod Starts

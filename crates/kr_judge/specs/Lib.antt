@@ -1,6 +1,7 @@
 pub mod Judged
 pub mod One
 pub mod Orders
+pub mod Follows
 pub mod Columns
 pub mod Places
 pub mod Predicates

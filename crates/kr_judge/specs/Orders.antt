@@ -15,3 +15,8 @@ with_slots order (s ∷ ss) = with_slots (with_slot order s) ss
 -- the slots of an order are marked, and no others
 abbrev pub AreMarked : List Bool → List ℕ → Type 0
 AreMarked marks order = (s : ℕ) → get_or marks s false ≡ contains_number order s
+
+-- no slot comes twice
+abbrev pub EachOnce : List ℕ → Type 0
+EachOnce [] = Unit {0}
+EachOnce (s ∷ ss) = (contains_number ss s ≡ false) × EachOnce ss

@@ -1,5 +1,5 @@
 // Judging a candidate: how its run ends, and the slots that decide it.
-ghost use Rattle.std.specs.Prelude.{◌≡◌, ◌<◌, ◌+◌, ◌^◌, [], IfOk, OnOk, flat_map, if◌then◌else◌, length, map};
+ghost use Rattle.std.specs.Prelude.{◌≡◌, ◌<◌, ◌+◌, ◌^◌, [], IfOk, OnOk, flat_map, if◌then◌else◌, length};
 ghost use Rattle.kr_code.specs.Resolved.{Numbering};
 ghost use Rattle.kr_mean.specs.Problem.{slots};
 ghost use Rattle.kr_mean.specs.Program.{Program};
@@ -8,21 +8,18 @@ ghost use Rattle.kr_mean.specs.Heaps.{walk};
 ghost use Rattle.kr_mean.specs.Space.{IsVector, space_of};
 ghost use Rattle.kr_mean.specs.WellFormed.{IsWellFormed};
 ghost use Rattle.kr_problem.specs.Bounds.{bare, problem_with};
-ghost use Rattle.kr_world.specs.Shown.{place_of};
 ghost use Rattle.kr_judge.specs.Orders.{with_slots};
 ghost use Rattle.kr_judge.specs.Predicates.{IsPredicateOf};
 ghost use Rattle.kr_judge.specs.Runs.{end_said};
 
-use crate::order::Order;
-use crate::places::slot_of;
+use crate::accesses::Accesses;
 use crate::predicate::Predicate;
-use crate::run::{Judgement, run};
+use crate::run::{Judgement, run_predicate};
 use kr_base::NoMemory;
-use kr_build::Walk;
 use kr_problem::Layout;
 use kr_steps::Steps;
 use kr_vector::Vector;
-use kr_world::{Reads, SlotPlace};
+use kr_world::Reads;
 use std::alloc::Global;
 use std::marker::Model;
 use std::sync::ledger::Ledger;
@@ -31,8 +28,7 @@ use std::sync::ledger::Ledger;
 #[derive(Drop)]
 pub struct Judge {
     alloc: Global,
-    order: Order,
-    walk: Walk,
+    accesses: Accesses,
 }
 
 impl Model for Judge {
@@ -40,65 +36,7 @@ impl Model for Judge {
 
     ghost Value = { List ℕ };
 
-    ghost view = { λ j. j.order };
-}
-
-/// The slot of a place comes, if a candidate has the place.
-fn add_place(order: &mut Order, layout: &Layout, place: SlotPlace) -> Result<(), NoMemory>
-    requires well { IsWellFormed (bare layout.now) }
-    requires small { length (slots (bare layout.now)) < 2 ^ 31 }
-    ensures { OnOk result (order.new ≡ with_slots order.old (slots_for (bare layout.now) (place_of place))) }
-{
-    match slot_of(layout, place)? {
-        None => Ok(()),
-        Some(slot) => order.add(slot),
-    }
-}
-
-/// The slots of places come.
-fn add_places(order: &mut Order, layout: &Layout, places: &[SlotPlace]) -> Result<(), NoMemory>
-    requires well { IsWellFormed (bare layout.now) }
-    requires small { length (slots (bare layout.now)) < 2 ^ 31 }
-    ensures { OnOk result (order.new ≡ with_slots order.old (flat_map (slots_for (bare layout.now)) (map place_of places.now))) }
-{
-    for place in places {
-        add_place(order, layout, *place)?;
-    }
-    Ok(())
-}
-
-/// Slots come.
-fn add_slots(order: &mut Order, slots: &[u32]) -> Result<(), NoMemory>
-    ensures { OnOk result (order.new ≡ with_slots order.old slots.now) }
-{
-    for slot in slots {
-        order.add(*slot)?;
-    }
-    Ok(())
-}
-
-/// Where a run accepts, the slots that are reachable come.
-fn add_reachable(
-    end: Judgement,
-    order: &mut Order,
-    reachable: &mut Walk,
-    layout: &Layout,
-    vector: &Vector,
-) -> Result<(), NoMemory>
-    requires well { IsWellFormed (bare layout.now) }
-    requires vector { IsVector (space_of (bare layout.now)) vector.now }
-    requires small { length (slots (bare layout.now)) < 2 ^ 31 }
-    ensures { OnOk result (order.new ≡ with_slots order.old (if is_accepted (end_said end) then walk (bare layout.now) vector.now else [])) }
-{
-    match end {
-        Judgement::True => {
-            reachable.walk(layout, vector)?;
-            add_slots(order, reachable.slots())
-        }
-        Judgement::False => Ok(()),
-        Judgement::Trap(_) => Ok(()),
-        Judgement::Spent => Ok(()),
-    }
+    ghost view = { λ j. j.accesses.order };
 }
 
 impl Judge {
@@ -108,8 +46,7 @@ impl Judge {
     {
         Judge {
             alloc,
-            order: Order::new(alloc),
-            walk: Walk::new(alloc),
+            accesses: Accesses::new(alloc),
         }
     }
 
@@ -126,10 +63,8 @@ impl Judge {
         requires small { length (slots (bare layout.now)) < 2 ^ 31 }
         ensures { OnOk result (self.new ≡ with_slots (with_slots [] (flat_map (slots_for (bare layout.now)) reads.now)) (if is_accepted (end_said end) then walk (bare layout.now) vector.now else [])) }
     {
-        self.order.clear();
-        add_places(&mut self.order, layout, reads.as_slice())?;
-        add_reachable(end, &mut self.order, &mut self.walk, layout, vector)?;
-        Ok(())
+        self.accesses.forget();
+        self.accesses.take(layout, vector, end, reads)
     }
 
     /// Runs the predicate on a candidate: how the run ends, and the order of the slots that decide it, those that it has read
@@ -146,7 +81,7 @@ impl Judge {
         ensures ends { IfOk result (λ end. (program : Program) (n : Numbering) → IsPredicateOf (problem_with program layout.now) predicate.now n → end_said end ≡ end_on (problem_with program layout.now) vector.now) }
         ensures order { OnOk result ((program : Program) (n : Numbering) → IsPredicateOf (problem_with program layout.now) predicate.now n → self.new ≡ order_of (problem_with program layout.now) vector.now) }
     {
-        let ran = run(self.alloc, layout, predicate, vector)?;
+        let ran = run_predicate(self.alloc, layout, predicate, vector)?;
         self.take_order(layout, vector, ran.end, &ran.reads)?;
         Ok(ran.end)
     }
@@ -174,6 +109,6 @@ impl Judge {
     pub fn order(&self) -> &[u32]
         ensures { result.now ≡ self.now }
     {
-        self.order.as_slice()
+        self.accesses.order.as_slice()
     }
 }

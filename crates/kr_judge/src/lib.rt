@@ -2,6 +2,7 @@
 //! precondition on it; how the run ends, and the slots that decide it. All this is what the program means.
 #![tactic(auto)]
 
+mod accesses;
 mod conditions;
 mod judge;
 mod order;
@@ -12,10 +13,11 @@ mod start;
 #[cfg(test)]
 mod tests;
 
+pub use accesses::{Access, Accesses};
 pub use conditions::hold_all;
 pub use judge::Judge;
 pub use order::Order;
 pub use places::object_numbered;
 pub use predicate::Predicate;
-pub use run::{Judgement, Ran, judged};
+pub use run::{Judgement, Ran, judged, run_predicate};
 pub use start::{begin, world_of};

@@ -1,6 +1,7 @@
 // The order in which slots come, each once.
-ghost use Rattle.std.specs.Prelude.{◌≡◌, [], OnOk};
-ghost use Rattle.kr_judge.specs.Orders.{with_slot};
+ghost use Rattle.std.specs.Prelude.{◌≡◌, ◌==◌, ℕ, [], OnOk, false, if◌then◌else◌, length, take};
+ghost use Rattle.std.proofs.Common.{get_or};
+ghost use Rattle.kr_judge.specs.Orders.{AreMarked, EachOnce, with_slot};
 
 use kr_base::NoMemory;
 use kr_build::{is_marked, mark};
@@ -16,13 +17,39 @@ pub struct Order {
 
 impl Model for Order {
     ghost use Rattle.std.specs.Prelude.{List, ℕ};
-    ghost use Rattle.kr_judge.specs.Orders.{AreMarked};
+    ghost use Rattle.kr_judge.specs.Orders.{AreMarked, EachOnce};
 
     ghost Value = { List ℕ };
 
     ghost view = { λ o. o.slots.items };
 
-    ghost invariant = { λ o. AreMarked o.marks.items o.slots.items };
+    ghost invariant = { λ o. AreMarked o.marks.items o.slots.items × EachOnce o.slots.items };
+}
+
+/// A number isn't marked any more.
+fn unmark(marks: &mut Vec<bool>, number: u32)
+    ensures { (m : ℕ) → get_or marks.new.items m false ≡ (if m == number then false else get_or marks.old.items m false) }
+{
+    let at = number as usize;
+    if at < marks.len() {
+        marks[at] = false;
+    }
+}
+
+/// The first slots alone stay, and are marked.
+fn cut(slots: &mut Vec<u32>, marks: &mut Vec<bool>, count: usize)
+    requires marked { AreMarked marks.old.items slots.old.items }
+    requires once { EachOnce slots.old.items }
+    ensures marked { AreMarked marks.new.items slots.new.items }
+    ensures once { EachOnce slots.new.items }
+    ensures cut { slots.new.items ≡ take count slots.old.items }
+{
+    'slots: while slots.len() > count {
+        match slots.pop() {
+            None => return,
+            Some(slot) => unmark(marks, slot),
+        }
+    }
 }
 
 impl Order {
@@ -42,6 +69,20 @@ impl Order {
     {
         self.slots.clear();
         self.marks.clear();
+    }
+
+    /// The first slots alone. It takes as long as there are others.
+    pub fn truncate(&mut self, count: usize)
+        ensures { self.new ≡ take count self.old }
+    {
+        cut(&mut self.slots, &mut self.marks, count);
+    }
+
+    /// How many slots there are.
+    pub fn len(&self) -> usize
+        ensures { result ≡ length self.now }
+    {
+        self.slots.len()
     }
 
     /// A slot comes. Once there is room for it, it takes constant time and no memory; where memory is refused, what came

@@ -53,7 +53,7 @@ pub fn judged(answer: Result<bool, Halt>) -> Result<Judgement, NoMemory>
 }
 
 /// Runs the predicate on a candidate.
-pub(crate) fn run(
+pub fn run_predicate(
     alloc: Global,
     layout: &Layout,
     predicate: &Predicate,

@@ -1,6 +1,6 @@
 use Rattle.std.proofs.Common.{◌≡◌, drop}
 use Rattle.kr_judge.specs.Orders.{with_slots}
-use Rattle.kr_judge.proofs.judge.add_slots.Given as goal
+use Rattle.kr_judge.proofs.accesses.add_slots.Given as goal
 
 -- what is left comes to what came
 abbrev pub invariant-loop-slot : goal.invariant-loop-slot

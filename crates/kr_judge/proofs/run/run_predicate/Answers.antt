@@ -9,7 +9,7 @@ use Rattle.kr_world.specs.Worlds.{state_of}
 use Rattle.kr_judge.specs.Judged.{MeansAs}
 use Rattle.kr_judge.proofs.Ends.{ran}
 use Rattle.kr_judge.proofs.Programs.{start_same}
-use Rattle.kr_judge.proofs.run.run.Goals as goal
+use Rattle.kr_judge.proofs.run.run_predicate.Goals as goal
 
 pub returns : goal.returns
 unfolding end_on

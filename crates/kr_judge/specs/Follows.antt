@@ -1,0 +1,19 @@
+-- Places in the order in which a run has read them, and the slots that came with them.
+use Rattle.std.specs.Prelude.{◌≡◌, ℕ, List, [], ◌∷◌, reverse, take}
+use Rattle.kr_mean.specs.Places.{SlotPlace}
+use Rattle.kr_world.specs.Shown.{place_of}
+use Rattle.kr_judge.specs.Orders.{with_slots}
+use Rattle.kr_judge.specs.declared.accesses.Access.{Access}
+use Rattle.kr_judge.specs.declared.accesses.Accesses.{Accesses}
+
+-- of places, the last one first: the slots of each have come to those before it
+abbrev pub AreOf : (SlotPlace → List ℕ) → List Access → List ℕ → Type 0
+AreOf slots_of [] order = order ≡ []
+AreOf slots_of (a ∷ others) order = AreOf slots_of others (take a.before order) × (order ≡ with_slots (take a.before order) (slots_of (place_of a.place)))
+
+-- the slots that have come are those of the places, and others behind them
+abbrev pub Follow : (SlotPlace → List ℕ) → Accesses → Type 0
+Follow slots_of a = AreOf slots_of (reverse a.places.items) (take a.count a.order)
+
+abbrev pub place_in : Access → SlotPlace
+place_in a = place_of a.place
