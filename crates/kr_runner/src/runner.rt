@@ -17,7 +17,7 @@ use crate::checks::Checks;
 use crate::going::run;
 use kr_base::NoMemory;
 use kr_frames::Stack;
-use kr_judge::{Judge, Judgement, Predicate};
+use kr_judge::{Accesses, Judgement, Predicate, run_predicate};
 use kr_problem::Layout;
 use kr_vector::{Slot, Vector};
 use kr_world::World;
@@ -37,20 +37,23 @@ pub struct Runner<'s> {
     known: Option<Vector>,
     world: World,
     stack: Stack,
-    judge: Judge,
+    accesses: Accesses,
 }
 
 impl<'s> Model for Runner<'s> {
     ghost use Rattle.std.specs.List.{All};
+    ghost use Rattle.kr_mean.specs.Runs.{slots_for};
+    ghost use Rattle.kr_problem.specs.Bounds.{bare};
+    ghost use Rattle.kr_judge.specs.Follows.{Follow};
     ghost use Rattle.kr_runner.specs.Going.{IsKnown};
     ghost use Rattle.kr_runner.specs.Kept.{Kept};
     ghost use Rattle.kr_runner.specs.Seen.{Seen};
 
     ghost Value = { Seen };
 
-    ghost view = { λ r. record { bounds = r.layout.now; predicate = r.predicate.now; vector = r.vector; order = r.judge } };
+    ghost view = { λ r. record { bounds = r.layout.now; predicate = r.predicate.now; vector = r.vector; order = r.accesses.order } };
 
-    ghost invariant = { λ r. All (Kept r.layout.now r.predicate.now r.vector) r.checks × IsKnown r.layout.now r.known r.world.candidates };
+    ghost invariant = { λ r. All (Kept r.layout.now r.predicate.now r.vector) r.checks × IsKnown r.layout.now r.known r.world.candidates × Follow (slots_for (bare r.layout.now)) r.accesses };
 }
 
 /// Gives a slot another index. No checkpoint stays where a root changes.
@@ -96,7 +99,7 @@ impl<'s> Runner<'s> {
             known: None,
             world: blank_world(alloc),
             stack: Stack::new(alloc),
-            judge: Judge::new(alloc),
+            accesses: Accesses::new(alloc),
         })
     }
 
@@ -150,11 +153,16 @@ impl<'s> Runner<'s> {
             &mut self.stack,
         )? {
             Some(end) => {
-                self.judge
-                    .take_order(self.layout, &self.vector, end, &self.world.reads)?;
+                self.accesses
+                    .take(self.layout, &self.vector, end, &self.world.reads)?;
                 Ok(end)
             }
-            None => self.judge.run(self.layout, self.predicate, &self.vector),
+            None => {
+                let ran = run_predicate(self.alloc, self.layout, self.predicate, &self.vector)?;
+                self.accesses
+                    .take(self.layout, &self.vector, ran.end, &ran.reads)?;
+                Ok(ran.end)
+            }
         }
     }
 
@@ -162,6 +170,6 @@ impl<'s> Runner<'s> {
     pub fn order(&self) -> &[u32]
         ensures { result.now ≡ self.now.order }
     {
-        self.judge.order()
+        self.accesses.order.as_slice()
     }
 }
