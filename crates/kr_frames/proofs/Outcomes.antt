@@ -21,8 +21,8 @@ use Rattle.kr_world.specs.Noting.{noting, noted_once, with_read}
 use Rattle.kr_world.specs.Shown.{stop_of}
 use Rattle.kr_world.specs.Worlds.{Others, Allows, Keeps, Agrees, candidates_of, state_at}
 use Rattle.kr_world.proofs.Candidates.{kept_same, kept_then}
-use Rattle.kr_frames.specs.declared.frame.Frame.{Frame}
-use Rattle.kr_frames.specs.declared.frame.Frame.TheVariants as frames
+use Rattle.kr_frames.specs.Frame.{Frame}
+use Rattle.kr_frames.specs.Frame as frames
 use Rattle.kr_frames.specs.declared.task.Task.{Task}
 use Rattle.kr_frames.specs.Frames.{continued, restored, cut_to, got, tested, led, done, applied, upwards, onto, out_value, out_flow, out_unit}
 use Rattle.kr_frames.specs.Leads.{Leads, HasEnded}
@@ -48,13 +48,13 @@ mutual
   value_reads code d (frames.Value f ∷ fs) rs o = ap (out_value code d fs) (continued_reads rs o (got code d f)) ∙ value_reads code d fs rs (continued o (got code d f))
   value_reads code d (frames.Test f ∷ fs) rs o = ap (out_flow code d fs) (continued_reads rs o (tested code d f)) ∙ flow_reads code d fs rs (continued o (tested code d f))
   value_reads code d (frames.Arguments goal ns vs ∷ fs) rs o =
-      ap (λ (q : Outcome (List Value)). out_value code d fs (continued q (λ ws. applied code d goal (onto (reverse vs.items) ws)))) (continued_reads rs o (λ v. bind (values_at d (listed code ns)) (λ ws. give (v ∷ ws))))
-      ∙ ap (out_value code d fs) (continued_reads rs (continued o (λ v. bind (values_at d (listed code ns)) (λ ws. give (v ∷ ws)))) (λ ws. applied code d goal (onto (reverse vs.items) ws)))
-      ∙ value_reads code d fs rs (continued (continued o (λ v. bind (values_at d (listed code ns)) (λ ws. give (v ∷ ws)))) (λ ws. applied code d goal (onto (reverse vs.items) ws)))
+      ap (λ (q : Outcome (List Value)). out_value code d fs (continued q (λ ws. applied code d goal (onto (reverse vs) ws)))) (continued_reads rs o (λ v. bind (values_at d (listed code ns)) (λ ws. give (v ∷ ws))))
+      ∙ ap (out_value code d fs) (continued_reads rs (continued o (λ v. bind (values_at d (listed code ns)) (λ ws. give (v ∷ ws)))) (λ ws. applied code d goal (onto (reverse vs) ws)))
+      ∙ value_reads code d fs rs (continued (continued o (λ v. bind (values_at d (listed code ns)) (λ ws. give (v ∷ ws)))) (λ ws. applied code d goal (onto (reverse vs) ws)))
   value_reads code d (frames.UpArguments up ns vs ∷ fs) rs o =
-      ap (λ (q : Outcome (List Value)). out_unit code d fs (continued q (λ ws. upwards code d up (onto (reverse vs.items) ws)))) (continued_reads rs o (λ v. bind (values_at d (listed code ns)) (λ ws. give (v ∷ ws))))
-      ∙ ap (out_unit code d fs) (continued_reads rs (continued o (λ v. bind (values_at d (listed code ns)) (λ ws. give (v ∷ ws)))) (λ ws. upwards code d up (onto (reverse vs.items) ws)))
-      ∙ unit_reads code d fs rs (continued (continued o (λ v. bind (values_at d (listed code ns)) (λ ws. give (v ∷ ws)))) (λ ws. upwards code d up (onto (reverse vs.items) ws)))
+      ap (λ (q : Outcome (List Value)). out_unit code d fs (continued q (λ ws. upwards code d up (onto (reverse vs) ws)))) (continued_reads rs o (λ v. bind (values_at d (listed code ns)) (λ ws. give (v ∷ ws))))
+      ∙ ap (out_unit code d fs) (continued_reads rs (continued o (λ v. bind (values_at d (listed code ns)) (λ ws. give (v ∷ ws)))) (λ ws. upwards code d up (onto (reverse vs) ws)))
+      ∙ unit_reads code d fs rs (continued (continued o (λ v. bind (values_at d (listed code ns)) (λ ws. give (v ∷ ws)))) (λ ws. upwards code d up (onto (reverse vs) ws)))
   value_reads code d (frames.UpEnter up ns ∷ fs) rs o = ap (out_unit code d fs) (continued_reads rs o (λ v. bind (values_at d (listed code ns)) (upwards code d up))) ∙ unit_reads code d fs rs (continued o (λ v. bind (values_at d (listed code ns)) (upwards code d up)))
   value_reads code d (frames.Store field object ∷ fs) rs o = ap (out_unit code d fs) (continued_reads rs o (store_initial code field object)) ∙ unit_reads code d fs rs (continued o (store_initial code field object))
   value_reads code d (frames.Flow f ∷ fs) rs o = continued_reads rs o _
@@ -70,7 +70,7 @@ mutual
   flow_reads code d (frames.Flow f ∷ fs) rs o = ap (out_flow code d fs) (continued_reads rs o (led code d f)) ∙ flow_reads code d fs rs (continued o (led code d f))
   flow_reads code d (frames.Scope n ∷ fs) rs o = flow_reads code d fs rs (cut_to n o)
   flow_reads code d (frames.Leave void this locals ∷ fs) rs o =
-      ap (λ (q : Outcome Value). out_value code d fs (restored this locals.items q)) (continued_reads rs o (returned void)) ∙ value_reads code d fs rs (restored this locals.items (continued o (returned void)))
+      ap (λ (q : Outcome Value). out_value code d fs (restored this locals q)) (continued_reads rs o (returned void)) ∙ value_reads code d fs rs (restored this locals (continued o (returned void)))
   flow_reads code d (frames.Complete ∷ fs) rs o = ap (out_unit code d fs) (continued_reads rs o completed) ∙ unit_reads code d fs rs (continued o completed)
   flow_reads code d (frames.Value f ∷ fs) rs o = continued_reads rs o _
   flow_reads code d (frames.Test f ∷ fs) rs o = continued_reads rs o _
@@ -85,7 +85,7 @@ mutual
   pub unit_reads : (code : Code) (d : Doing) (fs : List Frame) (rs : List SlotPlace) (o : Outcome (Unit {0})) → out_unit code d fs (after_reads rs o) ≡ after_reads rs (out_unit code d fs o)
   unit_reads code d [] rs o = continued_reads rs o _
   unit_reads code d (frames.Unit f ∷ fs) rs o = ap (out_unit code d fs) (continued_reads rs o (λ u. done code d f)) ∙ unit_reads code d fs rs (continued o (λ u. done code d f))
-  unit_reads code d (frames.Back this locals ∷ fs) rs o = unit_reads code d fs rs (restored this locals.items o)
+  unit_reads code d (frames.Back this locals ∷ fs) rs o = unit_reads code d fs rs (restored this locals o)
   unit_reads code d (frames.Made object ∷ fs) rs o = ap (out_value code d fs) (continued_reads rs o (λ u. give object)) ∙ value_reads code d fs rs (continued o (λ u. give object))
   unit_reads code d (frames.Value f ∷ fs) rs o = continued_reads rs o _
   unit_reads code d (frames.Test f ∷ fs) rs o = continued_reads rs o _
@@ -177,7 +177,7 @@ module _ (code : Code) (d : Doing) (e : Stop) (heap : List HeapObject) (fuel : �
     flow_ends [] o x = ends_on e heap fuel reads o _ x
     flow_ends (frames.Flow f ∷ fs) o x = flow_ends fs _ (ends_on e heap fuel reads o (led code d f) x)
     flow_ends (frames.Scope n ∷ fs) o x = flow_ends fs _ (ends_cut n o x)
-    flow_ends (frames.Leave void this locals ∷ fs) o x = value_ends fs _ (ends_restored this locals.items (continued o (returned void)) (ends_on e heap fuel reads o (returned void) x))
+    flow_ends (frames.Leave void this locals ∷ fs) o x = value_ends fs _ (ends_restored this locals (continued o (returned void)) (ends_on e heap fuel reads o (returned void) x))
     flow_ends (frames.Complete ∷ fs) o x = unit_ends fs _ (ends_on e heap fuel reads o completed x)
     flow_ends (frames.Value f ∷ fs) o x = ends_on e heap fuel reads o _ x
     flow_ends (frames.Test f ∷ fs) o x = ends_on e heap fuel reads o _ x
@@ -192,7 +192,7 @@ module _ (code : Code) (d : Doing) (e : Stop) (heap : List HeapObject) (fuel : �
     pub unit_ends : (fs : List Frame) (o : Outcome (Unit {0})) → Ends e heap fuel reads o → Ends e heap fuel reads (out_unit code d fs o)
     unit_ends [] o x = ends_on e heap fuel reads o _ x
     unit_ends (frames.Unit f ∷ fs) o x = unit_ends fs _ (ends_on e heap fuel reads o (λ u. done code d f) x)
-    unit_ends (frames.Back this locals ∷ fs) o x = unit_ends fs _ (ends_restored this locals.items o x)
+    unit_ends (frames.Back this locals ∷ fs) o x = unit_ends fs _ (ends_restored this locals o x)
     unit_ends (frames.Made object ∷ fs) o x = value_ends fs _ (ends_on e heap fuel reads o (λ u. give object) x)
     unit_ends (frames.Value f ∷ fs) o x = ends_on e heap fuel reads o _ x
     unit_ends (frames.Test f ∷ fs) o x = ends_on e heap fuel reads o _ x

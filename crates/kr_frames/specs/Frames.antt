@@ -38,8 +38,8 @@ use Rattle.kr_frames.specs.declared.frame.FlowFrame.{FlowFrame}
 use Rattle.kr_frames.specs.declared.frame.FlowFrame.TheVariants as leads
 use Rattle.kr_frames.specs.declared.frame.UnitFrame.{UnitFrame}
 use Rattle.kr_frames.specs.declared.frame.UnitFrame.TheVariants as units
-use Rattle.kr_frames.specs.declared.frame.Frame.{Frame}
-use Rattle.kr_frames.specs.declared.frame.Frame.TheVariants as frames
+use Rattle.kr_frames.specs.Frame.{Frame}
+use Rattle.kr_frames.specs.Frame as frames
 
 abbrev pub flow_of : Flow → meaning.Flow
 flow_of flows.Next = meaning.Next
@@ -186,9 +186,9 @@ abbrev mutual
   out_value code d (frames.Value f ∷ fs) o = out_value code d fs (continued o (got code d f))
   out_value code d (frames.Test f ∷ fs) o = out_flow code d fs (continued o (tested code d f))
   out_value code d (frames.Arguments goal ns vs ∷ fs) o =
-      out_value code d fs (continued (continued o (λ v. values_at d (listed code ns) >>= (λ ws. give (v ∷ ws)))) (λ ws. applied code d goal (onto (reverse vs.items) ws)))
+      out_value code d fs (continued (continued o (λ v. values_at d (listed code ns) >>= (λ ws. give (v ∷ ws)))) (λ ws. applied code d goal (onto (reverse vs) ws)))
   out_value code d (frames.UpArguments up ns vs ∷ fs) o =
-      out_unit code d fs (continued (continued o (λ v. values_at d (listed code ns) >>= (λ ws. give (v ∷ ws)))) (λ ws. upwards code d up (onto (reverse vs.items) ws)))
+      out_unit code d fs (continued (continued o (λ v. values_at d (listed code ns) >>= (λ ws. give (v ∷ ws)))) (λ ws. upwards code d up (onto (reverse vs) ws)))
   out_value code d (frames.UpEnter up ns ∷ fs) o = out_unit code d fs (continued o (λ v. values_at d (listed code ns) >>= upwards code d up))
   out_value code d (frames.Store field object ∷ fs) o = out_unit code d fs (continued o (store_initial code field object))
   out_value code d _ o = misled o
@@ -197,14 +197,14 @@ abbrev mutual
   pub out_flow : Code → Doing → List Frame → Outcome meaning.Flow → Outcome Value
   out_flow code d (frames.Flow f ∷ fs) o = out_flow code d fs (continued o (led code d f))
   out_flow code d (frames.Scope n ∷ fs) o = out_flow code d fs (cut_to n o)
-  out_flow code d (frames.Leave void this locals ∷ fs) o = out_value code d fs (restored this locals.items (continued o (returned void)))
+  out_flow code d (frames.Leave void this locals ∷ fs) o = out_value code d fs (restored this locals (continued o (returned void)))
   out_flow code d (frames.Complete ∷ fs) o = out_unit code d fs (continued o completed)
   out_flow code d _ o = misled o
 
   -- something is done that gives nothing
   pub out_unit : Code → Doing → List Frame → Outcome (Unit {0}) → Outcome Value
   out_unit code d (frames.Unit f ∷ fs) o = out_unit code d fs (continued o (λ u. done code d f))
-  out_unit code d (frames.Back this locals ∷ fs) o = out_unit code d fs (restored this locals.items o)
+  out_unit code d (frames.Back this locals ∷ fs) o = out_unit code d fs (restored this locals o)
   out_unit code d (frames.Made object ∷ fs) o = out_value code d fs (continued o (λ u. give object))
   out_unit code d _ o = misled o
 

@@ -12,7 +12,7 @@ use Rattle.kr_world.specs.Noting.{noting}
 use Rattle.kr_world.specs.Shown.{stop_of}
 use Rattle.kr_world.specs.Worlds.{Others, Allows, Keeps, candidates_of, state_at}
 use Rattle.kr_frames.specs.declared.task.Task.{Task}
-use Rattle.kr_frames.specs.declared.frame.Frame.{Frame}
+use Rattle.kr_frames.specs.Frame.{Frame}
 use Rattle.kr_frames.specs.Frames.{resumed}
 
 -- A run has ended so, with the world's heap and fuel, and its reads.

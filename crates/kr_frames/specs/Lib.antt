@@ -1,3 +1,5 @@
+pub mod Frame
+pub mod Kept
 pub mod Frames
 pub mod Leads
 pub mod Copies

@@ -1,13 +1,9 @@
 // What waits for a value, for a statement's end, or for something that gives nothing.
-ghost use Rattle.std.specs.Prelude.{IfOk};
-ghost use Rattle.kr_frames.specs.Copies.{IsCopy};
 
 use kr_ast::{BinaryOperator, StepOperator, UnaryOperator};
-use kr_base::NoMemory;
 use kr_code::{CollectionCall, Nodes};
 use kr_value::{Class, Value};
-use kr_world::{Cell, Local};
-use std::alloc::Global;
+use kr_world::Cell;
 
 /// What is done with arguments.
 #[derive(Clone, Copy, Debug)]
@@ -136,65 +132,28 @@ pub enum UnitFrame {
     Initialise(Nodes, Value),
 }
 
-/// A frame.
-#[derive(Debug, Drop)]
-pub enum Frame {
+/// A frame as the stack keeps it: in place of a list, where that begins among those of all frames.
+#[derive(Clone, Copy, Debug)]
+pub enum Waiting {
     Value(ValueFrame),
     Test(TestFrame),
     Flow(FlowFrame),
     Unit(UnitFrame),
     /// Arguments: the nodes that are left, and the values that are there.
-    Arguments(Goal, Nodes, Vec<Value>),
-    UpArguments(Up, Nodes, Vec<Value>),
+    Arguments(Goal, Nodes, usize),
+    UpArguments(Up, Nodes, usize),
     /// The unit of a written call of the superclass's constructor is spent.
     UpEnter(Up, Nodes),
     /// The locals of a block end: so many were there before.
     Scope(usize),
     /// A method's body ends, and gives no value or one: `this` and the locals are those of its caller.
-    Leave(bool, Value, Vec<Local>),
+    Leave(bool, Value, usize),
     /// A constructor's body ends.
     Complete,
     /// `this` and the locals are those from before, where something is done on a new object.
-    Back(Value, Vec<Local>),
+    Back(Value, usize),
     /// The new object is given.
     Made(Value),
     /// A field gets its initial value, on an object.
     Store(u32, Value),
-}
-
-impl Frame {
-    /// The same frame once more.
-    pub fn copy(&self, alloc: Global) -> Result<Frame, NoMemory>
-        ensures { IfOk result (λ frame. IsCopy self.now frame) }
-    {
-        match self {
-            Frame::Value(frame) => Ok(Frame::Value(*frame)),
-            Frame::Test(frame) => Ok(Frame::Test(*frame)),
-            Frame::Flow(frame) => Ok(Frame::Flow(*frame)),
-            Frame::Unit(frame) => Ok(Frame::Unit(*frame)),
-            Frame::Arguments(goal, nodes, found) => Ok(Frame::Arguments(
-                *goal,
-                *nodes,
-                found.as_slice().to_vec(alloc)?,
-            )),
-            Frame::UpArguments(up, nodes, found) => Ok(Frame::UpArguments(
-                *up,
-                *nodes,
-                found.as_slice().to_vec(alloc)?,
-            )),
-            Frame::UpEnter(up, nodes) => Ok(Frame::UpEnter(*up, *nodes)),
-            Frame::Scope(count) => Ok(Frame::Scope(*count)),
-            Frame::Leave(is_void, this, locals) => Ok(Frame::Leave(
-                *is_void,
-                *this,
-                locals.as_slice().to_vec(alloc)?,
-            )),
-            Frame::Complete => Ok(Frame::Complete),
-            Frame::Back(this, locals) => {
-                Ok(Frame::Back(*this, locals.as_slice().to_vec(alloc)?))
-            }
-            Frame::Made(object) => Ok(Frame::Made(*object)),
-            Frame::Store(field, object) => Ok(Frame::Store(*field, *object)),
-        }
-    }
 }

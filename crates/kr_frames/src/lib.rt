@@ -3,11 +3,12 @@
 #![tactic(auto)]
 
 mod frame;
+mod room;
 mod stack;
 mod task;
 
 pub use frame::{
-    Change, FlowFrame, Frame, Goal, Loop, TestFrame, UnitFrame, Up, ValueFrame, WriteFrame,
+    Change, FlowFrame, Goal, Loop, TestFrame, UnitFrame, Up, ValueFrame, Waiting, WriteFrame,
 };
 pub use stack::Stack;
 pub use task::{Flow, Task};

@@ -1,0 +1,85 @@
+// Lists in the room that is there.
+ghost use Rattle.std.specs.Prelude.{◌≡◌, ◌∷◌, ◌++◌, ◌≤◌, [], drop, length, reverse, take, IfOk, OnOk};
+
+use crate::Waiting;
+use kr_base::NoMemory;
+
+/// A frame behind all others.
+#[inline(never)]
+fn append(frames: &mut Vec<Waiting>, frame: &Waiting) -> Result<(), NoMemory>
+    ensures appended { OnOk result (frames.new.items ≡ frames.old.items ++ frame.now ∷ []) }
+    ensures long { length frames.old.items ≤ length frames.new.items }
+{
+    if frames.push(*frame).is_err() {
+        return Err(NoMemory);
+    }
+    Ok(())
+}
+
+/// A frame on top of so many, in place of what was there: how many there are then.
+#[inline(always)]
+pub(crate) fn lay(
+    frames: &mut Vec<Waiting>,
+    count: usize,
+    frame: Waiting,
+) -> Result<usize, NoMemory>
+    requires { count ≤ length frames.old.items }
+    ensures long { length frames.old.items ≤ length frames.new.items }
+    ensures room { IfOk result (λ top. top ≤ length frames.new.items) }
+    ensures top { IfOk result (λ top. reverse (take top frames.new.items) ≡ frame ∷ reverse (take count frames.old.items)) }
+{
+    if count < frames.len() {
+        frames[count] = frame;
+        return Ok(count + 1);
+    }
+    append(frames, &frame)?;
+    Ok(count + 1)
+}
+
+/// Others in place of the first ones of those that are there.
+#[tactic(auto, using(std::proofs::lemmas::List::take_at))]
+fn copy_front(frames: &mut [Waiting], others: &[Waiting])
+    requires { length others.now ≤ length frames.old }
+    ensures { take (length others.now) frames.new ≡ others.now }
+{
+    frames[..others.len()].copy_from_slice(others);
+}
+
+/// Others in place of the first ones.
+#[tactic(auto, using(std::proofs::lemmas::List::take_all))]
+pub(crate) fn replace_front(frames: &mut Vec<Waiting>, others: &[Waiting]) -> Result<(), NoMemory>
+    ensures room { OnOk result (length others.now ≤ length frames.new.items) }
+    ensures front { OnOk result (take (length others.now) frames.new.items ≡ others.now) }
+{
+    if others.len() <= frames.len() {
+        copy_front(frames.as_mut_slice(), others);
+        return Ok(());
+    }
+    frames.clear();
+    frames.extend_from_slice(others)?;
+    Ok(())
+}
+
+/// Others in place of all.
+pub(crate) fn replace<T: Copy + Drop>(items: &mut Vec<T>, others: &[T]) -> Result<(), NoMemory>
+    ensures { OnOk result (items.new.items ≡ others.now) }
+{
+    items.clear();
+    items.extend_from_slice(others)?;
+    Ok(())
+}
+
+/// Others, from a place on, in place of all.
+pub(crate) fn replace_from<T: Copy + Drop>(
+    items: &mut Vec<T>,
+    others: &[T],
+    start: usize,
+) -> Result<(), NoMemory>
+    ensures { OnOk result (items.new.items ≡ drop start others.now) }
+{
+    items.clear();
+    if start < others.len() {
+        items.extend_from_slice(&others[start..])?;
+    }
+    Ok(())
+}
