@@ -30,3 +30,8 @@ Leads code (Ok task) fs w before o = (x : Others) → Allows w x → Keeps befor
 Leads code (Err (Ended e)) fs w before o = (x : Others) → Allows w x → Keeps before w x × ((d : Doing) → IsMeaning code d → HasEnded e w x (noting before.reads (o d x)))
 Leads code (Err Memory) fs w before o = Unit {0}
 Leads code (Err Written) fs w before o = Unit {0}
+
+-- the task that stands there now, or why none does
+abbrev pub next_task : Result (Unit {0}) Halt → Task → Result Task Halt
+next_task (Ok u) task = Ok task
+next_task (Err h) task = Err h

@@ -5,7 +5,7 @@ ghost use Rattle.kr_code.specs.Collections.{name_of};
 ghost use Rattle.kr_code.specs.Steps.{load_named};
 ghost use Rattle.kr_code.specs.Doing.{value_of, call, assigned, changed, values_at};
 ghost use Rattle.kr_frames.specs.Frames.{out_value, change_of};
-ghost use Rattle.kr_frames.specs.Leads.{Leads};
+ghost use Rattle.kr_frames.specs.Leads.{Leads, next_task};
 ghost use Rattle.kr_world.specs.Worlds.{state_at};
 ghost use Rattle.kr_code.specs.Tables.{expression_of, listed, node_at};
 
@@ -27,8 +27,9 @@ fn enter_call(
     stack: &Stack,
     callee: Callee,
     arguments: Nodes,
-) -> Result<Task, Halt>
-    ensures { Leads code.now result stack.now world.now world.now (λ d x. out_value code.now d stack.now (call code.now d callee (listed code.now arguments) (state_at world.now x))) }
+    task: &mut Task,
+) -> Result<(), Halt>
+    ensures { Leads code.now (next_task result task.new) stack.now world.now world.now (λ d x. out_value code.now d stack.now (call code.now d callee (listed code.now arguments) (state_at world.now x))) }
 {
     let goal = match callee {
         Callee::Unknown => Goal::Stop,
@@ -39,7 +40,8 @@ fn enter_call(
         Callee::NewSet => Goal::NewCollection(Class::Set),
         Callee::NewList => Goal::NewCollection(Class::List),
     };
-    Ok(Task::Values(goal, arguments, Vec::new(alloc)))
+    *task = Task::Values(goal, arguments, Vec::new(alloc));
+    Ok(())
 }
 
 /// An assignment.
@@ -50,23 +52,33 @@ fn enter_assignment(
     stack: &mut Stack,
     variable: Variable,
     node: u32,
-) -> Result<Task, Halt>
-    ensures { Leads code.now result stack.new world.now world.now (λ d x. out_value code.now d stack.old (assigned code.now d variable (d.value node) (state_at world.now x))) }
+    task: &mut Task,
+) -> Result<(), Halt>
+    ensures { Leads code.now (next_task result task.new) stack.new world.now world.now (λ d x. out_value code.now d stack.old (assigned code.now d variable (d.value node) (state_at world.now x))) }
 {
     match variable {
-        Variable::Unknown => Ok(Task::Act(Action::End(End::Stuck))),
-        Variable::Local(local) => then_write(stack, WriteFrame::Put(Cell::Local(local)), node),
-        Variable::Own { field, .. } => then_write(stack, WriteFrame::PutOwn(field), node),
+        Variable::Unknown => {
+            *task = Task::Act(Action::End(End::Stuck));
+            Ok(())
+        }
+        Variable::Local(local) => then_write(
+            stack,
+            WriteFrame::Put(Cell::Local(local)),
+            node,
+            task,
+        ),
+        Variable::Own { field, .. } => then_write(stack, WriteFrame::PutOwn(field), node, task),
         Variable::Of { object, field, .. } => then_write(
             stack,
             WriteFrame::FieldOf(field, node),
             object,
+            task,
         ),
         Variable::Element {
             array,
             index,
             class,
-        } => then_write(stack, WriteFrame::ItemOf(index, node, class), array),
+        } => then_write(stack, WriteFrame::ItemOf(index, node, class), array, task),
     }
 }
 
@@ -78,30 +90,46 @@ fn enter_change(
     stack: &mut Stack,
     variable: Variable,
     change: Change,
-) -> Result<Task, Halt>
-    ensures { Leads code.now result stack.new world.now world.now (λ d x. out_value code.now d stack.old (changed code.now d variable (change_of d change) (state_at world.now x))) }
+    task: &mut Task,
+) -> Result<(), Halt>
+    ensures { Leads code.now (next_task result task.new) stack.new world.now world.now (λ d x. out_value code.now d stack.old (changed code.now d variable (change_of d change) (state_at world.now x))) }
 {
     match variable {
-        Variable::Unknown => Ok(Task::Act(Action::End(End::Stuck))),
+        Variable::Unknown => {
+            *task = Task::Act(Action::End(End::Stuck));
+            Ok(())
+        }
         Variable::Local(local) => {
             write(stack, WriteFrame::Alter(change, Cell::Local(local)))?;
-            Ok(Task::Act(Action::ReadLocal(local)))
+            *task = Task::Act(Action::ReadLocal(local));
+            Ok(())
         }
         Variable::Own { name, field } => {
             let this = world.this;
             write(stack, WriteFrame::Alter(change, Cell::Field(field, this)))?;
-            Ok(Task::Act(Action::Load(name, this)))
+            *task = Task::Act(Action::Load(name, this));
+            Ok(())
         }
         Variable::Of {
             object,
             name,
             field,
-        } => then_write(stack, WriteFrame::AlterField(change, name, field), object),
+        } => then_write(
+            stack,
+            WriteFrame::AlterField(change, name, field),
+            object,
+            task,
+        ),
         Variable::Element {
             array,
             index,
             class,
-        } => then_write(stack, WriteFrame::AlterItemOf(change, index, class), array),
+        } => then_write(
+            stack,
+            WriteFrame::AlterItemOf(change, index, class),
+            array,
+            task,
+        ),
     }
 }
 
@@ -112,12 +140,16 @@ fn enter_field(
     stack: &mut Stack,
     object: u32,
     name: u32,
-) -> Result<Task, Halt>
-    ensures { Leads code.now result stack.new world.new world.old (λ d x. out_value code.now d stack.old (bind (d.value object) (load_named code.now name) (state_at world.old x))) }
+    task: &mut Task,
+) -> Result<(), Halt>
+    ensures { Leads code.now (next_task result task.new) stack.new world.new world.old (λ d x. out_value code.now d stack.old (bind (d.value object) (load_named code.now name) (state_at world.old x))) }
 {
     match at_once(code, world, object) {
-        Some(value) => Ok(Task::Act(Action::Load(name, value))),
-        None => first(stack, ValueFrame::Load(name), object),
+        Some(value) => {
+            *task = Task::Act(Action::Load(name, value));
+            Ok(())
+        }
+        None => first(stack, ValueFrame::Load(name), object, task),
     }
 }
 
@@ -128,12 +160,13 @@ fn enter_element(
     stack: &mut Stack,
     array: u32,
     index: u32,
-) -> Result<Task, Halt>
-    ensures { Leads code.now result stack.new world.new world.old (λ d x. out_value code.now d stack.old (bind (d.value array) (λ o. bind (d.value index) (element_step o)) (state_at world.old x))) }
+    task: &mut Task,
+) -> Result<(), Halt>
+    ensures { Leads code.now (next_task result task.new) stack.new world.new world.old (λ d x. out_value code.now d stack.old (bind (d.value array) (λ o. bind (d.value index) (element_step o)) (state_at world.old x))) }
 {
     match at_once(code, world, array) {
-        Some(value) => take_array(code, world, stack, index, value),
-        None => first(stack, ValueFrame::ElementOf(index), array),
+        Some(value) => take_array(code, world, stack, index, value, task),
+        None => first(stack, ValueFrame::ElementOf(index), array, task),
     }
 }
 
@@ -145,11 +178,15 @@ fn collected(
     call: CollectionCall,
     object: Value,
     arguments: &[Value],
-) -> Result<Task, Halt>
-    ensures { Leads code.now result stack.now world.new world.old (λ d x. out_value code.now d stack.now (collect_step (name_of call) object arguments.now (state_at world.old x))) }
+    task: &mut Task,
+) -> Result<(), Halt>
+    ensures { Leads code.now (next_task result task.new) stack.now world.new world.old (λ d x. out_value code.now d stack.now (collect_step (name_of call) object arguments.now (state_at world.old x))) }
 {
     match collect(world, call, object, arguments) {
-        Ok(given) => Ok(Task::Got(given)),
+        Ok(given) => {
+            *task = Task::Got(given);
+            Ok(())
+        }
         Err(halt) => Err(halt),
     }
 }
@@ -162,10 +199,11 @@ fn collected_with(
     call: CollectionCall,
     object: Value,
     argument: Value,
-) -> Result<Task, Halt>
-    ensures { Leads code.now result stack.now world.new world.old (λ d x. out_value code.now d stack.now (collect_step (name_of call) object (argument ∷ []) (state_at world.old x))) }
+    task: &mut Task,
+) -> Result<(), Halt>
+    ensures { Leads code.now (next_task result task.new) stack.now world.new world.old (λ d x. out_value code.now d stack.now (collect_step (name_of call) object (argument ∷ []) (state_at world.old x))) }
 {
-    collected(code, world, stack, call, object, &[argument])
+    collected(code, world, stack, call, object, &[argument], task)
 }
 
 /// A call on a collection with one argument, which comes first, unless it is known.
@@ -178,13 +216,14 @@ fn collect_one(
     object: Value,
     arguments: Nodes,
     node: u32,
-) -> Result<Task, Halt>
+    task: &mut Task,
+) -> Result<(), Halt>
     requires { listed code.now arguments ≡ node ∷ [] }
-    ensures { Leads code.now result stack.now world.new world.old (λ d x. out_value code.now d stack.now (bind (values_at d (listed code.now arguments)) (collect_step (name_of call) object) (state_at world.old x))) }
+    ensures { Leads code.now (next_task result task.new) stack.now world.new world.old (λ d x. out_value code.now d stack.now (bind (values_at d (listed code.now arguments)) (collect_step (name_of call) object) (state_at world.old x))) }
 {
     match at_once(code, world, node) {
-        Some(argument) => collected_with(code, world, stack, call, object, argument),
-        None => collect_later(alloc, code, world, stack, call, object, arguments),
+        Some(argument) => collected_with(code, world, stack, call, object, argument, task),
+        None => collect_later(alloc, code, world, stack, call, object, arguments, task),
     }
 }
 
@@ -198,16 +237,19 @@ fn collect_next(
     call: CollectionCall,
     object: Value,
     arguments: Nodes,
-) -> Result<Task, Halt>
-    ensures { Leads code.now result stack.now world.new world.old (λ d x. out_value code.now d stack.now (bind (values_at d (listed code.now arguments)) (collect_step (name_of call) object) (state_at world.old x))) }
+    task: &mut Task,
+) -> Result<(), Halt>
+    ensures { Leads code.now (next_task result task.new) stack.now world.new world.old (λ d x. out_value code.now d stack.now (bind (values_at d (listed code.now arguments)) (collect_step (name_of call) object) (state_at world.old x))) }
 {
     match code.split(arguments) {
-        None => collected(code, world, stack, call, object, &[]),
+        None => collected(code, world, stack, call, object, &[], task),
         Some((node, others)) => {
             if others.count == 0 {
-                collect_one(alloc, code, world, stack, call, object, arguments, node)
+                collect_one(
+                    alloc, code, world, stack, call, object, arguments, node, task,
+                )
             } else {
-                collect_later(alloc, code, world, stack, call, object, arguments)
+                collect_later(alloc, code, world, stack, call, object, arguments, task)
             }
         }
     }
@@ -223,10 +265,12 @@ fn collect_later(
     call: CollectionCall,
     object: Value,
     arguments: Nodes,
-) -> Result<Task, Halt>
-    ensures { Leads code.now result stack.now world.now world.now (λ d x. out_value code.now d stack.now (bind (values_at d (listed code.now arguments)) (collect_step (name_of call) object) (state_at world.now x))) }
+    task: &mut Task,
+) -> Result<(), Halt>
+    ensures { Leads code.now (next_task result task.new) stack.now world.now world.now (λ d x. out_value code.now d stack.now (bind (values_at d (listed code.now arguments)) (collect_step (name_of call) object) (state_at world.now x))) }
 {
-    Ok(Task::Values(Goal::Collect(call, object), arguments, Vec::new(alloc)))
+    *task = Task::Values(Goal::Collect(call, object), arguments, Vec::new(alloc));
+    Ok(())
 }
 
 /// A call on a collection, which comes next, unless it is known.
@@ -238,12 +282,18 @@ fn enter_collection(
     object: u32,
     call: CollectionCall,
     arguments: Nodes,
-) -> Result<Task, Halt>
-    ensures { Leads code.now result stack.new world.new world.old (λ d x. out_value code.now d stack.old (bind (d.value object) (λ o. bind (values_at d (listed code.now arguments)) (collect_step (name_of call) o)) (state_at world.old x))) }
+    task: &mut Task,
+) -> Result<(), Halt>
+    ensures { Leads code.now (next_task result task.new) stack.new world.new world.old (λ d x. out_value code.now d stack.old (bind (d.value object) (λ o. bind (values_at d (listed code.now arguments)) (collect_step (name_of call) o)) (state_at world.old x))) }
 {
     match at_once(code, world, object) {
-        Some(value) => collect_next(alloc, code, world, stack, call, value, arguments),
-        None => first(stack, ValueFrame::CallCollection(call, arguments), object),
+        Some(value) => collect_next(alloc, code, world, stack, call, value, arguments, task),
+        None => first(
+            stack,
+            ValueFrame::CallCollection(call, arguments),
+            object,
+            task,
+        ),
     }
 }
 
@@ -255,25 +305,50 @@ fn enter_expression(
     world: &mut World,
     stack: &mut Stack,
     expression: &Expression,
-) -> Result<Task, Halt>
-    ensures { Leads code.now result stack.new world.new world.old (λ d x. out_value code.now d stack.old (value_of code.now d expression.now (state_at world.old x))) }
+    task: &mut Task,
+) -> Result<(), Halt>
+    ensures { Leads code.now (next_task result task.new) stack.new world.new world.old (λ d x. out_value code.now d stack.old (value_of code.now d expression.now (state_at world.old x))) }
 {
     match expression {
-        Expression::Stuck => Ok(Task::Act(Action::End(End::Stuck))),
-        Expression::Literal(literal) => Ok(Task::Got(*literal)),
-        Expression::This => Ok(Task::Act(Action::This)),
-        Expression::Local(local) => Ok(Task::Act(Action::ReadLocal(*local))),
-        Expression::OwnField(name) => Ok(Task::Act(Action::Load(*name, world.this))),
-        Expression::FieldOf { object, name } => enter_field(code, world, stack, *object, *name),
-        Expression::Element { array, index } => enter_element(code, world, stack, *array, *index),
+        Expression::Stuck => {
+            *task = Task::Act(Action::End(End::Stuck));
+            Ok(())
+        }
+        Expression::Literal(literal) => {
+            *task = Task::Got(*literal);
+            Ok(())
+        }
+        Expression::This => {
+            *task = Task::Act(Action::This);
+            Ok(())
+        }
+        Expression::Local(local) => {
+            *task = Task::Act(Action::ReadLocal(*local));
+            Ok(())
+        }
+        Expression::OwnField(name) => {
+            *task = Task::Act(Action::Load(*name, world.this));
+            Ok(())
+        }
+        Expression::FieldOf { object, name } => enter_field(
+            code, world, stack, *object, *name, task,
+        ),
+        Expression::Element { array, index } => enter_element(
+            code, world, stack, *array, *index, task,
+        ),
         Expression::Call { callee, arguments } => {
-            enter_call(alloc, code, world, stack, *callee, *arguments)
+            enter_call(alloc, code, world, stack, *callee, *arguments, task)
         }
         Expression::CallOn {
             object,
             method,
             arguments,
-        } => first(stack, ValueFrame::CallOn(*method, *arguments), *object),
+        } => first(
+            stack,
+            ValueFrame::CallOn(*method, *arguments),
+            *object,
+            task,
+        ),
         Expression::StaticCallOn {
             object,
             method,
@@ -282,45 +357,61 @@ fn enter_expression(
             stack,
             ValueFrame::StaticCallOn(*method, *arguments),
             *object,
+            task,
         ),
         Expression::CallCollection {
             object,
             call,
             arguments,
-        } => enter_collection(alloc, code, world, stack, *object, *call, *arguments),
+        } => enter_collection(alloc, code, world, stack, *object, *call, *arguments, task),
         Expression::NewArray {
             class,
             default,
             length,
-        } => first(stack, ValueFrame::NewArray(*class, *default), *length),
+        } => first(stack, ValueFrame::NewArray(*class, *default), *length, task),
         Expression::Unary { operator, operand } => first(
             stack,
             ValueFrame::Unary(*operator),
             *operand,
+            task,
         ),
-        Expression::And { left, right } => first(stack, ValueFrame::AndThen(*right), *left),
-        Expression::Or { left, right } => first(stack, ValueFrame::OrElse(*right), *left),
+        Expression::And { left, right } => first(stack, ValueFrame::AndThen(*right), *left, task),
+        Expression::Or { left, right } => first(stack, ValueFrame::OrElse(*right), *left, task),
         Expression::Binary {
             operator,
             left,
             right,
-        } => first(stack, ValueFrame::Left(*operator, *right), *left),
+        } => first(stack, ValueFrame::Left(*operator, *right), *left, task),
         Expression::InstanceOf { operand, class } => first(
             stack,
             ValueFrame::Instance(*class),
             *operand,
+            task,
         ),
         Expression::Conditional {
             condition,
             then,
             otherwise,
-        } => first(stack, ValueFrame::Choose(*then, *otherwise), *condition),
-        Expression::Cast { class, operand } => first(stack, ValueFrame::Cast(*class), *operand),
-        Expression::Same(operand) => Ok(Task::Evaluate(*operand)),
+        } => first(
+            stack,
+            ValueFrame::Choose(*then, *otherwise),
+            *condition,
+            task,
+        ),
+        Expression::Cast { class, operand } => first(
+            stack,
+            ValueFrame::Cast(*class),
+            *operand,
+            task,
+        ),
+        Expression::Same(operand) => {
+            *task = Task::Evaluate(*operand);
+            Ok(())
+        }
         Expression::Assign {
             variable,
             value: node,
-        } => enter_assignment(code, world, stack, *variable, *node),
+        } => enter_assignment(code, world, stack, *variable, *node, task),
         Expression::Compound {
             operator,
             variable,
@@ -331,12 +422,19 @@ fn enter_expression(
             stack,
             *variable,
             Change::Compound(*operator, *node),
+            task,
         ),
         Expression::Step { operator, variable } => {
-            enter_change(code, world, stack, *variable, Change::Step(*operator))
+            enter_change(code, world, stack, *variable, Change::Step(*operator), task)
         }
-        Expression::Result => Ok(Task::Act(Action::Result)),
-        Expression::Old(place) => Ok(Task::Act(Action::Old(*place))),
+        Expression::Result => {
+            *task = Task::Act(Action::Result);
+            Ok(())
+        }
+        Expression::Old(place) => {
+            *task = Task::Act(Action::Old(*place));
+            Ok(())
+        }
     }
 }
 
@@ -347,12 +445,16 @@ fn enter_ticked(
     world: &mut World,
     stack: &mut Stack,
     node: u32,
-) -> Result<Task, Halt>
-    ensures { Leads code.now result stack.new world.new world.old (λ d x. out_value code.now d stack.old (value_of code.now d (expression_of (node_at code.now node)) (state_at world.old x))) }
+    task: &mut Task,
+) -> Result<(), Halt>
+    ensures { Leads code.now (next_task result task.new) stack.new world.new world.old (λ d x. out_value code.now d stack.old (value_of code.now d (expression_of (node_at code.now node)) (state_at world.old x))) }
 {
     match expression_at(code, node) {
-        None => Ok(Task::Act(Action::End(End::Stuck))),
-        Some(expression) => enter_expression(alloc, code, world, stack, expression),
+        None => {
+            *task = Task::Act(Action::End(End::Stuck));
+            Ok(())
+        }
+        Some(expression) => enter_expression(alloc, code, world, stack, expression, task),
     }
 }
 
@@ -364,11 +466,12 @@ pub fn enter_node(
     world: &mut World,
     stack: &mut Stack,
     node: u32,
-) -> Result<Task, Halt>
-    ensures { Leads code.now result stack.new world.new world.old (λ d x. out_value code.now d stack.old (d.value node (state_at world.old x))) }
+    task: &mut Task,
+) -> Result<(), Halt>
+    ensures { Leads code.now (next_task result task.new) stack.new world.new world.old (λ d x. out_value code.now d stack.old (d.value node (state_at world.old x))) }
 {
     match tick(world) {
         Err(halt) => Err(halt),
-        Ok(_) => enter_ticked(alloc, code, world, stack, node),
+        Ok(_) => enter_ticked(alloc, code, world, stack, node, task),
     }
 }

@@ -1,6 +1,6 @@
 // A statement has led on, and comes to a frame.
 ghost use Rattle.kr_frames.specs.Frames.{out_flow, led, flow_of};
-ghost use Rattle.kr_frames.specs.Leads.{Leads};
+ghost use Rattle.kr_frames.specs.Leads.{Leads, next_task};
 ghost use Rattle.kr_world.specs.Worlds.{state_at};
 
 use crate::lists::all;
@@ -16,28 +16,59 @@ pub fn take_flow(
     stack: &mut Stack,
     frame: FlowFrame,
     flow: Flow,
-) -> Result<Task, Halt>
-    ensures { Leads code.now result stack.new world.now world.now (λ d x. out_flow code.now d stack.old (led code.now d frame (flow_of flow) (state_at world.now x))) }
+    task: &mut Task,
+) -> Result<(), Halt>
+    ensures { Leads code.now (next_task result task.new) stack.new world.now world.now (λ d x. out_flow code.now d stack.old (led code.now d frame (flow_of flow) (state_at world.now x))) }
 {
     match frame {
         FlowFrame::Rest(others) => match flow {
-            Flow::Next => all(code, world, stack, others),
-            _ => Ok(Task::Led(flow)),
+            Flow::Next => all(code, world, stack, others, task),
+            _ => {
+                *task = Task::Led(flow);
+                Ok(())
+            }
         },
         FlowFrame::Again(turn) => match flow {
-            Flow::Next => Ok(Task::Repeat(turn)),
-            Flow::Continued => Ok(Task::Repeat(turn)),
-            Flow::Broke => Ok(Task::Led(Flow::Next)),
-            _ => Ok(Task::Led(flow)),
+            Flow::Next => {
+                *task = Task::Repeat(turn);
+                Ok(())
+            }
+            Flow::Continued => {
+                *task = Task::Repeat(turn);
+                Ok(())
+            }
+            Flow::Broke => {
+                *task = Task::Led(Flow::Next);
+                Ok(())
+            }
+            _ => {
+                *task = Task::Led(flow);
+                Ok(())
+            }
         },
         FlowFrame::Update(updates) => match flow {
-            Flow::Next => Ok(Task::Update(updates)),
-            Flow::Continued => Ok(Task::Update(updates)),
-            _ => Ok(Task::Led(flow)),
+            Flow::Next => {
+                *task = Task::Update(updates);
+                Ok(())
+            }
+            Flow::Continued => {
+                *task = Task::Update(updates);
+                Ok(())
+            }
+            _ => {
+                *task = Task::Led(flow);
+                Ok(())
+            }
         },
         FlowFrame::First(turn) => match flow {
-            Flow::Next => Ok(Task::Repeat(turn)),
-            _ => Ok(Task::Led(flow)),
+            Flow::Next => {
+                *task = Task::Repeat(turn);
+                Ok(())
+            }
+            _ => {
+                *task = Task::Led(flow);
+                Ok(())
+            }
         },
     }
 }

@@ -1,56 +1,85 @@
 // Lists of nodes: statements, declarators, updates, arguments.
-ghost use Rattle.std.specs.Prelude.{◌≡◌, ◌∷◌, reverse, IfOk, IfErr};
+ghost use Rattle.std.specs.Prelude.{◌≡◌, ◌∷◌, reverse, IfOk, IfErr, OnOk};
+ghost use Rattle.kr_frames.specs.Frame as frames;
 ghost use Rattle.kr_world.specs.declared.world.Halt.TheVariants.{Memory};
 ghost use Rattle.kr_mean.specs.Steps.{bind, give};
 ghost use Rattle.kr_code.specs.Tables.{listed};
 ghost use Rattle.kr_code.specs.Doing.{all_at, all_declared, updates_at, values_at};
 ghost use Rattle.kr_frames.specs.Frames.{out_value, out_flow, out_unit, continued, applied, upwards, onto, repeated};
-ghost use Rattle.kr_frames.specs.Leads.{Leads};
+ghost use Rattle.kr_frames.specs.Leads.{Leads, next_task};
 ghost use Rattle.kr_world.specs.Worlds.{state_at};
 
-use crate::pushes::{flow, push, test};
+use crate::pushes::{flow, test, unit};
 use crate::values::{begin_round, stop};
 use kr_code::{Code, Nodes};
-use kr_frames::{Flow, FlowFrame, Frame, Goal, Loop, Stack, Task, TestFrame, UnitFrame, Up};
+use kr_frames::{Flow, FlowFrame, Goal, Loop, Stack, Task, TestFrame, UnitFrame, Up};
 use kr_value::Value;
 use kr_world::{Action, Halt, World, tick};
 use std::alloc::Global;
 
 /// The last one of some statements: none waits for it.
-fn last(code: &Code, world: &World, stack: &Stack, node: u32, others: Nodes) -> Result<Task, Halt>
+fn last(
+    code: &Code,
+    world: &World,
+    stack: &Stack,
+    node: u32,
+    others: Nodes,
+    task: &mut Task,
+) -> Result<(), Halt>
     requires { others.count ≡ 0 }
-    ensures { Leads code.now result stack.now world.now world.now (λ d x. out_flow code.now d stack.now (all_at d (node ∷ listed code.now others) (state_at world.now x))) }
+    ensures { Leads code.now (next_task result task.new) stack.now world.now world.now (λ d x. out_flow code.now d stack.now (all_at d (node ∷ listed code.now others) (state_at world.now x))) }
 {
-    Ok(Task::Execute(node))
+    *task = Task::Execute(node);
+    Ok(())
 }
 
 /// Statements, one after another.
 #[tactic(auto, unfolding(kr_mean::specs::Steps::bind))]
-pub fn all(code: &Code, world: &World, stack: &mut Stack, nodes: Nodes) -> Result<Task, Halt>
-    ensures { Leads code.now result stack.new world.now world.now (λ d x. out_flow code.now d stack.old (all_at d (listed code.now nodes) (state_at world.now x))) }
+pub fn all(
+    code: &Code,
+    world: &World,
+    stack: &mut Stack,
+    nodes: Nodes,
+    task: &mut Task,
+) -> Result<(), Halt>
+    ensures { Leads code.now (next_task result task.new) stack.new world.now world.now (λ d x. out_flow code.now d stack.old (all_at d (listed code.now nodes) (state_at world.now x))) }
 {
     match code.split(nodes) {
-        None => Ok(Task::Led(Flow::Next)),
+        None => {
+            *task = Task::Led(Flow::Next);
+            Ok(())
+        }
         Some((node, others)) => {
             if others.count == 0 {
-                return last(code, world, stack, node, others);
+                return last(code, world, stack, node, others, task);
             }
             flow(stack, FlowFrame::Rest(others))?;
-            Ok(Task::Execute(node))
+            *task = Task::Execute(node);
+            Ok(())
         }
     }
 }
 
 /// The updates of a loop.
 #[tactic(auto, unfolding(kr_mean::specs::Steps::bind))]
-pub fn update(code: &Code, world: &World, stack: &mut Stack, nodes: Nodes) -> Result<Task, Halt>
-    ensures { Leads code.now result stack.new world.now world.now (λ d x. out_flow code.now d stack.old (updates_at d (listed code.now nodes) (state_at world.now x))) }
+pub fn update(
+    code: &Code,
+    world: &World,
+    stack: &mut Stack,
+    nodes: Nodes,
+    task: &mut Task,
+) -> Result<(), Halt>
+    ensures { Leads code.now (next_task result task.new) stack.new world.now world.now (λ d x. out_flow code.now d stack.old (updates_at d (listed code.now nodes) (state_at world.now x))) }
 {
     match code.split(nodes) {
-        None => Ok(Task::Led(Flow::Next)),
+        None => {
+            *task = Task::Led(Flow::Next);
+            Ok(())
+        }
         Some((node, others)) => {
             test(stack, TestFrame::Updates(others))?;
-            Ok(Task::Evaluate(node))
+            *task = Task::Evaluate(node);
+            Ok(())
         }
     }
 }
@@ -63,33 +92,66 @@ pub fn repeat(
     world: &mut World,
     stack: &mut Stack,
     turn: Loop,
-) -> Result<Task, Halt>
-    ensures { Leads code.now result stack.new world.new world.old (λ d x. out_flow code.now d stack.old (repeated code.now d turn (state_at world.old x))) }
+    task: &mut Task,
+) -> Result<(), Halt>
+    ensures { Leads code.now (next_task result task.new) stack.new world.new world.old (λ d x. out_flow code.now d stack.old (repeated code.now d turn (state_at world.old x))) }
 {
     match tick(world) {
         Err(halt) => Err(halt),
-        Ok(_) => begin_round(alloc, code, world, stack, turn),
+        Ok(_) => begin_round(alloc, code, world, stack, turn, task),
     }
 }
 
 /// Declarators, one after another.
 #[tactic(auto, unfolding(kr_mean::specs::Steps::bind))]
-pub fn declare(code: &Code, world: &World, stack: &mut Stack, nodes: Nodes) -> Result<Task, Halt>
-    ensures { Leads code.now result stack.new world.now world.now (λ d x. out_flow code.now d stack.old (all_declared code.now d (listed code.now nodes) (state_at world.now x))) }
+pub fn declare(
+    code: &Code,
+    world: &World,
+    stack: &mut Stack,
+    nodes: Nodes,
+    task: &mut Task,
+) -> Result<(), Halt>
+    ensures { Leads code.now (next_task result task.new) stack.new world.now world.now (λ d x. out_flow code.now d stack.old (all_declared code.now d (listed code.now nodes) (state_at world.now x))) }
 {
     match code.split(nodes) {
-        None => Ok(Task::Led(Flow::Next)),
+        None => {
+            *task = Task::Led(Flow::Next);
+            Ok(())
+        }
         Some((node, others)) => match code.declarator(node) {
-            None => stop(code, world, stack),
+            None => stop(code, world, stack, task),
             Some(declarator) => {
                 test(
                     stack,
                     TestFrame::Declared(declarator.local, declarator.initial, others),
                 )?;
-                Ok(Task::Act(Action::Declare(declarator.default)))
+                *task = Task::Act(Action::Declare(declarator.default));
+                Ok(())
             }
         },
     }
+}
+
+/// Arguments are awaited, behind those that are there.
+fn await_arguments(stack: &mut Stack, goal: Goal, nodes: Nodes, found: &[Value]) -> Result<(), Halt>
+    ensures pushed { OnOk result (stack.new ≡ frames.Arguments goal nodes found.now ∷ stack.old) }
+    ensures memory { IfErr result (λ halt. halt ≡ Memory) }
+{
+    if stack.push_arguments(goal, nodes, found).is_err() {
+        return Err(Halt::Memory);
+    }
+    Ok(())
+}
+
+/// Arguments of a superclass's constructor are awaited, behind those that are there.
+fn await_up_arguments(stack: &mut Stack, up: Up, nodes: Nodes, found: &[Value]) -> Result<(), Halt>
+    ensures pushed { OnOk result (stack.new ≡ frames.UpArguments up nodes found.now ∷ stack.old) }
+    ensures memory { IfErr result (λ halt. halt ≡ Memory) }
+{
+    if stack.push_up_arguments(up, nodes, found).is_err() {
+        return Err(Halt::Memory);
+    }
+    Ok(())
 }
 
 /// Arguments, one after another, and then what is done with them.
@@ -101,14 +163,19 @@ pub fn arguments(
     goal: Goal,
     nodes: Nodes,
     found: Vec<Value>,
-) -> Result<Task, Halt>
-    ensures { Leads code.now result stack.new world.now world.now (λ d x. out_value code.now d stack.old (continued (values_at d (listed code.now nodes) (state_at world.now x)) (λ ws. applied code.now d goal (onto (reverse found.items) ws)))) }
+    task: &mut Task,
+) -> Result<(), Halt>
+    ensures { Leads code.now (next_task result task.new) stack.new world.now world.now (λ d x. out_value code.now d stack.old (continued (values_at d (listed code.now nodes) (state_at world.now x)) (λ ws. applied code.now d goal (onto (reverse found.items) ws)))) }
 {
     match code.split(nodes) {
-        None => return Ok(Task::Apply(goal, found)),
+        None => {
+            *task = Task::Apply(goal, found);
+            return Ok(());
+        }
         Some((node, others)) => {
-            push(stack, Frame::Arguments(goal, others, found))?;
-            return Ok(Task::Evaluate(node));
+            await_arguments(stack, goal, others, found.as_slice())?;
+            *task = Task::Evaluate(node);
+            return Ok(());
         }
     }
 }
@@ -122,20 +189,23 @@ pub fn up_arguments(
     up: Up,
     nodes: Nodes,
     found: Vec<Value>,
-) -> Result<Task, Halt>
-    ensures { Leads code.now result stack.new world.now world.now (λ d x. out_unit code.now d stack.old (continued (values_at d (listed code.now nodes) (state_at world.now x)) (λ ws. upwards code.now d up (onto (reverse found.items) ws)))) }
+    task: &mut Task,
+) -> Result<(), Halt>
+    ensures { Leads code.now (next_task result task.new) stack.new world.now world.now (λ d x. out_unit code.now d stack.old (continued (values_at d (listed code.now nodes) (state_at world.now x)) (λ ws. upwards code.now d up (onto (reverse found.items) ws)))) }
 {
     match code.split(nodes) {
         None => {
-            push(
+            unit(
                 stack,
-                Frame::Unit(UnitFrame::Behind(up.object, up.initialisers, up.body)),
+                UnitFrame::Behind(up.object, up.initialisers, up.body),
             )?;
-            return Ok(Task::Construct(up.line, up.object, found));
+            *task = Task::Construct(up.line, up.object, found);
+            return Ok(());
         }
         Some((node, others)) => {
-            push(stack, Frame::UpArguments(up, others, found))?;
-            return Ok(Task::Evaluate(node));
+            await_up_arguments(stack, up, others, found.as_slice())?;
+            *task = Task::Evaluate(node);
+            return Ok(());
         }
     }
 }
@@ -163,12 +233,16 @@ pub fn take_argument(
     others: Nodes,
     found: Vec<Value>,
     given: Value,
-) -> Result<Task, Halt>
-    ensures { Leads code.now result stack.now world.now world.now (λ d x. out_value code.now d stack.now (continued (bind (values_at d (listed code.now others)) (λ ws. give (given ∷ ws)) (state_at world.now x)) (λ ws. applied code.now d goal (onto (reverse found.items) ws)))) }
+    task: &mut Task,
+) -> Result<(), Halt>
+    ensures { Leads code.now (next_task result task.new) stack.now world.now world.now (λ d x. out_value code.now d stack.now (continued (bind (values_at d (listed code.now others)) (λ ws. give (given ∷ ws)) (state_at world.now x)) (λ ws. applied code.now d goal (onto (reverse found.items) ws)))) }
 {
     match with_value(found, given) {
         Err(_) => return Err(Halt::Memory),
-        Ok(values) => return Ok(Task::Values(goal, others, values)),
+        Ok(values) => {
+            *task = Task::Values(goal, others, values);
+            return Ok(());
+        }
     }
 }
 
@@ -182,11 +256,15 @@ pub fn take_up_argument(
     others: Nodes,
     found: Vec<Value>,
     given: Value,
-) -> Result<Task, Halt>
-    ensures { Leads code.now result stack.now world.now world.now (λ d x. out_unit code.now d stack.now (continued (bind (values_at d (listed code.now others)) (λ ws. give (given ∷ ws)) (state_at world.now x)) (λ ws. upwards code.now d up (onto (reverse found.items) ws)))) }
+    task: &mut Task,
+) -> Result<(), Halt>
+    ensures { Leads code.now (next_task result task.new) stack.now world.now world.now (λ d x. out_unit code.now d stack.now (continued (bind (values_at d (listed code.now others)) (λ ws. give (given ∷ ws)) (state_at world.now x)) (λ ws. upwards code.now d up (onto (reverse found.items) ws)))) }
 {
     match with_value(found, given) {
         Err(_) => return Err(Halt::Memory),
-        Ok(values) => return Ok(Task::UpValues(up, others, values)),
+        Ok(values) => {
+            *task = Task::UpValues(up, others, values);
+            return Ok(());
+        }
     }
 }

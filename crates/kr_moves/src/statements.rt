@@ -1,14 +1,14 @@
 // A statement is entered: what comes next, and the frames that wait for it.
 ghost use Rattle.kr_code.specs.Doing.{flow_of};
 ghost use Rattle.kr_frames.specs.Frames.{out_flow};
-ghost use Rattle.kr_frames.specs.Leads.{Leads};
+ghost use Rattle.kr_frames.specs.Leads.{Leads, next_task};
 ghost use Rattle.kr_world.specs.Worlds.{state_at};
 
 use crate::lists::all;
 use crate::pushes::{flow, push};
 use crate::values::{stop, test_next};
 use kr_code::{Code, Statement};
-use kr_frames::{Flow, FlowFrame, Frame, Loop, Stack, Task, TestFrame};
+use kr_frames::{Flow, FlowFrame, Loop, Stack, Task, TestFrame, Waiting};
 use kr_world::{Halt, World};
 use std::alloc::Global;
 
@@ -20,15 +20,19 @@ pub fn enter_statement(
     world: &mut World,
     stack: &mut Stack,
     statement: &Statement,
-) -> Result<Task, Halt>
-    ensures { Leads code.now result stack.new world.new world.old (λ d x. out_flow code.now d stack.old (flow_of code.now d statement.now (state_at world.old x))) }
+    task: &mut Task,
+) -> Result<(), Halt>
+    ensures { Leads code.now (next_task result task.new) stack.new world.new world.old (λ d x. out_flow code.now d stack.old (flow_of code.now d statement.now (state_at world.old x))) }
 {
     match statement {
-        Statement::Stuck => stop(code, world, stack),
-        Statement::Empty => Ok(Task::Led(Flow::Next)),
+        Statement::Stuck => stop(code, world, stack, task),
+        Statement::Empty => {
+            *task = Task::Led(Flow::Next);
+            Ok(())
+        }
         Statement::Block(statements) => {
-            push(stack, Frame::Scope(world.locals.len()))?;
-            all(code, world, stack, *statements)
+            push(stack, Waiting::Scope(world.locals.len()))?;
+            all(code, world, stack, *statements, task)
         }
         Statement::Evaluate(node) => test_next(
             alloc,
@@ -37,6 +41,7 @@ pub fn enter_statement(
             stack,
             TestFrame::Discard,
             *node,
+            task,
         ),
         Statement::IfThen { condition, then } => {
             test_next(
@@ -46,6 +51,7 @@ pub fn enter_statement(
                 stack,
                 TestFrame::Then(*then),
                 *condition,
+                task,
             )
         }
         Statement::IfElse {
@@ -59,11 +65,16 @@ pub fn enter_statement(
             stack,
             TestFrame::Branch(*then, *otherwise),
             *condition,
+            task,
         ),
-        Statement::While { condition, body } => Ok(Task::Repeat(Loop::While(*condition, *body))),
+        Statement::While { condition, body } => {
+            *task = Task::Repeat(Loop::While(*condition, *body));
+            Ok(())
+        }
         Statement::Do { body, condition } => {
             flow(stack, FlowFrame::Again(Loop::While(*condition, *body)))?;
-            Ok(Task::Execute(*body))
+            *task = Task::Execute(*body);
+            Ok(())
         }
         Statement::For {
             initial,
@@ -71,17 +82,35 @@ pub fn enter_statement(
             updates,
             body,
         } => {
-            push(stack, Frame::Scope(world.locals.len()))?;
+            push(stack, Waiting::Scope(world.locals.len()))?;
             flow(
                 stack,
                 FlowFrame::First(Loop::For(*condition, *updates, *body)),
             )?;
-            Ok(Task::All(*initial))
+            *task = Task::All(*initial);
+            Ok(())
         }
-        Statement::Break => Ok(Task::Led(Flow::Broke)),
-        Statement::Continue => Ok(Task::Led(Flow::Continued)),
-        Statement::Leave => Ok(Task::Led(Flow::Left)),
-        Statement::Return(node) => test_next(alloc, code, world, stack, TestFrame::Return, *node),
-        Statement::Declare(_) => stop(code, world, stack),
+        Statement::Break => {
+            *task = Task::Led(Flow::Broke);
+            Ok(())
+        }
+        Statement::Continue => {
+            *task = Task::Led(Flow::Continued);
+            Ok(())
+        }
+        Statement::Leave => {
+            *task = Task::Led(Flow::Left);
+            Ok(())
+        }
+        Statement::Return(node) => test_next(
+            alloc,
+            code,
+            world,
+            stack,
+            TestFrame::Return,
+            *node,
+            task,
+        ),
+        Statement::Declare(_) => stop(code, world, stack, task),
     }
 }

@@ -9,7 +9,7 @@ ghost use Rattle.kr_mean.specs.Steps.{element as element_step};
 ghost use Rattle.kr_frames.specs.declared.frame.WriteFrame.TheVariants as writes;
 ghost use Rattle.kr_frames.specs.declared.frame.TestFrame.TheVariants as tests;
 ghost use Rattle.kr_frames.specs.Frames.{out_value, out_flow, got, wrote, tested, test_of, turned};
-ghost use Rattle.kr_frames.specs.Leads.{Leads};
+ghost use Rattle.kr_frames.specs.Leads.{Leads, next_task};
 ghost use Rattle.kr_world.specs.Worlds.{state_at};
 
 use crate::expressions::enter_node;
@@ -42,13 +42,16 @@ fn take_stepped(
     cell: Cell,
     old: Value,
     given: Value,
-) -> Result<Task, Halt>
-    ensures { Leads code.now result stack.now world.now world.now (λ d x. out_value code.now d stack.now (wrote code.now d (writes.Stepped operator cell old) given (state_at world.now x))) }
+    task: &mut Task,
+) -> Result<(), Halt>
+    ensures { Leads code.now (next_task result task.new) stack.now world.now world.now (λ d x. out_value code.now d stack.now (wrote code.now d (writes.Stepped operator cell old) given (state_at world.now x))) }
 {
     if gives_old(operator) {
-        Ok(Task::Act(Action::Write(cell, given, old)))
+        *task = Task::Act(Action::Write(cell, given, old));
+        Ok(())
     } else {
-        Ok(Task::Act(Action::Write(cell, given, given)))
+        *task = Task::Act(Action::Write(cell, given, given));
+        Ok(())
     }
 }
 
@@ -60,49 +63,63 @@ fn take_write(
     stack: &mut Stack,
     frame: WriteFrame,
     given: Value,
-) -> Result<Task, Halt>
-    ensures { Leads code.now result stack.new world.now world.now (λ d x. out_value code.now d stack.old (wrote code.now d frame given (state_at world.now x))) }
+    task: &mut Task,
+) -> Result<(), Halt>
+    ensures { Leads code.now (next_task result task.new) stack.new world.now world.now (λ d x. out_value code.now d stack.old (wrote code.now d frame given (state_at world.now x))) }
 {
     match frame {
-        WriteFrame::Put(cell) => Ok(Task::Act(Action::Write(cell, given, given))),
+        WriteFrame::Put(cell) => {
+            *task = Task::Act(Action::Write(cell, given, given));
+            Ok(())
+        }
         WriteFrame::PutOwn(field) => {
-            Ok(Task::Act(Action::Write(Cell::Field(field, world.this), given, given)))
+            *task = Task::Act(Action::Write(Cell::Field(field, world.this), given, given));
+            Ok(())
         }
         WriteFrame::FieldOf(field, node) => then_write(
             stack,
             WriteFrame::Put(Cell::Field(field, given)),
             node,
+            task,
         ),
         WriteFrame::ItemOf(index, node, class) => then_write(
             stack,
             WriteFrame::ItemAt(node, class, given),
             index,
+            task,
         ),
         WriteFrame::ItemAt(node, class, array) => then_write(
             stack,
             WriteFrame::Put(Cell::Item(class, array, given)),
             node,
+            task,
         ),
         WriteFrame::AlterField(change, name, field) => {
             write(stack, WriteFrame::Alter(change, Cell::Field(field, given)))?;
-            Ok(Task::Act(Action::Load(name, given)))
+            *task = Task::Act(Action::Load(name, given));
+            Ok(())
         }
         WriteFrame::AlterItemOf(change, index, class) => then_write(
             stack,
             WriteFrame::AlterItemAt(change, class, given),
             index,
+            task,
         ),
         WriteFrame::AlterItemAt(change, class, array) => {
             write(
                 stack,
                 WriteFrame::Alter(change, Cell::Item(class, array, given)),
             )?;
-            Ok(Task::Act(Action::Element(array, given)))
+            *task = Task::Act(Action::Element(array, given));
+            Ok(())
         }
         WriteFrame::Stepped(operator, cell, old) => {
-            take_stepped(code, world, stack, operator, cell, old, given)
+            take_stepped(code, world, stack, operator, cell, old, given, task)
         }
-        WriteFrame::Alter(change, cell) => Ok(Task::Alter(change, cell, given)),
+        WriteFrame::Alter(change, cell) => {
+            *task = Task::Alter(change, cell, given);
+            Ok(())
+        }
     }
 }
 
@@ -113,11 +130,15 @@ fn operate_alone(
     stack: &Stack,
     operator: UnaryOperator,
     given: Value,
-) -> Result<Task, Halt>
-    ensures { Leads code.now result stack.now world.now world.now (λ d x. out_value code.now d stack.now (say (alone_step operator given) (state_at world.now x))) }
+    task: &mut Task,
+) -> Result<(), Halt>
+    ensures { Leads code.now (next_task result task.new) stack.now world.now world.now (λ d x. out_value code.now d stack.now (say (alone_step operator given) (state_at world.now x))) }
 {
     match operated_alone(world, operator, given) {
-        Ok(value) => Ok(Task::Got(value)),
+        Ok(value) => {
+            *task = Task::Got(value);
+            Ok(())
+        }
         Err(halt) => Err(halt),
     }
 }
@@ -130,11 +151,15 @@ fn operate(
     operator: BinaryOperator,
     left: Value,
     right: Value,
-) -> Result<Task, Halt>
-    ensures { Leads code.now result stack.now world.now world.now (λ d x. out_value code.now d stack.now (say (operated_step operator left right) (state_at world.now x))) }
+    task: &mut Task,
+) -> Result<(), Halt>
+    ensures { Leads code.now (next_task result task.new) stack.now world.now world.now (λ d x. out_value code.now d stack.now (say (operated_step operator left right) (state_at world.now x))) }
 {
     match operated(world, operator, left, right) {
-        Ok(value) => Ok(Task::Got(value)),
+        Ok(value) => {
+            *task = Task::Got(value);
+            Ok(())
+        }
         Err(halt) => Err(halt),
     }
 }
@@ -147,12 +172,13 @@ fn take_left(
     operator: BinaryOperator,
     right: u32,
     given: Value,
-) -> Result<Task, Halt>
-    ensures { Leads code.now result stack.new world.new world.old (λ d x. out_value code.now d stack.old (bind (d.value right) (λ w. say (operated_step operator given w)) (state_at world.old x))) }
+    task: &mut Task,
+) -> Result<(), Halt>
+    ensures { Leads code.now (next_task result task.new) stack.new world.new world.old (λ d x. out_value code.now d stack.old (bind (d.value right) (λ w. say (operated_step operator given w)) (state_at world.old x))) }
 {
     match at_once(code, world, right) {
-        Some(value) => operate(code, world, stack, operator, given, value),
-        None => first(stack, ValueFrame::Right(operator, given), right),
+        Some(value) => operate(code, world, stack, operator, given, value, task),
+        None => first(stack, ValueFrame::Right(operator, given), right, task),
     }
 }
 
@@ -163,12 +189,16 @@ pub fn take_array(
     stack: &mut Stack,
     index: u32,
     array: Value,
-) -> Result<Task, Halt>
-    ensures { Leads code.now result stack.new world.new world.old (λ d x. out_value code.now d stack.old (bind (d.value index) (element_step array) (state_at world.old x))) }
+    task: &mut Task,
+) -> Result<(), Halt>
+    ensures { Leads code.now (next_task result task.new) stack.new world.new world.old (λ d x. out_value code.now d stack.old (bind (d.value index) (element_step array) (state_at world.old x))) }
 {
     match at_once(code, world, index) {
-        Some(at) => Ok(Task::Act(Action::Element(array, at))),
-        None => first(stack, ValueFrame::ElementAt(array), index),
+        Some(at) => {
+            *task = Task::Act(Action::Element(array, at));
+            Ok(())
+        }
+        None => first(stack, ValueFrame::ElementAt(array), index, task),
     }
 }
 
@@ -181,84 +211,156 @@ pub fn take_value(
     stack: &mut Stack,
     frame: ValueFrame,
     given: Value,
-) -> Result<Task, Halt>
-    ensures { Leads code.now result stack.new world.new world.old (λ d x. out_value code.now d stack.old (got code.now d frame given (state_at world.old x))) }
+    task: &mut Task,
+) -> Result<(), Halt>
+    ensures { Leads code.now (next_task result task.new) stack.new world.new world.old (λ d x. out_value code.now d stack.old (got code.now d frame given (state_at world.old x))) }
 {
     match frame {
-        ValueFrame::Load(name) => Ok(Task::Act(Action::Load(name, given))),
-        ValueFrame::ElementOf(index) => take_array(code, world, stack, index, given),
-        ValueFrame::ElementAt(array) => Ok(Task::Act(Action::Element(array, given))),
-        ValueFrame::Unary(operator) => operate_alone(code, world, stack, operator, given),
-        ValueFrame::Left(operator, right) => {
-            take_left(code, world, stack, operator, right, given)
+        ValueFrame::Load(name) => {
+            *task = Task::Act(Action::Load(name, given));
+            Ok(())
         }
-        ValueFrame::Right(operator, left) => operate(code, world, stack, operator, left, given),
+        ValueFrame::ElementOf(index) => take_array(code, world, stack, index, given, task),
+        ValueFrame::ElementAt(array) => {
+            *task = Task::Act(Action::Element(array, given));
+            Ok(())
+        }
+        ValueFrame::Unary(operator) => operate_alone(code, world, stack, operator, given, task),
+        ValueFrame::Left(operator, right) => {
+            take_left(code, world, stack, operator, right, given, task)
+        }
+        ValueFrame::Right(operator, left) => operate(
+            code, world, stack, operator, left, given, task,
+        ),
         ValueFrame::AndThen(right) => match given {
-            Value::Bool(true) => Ok(Task::Evaluate(right)),
-            Value::Bool(false) => Ok(Task::Got(Value::Bool(false))),
-            _ => Ok(Task::Act(Action::End(End::Stuck))),
+            Value::Bool(true) => {
+                *task = Task::Evaluate(right);
+                Ok(())
+            }
+            Value::Bool(false) => {
+                *task = Task::Got(Value::Bool(false));
+                Ok(())
+            }
+            _ => {
+                *task = Task::Act(Action::End(End::Stuck));
+                Ok(())
+            }
         },
         ValueFrame::OrElse(right) => match given {
-            Value::Bool(true) => Ok(Task::Got(Value::Bool(true))),
-            Value::Bool(false) => Ok(Task::Evaluate(right)),
-            _ => Ok(Task::Act(Action::End(End::Stuck))),
+            Value::Bool(true) => {
+                *task = Task::Got(Value::Bool(true));
+                Ok(())
+            }
+            Value::Bool(false) => {
+                *task = Task::Evaluate(right);
+                Ok(())
+            }
+            _ => {
+                *task = Task::Act(Action::End(End::Stuck));
+                Ok(())
+            }
         },
         ValueFrame::Choose(then, otherwise) => match given {
-            Value::Bool(true) => Ok(Task::Evaluate(then)),
-            Value::Bool(false) => Ok(Task::Evaluate(otherwise)),
-            _ => Ok(Task::Act(Action::End(End::Stuck))),
+            Value::Bool(true) => {
+                *task = Task::Evaluate(then);
+                Ok(())
+            }
+            Value::Bool(false) => {
+                *task = Task::Evaluate(otherwise);
+                Ok(())
+            }
+            _ => {
+                *task = Task::Act(Action::End(End::Stuck));
+                Ok(())
+            }
         },
-        ValueFrame::Instance(class) => Ok(Task::Act(Action::Instance(class, given))),
-        ValueFrame::Cast(class) => Ok(Task::Act(Action::Cast(class, given))),
+        ValueFrame::Instance(class) => {
+            *task = Task::Act(Action::Instance(class, given));
+            Ok(())
+        }
+        ValueFrame::Cast(class) => {
+            *task = Task::Act(Action::Cast(class, given));
+            Ok(())
+        }
         ValueFrame::NewArray(class, default) => {
-            Ok(Task::Act(Action::NewArray(class, default, given)))
+            *task = Task::Act(Action::NewArray(class, default, given));
+            Ok(())
         }
         ValueFrame::CallOn(method, arguments) => {
-            Ok(Task::Values(Goal::On(method, given), arguments, Vec::new(alloc)))
+            *task = Task::Values(Goal::On(method, given), arguments, Vec::new(alloc));
+            Ok(())
         }
         ValueFrame::StaticCallOn(method, arguments) => {
-            Ok(Task::Values(Goal::StaticOn(method, given), arguments, Vec::new(alloc)))
+            *task = Task::Values(Goal::StaticOn(method, given), arguments, Vec::new(alloc));
+            Ok(())
         }
         ValueFrame::CallCollection(call, arguments) => {
-            Ok(Task::Values(Goal::Collect(call, given), arguments, Vec::new(alloc)))
+            *task = Task::Values(Goal::Collect(call, given), arguments, Vec::new(alloc));
+            Ok(())
         }
-        ValueFrame::Write(writing) => take_write(code, world, stack, writing, given),
+        ValueFrame::Write(writing) => take_write(code, world, stack, writing, given, task),
     }
 }
 
 /// Nothing that has a meaning: no value will come to the frame.
 #[tactic(auto, unfolding(kr_mean::specs::Steps::bind))]
-pub fn stop(code: &Code, world: &World, stack: &mut Stack) -> Result<Task, Halt>
-    ensures { Leads code.now result stack.new world.now world.now (λ d x. out_flow code.now d stack.old (stop_step Stuck (state_at world.now x))) }
+pub fn stop(code: &Code, world: &World, stack: &mut Stack, task: &mut Task) -> Result<(), Halt>
+    ensures { Leads code.now (next_task result task.new) stack.new world.now world.now (λ d x. out_flow code.now d stack.old (stop_step Stuck (state_at world.now x))) }
 {
     test(stack, TestFrame::Discard)?;
-    Ok(Task::Act(Action::End(End::Stuck)))
+    *task = Task::Act(Action::End(End::Stuck));
+    Ok(())
 }
 
 /// A loop's test.
 #[tactic(auto, unfolding(kr_mean::specs::Steps::bind))]
-fn begin(code: &Code, world: &World, stack: &mut Stack, turn: Loop) -> Result<Task, Halt>
-    ensures { Leads code.now result stack.new world.now world.now (λ d x. out_flow code.now d stack.old (bind (test_of d turn) (turned code.now d turn) (state_at world.now x))) }
+fn begin(
+    code: &Code,
+    world: &World,
+    stack: &mut Stack,
+    turn: Loop,
+    task: &mut Task,
+) -> Result<(), Halt>
+    ensures { Leads code.now (next_task result task.new) stack.new world.now world.now (λ d x. out_flow code.now d stack.old (bind (test_of d turn) (turned code.now d turn) (state_at world.now x))) }
 {
     test(stack, TestFrame::Test(turn))?;
     match turn {
-        Loop::While(condition, _) => Ok(Task::Evaluate(condition)),
-        Loop::For(Some(condition), _, _) => Ok(Task::Evaluate(condition)),
-        Loop::For(None, _, _) => Ok(Task::Got(Value::Bool(true))),
+        Loop::While(condition, _) => {
+            *task = Task::Evaluate(condition);
+            Ok(())
+        }
+        Loop::For(Some(condition), _, _) => {
+            *task = Task::Evaluate(condition);
+            Ok(())
+        }
+        Loop::For(None, _, _) => {
+            *task = Task::Got(Value::Bool(true));
+            Ok(())
+        }
     }
 }
 
 /// A round's body, and then the next round.
 #[tactic(auto, unfolding(kr_mean::specs::Steps::bind))]
-fn turn_round(code: &Code, world: &World, stack: &mut Stack, turn: Loop) -> Result<Task, Halt>
-    ensures { Leads code.now result stack.new world.now world.now (λ d x. out_flow code.now d stack.old (turned code.now d turn (Truth true) (state_at world.now x))) }
+fn turn_round(
+    code: &Code,
+    world: &World,
+    stack: &mut Stack,
+    turn: Loop,
+    task: &mut Task,
+) -> Result<(), Halt>
+    ensures { Leads code.now (next_task result task.new) stack.new world.now world.now (λ d x. out_flow code.now d stack.old (turned code.now d turn (Truth true) (state_at world.now x))) }
 {
     flow(stack, FlowFrame::Again(turn))?;
     match turn {
-        Loop::While(_, body) => Ok(Task::Execute(body)),
+        Loop::While(_, body) => {
+            *task = Task::Execute(body);
+            Ok(())
+        }
         Loop::For(_, updates, body) => {
             flow(stack, FlowFrame::Update(updates))?;
-            Ok(Task::Execute(body))
+            *task = Task::Execute(body);
+            Ok(())
         }
     }
 }
@@ -273,14 +375,19 @@ fn take_declared(
     initial: Option<u32>,
     others: Nodes,
     given: Value,
-) -> Result<Task, Halt>
-    ensures { Leads code.now result stack.new world.now world.now (λ d x. out_flow code.now d stack.old (tested code.now d (tests.Declared local initial others) given (state_at world.now x))) }
+    task: &mut Task,
+) -> Result<(), Halt>
+    ensures { Leads code.now (next_task result task.new) stack.new world.now world.now (λ d x. out_flow code.now d stack.old (tested code.now d (tests.Declared local initial others) given (state_at world.now x))) }
 {
     match initial {
-        None => Ok(Task::Declare(others)),
+        None => {
+            *task = Task::Declare(others);
+            Ok(())
+        }
         Some(node) => {
             test(stack, TestFrame::Initial(local, others))?;
-            Ok(Task::Evaluate(node))
+            *task = Task::Evaluate(node);
+            Ok(())
         }
     }
 }
@@ -293,36 +400,65 @@ pub fn take_test(
     stack: &mut Stack,
     frame: TestFrame,
     given: Value,
-) -> Result<Task, Halt>
-    ensures { Leads code.now result stack.new world.now world.now (λ d x. out_flow code.now d stack.old (tested code.now d frame given (state_at world.now x))) }
+    task: &mut Task,
+) -> Result<(), Halt>
+    ensures { Leads code.now (next_task result task.new) stack.new world.now world.now (λ d x. out_flow code.now d stack.old (tested code.now d frame given (state_at world.now x))) }
 {
     match frame {
         TestFrame::Then(then) => match given {
-            Value::Bool(true) => Ok(Task::Execute(then)),
-            Value::Bool(false) => Ok(Task::Led(Flow::Next)),
-            _ => stop(code, world, stack),
+            Value::Bool(true) => {
+                *task = Task::Execute(then);
+                Ok(())
+            }
+            Value::Bool(false) => {
+                *task = Task::Led(Flow::Next);
+                Ok(())
+            }
+            _ => stop(code, world, stack, task),
         },
         TestFrame::Branch(then, otherwise) => match given {
-            Value::Bool(true) => Ok(Task::Execute(then)),
-            Value::Bool(false) => Ok(Task::Execute(otherwise)),
-            _ => stop(code, world, stack),
+            Value::Bool(true) => {
+                *task = Task::Execute(then);
+                Ok(())
+            }
+            Value::Bool(false) => {
+                *task = Task::Execute(otherwise);
+                Ok(())
+            }
+            _ => stop(code, world, stack, task),
         },
-        TestFrame::Discard => Ok(Task::Led(Flow::Next)),
-        TestFrame::Return => Ok(Task::Led(Flow::Gave(given))),
+        TestFrame::Discard => {
+            *task = Task::Led(Flow::Next);
+            Ok(())
+        }
+        TestFrame::Return => {
+            *task = Task::Led(Flow::Gave(given));
+            Ok(())
+        }
         TestFrame::Initial(local, others) => {
             test(stack, TestFrame::Rest(others))?;
-            Ok(Task::Act(Action::Write(Cell::Local(local), given, given)))
+            *task = Task::Act(Action::Write(Cell::Local(local), given, given));
+            Ok(())
         }
         TestFrame::Declared(local, initial, others) => {
-            take_declared(code, world, stack, local, initial, others, given)
+            take_declared(code, world, stack, local, initial, others, given, task)
         }
-        TestFrame::Rest(others) => Ok(Task::Declare(others)),
-        TestFrame::Updates(others) => Ok(Task::Update(others)),
-        TestFrame::Begin(turn) => begin(code, world, stack, turn),
+        TestFrame::Rest(others) => {
+            *task = Task::Declare(others);
+            Ok(())
+        }
+        TestFrame::Updates(others) => {
+            *task = Task::Update(others);
+            Ok(())
+        }
+        TestFrame::Begin(turn) => begin(code, world, stack, turn, task),
         TestFrame::Test(turn) => match given {
-            Value::Bool(true) => turn_round(code, world, stack, turn),
-            Value::Bool(false) => Ok(Task::Led(Flow::Next)),
-            _ => stop(code, world, stack),
+            Value::Bool(true) => turn_round(code, world, stack, turn, task),
+            Value::Bool(false) => {
+                *task = Task::Led(Flow::Next);
+                Ok(())
+            }
+            _ => stop(code, world, stack, task),
         },
     }
 }
@@ -335,12 +471,13 @@ pub fn test_next(
     stack: &mut Stack,
     frame: TestFrame,
     node: u32,
-) -> Result<Task, Halt>
-    ensures { Leads code.now result stack.new world.new world.old (λ d x. out_flow code.now d stack.old (bind (d.value node) (tested code.now d frame) (state_at world.old x))) }
+    task: &mut Task,
+) -> Result<(), Halt>
+    ensures { Leads code.now (next_task result task.new) stack.new world.new world.old (λ d x. out_flow code.now d stack.old (bind (d.value node) (tested code.now d frame) (state_at world.old x))) }
 {
     match at_once(code, world, node) {
-        Some(given) => take_test(code, world, stack, frame, given),
-        None => wait_for_test(alloc, code, world, stack, frame, node),
+        Some(given) => take_test(code, world, stack, frame, given, task),
+        None => wait_for_test(alloc, code, world, stack, frame, node, task),
     }
 }
 
@@ -352,17 +489,34 @@ pub fn begin_round(
     world: &mut World,
     stack: &mut Stack,
     turn: Loop,
-) -> Result<Task, Halt>
-    ensures { Leads code.now result stack.new world.new world.old (λ d x. out_flow code.now d stack.old (bind (test_of d turn) (turned code.now d turn) (state_at world.old x))) }
+    task: &mut Task,
+) -> Result<(), Halt>
+    ensures { Leads code.now (next_task result task.new) stack.new world.new world.old (λ d x. out_flow code.now d stack.old (bind (test_of d turn) (turned code.now d turn) (state_at world.old x))) }
 {
     match turn {
         Loop::While(condition, _) => {
-            test_next(alloc, code, world, stack, TestFrame::Test(turn), condition)
+            test_next(
+                alloc,
+                code,
+                world,
+                stack,
+                TestFrame::Test(turn),
+                condition,
+                task,
+            )
         }
         Loop::For(Some(condition), _, _) => {
-            test_next(alloc, code, world, stack, TestFrame::Test(turn), condition)
+            test_next(
+                alloc,
+                code,
+                world,
+                stack,
+                TestFrame::Test(turn),
+                condition,
+                task,
+            )
         }
-        Loop::For(None, _, _) => begin(code, world, stack, turn),
+        Loop::For(None, _, _) => begin(code, world, stack, turn, task),
     }
 }
 
@@ -375,9 +529,10 @@ fn wait_for_test(
     stack: &mut Stack,
     frame: TestFrame,
     node: u32,
-) -> Result<Task, Halt>
-    ensures { Leads code.now result stack.new world.new world.old (λ d x. out_flow code.now d stack.old (bind (d.value node) (tested code.now d frame) (state_at world.old x))) }
+    task: &mut Task,
+) -> Result<(), Halt>
+    ensures { Leads code.now (next_task result task.new) stack.new world.new world.old (λ d x. out_flow code.now d stack.old (bind (d.value node) (tested code.now d frame) (state_at world.old x))) }
 {
     test(stack, frame)?;
-    enter_node(alloc, code, world, stack, node)
+    enter_node(alloc, code, world, stack, node, task)
 }

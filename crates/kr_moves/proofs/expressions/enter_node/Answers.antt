@@ -8,6 +8,7 @@ use Rattle.kr_world.specs.Worlds.{state_at}
 use Rattle.kr_frames.specs.Frames.{out_value}
 use Rattle.kr_frames.proofs.Outcomes.{leads_same, leads_alike, value_reads}
 use Rattle.kr_moves.proofs.Going.{ticked, no_value_tick}
+use Rattle.kr_frames.specs.Leads.{next_task}
 use Rattle.kr_moves.proofs.expressions.enter_node.Goals as goal
 
 pub returns-in-Err : goal.returns-in-Err
@@ -24,7 +25,7 @@ returns-in-Ok c =
     let w = c.args.world.now in
     let then = c.tick.new.world in
     let e = expression_of (node_at code c.args.node) in
-    leads_same code c.enter_ticked.result c.enter_ticked.new.stack c.enter_ticked.new.world then w (λ d x. out_value code d c.args.stack.now (d.value c.args.node (state_at w x))) (λ d x. out_value code d c.args.stack.now (value_of code d e (state_at then x)))
+    leads_same code (next_task c.enter_ticked.result c.enter_ticked.new.task) c.enter_ticked.new.stack c.enter_ticked.new.world then w (λ d x. out_value code d c.args.stack.now (d.value c.args.node (state_at w x))) (λ d x. out_value code d c.args.stack.now (value_of code d e (state_at then x)))
     (λ x a. let r = c.in-Ok.ensures x a in (
       r.0,
       λ d m. ap (λ (q : Outcome Value). noting w.reads (out_value code d c.args.stack.now q)) (m.value_is c.args.node (state_at w x))

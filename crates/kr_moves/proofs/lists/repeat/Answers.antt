@@ -8,6 +8,7 @@ use Rattle.kr_frames.specs.Frames.{out_flow, repeated, test_of, turned}
 use Rattle.kr_frames.proofs.Outcomes.{leads_same, leads_alike, flow_reads}
 use Rattle.kr_moves.proofs.Moves.{rounds}
 use Rattle.kr_moves.proofs.Going.{ticked, no_flow_tick}
+use Rattle.kr_frames.specs.Leads.{next_task}
 use Rattle.kr_moves.proofs.lists.repeat.Goals as goal
 
 pub returns-in-Err : goal.returns-in-Err
@@ -27,7 +28,7 @@ returns-in-Ok c =
     let fs = c.args.stack.now in
     let l = c.args.turn in
     let then = c.tick.new.world in
-    leads_same code c.begin_round.result c.begin_round.new.stack c.begin_round.new.world then w (λ d x. out_flow code d fs (repeated code d l (state_at w x))) (λ d x. out_flow code d fs (bind (test_of d l) (turned code d l) (state_at then x)))
+    leads_same code (next_task c.begin_round.result c.begin_round.new.task) c.begin_round.new.stack c.begin_round.new.world then w (λ d x. out_flow code d fs (repeated code d l (state_at w x))) (λ d x. out_flow code d fs (bind (test_of d l) (turned code d l) (state_at then x)))
     (λ x a. let r = c.in-Ok.ensures x a in (
       r.0,
       λ d m. ap (λ (q : Outcome Flow). noting w.reads (out_flow code d fs q)) (rounds code d l (state_at w x) m)

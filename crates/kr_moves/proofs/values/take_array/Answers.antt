@@ -9,6 +9,7 @@ use Rattle.kr_world.proofs.Candidates.{kept_same}
 use Rattle.kr_frames.specs.declared.task.Task.TheVariants as tasks
 use Rattle.kr_frames.specs.Frames.{out_value}
 use Rattle.kr_moves.proofs.Going.{value_then, leads_from}
+use Rattle.kr_frames.specs.Leads.{next_task}
 use Rattle.kr_moves.proofs.values.take_array.Goals as goal
 
 pub returns-in-Some : goal.returns-in-Some
@@ -24,4 +25,4 @@ returns-in-None c =
     let w = c.args.world.now in
     let then = c.at_once.new.world in
     let same : then ≡ w = search rules in
-    leads_from code c.first.result c.first.new.stack then w (λ (u : World) (d : Doing) (x : Others). out_value code d c.args.stack.now (bind (d.value c.args.index) ((λ (d : Doing) (u : Value). element c.args.array u) d) (state_at u x))) same (c.first.ensures code then)
+    leads_from code (next_task c.first.result c.first.new.task) c.first.new.stack then w (λ (u : World) (d : Doing) (x : Others). out_value code d c.args.stack.now (bind (d.value c.args.index) ((λ (d : Doing) (u : Value). element c.args.array u) d) (state_at u x))) same (c.first.ensures code then)

@@ -6,6 +6,7 @@ use Rattle.kr_world.specs.declared.world.World.{World}
 use Rattle.kr_world.specs.Worlds.{Others, state_at}
 use Rattle.kr_frames.specs.Frames.{out_flow, tested}
 use Rattle.kr_moves.proofs.Going.{flow_then, leads_behind}
+use Rattle.kr_frames.specs.Leads.{next_task}
 use Rattle.kr_moves.proofs.values.test_next.Goals as goal
 
 pub returns-in-Some : goal.returns-in-Some
@@ -13,7 +14,7 @@ returns-in-Some c =
     let code = c.args.code.now in
     let w = c.args.world.now in
     let then = c.at_once.new.world in
-    flow_then code c.take_test.result c.args.stack.now c.take_test.new.stack then then w (λ (d : Doing). d.value c.args.node) (λ (d : Doing) (u : Value). tested c.args.code.now d c.args.frame u) c.in-Some.given c.in-Some.ensures c.take_test.ensures
+    flow_then code (next_task c.take_test.result c.take_test.new.task) c.args.stack.now c.take_test.new.stack then then w (λ (d : Doing). d.value c.args.node) (λ (d : Doing) (u : Value). tested c.args.code.now d c.args.frame u) c.in-Some.given c.in-Some.ensures c.take_test.ensures
 
 pub returns-in-None : goal.returns-in-None
 returns-in-None c =
@@ -21,4 +22,4 @@ returns-in-None c =
     let w = c.args.world.now in
     let then = c.at_once.new.world in
     let same : then ≡ w = search rules in
-    leads_behind code c.wait_for_test.result c.wait_for_test.new.stack c.wait_for_test.new.world then w (λ (u : World) (d : Doing) (x : Others). out_flow code d c.args.stack.now (bind (d.value c.args.node) ((λ (d : Doing) (u : Value). tested c.args.code.now d c.args.frame u) d) (state_at u x))) same c.wait_for_test.ensures
+    leads_behind code (next_task c.wait_for_test.result c.wait_for_test.new.task) c.wait_for_test.new.stack c.wait_for_test.new.world then w (λ (u : World) (d : Doing) (x : Others). out_flow code d c.args.stack.now (bind (d.value c.args.node) ((λ (d : Doing) (u : Value). tested c.args.code.now d c.args.frame u) d) (state_at u x))) same c.wait_for_test.ensures
