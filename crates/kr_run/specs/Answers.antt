@@ -10,7 +10,8 @@ use Rattle.kr_world.specs.declared.world.Halt.{Halt}
 use Rattle.kr_world.specs.declared.world.Halt.TheVariants.{Ended, Memory, Written}
 use Rattle.kr_world.specs.Noting.{noting}
 use Rattle.kr_world.specs.Worlds.{Others, Allows, Keeps, state_at}
-use Rattle.kr_frames.specs.declared.frame.Frame.{Frame}
+use Rattle.kr_frames.specs.Frame.{Frame}
+use Rattle.kr_frames.specs.declared.task.Task.{Task}
 use Rattle.kr_frames.specs.Leads.{Leads, HasEnded}
 use Rattle.kr_run.specs.declared.steps.Step.{Step}
 use Rattle.kr_run.specs.declared.steps.Step.TheVariants.{More, Finished}
@@ -23,13 +24,13 @@ Gives code v w before o = (x : Others) → Allows w x → Keeps before w x × ((
 abbrev pub EndsSo : Code → End → World → World → (Doing → Others → Outcome Value) → Type 0
 EndsSo code e w before o = (x : Others) → Allows w x → Keeps before w x × ((d : Doing) → IsMeaning code d → HasEnded e w x (noting before.reads (o d x)))
 
--- a step leads on, or the run has given a value or has ended
-abbrev pub StepsTo : Code → Result Step Halt → List Frame → World → World → (Doing → Others → Outcome Value) → Type 0
-StepsTo code (Ok (More task)) fs w before o = Leads code (Ok task) fs w before o
-StepsTo code (Ok (Finished v)) fs w before o = Gives code v w before o
-StepsTo code (Err (Ended e)) fs w before o = EndsSo code e w before o
-StepsTo code (Err Memory) fs w before o = Unit {0}
-StepsTo code (Err Written) fs w before o = Unit {0}
+-- a step leads on to a task, or the run has given a value or has ended
+abbrev pub StepsTo : Code → Result Step Halt → Task → List Frame → World → World → (Doing → Others → Outcome Value) → Type 0
+StepsTo code (Ok More) task fs w before o = Leads code (Ok task) fs w before o
+StepsTo code (Ok (Finished v)) task fs w before o = Gives code v w before o
+StepsTo code (Err (Ended e)) task fs w before o = EndsSo code e w before o
+StepsTo code (Err Memory) task fs w before o = Unit {0}
+StepsTo code (Err Written) task fs w before o = Unit {0}
 
 -- the value, or the end; where memory ran out, or a candidate would have been written that must not be, nothing is said
 abbrev pub Answers : Code → Result Value Halt → World → World → (Doing → Others → Outcome Value) → Type 0

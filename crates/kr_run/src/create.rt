@@ -1,23 +1,22 @@
 // Creation: the constructors of a line of classes, and the initial values of fields.
 ghost use Rattle.std.specs.Prelude.{◌≡◌, ◌∷◌, [], map, OnOk, IfErr};
-ghost use Rattle.kr_frames.specs.declared.frame.Frame.TheVariants as frames;
+ghost use Rattle.kr_frames.specs.Frame as frames;
 ghost use Rattle.kr_world.specs.declared.world.Halt.TheVariants.{Memory};
 ghost use Rattle.kr_code.specs.Tables.{class_at, listed};
 ghost use Rattle.kr_code.specs.Doing.{create as create_step, constructed, constructed_in, super_values, initialised as initialised_step};
 ghost use Rattle.kr_frames.specs.Frames.{out_value, out_unit, done, upwards};
-ghost use Rattle.kr_frames.specs.Leads.{Leads};
+ghost use Rattle.kr_frames.specs.Leads.{Leads, next_task};
 ghost use Rattle.kr_mean.specs.Steps.{Stuck, bind, within, stop as stop_step};
 ghost use Rattle.kr_world.specs.Shown.{local_of};
 ghost use Rattle.kr_world.specs.Worlds.{state_at};
 
-use crate::calls::plain_locals;
+use crate::calls::become_arguments;
 use kr_code::{ClassCode, Code, Constructor, Nodes};
-use kr_frames::{Frame, Stack, Task, UnitFrame, Up};
+use kr_frames::{Stack, Task, UnitFrame, Up, Waiting};
 use kr_moves::{push, unit};
 use kr_value::Value;
 use kr_world::{Action, End, Halt, Local, World, new_object};
 use std::alloc::Global;
-use std::mem;
 
 /// A new object of a class.
 #[tactic(auto, unfolding(kr_mean::specs::Steps::bind))]
@@ -28,16 +27,21 @@ pub fn create(
     stack: &mut Stack,
     class: u32,
     arguments: Vec<Value>,
-) -> Result<Task, Halt>
-    ensures { Leads code.now result stack.new world.new world.old (λ d x. out_value code.now d stack.old (create_step code.now d class arguments.items (class_at code.now class) (state_at world.old x))) }
+    task: &mut Task,
+) -> Result<(), Halt>
+    ensures { Leads code.now (next_task result task.new) stack.new world.new world.old (λ d x. out_value code.now d stack.old (create_step code.now d class arguments.items (class_at code.now class) (state_at world.old x))) }
 {
     match code.class(class) {
-        None => return Ok(Task::Act(Action::End(End::Stuck))),
+        None => {
+            *task = Task::Act(Action::End(End::Stuck));
+            return Ok(());
+        }
         Some(found) => match new_object(alloc, code, world, class, found.defaults) {
             Err(halt) => return Err(halt),
             Ok(object) => {
-                push(stack, Frame::Made(object))?;
-                return Ok(Task::Construct(found.line, object, arguments));
+                push(stack, Waiting::Made(object))?;
+                *task = Task::Construct(found.line, object, arguments);
+                return Ok(());
             }
         },
     }
@@ -45,28 +49,23 @@ pub fn create(
 
 /// Nothing that has a meaning, in place of something that gives nothing.
 #[tactic(auto, unfolding(kr_mean::specs::Steps::bind))]
-pub fn stop_unit(code: &Code, world: &World, stack: &mut Stack) -> Result<Task, Halt>
-    ensures { Leads code.now result stack.new world.now world.now (λ d x. out_unit code.now d stack.old (stop_step Stuck (state_at world.now x))) }
+pub fn stop_unit(code: &Code, world: &World, stack: &mut Stack, task: &mut Task) -> Result<(), Halt>
+    ensures { Leads code.now (next_task result task.new) stack.new world.now world.now (λ d x. out_unit code.now d stack.old (stop_step Stuck (state_at world.now x))) }
 {
-    push(stack, Frame::Store(0, Value::Null))?;
-    Ok(Task::Act(Action::End(End::Stuck)))
+    push(stack, Waiting::Store(0, Value::Null))?;
+    *task = Task::Act(Action::End(End::Stuck));
+    Ok(())
 }
 
-/// Something is done with an object as `this` and with arguments, and then they are as before.
-fn enter_with(
-    world: &mut World,
-    stack: &mut Stack,
-    object: Value,
-    locals: Vec<Local>,
-) -> Result<(), Halt>
-    ensures pushed { OnOk result (stack.new ≡ frames.Back world.old.this world.old.locals ∷ stack.old) }
-    ensures world { OnOk result (world.new ≡ record world.old { this = object; locals = locals }) }
+/// Something is done on a new object, and then `this` and the locals are these again.
+fn await_back(stack: &mut Stack, this: Value, locals: &[Local]) -> Result<(), Halt>
+    ensures pushed { OnOk result (stack.new ≡ frames.Back this locals.now ∷ stack.old) }
     ensures memory { IfErr result (λ halt. halt ≡ Memory) }
 {
-    let this = world.this;
-    let before = mem::replace(&mut world.locals, locals);
-    world.this = object;
-    push(stack, Frame::Back(this, before))
+    if stack.push_back(this, locals).is_err() {
+        return Err(Halt::Memory);
+    }
+    Ok(())
 }
 
 /// The class's constructor, where it declares none.
@@ -80,18 +79,19 @@ fn construct_plain(
     object: Value,
     arguments: &Vec<Value>,
     others: Nodes,
-) -> Result<Task, Halt>
-    ensures { Leads code.now result stack.new world.new world.old (λ d x. out_unit code.now d stack.old (within object 0 arguments.now.items (bind (constructed code.now d (listed code.now others) object []) (λ u. initialised_step code.now d object (listed code.now initialisers))) (state_at world.old x))) }
+    task: &mut Task,
+) -> Result<(), Halt>
+    ensures { Leads code.now (next_task result task.new) stack.new world.new world.old (λ d x. out_unit code.now d stack.old (within object 0 arguments.now.items (bind (constructed code.now d (listed code.now others) object []) (λ u. initialised_step code.now d object (listed code.now initialisers))) (state_at world.old x))) }
 {
     if arguments.len() != 0 {
-        return stop_unit(code, world, stack);
+        return stop_unit(code, world, stack, task);
     }
-    let Ok(locals) = plain_locals(alloc, arguments) else {
-        return Err(Halt::Memory);
-    };
-    enter_with(world, stack, object, locals)?;
+    await_back(stack, world.this, world.locals.as_slice())?;
+    become_arguments(&mut world.locals, arguments.as_slice())?;
+    world.this = object;
     unit(stack, UnitFrame::Initialise(initialisers, object))?;
-    Ok(Task::Construct(others, object, Vec::new(alloc)))
+    *task = Task::Construct(others, object, Vec::new(alloc));
+    Ok(())
 }
 
 /// The constructor that a class declares, with its arguments.
@@ -104,27 +104,29 @@ fn construct_declared(
     constructor: Constructor,
     up: Up,
     arguments: &Vec<Value>,
-) -> Result<Task, Halt>
-    ensures { Leads code.now result stack.new world.new world.old (λ d x. out_unit code.now d stack.old (within up.object constructor.parameters arguments.now.items (bind (super_values code.now d constructor.call) (upwards code.now d up)) (state_at world.old x))) }
+    task: &mut Task,
+) -> Result<(), Halt>
+    ensures { Leads code.now (next_task result task.new) stack.new world.new world.old (λ d x. out_unit code.now d stack.old (within up.object constructor.parameters arguments.now.items (bind (super_values code.now d constructor.call) (upwards code.now d up)) (state_at world.old x))) }
 {
     if arguments.len() != constructor.parameters as usize {
-        return stop_unit(code, world, stack);
+        return stop_unit(code, world, stack, task);
     }
-    let Ok(locals) = plain_locals(alloc, arguments) else {
-        return Err(Halt::Memory);
-    };
-    enter_with(world, stack, up.object, locals)?;
+    await_back(stack, world.this, world.locals.as_slice())?;
+    become_arguments(&mut world.locals, arguments.as_slice())?;
+    world.this = up.object;
     match constructor.call {
         None => {
             unit(
                 stack,
                 UnitFrame::Behind(up.object, up.initialisers, up.body),
             )?;
-            Ok(Task::Construct(up.line, up.object, Vec::new(alloc)))
+            *task = Task::Construct(up.line, up.object, Vec::new(alloc));
+            Ok(())
         }
         Some(nodes) => {
-            push(stack, Frame::UpEnter(up, nodes))?;
-            Ok(Task::Act(Action::Tick))
+            push(stack, Waiting::UpEnter(up, nodes))?;
+            *task = Task::Act(Action::Tick);
+            Ok(())
         }
     }
 }
@@ -140,11 +142,12 @@ fn construct_in(
     object: Value,
     arguments: &Vec<Value>,
     others: Nodes,
-) -> Result<Task, Halt>
-    ensures { Leads code.now result stack.new world.new world.old (λ d x. out_unit code.now d stack.old (constructed_in code.now d class object arguments.now.items (constructed code.now d (listed code.now others) object) (state_at world.old x))) }
+    task: &mut Task,
+) -> Result<(), Halt>
+    ensures { Leads code.now (next_task result task.new) stack.new world.new world.old (λ d x. out_unit code.now d stack.old (constructed_in code.now d class object arguments.now.items (constructed code.now d (listed code.now others) object) (state_at world.old x))) }
 {
     match class {
-        None => stop_unit(code, world, stack),
+        None => stop_unit(code, world, stack, task),
         Some(found) => match found.constructor {
             None => construct_plain(
                 alloc,
@@ -155,6 +158,7 @@ fn construct_in(
                 object,
                 arguments,
                 others,
+                task,
             ),
             Some(constructor) => {
                 let up = Up {
@@ -163,7 +167,7 @@ fn construct_in(
                     initialisers: found.initialisers,
                     body: constructor.body,
                 };
-                construct_declared(alloc, code, world, stack, constructor, up, arguments)
+                construct_declared(alloc, code, world, stack, constructor, up, arguments, task)
             }
         },
     }
@@ -176,13 +180,15 @@ fn construct_last(
     stack: &mut Stack,
     object: Value,
     arguments: &Vec<Value>,
-) -> Result<Task, Halt>
-    ensures { Leads code.now result stack.new world.now world.now (λ d x. out_unit code.now d stack.old (constructed code.now d [] object arguments.now.items (state_at world.now x))) }
+    task: &mut Task,
+) -> Result<(), Halt>
+    ensures { Leads code.now (next_task result task.new) stack.new world.now world.now (λ d x. out_unit code.now d stack.old (constructed code.now d [] object arguments.now.items (state_at world.now x))) }
 {
     if arguments.len() == 0 {
-        return Ok(Task::Done);
+        *task = Task::Done;
+        return Ok(());
     }
-    stop_unit(code, world, stack)
+    stop_unit(code, world, stack, task)
 }
 
 /// The constructors of a line of classes.
@@ -195,14 +201,17 @@ pub fn construct(
     line: Nodes,
     object: Value,
     arguments: &Vec<Value>,
-) -> Result<Task, Halt>
-    ensures { Leads code.now result stack.new world.new world.old (λ d x. out_unit code.now d stack.old (constructed code.now d (listed code.now line) object arguments.now.items (state_at world.old x))) }
+    task: &mut Task,
+) -> Result<(), Halt>
+    ensures { Leads code.now (next_task result task.new) stack.new world.new world.old (λ d x. out_unit code.now d stack.old (constructed code.now d (listed code.now line) object arguments.now.items (state_at world.old x))) }
 {
     match code.split(line) {
-        None => construct_last(code, world, stack, object, arguments),
+        None => construct_last(code, world, stack, object, arguments, task),
         Some((class, others)) => {
             let found = code.class(class);
-            construct_in(alloc, code, world, stack, found, object, arguments, others)
+            construct_in(
+                alloc, code, world, stack, found, object, arguments, others, task,
+            )
         }
     }
 }
@@ -215,17 +224,22 @@ pub fn initialise(
     stack: &mut Stack,
     nodes: Nodes,
     object: Value,
-) -> Result<Task, Halt>
-    ensures { Leads code.now result stack.new world.now world.now (λ d x. out_unit code.now d stack.old (initialised_step code.now d object (listed code.now nodes) (state_at world.now x))) }
+    task: &mut Task,
+) -> Result<(), Halt>
+    ensures { Leads code.now (next_task result task.new) stack.new world.now world.now (λ d x. out_unit code.now d stack.old (initialised_step code.now d object (listed code.now nodes) (state_at world.now x))) }
 {
     match code.split(nodes) {
-        None => Ok(Task::Done),
+        None => {
+            *task = Task::Done;
+            Ok(())
+        }
         Some((node, others)) => match code.initialiser(node) {
-            None => stop_unit(code, world, stack),
+            None => stop_unit(code, world, stack, task),
             Some(initialiser) => {
                 unit(stack, UnitFrame::Initialise(others, object))?;
-                push(stack, Frame::Store(initialiser.field, object))?;
-                Ok(Task::Evaluate(initialiser.value))
+                push(stack, Waiting::Store(initialiser.field, object))?;
+                *task = Task::Evaluate(initialiser.value);
+                Ok(())
             }
         },
     }
@@ -234,24 +248,31 @@ pub fn initialise(
 /// Something is done, and a frame waited for it.
 #[tactic(auto, unfolding(kr_mean::specs::Steps::bind))]
 pub fn take_unit(
-    alloc: Global,
     code: &Code,
     world: &mut World,
     stack: &mut Stack,
     frame: UnitFrame,
-) -> Result<Task, Halt>
-    ensures { Leads code.now result stack.new world.new world.old (λ d x. out_unit code.now d stack.old (done code.now d frame (state_at world.old x))) }
+    task: &mut Task,
+) -> Result<(), Halt>
+    ensures { Leads code.now (next_task result task.new) stack.new world.new world.old (λ d x. out_unit code.now d stack.old (done code.now d frame (state_at world.old x))) }
 {
     match frame {
         UnitFrame::Behind(object, initialisers, body) => {
             unit(stack, UnitFrame::Body(body))?;
-            enter_with(world, stack, object, Vec::new(alloc))?;
-            Ok(Task::Initialise(initialisers, object))
+            await_back(stack, world.this, world.locals.as_slice())?;
+            world.locals.clear();
+            world.this = object;
+            *task = Task::Initialise(initialisers, object);
+            Ok(())
         }
         UnitFrame::Body(body) => {
-            push(stack, Frame::Complete)?;
-            Ok(Task::All(body))
+            push(stack, Waiting::Complete)?;
+            *task = Task::All(body);
+            Ok(())
         }
-        UnitFrame::Initialise(nodes, object) => Ok(Task::Initialise(nodes, object)),
+        UnitFrame::Initialise(nodes, object) => {
+            *task = Task::Initialise(nodes, object);
+            Ok(())
+        }
     }
 }

@@ -1,5 +1,9 @@
 // The machine: one task after another, until the run ends.
-ghost use Rattle.std.specs.Prelude.{◌≡◌, ◌∷◌, MatchOption};
+ghost use Rattle.std.specs.Prelude.{◌≡◌, ◌∷◌, List, MatchOption, drop, IfErr, IfOk, OnOk};
+ghost use Rattle.kr_world.specs.declared.world.Halt.TheVariants.{Memory};
+ghost use Rattle.kr_frames.specs.Frame.{Frame};
+ghost use Rattle.kr_frames.specs.Frame as frames;
+ghost use Rattle.kr_frames.specs.Kept.{IsOnTop, values_on};
 ghost use Rattle.kr_code.specs.declared.statement.Statement.TheVariants.{Stuck as NoStatement};
 ghost use Rattle.kr_code.specs.Doing.{statement_done, flow_of as statement_flow};
 ghost use Rattle.kr_code.specs.Steps.{store_initial as store_step};
@@ -9,7 +13,7 @@ ghost use Rattle.kr_frames.specs.Frames.{resumed, out_value, out_flow, out_unit,
 ghost use Rattle.kr_mean.specs.Meaning.{returned, completed};
 ghost use Rattle.kr_mean.specs.Operators.{step_operator as operator_of_step};
 ghost use Rattle.kr_world.specs.Actions.{acted};
-ghost use Rattle.kr_frames.specs.Leads.{Leads};
+ghost use Rattle.kr_frames.specs.Leads.{Leads, next_task};
 ghost use Rattle.kr_mean.specs.Steps.{bind, give, tick};
 ghost use Rattle.kr_run.specs.Answers.{StepsTo, Answers};
 ghost use Rattle.kr_world.specs.Worlds.{state_at};
@@ -18,8 +22,8 @@ use crate::calls::apply;
 use crate::create::{construct, initialise, stop_unit, take_unit};
 use crate::steps::Step;
 use kr_ast::{BinaryOperator, StepOperator};
-use kr_code::{Code, Node, Statement};
-use kr_frames::{Change, Flow, Frame, Stack, Task, ValueFrame, WriteFrame};
+use kr_code::{Code, Node, Nodes, Statement};
+use kr_frames::{Change, Flow, Goal, Stack, Task, Up, ValueFrame, Waiting, WriteFrame};
 use kr_known::at_once;
 use kr_mean::Kind;
 use kr_moves::{
@@ -29,6 +33,7 @@ use kr_moves::{
 use kr_value::Value;
 use kr_world::{Action, Cell, End, Halt, Local, World, act, store_initial, tick};
 use std::alloc::Global;
+use std::mem;
 
 /// An expression: at once where its value is known, else part by part.
 fn evaluate_node(
@@ -37,12 +42,16 @@ fn evaluate_node(
     world: &mut World,
     stack: &mut Stack,
     node: u32,
-) -> Result<Task, Halt>
-    ensures { Leads code.now result stack.new world.new world.old (λ d x. out_value code.now d stack.old (d.value node (state_at world.old x))) }
+    task: &mut Task,
+) -> Result<(), Halt>
+    ensures { Leads code.now (next_task result task.new) stack.new world.new world.old (λ d x. out_value code.now d stack.old (d.value node (state_at world.old x))) }
 {
     match at_once(code, world, node) {
-        Some(given) => Ok(Task::Got(given)),
-        None => enter_node(alloc, code, world, stack, node),
+        Some(given) => {
+            *task = Task::Got(given);
+            Ok(())
+        }
+        None => enter_node(alloc, code, world, stack, node, task),
     }
 }
 
@@ -54,12 +63,13 @@ fn tick_statement(
     world: &mut World,
     stack: &mut Stack,
     statement: &Statement,
-) -> Result<Task, Halt>
-    ensures { Leads code.now result stack.new world.new world.old (λ d x. out_flow code.now d stack.old (bind tick (λ u. statement_flow code.now d statement.now) (state_at world.old x))) }
+    task: &mut Task,
+) -> Result<(), Halt>
+    ensures { Leads code.now (next_task result task.new) stack.new world.new world.old (λ d x. out_flow code.now d stack.old (bind tick (λ u. statement_flow code.now d statement.now) (state_at world.old x))) }
 {
     match tick(world) {
         Err(halt) => Err(halt),
-        Ok(_) => enter_statement(alloc, code, world, stack, statement),
+        Ok(_) => enter_statement(alloc, code, world, stack, statement, task),
     }
 }
 
@@ -71,24 +81,28 @@ fn execute_statement(
     world: &mut World,
     stack: &mut Stack,
     statement: &Statement,
-) -> Result<Task, Halt>
-    ensures { Leads code.now result stack.new world.new world.old (λ d x. out_flow code.now d stack.old (statement_done code.now d statement.now (state_at world.old x))) }
+    task: &mut Task,
+) -> Result<(), Halt>
+    ensures { Leads code.now (next_task result task.new) stack.new world.new world.old (λ d x. out_flow code.now d stack.old (statement_done code.now d statement.now (state_at world.old x))) }
 {
     match statement {
-        Statement::Declare(nodes) => Ok(Task::Declare(*nodes)),
-        Statement::Stuck => tick_statement(alloc, code, world, stack, statement),
-        Statement::Empty => tick_statement(alloc, code, world, stack, statement),
-        Statement::Block(_) => tick_statement(alloc, code, world, stack, statement),
-        Statement::Evaluate(_) => tick_statement(alloc, code, world, stack, statement),
-        Statement::IfThen { .. } => tick_statement(alloc, code, world, stack, statement),
-        Statement::IfElse { .. } => tick_statement(alloc, code, world, stack, statement),
-        Statement::While { .. } => tick_statement(alloc, code, world, stack, statement),
-        Statement::Do { .. } => tick_statement(alloc, code, world, stack, statement),
-        Statement::For { .. } => tick_statement(alloc, code, world, stack, statement),
-        Statement::Break => tick_statement(alloc, code, world, stack, statement),
-        Statement::Continue => tick_statement(alloc, code, world, stack, statement),
-        Statement::Leave => tick_statement(alloc, code, world, stack, statement),
-        Statement::Return(_) => tick_statement(alloc, code, world, stack, statement),
+        Statement::Declare(nodes) => {
+            *task = Task::Declare(*nodes);
+            Ok(())
+        }
+        Statement::Stuck => tick_statement(alloc, code, world, stack, statement, task),
+        Statement::Empty => tick_statement(alloc, code, world, stack, statement, task),
+        Statement::Block(_) => tick_statement(alloc, code, world, stack, statement, task),
+        Statement::Evaluate(_) => tick_statement(alloc, code, world, stack, statement, task),
+        Statement::IfThen { .. } => tick_statement(alloc, code, world, stack, statement, task),
+        Statement::IfElse { .. } => tick_statement(alloc, code, world, stack, statement, task),
+        Statement::While { .. } => tick_statement(alloc, code, world, stack, statement, task),
+        Statement::Do { .. } => tick_statement(alloc, code, world, stack, statement, task),
+        Statement::For { .. } => tick_statement(alloc, code, world, stack, statement, task),
+        Statement::Break => tick_statement(alloc, code, world, stack, statement, task),
+        Statement::Continue => tick_statement(alloc, code, world, stack, statement, task),
+        Statement::Leave => tick_statement(alloc, code, world, stack, statement, task),
+        Statement::Return(_) => tick_statement(alloc, code, world, stack, statement, task),
     }
 }
 
@@ -109,12 +123,13 @@ fn execute_node(
     world: &mut World,
     stack: &mut Stack,
     node: u32,
-) -> Result<Task, Halt>
-    ensures { Leads code.now result stack.new world.new world.old (λ d x. out_flow code.now d stack.old (d.exec node (state_at world.old x))) }
+    task: &mut Task,
+) -> Result<(), Halt>
+    ensures { Leads code.now (next_task result task.new) stack.new world.new world.old (λ d x. out_flow code.now d stack.old (d.exec node (state_at world.old x))) }
 {
     match statement_at(code, node) {
-        None => execute_statement(alloc, code, world, stack, &Statement::Stuck),
-        Some(statement) => execute_statement(alloc, code, world, stack, statement),
+        None => execute_statement(alloc, code, world, stack, &Statement::Stuck, task),
+        Some(statement) => execute_statement(alloc, code, world, stack, statement, task),
     }
 }
 
@@ -139,12 +154,14 @@ fn alter_compound(
     node: u32,
     cell: Cell,
     old: Value,
-) -> Result<Task, Halt>
-    ensures { Leads code.now result stack.new world.now world.now (λ d x. out_value code.now d stack.old (altered code.now d (changes.Compound operator node) cell old (state_at world.now x))) }
+    task: &mut Task,
+) -> Result<(), Halt>
+    ensures { Leads code.now (next_task result task.new) stack.new world.now world.now (λ d x. out_value code.now d stack.old (altered code.now d (changes.Compound operator node) cell old (state_at world.now x))) }
 {
     write(stack, WriteFrame::Put(cell))?;
     value(stack, ValueFrame::Right(operator, old))?;
-    Ok(Task::Evaluate(node))
+    *task = Task::Evaluate(node);
+    Ok(())
 }
 
 /// A variable changes from its value.
@@ -156,16 +173,18 @@ fn alter(
     change: Change,
     cell: Cell,
     old: Value,
-) -> Result<Task, Halt>
-    ensures { Leads code.now result stack.new world.now world.now (λ d x. out_value code.now d stack.old (altered code.now d change cell old (state_at world.now x))) }
+    task: &mut Task,
+) -> Result<(), Halt>
+    ensures { Leads code.now (next_task result task.new) stack.new world.now world.now (λ d x. out_value code.now d stack.old (altered code.now d change cell old (state_at world.now x))) }
 {
     match change {
         Change::Step(operator) => {
             write(stack, WriteFrame::Stepped(operator, cell, old))?;
-            Ok(Task::Act(Action::Binary(step_operator(operator), old, Value::Int(1))))
+            *task = Task::Act(Action::Binary(step_operator(operator), old, Value::Int(1)));
+            Ok(())
         }
         Change::Compound(operator, node) => {
-            alter_compound(code, world, stack, operator, node, cell, old)
+            alter_compound(code, world, stack, operator, node, cell, old, task)
         }
     }
 }
@@ -179,75 +198,179 @@ fn store(
     field: u32,
     object: Value,
     given: Value,
-) -> Result<Task, Halt>
-    ensures { Leads code.now result stack.now world.new world.old (λ d x. out_unit code.now d stack.now (store_step code.now field object given (state_at world.old x))) }
+    task: &mut Task,
+) -> Result<(), Halt>
+    ensures { Leads code.now (next_task result task.new) stack.now world.new world.old (λ d x. out_unit code.now d stack.now (store_step code.now field object given (state_at world.old x))) }
 {
     match store_initial(code, world, field, object, given) {
-        Ok(()) => Ok(Task::Done),
+        Ok(()) => {
+            *task = Task::Done;
+            Ok(())
+        }
         Err(halt) => Err(halt),
     }
 }
 
-/// A value comes to a frame.
+/// The topmost frame goes, with the values that it has.
+fn take_found(alloc: Global, stack: &mut Stack) -> Result<Vec<Value>, Halt>
+    ensures rest { OnOk result (stack.new ≡ drop 1 stack.old) }
+    ensures values { IfOk result (λ found. found.items ≡ values_on stack.old) }
+    ensures memory { IfErr result (λ halt. halt ≡ Memory) }
+{
+    let mut found = Vec::new(alloc);
+    match stack.take_values(&mut found) {
+        Ok(()) => Ok(found),
+        Err(_) => Err(Halt::Memory),
+    }
+}
+
+/// One more argument comes, and a frame waited for it with those that are there.
+#[tactic(auto, unfolding(kr_mean::specs::Steps::bind))]
+fn argument_frame(
+    alloc: Global,
+    code: &Code,
+    world: &World,
+    stack: &mut Stack,
+    goal: Goal,
+    others: Nodes,
+    given: Value,
+    task: &mut Task,
+) -> Result<(), Halt>
+    requires { (found : List Value) × (fs : List Frame) × (stack.old ≡ frames.Arguments goal others found ∷ fs) }
+    ensures { Leads code.now (next_task result task.new) stack.new world.now world.now (λ d x. out_value code.now d stack.old (give given (state_at world.now x))) }
+{
+    match take_found(alloc, stack) {
+        Err(halt) => Err(halt),
+        Ok(found) => take_argument(code, world, stack, goal, others, found, given, task),
+    }
+}
+
+/// One more argument of a superclass's constructor comes.
+#[tactic(auto, unfolding(kr_mean::specs::Steps::bind))]
+fn up_argument_frame(
+    alloc: Global,
+    code: &Code,
+    world: &World,
+    stack: &mut Stack,
+    up: Up,
+    others: Nodes,
+    given: Value,
+    task: &mut Task,
+) -> Result<(), Halt>
+    requires { (found : List Value) × (fs : List Frame) × (stack.old ≡ frames.UpArguments up others found ∷ fs) }
+    ensures { Leads code.now (next_task result task.new) stack.new world.now world.now (λ d x. out_value code.now d stack.old (give given (state_at world.now x))) }
+{
+    match take_found(alloc, stack) {
+        Err(halt) => Err(halt),
+        Ok(found) => take_up_argument(code, world, stack, up, others, found, given, task),
+    }
+}
+
+/// A value comes to the topmost frame.
 #[tactic(auto, unfolding(kr_mean::specs::Steps::bind))]
 fn value_frame(
     alloc: Global,
     code: &Code,
     world: &mut World,
     stack: &mut Stack,
-    frame: Frame,
+    frame: Waiting,
     given: Value,
-) -> Result<Task, Halt>
-    ensures { Leads code.now result stack.new world.new world.old (λ d x. out_value code.now d (frame ∷ stack.old) (give given (state_at world.old x))) }
+    task: &mut Task,
+) -> Result<(), Halt>
+    requires { IsOnTop frame stack.old }
+    ensures { Leads code.now (next_task result task.new) stack.new world.new world.old (λ d x. out_value code.now d stack.old (give given (state_at world.old x))) }
 {
     match frame {
-        Frame::Value(waiting) => return take_value(alloc, code, world, stack, waiting, given),
-        Frame::Test(waiting) => return take_test(code, world, stack, waiting, given),
-        Frame::Arguments(goal, others, found) => {
-            return take_argument(code, world, stack, goal, others, found, given);
+        Waiting::Value(waiting) => {
+            stack.drop_top();
+            return take_value(alloc, code, world, stack, waiting, given, task);
         }
-        Frame::UpArguments(up, others, found) => {
-            return take_up_argument(code, world, stack, up, others, found, given);
+        Waiting::Test(waiting) => {
+            stack.drop_top();
+            return take_test(code, world, stack, waiting, given, task);
         }
-        Frame::UpEnter(up, nodes) => return Ok(Task::UpValues(up, nodes, Vec::new(alloc))),
-        Frame::Store(field, object) => return store(code, world, stack, field, object, given),
+        Waiting::Arguments(goal, others, _) => {
+            return argument_frame(alloc, code, world, stack, goal, others, given, task);
+        }
+        Waiting::UpArguments(up, others, _) => {
+            return up_argument_frame(alloc, code, world, stack, up, others, given, task);
+        }
+        Waiting::UpEnter(up, nodes) => {
+            stack.drop_top();
+            *task = Task::UpValues(up, nodes, Vec::new(alloc));
+            return Ok(());
+        }
+        Waiting::Store(field, object) => {
+            stack.drop_top();
+            return store(code, world, stack, field, object, given, task);
+        }
         _ => return Err(Halt::Ended(End::Stuck)),
     }
 }
 
-/// A method's body ends.
+/// A method's body ends, in a frame that has its caller's locals.
 #[tactic(auto, unfolding(kr_mean::specs::Steps::bind))]
 fn leave(
     code: &Code,
     world: &mut World,
-    stack: &Stack,
+    stack: &mut Stack,
     is_void: bool,
     this: Value,
-    locals: Vec<Local>,
     flow: Flow,
-) -> Result<Task, Halt>
-    ensures { Leads code.now result stack.now world.new world.old (λ d x. out_value code.now d stack.now (restored this locals.items (returned is_void (flow_of flow) (state_at world.old x)))) }
+    task: &mut Task,
+) -> Result<(), Halt>
+    requires { (locals : List Local) × (fs : List Frame) × (stack.old ≡ frames.Leave is_void this locals ∷ fs) }
+    ensures { Leads code.now (next_task result task.new) stack.new world.new world.old (λ d x. out_flow code.now d stack.old (give (flow_of flow) (state_at world.old x))) }
 {
+    if stack.take_locals(&mut world.locals).is_err() {
+        return Err(Halt::Memory);
+    }
     world.this = this;
-    world.locals = locals;
     match (is_void, flow) {
-        (true, Flow::Next) => Ok(Task::Got(Value::Null)),
-        (true, Flow::Left) => Ok(Task::Got(Value::Null)),
-        (false, Flow::Next) => Ok(Task::Act(Action::End(End::Trapped(Kind::NoReturn)))),
-        (false, Flow::Gave(given)) => Ok(Task::Got(given)),
-        _ => Ok(Task::Act(Action::End(End::Stuck))),
+        (true, Flow::Next) => {
+            *task = Task::Got(Value::Null);
+            Ok(())
+        }
+        (true, Flow::Left) => {
+            *task = Task::Got(Value::Null);
+            Ok(())
+        }
+        (false, Flow::Next) => {
+            *task = Task::Act(Action::End(End::Trapped(Kind::NoReturn)));
+            Ok(())
+        }
+        (false, Flow::Gave(given)) => {
+            *task = Task::Got(given);
+            Ok(())
+        }
+        _ => {
+            *task = Task::Act(Action::End(End::Stuck));
+            Ok(())
+        }
     }
 }
 
 /// A constructor's body ends.
 #[tactic(auto, unfolding(kr_mean::specs::Steps::bind))]
-fn complete(code: &Code, world: &World, stack: &mut Stack, flow: Flow) -> Result<Task, Halt>
-    ensures { Leads code.now result stack.new world.now world.now (λ d x. out_unit code.now d stack.old (completed (flow_of flow) (state_at world.now x))) }
+fn complete(
+    code: &Code,
+    world: &World,
+    stack: &mut Stack,
+    flow: Flow,
+    task: &mut Task,
+) -> Result<(), Halt>
+    ensures { Leads code.now (next_task result task.new) stack.new world.now world.now (λ d x. out_unit code.now d stack.old (completed (flow_of flow) (state_at world.now x))) }
 {
     match flow {
-        Flow::Next => Ok(Task::Done),
-        Flow::Left => Ok(Task::Done),
-        _ => stop_unit(code, world, stack),
+        Flow::Next => {
+            *task = Task::Done;
+            Ok(())
+        }
+        Flow::Left => {
+            *task = Task::Done;
+            Ok(())
+        }
+        _ => stop_unit(code, world, stack, task),
     }
 }
 
@@ -259,54 +382,92 @@ fn end_scope(
     stack: &Stack,
     count: usize,
     flow: Flow,
-) -> Result<Task, Halt>
-    ensures { Leads code.now result stack.now world.new world.old (λ d x. out_flow code.now d stack.now (cut_to count (give (flow_of flow) (state_at world.old x)))) }
+    task: &mut Task,
+) -> Result<(), Halt>
+    ensures { Leads code.now (next_task result task.new) stack.now world.new world.old (λ d x. out_flow code.now d stack.now (cut_to count (give (flow_of flow) (state_at world.old x)))) }
 {
     world.locals.truncate(count);
-    Ok(Task::Led(flow))
+    *task = Task::Led(flow);
+    Ok(())
 }
 
-/// A statement's end comes to a frame.
+/// A statement's end comes to the topmost frame.
 #[tactic(auto, unfolding(kr_mean::specs::Steps::bind))]
 fn flow_frame(
     code: &Code,
     world: &mut World,
     stack: &mut Stack,
-    frame: Frame,
+    frame: Waiting,
     flow: Flow,
-) -> Result<Task, Halt>
-    ensures { Leads code.now result stack.new world.new world.old (λ d x. out_flow code.now d (frame ∷ stack.old) (give (flow_of flow) (state_at world.old x))) }
+    task: &mut Task,
+) -> Result<(), Halt>
+    requires { IsOnTop frame stack.old }
+    ensures { Leads code.now (next_task result task.new) stack.new world.new world.old (λ d x. out_flow code.now d stack.old (give (flow_of flow) (state_at world.old x))) }
 {
     match frame {
-        Frame::Flow(waiting) => return take_flow(code, world, stack, waiting, flow),
-        Frame::Scope(count) => return end_scope(code, world, stack, count, flow),
-        Frame::Leave(is_void, this, locals) => {
-            return leave(code, world, stack, is_void, this, locals, flow);
+        Waiting::Flow(waiting) => {
+            stack.drop_top();
+            return take_flow(code, world, stack, waiting, flow, task);
         }
-        Frame::Complete => return complete(code, world, stack, flow),
+        Waiting::Scope(count) => {
+            stack.drop_top();
+            return end_scope(code, world, stack, count, flow, task);
+        }
+        Waiting::Leave(is_void, this, _) => {
+            return leave(code, world, stack, is_void, this, flow, task);
+        }
+        Waiting::Complete => {
+            stack.drop_top();
+            return complete(code, world, stack, flow, task);
+        }
         _ => return Err(Halt::Ended(End::Stuck)),
     }
 }
 
-/// What gives nothing is done, and a frame waits for it.
+/// `this` and the locals are those from before, in a frame that has these.
+#[tactic(auto, unfolding(kr_mean::specs::Steps::bind))]
+fn go_back(
+    code: &Code,
+    world: &mut World,
+    stack: &mut Stack,
+    this: Value,
+    task: &mut Task,
+) -> Result<(), Halt>
+    requires { (locals : List Local) × (fs : List Frame) × (stack.old ≡ frames.Back this locals ∷ fs) }
+    ensures { Leads code.now (next_task result task.new) stack.new world.new world.old (λ d x. out_unit code.now d stack.old (give tt (state_at world.old x))) }
+{
+    if stack.take_locals(&mut world.locals).is_err() {
+        return Err(Halt::Memory);
+    }
+    world.this = this;
+    *task = Task::Done;
+    Ok(())
+}
+
+/// What gives nothing is done, and the topmost frame waited for it.
 #[tactic(auto, unfolding(kr_mean::specs::Steps::bind))]
 fn unit_frame(
     alloc: Global,
     code: &Code,
     world: &mut World,
     stack: &mut Stack,
-    frame: Frame,
-) -> Result<Task, Halt>
-    ensures { Leads code.now result stack.new world.new world.old (λ d x. out_unit code.now d (frame ∷ stack.old) (give tt (state_at world.old x))) }
+    frame: Waiting,
+    task: &mut Task,
+) -> Result<(), Halt>
+    requires { IsOnTop frame stack.old }
+    ensures { Leads code.now (next_task result task.new) stack.new world.new world.old (λ d x. out_unit code.now d stack.old (give tt (state_at world.old x))) }
 {
     match frame {
-        Frame::Unit(waiting) => return take_unit(alloc, code, world, stack, waiting),
-        Frame::Back(this, locals) => {
-            world.this = this;
-            world.locals = locals;
-            return Ok(Task::Done);
+        Waiting::Unit(waiting) => {
+            stack.drop_top();
+            return take_unit(code, world, stack, waiting, task);
         }
-        Frame::Made(object) => return Ok(Task::Got(object)),
+        Waiting::Back(this, _) => return go_back(code, world, stack, this, task),
+        Waiting::Made(object) => {
+            stack.drop_top();
+            *task = Task::Got(object);
+            return Ok(());
+        }
         _ => return Err(Halt::Ended(End::Stuck)),
     }
 }
@@ -319,51 +480,80 @@ fn act_on(
     world: &mut World,
     stack: &Stack,
     action: Action,
-) -> Result<Task, Halt>
-    ensures { Leads code.now result stack.now world.new world.old (λ d x. out_value code.now d stack.now (acted code.now action (state_at world.old x))) }
+    task: &mut Task,
+) -> Result<(), Halt>
+    ensures { Leads code.now (next_task result task.new) stack.now world.new world.old (λ d x. out_value code.now d stack.now (acted code.now action (state_at world.old x))) }
 {
     match act(alloc, code, action, world) {
-        Ok(given) => Ok(Task::Got(given)),
+        Ok(given) => {
+            *task = Task::Got(given);
+            Ok(())
+        }
         Err(halt) => Err(halt),
     }
 }
 
-/// What a task leads to, but for what comes to a frame.
+/// What a task leads to that is rare, or owns values.
+#[tactic(auto, unfolding(kr_mean::specs::Steps::bind))]
+fn do_rare(
+    alloc: Global,
+    code: &Code,
+    world: &mut World,
+    stack: &mut Stack,
+    rare: Task,
+    task: &mut Task,
+) -> Result<(), Halt>
+    ensures { Leads code.now (next_task result task.new) stack.new world.new world.old (λ d x. resumed code.now d stack.old rare (state_at world.old x)) }
+{
+    match rare {
+        Task::Alter(change, cell, old) => {
+            return alter(code, world, stack, change, cell, old, task);
+        }
+        Task::Values(goal, nodes, found) => {
+            return arguments(code, world, stack, goal, nodes, found, task);
+        }
+        Task::UpValues(up, nodes, found) => {
+            return up_arguments(code, world, stack, up, nodes, found, task);
+        }
+        Task::Apply(goal, found) => return apply(alloc, code, world, stack, goal, found, task),
+        Task::Construct(line, object, found) => {
+            return construct(alloc, code, world, stack, line, object, &found, task);
+        }
+        Task::Initialise(nodes, object) => {
+            return initialise(code, world, stack, nodes, object, task);
+        }
+        other => {
+            *task = other;
+            return Ok(());
+        }
+    }
+}
+
+/// What a task leads to, but for a value that comes to a frame.
 #[tactic(auto, unfolding(kr_mean::specs::Steps::bind))]
 fn do_task(
     alloc: Global,
     code: &Code,
     world: &mut World,
     stack: &mut Stack,
-    task: Task,
-) -> Result<Task, Halt>
-    ensures { Leads code.now result stack.new world.new world.old (λ d x. resumed code.now d stack.old task (state_at world.old x)) }
+    task: &mut Task,
+) -> Result<(), Halt>
+    ensures { Leads code.now (next_task result task.new) stack.new world.new world.old (λ d x. resumed code.now d stack.old task.old (state_at world.old x)) }
 {
-    match task {
-        Task::Evaluate(node) => return evaluate_node(alloc, code, world, stack, node),
-        Task::Execute(node) => return execute_node(alloc, code, world, stack, node),
-        Task::Act(action) => return act_on(alloc, code, world, stack, action),
-        Task::Alter(change, cell, old) => return alter(code, world, stack, change, cell, old),
-        Task::Values(goal, nodes, found) => {
-            return arguments(code, world, stack, goal, nodes, found);
+    match *task {
+        Task::Evaluate(node) => return evaluate_node(alloc, code, world, stack, node, task),
+        Task::Execute(node) => return execute_node(alloc, code, world, stack, node, task),
+        Task::Led(flow) => return give_flow(code, world, stack, flow, task),
+        Task::Done => return give_nothing(alloc, code, world, stack, task),
+        Task::Act(action) => return act_on(alloc, code, world, stack, action, task),
+        Task::All(nodes) => return all(code, world, stack, nodes, task),
+        Task::Declare(nodes) => return declare(code, world, stack, nodes, task),
+        Task::Update(nodes) => return update(code, world, stack, nodes, task),
+        Task::Repeat(turn) => return repeat(alloc, code, world, stack, turn, task),
+        _ => {
+            let rare = mem::replace(task, Task::Done);
+            return do_rare(alloc, code, world, stack, rare, task);
         }
-        Task::UpValues(up, nodes, found) => {
-            return up_arguments(code, world, stack, up, nodes, found);
-        }
-        Task::Apply(goal, found) => return apply(alloc, code, world, stack, goal, found),
-        Task::All(nodes) => return all(code, world, stack, nodes),
-        Task::Declare(nodes) => return declare(code, world, stack, nodes),
-        Task::Update(nodes) => return update(code, world, stack, nodes),
-        Task::Repeat(turn) => return repeat(alloc, code, world, stack, turn),
-        Task::Construct(line, object, found) => {
-            return construct(alloc, code, world, stack, line, object, &found);
-        }
-        Task::Initialise(nodes, object) => {
-            return initialise(code, world, stack, nodes, object);
-        }
-        Task::Got(given) => return Ok(Task::Got(given)),
-        Task::Led(flow) => return Ok(Task::Led(flow)),
-        Task::Done => return Ok(Task::Done),
     }
 }
 
@@ -374,27 +564,36 @@ fn give_value(
     world: &mut World,
     stack: &mut Stack,
     given: Value,
+    task: &mut Task,
 ) -> Result<Step, Halt>
-    ensures { StepsTo code.now result stack.new world.new world.old (λ d x. out_value code.now d stack.old (give given (state_at world.old x))) }
+    ensures { StepsTo code.now result task.new stack.new world.new world.old (λ d x. out_value code.now d stack.old (give given (state_at world.old x))) }
 {
-    match stack.pop() {
-        None => return Ok(Step::Finished(given)),
-        Some(frame) => match value_frame(alloc, code, world, stack, frame, given) {
-            Ok(task) => return Ok(Step::More(task)),
-            Err(halt) => return Err(halt),
-        },
+    let Some(top) = stack.top() else {
+        return Ok(Step::Finished(given));
+    };
+    let frame = *top;
+    match value_frame(alloc, code, world, stack, frame, given, task) {
+        Ok(()) => return Ok(Step::More),
+        Err(halt) => return Err(halt),
     }
 }
 
 /// A statement's end comes to the topmost frame.
 #[tactic(auto, unfolding(kr_mean::specs::Steps::bind))]
-fn give_flow(code: &Code, world: &mut World, stack: &mut Stack, flow: Flow) -> Result<Task, Halt>
-    ensures { Leads code.now result stack.new world.new world.old (λ d x. out_flow code.now d stack.old (give (flow_of flow) (state_at world.old x))) }
+fn give_flow(
+    code: &Code,
+    world: &mut World,
+    stack: &mut Stack,
+    flow: Flow,
+    task: &mut Task,
+) -> Result<(), Halt>
+    ensures { Leads code.now (next_task result task.new) stack.new world.new world.old (λ d x. out_flow code.now d stack.old (give (flow_of flow) (state_at world.old x))) }
 {
-    match stack.pop() {
-        None => return Err(Halt::Ended(End::Stuck)),
-        Some(frame) => return flow_frame(code, world, stack, frame, flow),
-    }
+    let Some(top) = stack.top() else {
+        return Err(Halt::Ended(End::Stuck));
+    };
+    let frame = *top;
+    return flow_frame(code, world, stack, frame, flow, task);
 }
 
 /// What gives nothing is done.
@@ -404,37 +603,31 @@ fn give_nothing(
     code: &Code,
     world: &mut World,
     stack: &mut Stack,
-) -> Result<Task, Halt>
-    ensures { Leads code.now result stack.new world.new world.old (λ d x. out_unit code.now d stack.old (give tt (state_at world.old x))) }
+    task: &mut Task,
+) -> Result<(), Halt>
+    ensures { Leads code.now (next_task result task.new) stack.new world.new world.old (λ d x. out_unit code.now d stack.old (give tt (state_at world.old x))) }
 {
-    match stack.pop() {
-        None => return Err(Halt::Ended(End::Stuck)),
-        Some(frame) => return unit_frame(alloc, code, world, stack, frame),
-    }
+    let Some(top) = stack.top() else {
+        return Err(Halt::Ended(End::Stuck));
+    };
+    let frame = *top;
+    return unit_frame(alloc, code, world, stack, frame, task);
 }
 
-/// One step.
+/// One step: the next task comes in place of the one that is done.
 pub fn step(
     alloc: Global,
     code: &Code,
     world: &mut World,
     stack: &mut Stack,
-    task: Task,
+    task: &mut Task,
 ) -> Result<Step, Halt>
-    ensures { StepsTo code.now result stack.new world.new world.old (λ d x. resumed code.now d stack.old task (state_at world.old x)) }
+    ensures { StepsTo code.now result task.new stack.new world.new world.old (λ d x. resumed code.now d stack.old task.old (state_at world.old x)) }
 {
-    match task {
-        Task::Got(given) => return give_value(alloc, code, world, stack, given),
-        Task::Led(flow) => match give_flow(code, world, stack, flow) {
-            Ok(next) => return Ok(Step::More(next)),
-            Err(halt) => return Err(halt),
-        },
-        Task::Done => match give_nothing(alloc, code, world, stack) {
-            Ok(next) => return Ok(Step::More(next)),
-            Err(halt) => return Err(halt),
-        },
-        other => match do_task(alloc, code, world, stack, other) {
-            Ok(next) => return Ok(Step::More(next)),
+    match *task {
+        Task::Got(given) => return give_value(alloc, code, world, stack, given, task),
+        _ => match do_task(alloc, code, world, stack, task) {
+            Ok(()) => return Ok(Step::More),
             Err(halt) => return Err(halt),
         },
     }
@@ -448,12 +641,12 @@ pub fn evaluate(alloc: Global, code: &Code, world: &mut World, node: u32) -> Res
     let mut stack = Stack::new(alloc);
     let mut task = Task::Evaluate(node);
     'steps: for _ in 0..u64::MAX {
-        match step(alloc, code, world, &mut stack, task) {
+        match step(alloc, code, world, &mut stack, &mut task) {
             Err(Halt::Ended(end)) => return Err(Halt::Ended(end)),
             Err(Halt::Memory) => return Err(Halt::Memory),
             Err(Halt::Written) => return Err(Halt::Written),
             Ok(Step::Finished(given)) => return Ok(given),
-            Ok(Step::More(next)) => task = next,
+            Ok(Step::More) => {}
         }
     }
     Err(Halt::Memory)

@@ -1,11 +1,11 @@
 // What a step gives.
 
-use kr_frames::Task;
 use kr_value::Value;
 
 /// What a step gives.
-#[derive(Debug, Drop)]
+#[derive(Clone, Copy, Debug)]
 pub enum Step {
-    More(Task),
+    /// A task comes next.
+    More,
     Finished(Value),
 }

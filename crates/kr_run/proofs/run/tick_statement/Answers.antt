@@ -3,6 +3,7 @@ use Rattle.kr_world.specs.Worlds.{state_at}
 use Rattle.kr_frames.specs.Frames.{out_flow}
 use Rattle.kr_frames.proofs.Outcomes.{leads_same, flow_reads}
 use Rattle.kr_moves.proofs.Going.{ticked, no_flow_tick}
+use Rattle.kr_frames.specs.Leads.{next_task}
 use Rattle.kr_run.proofs.run.tick_statement.Goals as goal
 
 pub returns-in-Err : goal.returns-in-Err
@@ -13,6 +14,6 @@ returns-in-Ok c =
     let code = c.args.code.now in
     let w = c.args.world.now in
     let then = c.tick.new.world in
-    leads_same code c.enter_statement.result c.enter_statement.new.stack c.enter_statement.new.world then w _ (λ d x. out_flow code d c.args.stack.now (flow_of code d c.args.statement.now (state_at then x)))
+    leads_same code (next_task c.enter_statement.result c.enter_statement.new.task) c.enter_statement.new.stack c.enter_statement.new.world then w _ (λ d x. out_flow code d c.args.stack.now (flow_of code d c.args.statement.now (state_at then x)))
     (λ x a. let r = c.in-Ok.ensures x a in (r.0, λ d m. ticked (out_flow code d c.args.stack.now) (flow_reads code d c.args.stack.now) w.reads then.reads (flow_of code d c.args.statement.now) (state_at w x) (state_at then x) _ r.1))
     c.enter_statement.ensures
