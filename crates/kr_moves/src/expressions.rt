@@ -134,6 +134,7 @@ fn enter_change(
 }
 
 /// The field of an object, which comes next, unless it is known.
+#[inline(always)]
 fn enter_field(
     code: &Code,
     world: &mut World,
@@ -439,6 +440,7 @@ fn enter_expression(
 }
 
 /// A node as an expression, after its unit.
+#[inline(always)]
 fn enter_ticked(
     alloc: Global,
     code: &Code,
@@ -459,6 +461,7 @@ fn enter_ticked(
 }
 
 /// A unit of fuel, and then the expression, part by part.
+#[inline(always)]
 #[tactic(auto, unfolding(kr_mean::specs::Steps::bind))]
 pub fn enter_node(
     alloc: Global,

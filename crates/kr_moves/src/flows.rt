@@ -9,6 +9,7 @@ use kr_frames::{Flow, FlowFrame, Stack, Task};
 use kr_world::{Halt, World};
 
 /// A flow that leads on.
+#[inline(always)]
 #[tactic(auto, unfolding(kr_mean::specs::Steps::bind))]
 pub fn take_flow(
     code: &Code,

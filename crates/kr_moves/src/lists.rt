@@ -18,6 +18,7 @@ use kr_world::{Action, Halt, World, tick};
 use std::alloc::Global;
 
 /// The last one of some statements: none waits for it.
+#[inline(always)]
 fn last(
     code: &Code,
     world: &World,
@@ -34,6 +35,7 @@ fn last(
 }
 
 /// Statements, one after another.
+#[inline(always)]
 #[tactic(auto, unfolding(kr_mean::specs::Steps::bind))]
 pub fn all(
     code: &Code,
@@ -85,6 +87,7 @@ pub fn update(
 }
 
 /// A round of a loop, if there is one more.
+#[inline(always)]
 #[tactic(auto, unfolding(kr_mean::specs::Steps::bind))]
 pub fn repeat(
     alloc: Global,

@@ -69,6 +69,7 @@ pub fn unit(stack: &mut Stack, frame: UnitFrame) -> Result<(), Halt>
 }
 
 /// A node's value comes next, and then the frame.
+#[inline(always)]
 #[tactic(auto, unfolding(kr_mean::specs::Steps::bind))]
 pub fn first(stack: &mut Stack, frame: ValueFrame, node: u32, task: &mut Task) -> Result<(), Halt>
     ensures { (code : Code) (world : World) → Leads code (next_task result task.new) stack.new world world (λ d x. out_value code d stack.old (bind (d.value node) (got code d frame) (state_at world x))) }
@@ -79,6 +80,7 @@ pub fn first(stack: &mut Stack, frame: ValueFrame, node: u32, task: &mut Task) -
 }
 
 /// A node's value comes next, and then the frame that writes.
+#[inline(always)]
 #[tactic(auto, unfolding(kr_mean::specs::Steps::bind))]
 pub fn then_write(
     stack: &mut Stack,

@@ -13,6 +13,7 @@ use kr_world::{Halt, World};
 use std::alloc::Global;
 
 /// A statement, after its unit.
+#[inline(always)]
 #[tactic(auto, using(crate::proofs::Moves::locals_long), unfolding(kr_mean::specs::Steps::bind))]
 pub fn enter_statement(
     alloc: Global,

@@ -124,6 +124,7 @@ fn take_write(
 }
 
 /// An operator has its operand.
+#[inline(always)]
 fn operate_alone(
     code: &Code,
     world: &World,
@@ -144,6 +145,7 @@ fn operate_alone(
 }
 
 /// An operator has its operands.
+#[inline(always)]
 fn operate(
     code: &Code,
     world: &World,
@@ -165,6 +167,7 @@ fn operate(
 }
 
 /// An operator has its left operand; the right one comes next, unless it is known.
+#[inline(always)]
 fn take_left(
     code: &Code,
     world: &mut World,
@@ -203,6 +206,7 @@ pub fn take_array(
 }
 
 /// A value of which a value is made.
+#[inline(always)]
 #[tactic(auto, unfolding(kr_mean::specs::Steps::bind))]
 pub fn take_value(
     alloc: Global,
@@ -303,6 +307,7 @@ pub fn take_value(
 }
 
 /// Nothing that has a meaning: no value will come to the frame.
+#[inline(always)]
 #[tactic(auto, unfolding(kr_mean::specs::Steps::bind))]
 pub fn stop(code: &Code, world: &World, stack: &mut Stack, task: &mut Task) -> Result<(), Halt>
     ensures { Leads code.now (next_task result task.new) stack.new world.now world.now (λ d x. out_flow code.now d stack.old (stop_step Stuck (state_at world.now x))) }
@@ -341,6 +346,7 @@ fn begin(
 }
 
 /// A round's body, and then the next round.
+#[inline(always)]
 #[tactic(auto, unfolding(kr_mean::specs::Steps::bind))]
 fn turn_round(
     code: &Code,
@@ -393,6 +399,7 @@ fn take_declared(
 }
 
 /// A value that leads on.
+#[inline(always)]
 #[tactic(auto, unfolding(kr_mean::specs::Steps::bind))]
 pub fn take_test(
     code: &Code,
@@ -482,6 +489,7 @@ pub fn test_next(
 }
 
 /// A loop's test; where its value is known, the round begins at once.
+#[inline(always)]
 #[tactic(auto, unfolding(kr_mean::specs::Steps::bind))]
 pub fn begin_round(
     alloc: Global,
@@ -521,6 +529,7 @@ pub fn begin_round(
 }
 
 /// A test's value, which isn't known, comes next.
+#[inline(always)]
 #[tactic(auto, unfolding(kr_mean::specs::Steps::bind))]
 fn wait_for_test(
     alloc: Global,

@@ -7,7 +7,7 @@ mod create;
 mod run;
 mod steps;
 
-pub use run::{evaluate, step};
+pub use run::{advance, evaluate, step};
 pub use steps::Step;
 
 #[cfg(test)]

@@ -4,7 +4,8 @@ ghost use Rattle.kr_world.specs.declared.world.Halt.TheVariants.{Memory};
 ghost use Rattle.kr_frames.specs.Frame.{Frame};
 ghost use Rattle.kr_frames.specs.Frame as frames;
 ghost use Rattle.kr_frames.specs.Kept.{IsOnTop, values_on};
-ghost use Rattle.kr_code.specs.declared.statement.Statement.TheVariants.{Stuck as NoStatement};
+ghost use Rattle.kr_code.specs.declared.statement.Statement.TheVariants.{Stuck as NoStatement, Declare as Declarations};
+ghost use Rattle.kr_run.specs.Statements.{IsTicked};
 ghost use Rattle.kr_code.specs.Doing.{statement_done, flow_of as statement_flow};
 ghost use Rattle.kr_code.specs.Steps.{store_initial as store_step};
 ghost use Rattle.kr_code.specs.Tables.{node_at, statement_of};
@@ -36,6 +37,7 @@ use std::alloc::Global;
 use std::mem;
 
 /// An expression: at once where its value is known, else part by part.
+#[inline(always)]
 fn evaluate_node(
     alloc: Global,
     code: &Code,
@@ -56,6 +58,7 @@ fn evaluate_node(
 }
 
 /// A unit of fuel, and then the statement, unless it declares.
+#[inline(always)]
 #[tactic(auto, unfolding(kr_mean::specs::Steps::bind))]
 fn tick_statement(
     alloc: Global,
@@ -73,7 +76,31 @@ fn tick_statement(
     }
 }
 
+/// The declarators that a statement is, if it is some. All others cost a unit first.
+#[inline(always)]
+fn declarators(statement: &Statement) -> Option<Nodes>
+    ensures { MatchOption result (IsTicked statement.now) (λ nodes. statement.now ≡ Declarations nodes) }
+{
+    match statement {
+        Statement::Declare(nodes) => Some(*nodes),
+        Statement::Stuck => None,
+        Statement::Empty => None,
+        Statement::Block(_) => None,
+        Statement::Evaluate(_) => None,
+        Statement::IfThen { .. } => None,
+        Statement::IfElse { .. } => None,
+        Statement::While { .. } => None,
+        Statement::Do { .. } => None,
+        Statement::For { .. } => None,
+        Statement::Break => None,
+        Statement::Continue => None,
+        Statement::Leave => None,
+        Statement::Return(_) => None,
+    }
+}
+
 /// A statement with its unit.
+#[inline(always)]
 #[tactic(auto, unfolding(kr_mean::specs::Steps::bind))]
 fn execute_statement(
     alloc: Global,
@@ -85,28 +112,14 @@ fn execute_statement(
 ) -> Result<(), Halt>
     ensures { Leads code.now (next_task result task.new) stack.new world.new world.old (λ d x. out_flow code.now d stack.old (statement_done code.now d statement.now (state_at world.old x))) }
 {
-    match statement {
-        Statement::Declare(nodes) => {
-            *task = Task::Declare(*nodes);
-            Ok(())
-        }
-        Statement::Stuck => tick_statement(alloc, code, world, stack, statement, task),
-        Statement::Empty => tick_statement(alloc, code, world, stack, statement, task),
-        Statement::Block(_) => tick_statement(alloc, code, world, stack, statement, task),
-        Statement::Evaluate(_) => tick_statement(alloc, code, world, stack, statement, task),
-        Statement::IfThen { .. } => tick_statement(alloc, code, world, stack, statement, task),
-        Statement::IfElse { .. } => tick_statement(alloc, code, world, stack, statement, task),
-        Statement::While { .. } => tick_statement(alloc, code, world, stack, statement, task),
-        Statement::Do { .. } => tick_statement(alloc, code, world, stack, statement, task),
-        Statement::For { .. } => tick_statement(alloc, code, world, stack, statement, task),
-        Statement::Break => tick_statement(alloc, code, world, stack, statement, task),
-        Statement::Continue => tick_statement(alloc, code, world, stack, statement, task),
-        Statement::Leave => tick_statement(alloc, code, world, stack, statement, task),
-        Statement::Return(_) => tick_statement(alloc, code, world, stack, statement, task),
+    match declarators(statement) {
+        Some(nodes) => declare(code, world, stack, nodes, task),
+        None => tick_statement(alloc, code, world, stack, statement, task),
     }
 }
 
 /// The statement that is a node, if it is one.
+#[inline(always)]
 fn statement_at(code: &Code, node: u32) -> Option<&Statement>
     ensures { MatchOption result (statement_of (node_at code.now node) ≡ NoStatement) (λ t. t.now ≡ statement_of (node_at code.now node)) }
 {
@@ -117,6 +130,7 @@ fn statement_at(code: &Code, node: u32) -> Option<&Statement>
 }
 
 /// A node as a statement.
+#[inline(always)]
 fn execute_node(
     alloc: Global,
     code: &Code,
@@ -267,6 +281,7 @@ fn up_argument_frame(
 }
 
 /// A value comes to the topmost frame.
+#[inline(always)]
 #[tactic(auto, unfolding(kr_mean::specs::Steps::bind))]
 fn value_frame(
     alloc: Global,
@@ -375,6 +390,7 @@ fn complete(
 }
 
 /// The locals of a block end.
+#[inline(always)]
 #[tactic(auto, using(crate::proofs::Machine::locals_cut), unfolding(kr_mean::specs::Steps::bind))]
 fn end_scope(
     code: &Code,
@@ -392,6 +408,7 @@ fn end_scope(
 }
 
 /// A statement's end comes to the topmost frame.
+#[inline(always)]
 #[tactic(auto, unfolding(kr_mean::specs::Steps::bind))]
 fn flow_frame(
     code: &Code,
@@ -473,6 +490,7 @@ fn unit_frame(
 }
 
 /// A step of the meaning.
+#[inline(always)]
 #[tactic(auto, unfolding(kr_mean::specs::Steps::bind))]
 fn act_on(
     alloc: Global,
@@ -530,6 +548,7 @@ fn do_rare(
 }
 
 /// What a task leads to, but for a value that comes to a frame.
+#[inline(always)]
 #[tactic(auto, unfolding(kr_mean::specs::Steps::bind))]
 fn do_task(
     alloc: Global,
@@ -558,6 +577,7 @@ fn do_task(
 }
 
 /// A value comes to the topmost frame, or the run has it.
+#[inline(always)]
 fn give_value(
     alloc: Global,
     code: &Code,
@@ -579,6 +599,7 @@ fn give_value(
 }
 
 /// A statement's end comes to the topmost frame.
+#[inline(always)]
 #[tactic(auto, unfolding(kr_mean::specs::Steps::bind))]
 fn give_flow(
     code: &Code,
@@ -615,6 +636,7 @@ fn give_nothing(
 }
 
 /// One step: the next task comes in place of the one that is done.
+#[inline(always)]
 pub fn step(
     alloc: Global,
     code: &Code,
@@ -633,6 +655,32 @@ pub fn step(
     }
 }
 
+/// Steps on to where a step may read, or to the run's end.
+pub fn advance(
+    alloc: Global,
+    code: &Code,
+    world: &mut World,
+    stack: &mut Stack,
+    task: &mut Task,
+) -> Result<Step, Halt>
+    ensures { StepsTo code.now result task.new stack.new world.new world.old (λ d x. resumed code.now d stack.old task.old (state_at world.old x)) }
+{
+    'steps: for _ in 0..u64::MAX {
+        match step(alloc, code, world, stack, task) {
+            Err(Halt::Ended(end)) => return Err(Halt::Ended(end)),
+            Err(Halt::Memory) => return Err(Halt::Memory),
+            Err(Halt::Written) => return Err(Halt::Written),
+            Ok(Step::Finished(given)) => return Ok(Step::Finished(given)),
+            Ok(Step::More) => {
+                if let Task::Act(_) = *task {
+                    return Ok(Step::More);
+                }
+            }
+        }
+    }
+    Err(Halt::Memory)
+}
+
 /// Runs a node as an expression: what it gives, or how the run ends. The world is left as the run leaves it, and every
 /// first read is noted.
 pub fn evaluate(alloc: Global, code: &Code, world: &mut World, node: u32) -> Result<Value, Halt>
@@ -641,7 +689,7 @@ pub fn evaluate(alloc: Global, code: &Code, world: &mut World, node: u32) -> Res
     let mut stack = Stack::new(alloc);
     let mut task = Task::Evaluate(node);
     'steps: for _ in 0..u64::MAX {
-        match step(alloc, code, world, &mut stack, &mut task) {
+        match advance(alloc, code, world, &mut stack, &mut task) {
             Err(Halt::Ended(end)) => return Err(Halt::Ended(end)),
             Err(Halt::Memory) => return Err(Halt::Memory),
             Err(Halt::Written) => return Err(Halt::Written),
