@@ -48,12 +48,12 @@ fn run(alloc: Global, code: &Code, world: &mut World, task: Task) -> Result<Valu
     let mut stack = Stack::new(alloc);
     let mut next = task;
     'steps: for _ in 0..u64::MAX {
-        match step(alloc, code, world, &mut stack, next) {
+        match step(alloc, code, world, &mut stack, &mut next) {
             Err(Halt::Ended(end)) => return Err(Halt::Ended(end)),
             Err(Halt::Memory) => return Err(Halt::Memory),
             Err(Halt::Written) => return Err(Halt::Written),
             Ok(Step::Finished(given)) => return Ok(given),
-            Ok(Step::More(more)) => next = more,
+            Ok(Step::More) => {}
         }
     }
     Err(Halt::Memory)

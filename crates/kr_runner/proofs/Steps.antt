@@ -29,7 +29,7 @@ use Rattle.kr_world.specs.Pauses.{IsPaused}
 use Rattle.kr_world.specs.Shown.{stop_of, local_of, old_of}
 use Rattle.kr_world.specs.Worlds.{Others, Allows, AreLike, StandFor, state_at, state_of, candidates_of}
 use Rattle.kr_frames.specs.Copies.{GoOnAlike}
-use Rattle.kr_frames.specs.declared.frame.Frame.{Frame}
+use Rattle.kr_frames.specs.Frame.{Frame}
 use Rattle.kr_frames.specs.declared.task.Task.{Task}
 use Rattle.kr_frames.specs.declared.task.Task.TheVariants as tasks
 use Rattle.kr_frames.specs.Frames.{continued, resumed}
@@ -347,22 +347,22 @@ module _ (b : Bounds) (p : Predicate) (v : List ℕ) (i : IsVector (space_of (ba
   all d = hold_at d p.conditions.items (start (bare b) v)
 
   -- a step that doesn't lead on
-  pub halts_on : (condition : ℕ) (fs fs' : List Frame) (task : Task) (halt : Halt) (w w' : World) → GoesOn b p v condition fs task w → StepsTo p.code (Err halt) fs' w' w (λ d x. resumed p.code d fs task (state_at w x)) → Gives b p v condition (Err halt) w'
-  halts_on condition fs fs' task (Ended e) w w' g l = ends_on b p v condition fs task e w w' i g l
-  halts_on condition fs fs' task Memory w w' g l = tt
-  halts_on condition fs fs' task Written w w' g l = tt
+  pub halts_on : (condition : ℕ) (fs fs' : List Frame) (task task' : Task) (halt : Halt) (w w' : World) → GoesOn b p v condition fs task w → StepsTo p.code (Err halt) task' fs' w' w (λ d x. resumed p.code d fs task (state_at w x)) → Gives b p v condition (Err halt) w'
+  halts_on condition fs fs' task task' (Ended e) w w' g l = ends_on b p v condition fs task e w w' i g l
+  halts_on condition fs fs' task task' Memory w w' g l = tt
+  halts_on condition fs fs' task task' Written w w' g l = tt
 
-  pub finishes_on : (condition : ℕ) (fs fs' : List Frame) (task : Task) (stepped : Step) (given : Value) (w w' : World) → stepped ≡ steps.Finished given → GoesOn b p v condition fs task w → StepsTo p.code (Ok stepped) fs' w' w (λ d x. resumed p.code d fs task (state_at w x)) → Gave b p v condition given w'
-  finishes_on condition fs fs' task stepped given w w' e g l = gives_on b p v condition fs task given w w' g (subst (λ (s : Step). StepsTo p.code (Ok s) fs' w' w (λ d x. resumed p.code d fs task (state_at w x))) e l)
+  pub finishes_on : (condition : ℕ) (fs fs' : List Frame) (task task' : Task) (stepped : Step) (given : Value) (w w' : World) → stepped ≡ steps.Finished given → GoesOn b p v condition fs task w → StepsTo p.code (Ok stepped) task' fs' w' w (λ d x. resumed p.code d fs task (state_at w x)) → Gave b p v condition given w'
+  finishes_on condition fs fs' task task' stepped given w w' e g l = gives_on b p v condition fs task given w w' g (subst (λ (s : Step). StepsTo p.code (Ok s) task' fs' w' w (λ d x. resumed p.code d fs task (state_at w x))) e l)
 
-  pub more_on : (condition : ℕ) (fs fs' : List Frame) (task : Task) (stepped : Step) (more : Task) (w w' : World) → stepped ≡ steps.More more → GoesOn b p v condition fs task w → StepsTo p.code (Ok stepped) fs' w' w (λ d x. resumed p.code d fs task (state_at w x)) → GoesOn b p v condition fs' more w'
-  more_on condition fs fs' task stepped more w w' e g l = goes_on b p v condition fs fs' task more w w' g (subst (λ (s : Step). StepsTo p.code (Ok s) fs' w' w (λ d x. resumed p.code d fs task (state_at w x))) e l)
+  pub more_on : (condition : ℕ) (fs fs' : List Frame) (task task' : Task) (stepped : Step) (w w' : World) → stepped ≡ steps.More → GoesOn b p v condition fs task w → StepsTo p.code (Ok stepped) task' fs' w' w (λ d x. resumed p.code d fs task (state_at w x)) → GoesOn b p v condition fs' task' w'
+  more_on condition fs fs' task task' stepped w w' e g l = goes_on b p v condition fs fs' task task' w w' g (subst (λ (s : Step). StepsTo p.code (Ok s) task' fs' w' w (λ d x. resumed p.code d fs task (state_at w x))) e l)
 
   -- candidates stay
-  pub stays_on : (condition : ℕ) (fs fs' : List Frame) (task : Task) (halt : Halt) (w w' : World) → GoesOn b p v condition fs task w → StepsTo p.code (Err halt) fs' w' w (λ d x. resumed p.code d fs task (state_at w x)) → Stays {A = Value} b v (Err halt) w'
-  stays_on condition fs fs' task (Ended e) w w' g l = (l None tt).0.same g.frozen ∙ g.same
-  stays_on condition fs fs' task Memory w w' g l = tt
-  stays_on condition fs fs' task Written w w' g l = tt
+  pub stays_on : (condition : ℕ) (fs fs' : List Frame) (task task' : Task) (halt : Halt) (w w' : World) → GoesOn b p v condition fs task w → StepsTo p.code (Err halt) task' fs' w' w (λ d x. resumed p.code d fs task (state_at w x)) → Stays {A = Value} b v (Err halt) w'
+  stays_on condition fs fs' task task' (Ended e) w w' g l = (l None tt).0.same g.frozen ∙ g.same
+  stays_on condition fs fs' task task' Memory w w' g l = tt
+  stays_on condition fs fs' task task' Written w w' g l = tt
 
   pub stays_halted : (halt : Halt) (w : World) → Stays {A = Value} b v (Err halt) w → Stays {A = Bool} b v (Err halt) w
   stays_halted (Ended e) w s = s

@@ -15,7 +15,7 @@ use Rattle.kr_world.specs.declared.world.Halt.TheVariants.{Ended, Memory, Writte
 use Rattle.kr_world.specs.Noting.{noted_once}
 use Rattle.kr_world.specs.Pauses.{IsPaused}
 use Rattle.kr_frames.specs.Copies.{GoOnAlike}
-use Rattle.kr_frames.specs.declared.frame.Frame.{Frame}
+use Rattle.kr_frames.specs.Frame.{Frame}
 use Rattle.kr_frames.specs.declared.task.Task.TheVariants as tasks
 use Rattle.kr_judge.specs.Judged.{HoldsAs, hold_at}
 use Rattle.kr_judge.specs.Runs.{end_said}

@@ -14,7 +14,7 @@ use Rattle.kr_problem.specs.Bounds.{Bounds, bare}
 use Rattle.kr_world.specs.declared.world.World.{World}
 use Rattle.kr_world.specs.Noting.{noting}
 use Rattle.kr_world.specs.Worlds.{StandFor, state_at, state_of}
-use Rattle.kr_frames.specs.declared.frame.Frame.{Frame}
+use Rattle.kr_frames.specs.Frame.{Frame}
 use Rattle.kr_frames.specs.declared.task.Task.{Task}
 use Rattle.kr_frames.specs.declared.task.Task.TheVariants as tasks
 use Rattle.kr_frames.specs.Frames.{continued, resumed}

@@ -23,7 +23,7 @@ use kr_base::NoMemory;
 use kr_frames::{Stack, Task};
 use kr_judge::{Judgement, Predicate, begin, judged};
 use kr_problem::Layout;
-use kr_run::{Step, step};
+use kr_run::{Step, advance};
 use kr_value::Value;
 use kr_vector::Vector;
 use kr_world::{End, Halt, World};
@@ -77,11 +77,11 @@ fn give(
 {
     let mut next = task;
     'steps: for _ in 0..u64::MAX {
-        match step(alloc, &predicate.code, world, stack, next) {
+        match advance(alloc, &predicate.code, world, stack, &mut next) {
             Err(halt) => return Err(halt),
             Ok(stepped) => match stepped {
                 Step::Finished(given) => return Ok(given),
-                Step::More(more) => next = more,
+                Step::More => {}
             },
         }
         match consider(

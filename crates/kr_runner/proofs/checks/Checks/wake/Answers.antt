@@ -20,6 +20,6 @@ returns-clause-woken c =
       told = subst (λ (y : Check). y.told.items ≡ told_of c.args.world.now.candidates y.world.reads) there (c.holding-self-inside.ensures.holds x some) ∙ ap (λ (h : Heap). told_of h x.world.reads) (sym c.copy_from.ensures.candidates);
       condition_is = refl;
       task_is = refl;
-      stack = c.in_ok-copy_from-2.ensures;
+      stack = c.in_ok-copy_from-2.ensures.alike;
       world = c.in_ok-copy_from.ensures.copied;
     }
