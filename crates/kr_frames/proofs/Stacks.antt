@@ -1,5 +1,5 @@
 -- How a stack keeps its frames.
-use Rattle.std.proofs.Common.{◌≡◌, ℕ, ◌+◌, ◌-◌, ◌<◌, ◌≤◌, suc, List, [], ◌∷◌, ◌++◌, length, take, drop, get_or, refl, sym, ap, ◌∙◌, subst, arith}
+use Rattle.std.proofs.Common.{◌≡◌, ℕ, ◌+◌, ◌-◌, ◌<◌, ◌≤◌, suc, List, [], ◌∷◌, ◌++◌, length, take, drop, get_or, refl, sym, ap, ◌∙◌, arith}
 use Rattle.std.specs.Prelude.{Bool, reverse}
 use Rattle.std.proofs.lemmas.List.{length-reverse, length-take-le, reverse-append, take_all, take_at, take_more}
 use Rattle.kr_value.specs.declared.value.Value.{Value}
@@ -48,25 +48,13 @@ as_many (w ∷ ws) vs ls = ap (λ (n : ℕ). suc n) (as_many ws _ _)
 pub how_many : (ws : List Waiting) (n : ℕ) (vs : List Value) (ls : List Local) → n ≤ length ws → n ≡ length (unpacked (reverse (take n ws)) vs ls)
 how_many ws n vs ls below = sym (as_many (reverse (take n ws)) vs ls ∙ length-reverse (take n ws) ∙ length-take-le n ws below)
 
-first_is_top : (w : Waiting) (vs us : List Value) (ls ms : List Local) (fs : List Frame) → frame_of w vs ls ≡ frame_of w (values_on (frame_of w vs ls ∷ fs)) (locals_on (frame_of w vs ls ∷ fs))
-first_is_top (kept.Value f) vs us ls ms fs = refl
-first_is_top (kept.Test f) vs us ls ms fs = refl
-first_is_top (kept.Flow f) vs us ls ms fs = refl
-first_is_top (kept.Unit f) vs us ls ms fs = refl
-first_is_top (kept.Arguments goal ns k) vs us ls ms fs = refl
-first_is_top (kept.UpArguments up ns k) vs us ls ms fs = refl
-first_is_top (kept.UpEnter up ns) vs us ls ms fs = refl
-first_is_top (kept.Scope n) vs us ls ms fs = refl
-first_is_top (kept.Leave void this k) vs us ls ms fs = refl
-first_is_top kept.Complete vs us ls ms fs = refl
-first_is_top (kept.Back this k) vs us ls ms fs = refl
-first_is_top (kept.Made object) vs us ls ms fs = refl
-first_is_top (kept.Store field object) vs us ls ms fs = refl
-
 pub is_on_top : (ws : List Waiting) (n : ℕ) (w : Waiting) (vs : List Value) (ls : List Local) → 0 < n → n ≤ length ws → w ≡ get_or ws (n - 1) w → IsOnTop w (unpacked (reverse (take n ws)) vs ls)
-is_on_top ws n w vs ls some below is =
-    subst (λ (us : List Waiting). IsOnTop w (unpacked us vs ls)) (sym (top_first ws n w some below is))
-    (ap (λ (f : Frame). f ∷ unpacked (reverse (take (n - 1) ws)) (take (values_from w (length vs)) vs) (take (locals_from w (length ls)) ls)) (first_is_top w _ [] _ [] _))
+is_on_top ws n w vs ls some below is = record {
+  values = drop (values_from w (length vs)) vs;
+  locals = drop (locals_from w (length ls)) ls;
+  rest = unpacked (reverse (take (n - 1) ws)) (take (values_from w (length vs)) vs) (take (locals_from w (length ls)) ls);
+  is = ap (λ (us : List Waiting). unpacked us vs ls) (top_first ws n w some below is);
+}
 
 -- ---- what the topmost frame has
 

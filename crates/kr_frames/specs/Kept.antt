@@ -62,5 +62,8 @@ locals_on (frames.Back this ls ∷ fs) = ls
 locals_on _ = []
 
 -- the topmost frame is kept so
-abbrev pub IsOnTop : Waiting → List Frame → Type 0
-IsOnTop w fs = fs ≡ frame_of w (values_on fs) (locals_on fs) ∷ drop 1 fs
+pub record IsOnTop (w : Waiting) (fs : List Frame) : Type 0 where
+  pub values : List Value
+  pub locals : List Local
+  pub rest : List Frame
+  pub is : fs ≡ frame_of w values locals ∷ rest

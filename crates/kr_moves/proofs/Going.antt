@@ -15,7 +15,7 @@ use Rattle.kr_world.specs.declared.world.World.{World}
 use Rattle.kr_world.specs.declared.world.Halt.{Halt}
 use Rattle.kr_world.specs.Noting.{noting}
 use Rattle.kr_world.specs.Worlds.{Agrees, Others, Allows, Keeps, state_at}
-use Rattle.kr_frames.specs.declared.frame.Frame.{Frame}
+use Rattle.kr_frames.specs.Frame.{Frame}
 use Rattle.kr_frames.specs.declared.task.Task.{Task}
 use Rattle.kr_frames.specs.Frames.{continued, out_value, out_flow}
 use Rattle.kr_frames.specs.Leads.{Leads}

@@ -1,5 +1,6 @@
 // Lists of nodes: statements, declarators, updates, arguments.
-ghost use Rattle.std.specs.Prelude.{◌≡◌, ◌∷◌, reverse, IfOk, IfErr};
+ghost use Rattle.std.specs.Prelude.{◌≡◌, ◌∷◌, reverse, IfOk, IfErr, OnOk};
+ghost use Rattle.kr_frames.specs.Frame as frames;
 ghost use Rattle.kr_world.specs.declared.world.Halt.TheVariants.{Memory};
 ghost use Rattle.kr_mean.specs.Steps.{bind, give};
 ghost use Rattle.kr_code.specs.Tables.{listed};
@@ -8,10 +9,10 @@ ghost use Rattle.kr_frames.specs.Frames.{out_value, out_flow, out_unit, continue
 ghost use Rattle.kr_frames.specs.Leads.{Leads};
 ghost use Rattle.kr_world.specs.Worlds.{state_at};
 
-use crate::pushes::{flow, push, test};
+use crate::pushes::{flow, test, unit};
 use crate::values::{begin_round, stop};
 use kr_code::{Code, Nodes};
-use kr_frames::{Flow, FlowFrame, Frame, Goal, Loop, Stack, Task, TestFrame, UnitFrame, Up};
+use kr_frames::{Flow, FlowFrame, Goal, Loop, Stack, Task, TestFrame, UnitFrame, Up};
 use kr_value::Value;
 use kr_world::{Action, Halt, World, tick};
 use std::alloc::Global;
@@ -92,6 +93,28 @@ pub fn declare(code: &Code, world: &World, stack: &mut Stack, nodes: Nodes) -> R
     }
 }
 
+/// Arguments are awaited, behind those that are there.
+fn await_arguments(stack: &mut Stack, goal: Goal, nodes: Nodes, found: &[Value]) -> Result<(), Halt>
+    ensures pushed { OnOk result (stack.new ≡ frames.Arguments goal nodes found.now ∷ stack.old) }
+    ensures memory { IfErr result (λ halt. halt ≡ Memory) }
+{
+    if stack.push_arguments(goal, nodes, found).is_err() {
+        return Err(Halt::Memory);
+    }
+    Ok(())
+}
+
+/// Arguments of a superclass's constructor are awaited, behind those that are there.
+fn await_up_arguments(stack: &mut Stack, up: Up, nodes: Nodes, found: &[Value]) -> Result<(), Halt>
+    ensures pushed { OnOk result (stack.new ≡ frames.UpArguments up nodes found.now ∷ stack.old) }
+    ensures memory { IfErr result (λ halt. halt ≡ Memory) }
+{
+    if stack.push_up_arguments(up, nodes, found).is_err() {
+        return Err(Halt::Memory);
+    }
+    Ok(())
+}
+
 /// Arguments, one after another, and then what is done with them.
 #[tactic(auto, using(crate::proofs::Moves::onto_all), unfolding(kr_mean::specs::Steps::bind))]
 pub fn arguments(
@@ -107,7 +130,7 @@ pub fn arguments(
     match code.split(nodes) {
         None => return Ok(Task::Apply(goal, found)),
         Some((node, others)) => {
-            push(stack, Frame::Arguments(goal, others, found))?;
+            await_arguments(stack, goal, others, found.as_slice())?;
             return Ok(Task::Evaluate(node));
         }
     }
@@ -127,14 +150,14 @@ pub fn up_arguments(
 {
     match code.split(nodes) {
         None => {
-            push(
+            unit(
                 stack,
-                Frame::Unit(UnitFrame::Behind(up.object, up.initialisers, up.body)),
+                UnitFrame::Behind(up.object, up.initialisers, up.body),
             )?;
             return Ok(Task::Construct(up.line, up.object, found));
         }
         Some((node, others)) => {
-            push(stack, Frame::UpArguments(up, others, found))?;
+            await_up_arguments(stack, up, others, found.as_slice())?;
             return Ok(Task::Evaluate(node));
         }
     }

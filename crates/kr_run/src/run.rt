@@ -1,11 +1,14 @@
+// STOP: READ /work/a_frames/NOTE_FROM_LEAD.txt FIRST (kr_run is already proved in /work/a_step; remove this line)
 // The machine: one task after another, until the run ends.
-ghost use Rattle.std.specs.Prelude.{◌≡◌, ◌∷◌, MatchOption};
+ghost use Rattle.std.specs.Prelude.{◌≡◌, drop, IfErr, IfOk, MatchOption, OnOk};
+ghost use Rattle.kr_world.specs.declared.world.Halt.TheVariants.{Memory};
+ghost use Rattle.kr_frames.specs.Kept.{locals_on, values_on};
 ghost use Rattle.kr_code.specs.declared.statement.Statement.TheVariants.{Stuck as NoStatement};
 ghost use Rattle.kr_code.specs.Doing.{statement_done, flow_of as statement_flow};
 ghost use Rattle.kr_code.specs.Steps.{store_initial as store_step};
 ghost use Rattle.kr_code.specs.Tables.{node_at, statement_of};
 ghost use Rattle.kr_frames.specs.declared.frame.Change.TheVariants as changes;
-ghost use Rattle.kr_frames.specs.Frames.{resumed, out_value, out_flow, out_unit, flow_of, altered, restored, cut_to};
+ghost use Rattle.kr_frames.specs.Frames.{resumed, out_value, out_flow, out_unit, flow_of, altered, cut_to};
 ghost use Rattle.kr_mean.specs.Meaning.{returned, completed};
 ghost use Rattle.kr_mean.specs.Operators.{step_operator as operator_of_step};
 ghost use Rattle.kr_world.specs.Actions.{acted};
@@ -19,7 +22,7 @@ use crate::create::{construct, initialise, stop_unit, take_unit};
 use crate::steps::Step;
 use kr_ast::{BinaryOperator, StepOperator};
 use kr_code::{Code, Node, Statement};
-use kr_frames::{Change, Flow, Frame, Stack, Task, ValueFrame, WriteFrame};
+use kr_frames::{Change, Flow, Stack, Task, ValueFrame, Waiting, WriteFrame};
 use kr_known::at_once;
 use kr_mean::Kind;
 use kr_moves::{
@@ -27,7 +30,7 @@ use kr_moves::{
     take_test, take_up_argument, take_value, up_arguments, update, value, write,
 };
 use kr_value::Value;
-use kr_world::{Action, Cell, End, Halt, Local, World, act, store_initial, tick};
+use kr_world::{Action, Cell, End, Halt, World, act, store_initial, tick};
 use std::alloc::Global;
 
 /// An expression: at once where its value is known, else part by part.
@@ -188,48 +191,67 @@ fn store(
     }
 }
 
-/// A value comes to a frame.
+/// The values that the topmost frame has; that frame goes.
+fn values_of(alloc: Global, stack: &mut Stack) -> Result<Vec<Value>, Halt>
+    ensures rest { OnOk result (stack.new ≡ drop 1 stack.old) }
+    ensures values { IfOk result (λ values. values.items ≡ values_on stack.old) }
+    ensures memory { IfErr result (λ halt. halt ≡ Memory) }
+{
+    let mut values = Vec::new(alloc);
+    if stack.take_values(&mut values).is_err() {
+        return Err(Halt::Memory);
+    }
+    Ok(values)
+}
+
+/// A value comes to the topmost frame, if there is one.
 #[tactic(auto, unfolding(kr_mean::specs::Steps::bind))]
 fn value_frame(
     alloc: Global,
     code: &Code,
     world: &mut World,
     stack: &mut Stack,
-    frame: Frame,
     given: Value,
 ) -> Result<Task, Halt>
-    ensures { Leads code.now result stack.new world.new world.old (λ d x. out_value code.now d (frame ∷ stack.old) (give given (state_at world.old x))) }
+    ensures { Leads code.now result stack.new world.new world.old (λ d x. out_value code.now d stack.old (give given (state_at world.old x))) }
 {
-    match frame {
-        Frame::Value(waiting) => return take_value(alloc, code, world, stack, waiting, given),
-        Frame::Test(waiting) => return take_test(code, world, stack, waiting, given),
-        Frame::Arguments(goal, others, found) => {
-            return take_argument(code, world, stack, goal, others, found, given);
+    let Some(frame) = stack.top() else {
+        return Ok(Task::Got(given));
+    };
+    match *frame {
+        Waiting::Value(waiting) => {
+            stack.drop_top();
+            return take_value(alloc, code, world, stack, waiting, given);
         }
-        Frame::UpArguments(up, others, found) => {
-            return take_up_argument(code, world, stack, up, others, found, given);
+        Waiting::Test(waiting) => {
+            stack.drop_top();
+            return take_test(code, world, stack, waiting, given);
         }
-        Frame::UpEnter(up, nodes) => return Ok(Task::UpValues(up, nodes, Vec::new(alloc))),
-        Frame::Store(field, object) => return store(code, world, stack, field, object, given),
+        Waiting::Arguments(goal, others, _) => match values_of(alloc, stack) {
+            Err(halt) => return Err(halt),
+            Ok(found) => return take_argument(code, world, stack, goal, others, found, given),
+        },
+        Waiting::UpArguments(up, others, _) => match values_of(alloc, stack) {
+            Err(halt) => return Err(halt),
+            Ok(found) => return take_up_argument(code, world, stack, up, others, found, given),
+        },
+        Waiting::UpEnter(up, nodes) => {
+            stack.drop_top();
+            return Ok(Task::UpValues(up, nodes, Vec::new(alloc)));
+        }
+        Waiting::Store(field, object) => {
+            stack.drop_top();
+            return store(code, world, stack, field, object, given);
+        }
         _ => return Err(Halt::Ended(End::Stuck)),
     }
 }
 
-/// A method's body ends.
+/// A method's body has ended.
 #[tactic(auto, unfolding(kr_mean::specs::Steps::bind))]
-fn leave(
-    code: &Code,
-    world: &mut World,
-    stack: &Stack,
-    is_void: bool,
-    this: Value,
-    locals: Vec<Local>,
-    flow: Flow,
-) -> Result<Task, Halt>
-    ensures { Leads code.now result stack.now world.new world.old (λ d x. out_value code.now d stack.now (restored this locals.items (returned is_void (flow_of flow) (state_at world.old x)))) }
+fn leave(code: &Code, world: &World, stack: &Stack, is_void: bool, flow: Flow) -> Result<Task, Halt>
+    ensures { Leads code.now result stack.now world.now world.now (λ d x. out_value code.now d stack.now (returned is_void (flow_of flow) (state_at world.now x))) }
 {
-    world.this = this;
-    world.locals = locals;
     match (is_void, flow) {
         (true, Flow::Next) => Ok(Task::Got(Value::Null)),
         (true, Flow::Left) => Ok(Task::Got(Value::Null)),
@@ -237,6 +259,20 @@ fn leave(
         (false, Flow::Gave(given)) => Ok(Task::Got(given)),
         _ => Ok(Task::Act(Action::End(End::Stuck))),
     }
+}
+
+/// The locals that the topmost frame has come in place of the world's, and so does `this`; that frame goes.
+fn go_back(world: &mut World, stack: &mut Stack, this: Value) -> Result<(), Halt>
+    ensures rest { OnOk result (stack.new ≡ drop 1 stack.old) }
+    ensures world { OnOk result (world.new ≡ record world.old { this = this; locals = world.new.locals }) }
+    ensures locals { OnOk result (world.new.locals.items ≡ locals_on stack.old) }
+    ensures memory { IfErr result (λ halt. halt ≡ Memory) }
+{
+    world.this = this;
+    if stack.take_locals(&mut world.locals).is_err() {
+        return Err(Halt::Memory);
+    }
+    Ok(())
 }
 
 /// A constructor's body ends.
@@ -266,47 +302,56 @@ fn end_scope(
     Ok(Task::Led(flow))
 }
 
-/// A statement's end comes to a frame.
+/// A statement's end comes to the topmost frame, if there is one.
 #[tactic(auto, unfolding(kr_mean::specs::Steps::bind))]
-fn flow_frame(
-    code: &Code,
-    world: &mut World,
-    stack: &mut Stack,
-    frame: Frame,
-    flow: Flow,
-) -> Result<Task, Halt>
-    ensures { Leads code.now result stack.new world.new world.old (λ d x. out_flow code.now d (frame ∷ stack.old) (give (flow_of flow) (state_at world.old x))) }
+fn flow_frame(code: &Code, world: &mut World, stack: &mut Stack, flow: Flow) -> Result<Task, Halt>
+    ensures { Leads code.now result stack.new world.new world.old (λ d x. out_flow code.now d stack.old (give (flow_of flow) (state_at world.old x))) }
 {
-    match frame {
-        Frame::Flow(waiting) => return take_flow(code, world, stack, waiting, flow),
-        Frame::Scope(count) => return end_scope(code, world, stack, count, flow),
-        Frame::Leave(is_void, this, locals) => {
-            return leave(code, world, stack, is_void, this, locals, flow);
+    let Some(frame) = stack.top() else {
+        return Err(Halt::Ended(End::Stuck));
+    };
+    match *frame {
+        Waiting::Flow(waiting) => {
+            stack.drop_top();
+            return take_flow(code, world, stack, waiting, flow);
         }
-        Frame::Complete => return complete(code, world, stack, flow),
+        Waiting::Scope(count) => {
+            stack.drop_top();
+            return end_scope(code, world, stack, count, flow);
+        }
+        Waiting::Leave(is_void, this, _) => match go_back(world, stack, this) {
+            Err(halt) => return Err(halt),
+            Ok(()) => return leave(code, world, stack, is_void, flow),
+        },
+        Waiting::Complete => {
+            stack.drop_top();
+            return complete(code, world, stack, flow);
+        }
         _ => return Err(Halt::Ended(End::Stuck)),
     }
 }
 
-/// What gives nothing is done, and a frame waits for it.
+/// What gives nothing is done, and the topmost frame waits for it, if there is one.
 #[tactic(auto, unfolding(kr_mean::specs::Steps::bind))]
-fn unit_frame(
-    alloc: Global,
-    code: &Code,
-    world: &mut World,
-    stack: &mut Stack,
-    frame: Frame,
-) -> Result<Task, Halt>
-    ensures { Leads code.now result stack.new world.new world.old (λ d x. out_unit code.now d (frame ∷ stack.old) (give tt (state_at world.old x))) }
+fn unit_frame(code: &Code, world: &mut World, stack: &mut Stack) -> Result<Task, Halt>
+    ensures { Leads code.now result stack.new world.new world.old (λ d x. out_unit code.now d stack.old (give tt (state_at world.old x))) }
 {
-    match frame {
-        Frame::Unit(waiting) => return take_unit(alloc, code, world, stack, waiting),
-        Frame::Back(this, locals) => {
-            world.this = this;
-            world.locals = locals;
-            return Ok(Task::Done);
+    let Some(frame) = stack.top() else {
+        return Err(Halt::Ended(End::Stuck));
+    };
+    match *frame {
+        Waiting::Unit(waiting) => {
+            stack.drop_top();
+            return take_unit(code, world, stack, waiting);
         }
-        Frame::Made(object) => return Ok(Task::Got(object)),
+        Waiting::Back(this, _) => match go_back(world, stack, this) {
+            Err(halt) => return Err(halt),
+            Ok(()) => return Ok(Task::Done),
+        },
+        Waiting::Made(object) => {
+            stack.drop_top();
+            return Ok(Task::Got(object));
+        }
         _ => return Err(Halt::Ended(End::Stuck)),
     }
 }
@@ -377,39 +422,12 @@ fn give_value(
 ) -> Result<Step, Halt>
     ensures { StepsTo code.now result stack.new world.new world.old (λ d x. out_value code.now d stack.old (give given (state_at world.old x))) }
 {
-    match stack.pop() {
-        None => return Ok(Step::Finished(given)),
-        Some(frame) => match value_frame(alloc, code, world, stack, frame, given) {
-            Ok(task) => return Ok(Step::More(task)),
-            Err(halt) => return Err(halt),
-        },
+    if stack.is_empty() {
+        return Ok(Step::Finished(given));
     }
-}
-
-/// A statement's end comes to the topmost frame.
-#[tactic(auto, unfolding(kr_mean::specs::Steps::bind))]
-fn give_flow(code: &Code, world: &mut World, stack: &mut Stack, flow: Flow) -> Result<Task, Halt>
-    ensures { Leads code.now result stack.new world.new world.old (λ d x. out_flow code.now d stack.old (give (flow_of flow) (state_at world.old x))) }
-{
-    match stack.pop() {
-        None => return Err(Halt::Ended(End::Stuck)),
-        Some(frame) => return flow_frame(code, world, stack, frame, flow),
-    }
-}
-
-/// What gives nothing is done.
-#[tactic(auto, unfolding(kr_mean::specs::Steps::bind))]
-fn give_nothing(
-    alloc: Global,
-    code: &Code,
-    world: &mut World,
-    stack: &mut Stack,
-) -> Result<Task, Halt>
-    ensures { Leads code.now result stack.new world.new world.old (λ d x. out_unit code.now d stack.old (give tt (state_at world.old x))) }
-{
-    match stack.pop() {
-        None => return Err(Halt::Ended(End::Stuck)),
-        Some(frame) => return unit_frame(alloc, code, world, stack, frame),
+    match value_frame(alloc, code, world, stack, given) {
+        Ok(task) => return Ok(Step::More(task)),
+        Err(halt) => return Err(halt),
     }
 }
 
@@ -425,11 +443,11 @@ pub fn step(
 {
     match task {
         Task::Got(given) => return give_value(alloc, code, world, stack, given),
-        Task::Led(flow) => match give_flow(code, world, stack, flow) {
+        Task::Led(flow) => match flow_frame(code, world, stack, flow) {
             Ok(next) => return Ok(Step::More(next)),
             Err(halt) => return Err(halt),
         },
-        Task::Done => match give_nothing(alloc, code, world, stack) {
+        Task::Done => match unit_frame(code, world, stack) {
             Ok(next) => return Ok(Step::More(next)),
             Err(halt) => return Err(halt),
         },

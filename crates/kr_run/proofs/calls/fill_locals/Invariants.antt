@@ -2,7 +2,7 @@ use Rattle.std.proofs.Common.{◌≡◌, take}
 use Rattle.std.specs.Prelude.{map}
 use Rattle.kr_mean.specs.Steps.{plain_local}
 use Rattle.kr_world.specs.Shown.{local_of}
-use Rattle.kr_run.proofs.calls.plain_locals.Given as goal
+use Rattle.kr_run.proofs.calls.fill_locals.Given as goal
 
 abbrev pub invariant-loop-argument : goal.invariant-loop-argument
-invariant-loop-argument l = map local_of l.locals.items ≡ map plain_local (take l.argument-index l.arguments.items)
+invariant-loop-argument l = map local_of l.locals.items ≡ map plain_local (take l.argument-index l.arguments)
