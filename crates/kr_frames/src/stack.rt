@@ -42,6 +42,7 @@ fn values_start(frame: &Waiting, count: usize) -> usize
     match frame {
         Waiting::Arguments(_, _, start) => *start,
         Waiting::UpArguments(_, _, start) => *start,
+        Waiting::Construct(_, _, start) => *start,
         _ => count,
     }
 }
@@ -66,6 +67,7 @@ fn cut(frame: &Waiting, values: &mut Vec<Value>, locals: &mut Vec<Local>)
     match frame {
         Waiting::Arguments(_, _, start) => values.truncate(*start),
         Waiting::UpArguments(_, _, start) => values.truncate(*start),
+        Waiting::Construct(_, _, start) => values.truncate(*start),
         Waiting::Leave(_, _, start) => locals.truncate(*start),
         Waiting::Back(_, start) => locals.truncate(*start),
         Waiting::Value(_) => {}
@@ -239,6 +241,26 @@ impl Stack {
             &mut self.frames,
             self.top,
             Waiting::UpArguments(up, nodes, start),
+        )?;
+        Ok(())
+    }
+
+    /// The constructors of a line of classes come, on an object, with these arguments.
+    #[tactic(auto, using(crate::proofs::Stacks::pushed_construct))]
+    pub fn push_construct(
+        &mut self,
+        line: Nodes,
+        object: Value,
+        arguments: &[Value],
+    ) -> Result<(), NoMemory>
+        ensures { OnOk result (self.new ≡ frames.Construct line object arguments.now ∷ self.old) }
+    {
+        let start = self.values.len();
+        self.values.extend_from_slice(arguments)?;
+        self.top = lay(
+            &mut self.frames,
+            self.top,
+            Waiting::Construct(line, object, start),
         )?;
         Ok(())
     }
