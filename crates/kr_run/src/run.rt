@@ -32,8 +32,8 @@ use kr_frames::{Change, Flow, Stack, Task, ValueFrame, Waiting, WriteFrame};
 use kr_known::at_once;
 use kr_mean::Kind;
 use kr_moves::{
-    all, declare, enter_node, enter_statement, repeat, take_flow, take_test, take_value, update,
-    value, write,
+    all, declare, enter_node, enter_statement, feed, repeat, take_flow, take_test, take_value,
+    update, value, write,
 };
 use kr_value::Value;
 use kr_world::{Action, Cell, End, Halt, Local, World, act, store_initial, tick};
@@ -467,17 +467,14 @@ fn act_on(
     alloc: Global,
     code: &Code,
     world: &mut World,
-    stack: &Stack,
+    stack: &mut Stack,
     action: Action,
     task: &mut Task,
 ) -> Result<(), Halt>
-    ensures { Leads code.now (next_task result task.new) stack.now world.new world.old (λ d x. out_value code.now d stack.now (acted code.now action (state_at world.old x))) }
+    ensures { Leads code.now (next_task result task.new) stack.new world.new world.old (λ d x. out_value code.now d stack.old (acted code.now action (state_at world.old x))) }
 {
     match act(alloc, code, action, world) {
-        Ok(given) => {
-            *task = Task::Got(given);
-            Ok(())
-        }
+        Ok(given) => feed(code, world, stack, given, task),
         Err(halt) => Err(halt),
     }
 }
