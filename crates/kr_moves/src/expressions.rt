@@ -298,6 +298,7 @@ fn enter_collection(
 }
 
 /// An expression, after its unit.
+#[inline(always)]
 #[tactic(auto, unfolding(kr_mean::specs::Steps::bind))]
 fn enter_expression(
     alloc: Global,
