@@ -9,7 +9,7 @@ use Rattle.kr_mean.specs.Steps.{Stop, State, Outcome, Run, after_reads, go_on, b
 use Rattle.kr_mean.specs.Meaning as meaning
 use Rattle.kr_mean.specs.Meaning.{returned, completed}
 use Rattle.kr_code.specs.declared.code.Code.{Code}
-use Rattle.kr_code.specs.Doing.{Doing, IsMeaning, values_at}
+use Rattle.kr_code.specs.Doing.{Doing, IsMeaning, values_at, constructed}
 use Rattle.kr_code.specs.Tables.{listed}
 use Rattle.kr_code.specs.Steps.{store_initial}
 use Rattle.kr_world.specs.declared.world.Local.{Local}
@@ -56,6 +56,7 @@ mutual
       ∙ ap (out_unit code d fs) (continued_reads rs (continued o (λ v. bind (values_at d (listed code ns)) (λ ws. give (v ∷ ws)))) (λ ws. upwards code d up (onto (reverse vs) ws)))
       ∙ unit_reads code d fs rs (continued (continued o (λ v. bind (values_at d (listed code ns)) (λ ws. give (v ∷ ws)))) (λ ws. upwards code d up (onto (reverse vs) ws)))
   value_reads code d (frames.UpEnter up ns ∷ fs) rs o = ap (out_unit code d fs) (continued_reads rs o (λ v. bind (values_at d (listed code ns)) (upwards code d up))) ∙ unit_reads code d fs rs (continued o (λ v. bind (values_at d (listed code ns)) (upwards code d up)))
+  value_reads code d (frames.Construct line object vs ∷ fs) rs o = continued_reads rs o _
   value_reads code d (frames.Store field object ∷ fs) rs o = ap (out_unit code d fs) (continued_reads rs o (store_initial code field object)) ∙ unit_reads code d fs rs (continued o (store_initial code field object))
   value_reads code d (frames.Flow f ∷ fs) rs o = continued_reads rs o _
   value_reads code d (frames.Unit f ∷ fs) rs o = continued_reads rs o _
@@ -77,6 +78,7 @@ mutual
   flow_reads code d (frames.Arguments goal ns vs ∷ fs) rs o = continued_reads rs o _
   flow_reads code d (frames.UpArguments up ns vs ∷ fs) rs o = continued_reads rs o _
   flow_reads code d (frames.UpEnter up ns ∷ fs) rs o = continued_reads rs o _
+  flow_reads code d (frames.Construct line object vs ∷ fs) rs o = continued_reads rs o _
   flow_reads code d (frames.Store field object ∷ fs) rs o = continued_reads rs o _
   flow_reads code d (frames.Unit f ∷ fs) rs o = continued_reads rs o _
   flow_reads code d (frames.Back this locals ∷ fs) rs o = continued_reads rs o _
@@ -96,6 +98,7 @@ mutual
   unit_reads code d (frames.Arguments goal ns vs ∷ fs) rs o = continued_reads rs o _
   unit_reads code d (frames.UpArguments up ns vs ∷ fs) rs o = continued_reads rs o _
   unit_reads code d (frames.UpEnter up ns ∷ fs) rs o = continued_reads rs o _
+  unit_reads code d (frames.Construct line object vs ∷ fs) rs o = ap (out_unit code d fs) (continued_reads rs o (λ u. constructed code d (listed code line) object vs)) ∙ unit_reads code d fs rs (continued o (λ u. constructed code d (listed code line) object vs))
   unit_reads code d (frames.Store field object ∷ fs) rs o = continued_reads rs o _
 
 pub noted_behind : (seen a b : List SlotPlace) → noted_once seen (a ++ b) ≡ noted_once (noted_once seen a) b
@@ -164,6 +167,7 @@ module _ (code : Code) (d : Doing) (e : Stop) (heap : List HeapObject) (fuel : �
     value_ends (frames.Arguments goal ns vs ∷ fs) o x = value_ends fs _ (ends_on e heap fuel reads _ _ (ends_on e heap fuel reads o _ x))
     value_ends (frames.UpArguments up ns vs ∷ fs) o x = unit_ends fs _ (ends_on e heap fuel reads _ _ (ends_on e heap fuel reads o _ x))
     value_ends (frames.UpEnter up ns ∷ fs) o x = unit_ends fs _ (ends_on e heap fuel reads o (λ v. bind (values_at d (listed code ns)) (upwards code d up)) x)
+    value_ends (frames.Construct line object vs ∷ fs) o x = ends_on e heap fuel reads o _ x
     value_ends (frames.Store field object ∷ fs) o x = unit_ends fs _ (ends_on e heap fuel reads o (store_initial code field object) x)
     value_ends (frames.Flow f ∷ fs) o x = ends_on e heap fuel reads o _ x
     value_ends (frames.Unit f ∷ fs) o x = ends_on e heap fuel reads o _ x
@@ -184,6 +188,7 @@ module _ (code : Code) (d : Doing) (e : Stop) (heap : List HeapObject) (fuel : �
     flow_ends (frames.Arguments goal ns vs ∷ fs) o x = ends_on e heap fuel reads o _ x
     flow_ends (frames.UpArguments up ns vs ∷ fs) o x = ends_on e heap fuel reads o _ x
     flow_ends (frames.UpEnter up ns ∷ fs) o x = ends_on e heap fuel reads o _ x
+    flow_ends (frames.Construct line object vs ∷ fs) o x = ends_on e heap fuel reads o _ x
     flow_ends (frames.Store field object ∷ fs) o x = ends_on e heap fuel reads o _ x
     flow_ends (frames.Unit f ∷ fs) o x = ends_on e heap fuel reads o _ x
     flow_ends (frames.Back this locals ∷ fs) o x = ends_on e heap fuel reads o _ x
@@ -203,6 +208,7 @@ module _ (code : Code) (d : Doing) (e : Stop) (heap : List HeapObject) (fuel : �
     unit_ends (frames.Arguments goal ns vs ∷ fs) o x = ends_on e heap fuel reads o _ x
     unit_ends (frames.UpArguments up ns vs ∷ fs) o x = ends_on e heap fuel reads o _ x
     unit_ends (frames.UpEnter up ns ∷ fs) o x = ends_on e heap fuel reads o _ x
+    unit_ends (frames.Construct line object vs ∷ fs) o x = unit_ends fs _ (ends_on e heap fuel reads o (λ u. constructed code d (listed code line) object vs) x)
     unit_ends (frames.Store field object ∷ fs) o x = ends_on e heap fuel reads o _ x
 
 -- what ends a part ends the run

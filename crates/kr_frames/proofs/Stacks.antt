@@ -1,5 +1,5 @@
 -- How a stack keeps its frames.
-use Rattle.std.proofs.Common.{◌≡◌, ℕ, ◌+◌, ◌-◌, ◌<◌, ◌≤◌, suc, List, [], ◌∷◌, ◌++◌, length, take, drop, get_or, refl, sym, ap, ◌∙◌, subst, arith}
+use Rattle.std.proofs.Common.{◌≡◌, ℕ, ◌+◌, ◌-◌, ◌<◌, ◌≤◌, suc, List, [], ◌∷◌, ◌++◌, length, take, drop, get_or, refl, sym, ap, ◌∙◌, arith}
 use Rattle.std.specs.Prelude.{Bool, reverse}
 use Rattle.std.proofs.lemmas.List.{length-reverse, length-take-le, reverse-append, take_all, take_at, take_more}
 use Rattle.kr_value.specs.declared.value.Value.{Value}
@@ -48,25 +48,13 @@ as_many (w ∷ ws) vs ls = ap (λ (n : ℕ). suc n) (as_many ws _ _)
 pub how_many : (ws : List Waiting) (n : ℕ) (vs : List Value) (ls : List Local) → n ≤ length ws → n ≡ length (unpacked (reverse (take n ws)) vs ls)
 how_many ws n vs ls below = sym (as_many (reverse (take n ws)) vs ls ∙ length-reverse (take n ws) ∙ length-take-le n ws below)
 
-first_is_top : (w : Waiting) (vs us : List Value) (ls ms : List Local) (fs : List Frame) → frame_of w vs ls ≡ frame_of w (values_on (frame_of w vs ls ∷ fs)) (locals_on (frame_of w vs ls ∷ fs))
-first_is_top (kept.Value f) vs us ls ms fs = refl
-first_is_top (kept.Test f) vs us ls ms fs = refl
-first_is_top (kept.Flow f) vs us ls ms fs = refl
-first_is_top (kept.Unit f) vs us ls ms fs = refl
-first_is_top (kept.Arguments goal ns k) vs us ls ms fs = refl
-first_is_top (kept.UpArguments up ns k) vs us ls ms fs = refl
-first_is_top (kept.UpEnter up ns) vs us ls ms fs = refl
-first_is_top (kept.Scope n) vs us ls ms fs = refl
-first_is_top (kept.Leave void this k) vs us ls ms fs = refl
-first_is_top kept.Complete vs us ls ms fs = refl
-first_is_top (kept.Back this k) vs us ls ms fs = refl
-first_is_top (kept.Made object) vs us ls ms fs = refl
-first_is_top (kept.Store field object) vs us ls ms fs = refl
-
 pub is_on_top : (ws : List Waiting) (n : ℕ) (w : Waiting) (vs : List Value) (ls : List Local) → 0 < n → n ≤ length ws → w ≡ get_or ws (n - 1) w → IsOnTop w (unpacked (reverse (take n ws)) vs ls)
-is_on_top ws n w vs ls some below is =
-    subst (λ (us : List Waiting). IsOnTop w (unpacked us vs ls)) (sym (top_first ws n w some below is))
-    (ap (λ (f : Frame). f ∷ unpacked (reverse (take (n - 1) ws)) (take (values_from w (length vs)) vs) (take (locals_from w (length ls)) ls)) (first_is_top w _ [] _ [] _))
+is_on_top ws n w vs ls some below is = record {
+  values = drop (values_from w (length vs)) vs;
+  locals = drop (locals_from w (length ls)) ls;
+  rest = unpacked (reverse (take (n - 1) ws)) (take (values_from w (length vs)) vs) (take (locals_from w (length ls)) ls);
+  is = ap (λ (us : List Waiting). unpacked us vs ls) (top_first ws n w some below is);
+}
 
 -- ---- what the topmost frame has
 
@@ -78,6 +66,7 @@ its_values (kept.Unit f) ws vs ls = drop_whole vs
 its_values (kept.Arguments goal ns k) ws vs ls = refl
 its_values (kept.UpArguments up ns k) ws vs ls = refl
 its_values (kept.UpEnter up ns) ws vs ls = drop_whole vs
+its_values (kept.Construct line object k) ws vs ls = refl
 its_values (kept.Scope n) ws vs ls = drop_whole vs
 its_values (kept.Leave void this k) ws vs ls = drop_whole vs
 its_values kept.Complete ws vs ls = drop_whole vs
@@ -93,6 +82,7 @@ its_locals (kept.Unit f) ws vs ls = drop_whole ls
 its_locals (kept.Arguments goal ns k) ws vs ls = drop_whole ls
 its_locals (kept.UpArguments up ns k) ws vs ls = drop_whole ls
 its_locals (kept.UpEnter up ns) ws vs ls = drop_whole ls
+its_locals (kept.Construct line object k) ws vs ls = drop_whole ls
 its_locals (kept.Scope n) ws vs ls = drop_whole ls
 its_locals (kept.Leave void this k) ws vs ls = refl
 its_locals kept.Complete ws vs ls = drop_whole ls
@@ -116,6 +106,7 @@ same_lists (kept.Unit f) p vs us ls ms = refl
 same_lists (kept.Arguments goal ns k) p vs us ls ms = absurd p
 same_lists (kept.UpArguments up ns k) p vs us ls ms = absurd p
 same_lists (kept.UpEnter up ns) p vs us ls ms = refl
+same_lists (kept.Construct line object k) p vs us ls ms = absurd p
 same_lists (kept.Scope n) p vs us ls ms = refl
 same_lists (kept.Leave void this k) p vs us ls ms = absurd p
 same_lists kept.Complete p vs us ls ms = refl
@@ -131,6 +122,7 @@ no_values (kept.Unit f) p n = refl
 no_values (kept.Arguments goal ns k) p n = absurd p
 no_values (kept.UpArguments up ns k) p n = absurd p
 no_values (kept.UpEnter up ns) p n = refl
+no_values (kept.Construct line object k) p n = absurd p
 no_values (kept.Scope m) p n = refl
 no_values (kept.Leave void this k) p n = absurd p
 no_values kept.Complete p n = refl
@@ -146,6 +138,7 @@ no_locals (kept.Unit f) p n = refl
 no_locals (kept.Arguments goal ns k) p n = absurd p
 no_locals (kept.UpArguments up ns k) p n = absurd p
 no_locals (kept.UpEnter up ns) p n = refl
+no_locals (kept.Construct line object k) p n = absurd p
 no_locals (kept.Scope m) p n = refl
 no_locals (kept.Leave void this k) p n = absurd p
 no_locals kept.Complete p n = refl
@@ -186,6 +179,13 @@ pushed_up_arguments up ns n ws us vs found all ls e is more =
     ∙ ap (λ (k : ℕ). unpacked (kept.UpArguments up ns k ∷ ws) all ls) is
     ∙ ap (λ (xs : List Value). unpacked (kept.UpArguments up ns (length vs) ∷ ws) xs ls) more
     ∙ with_values (λ (xs : List Value). frames.UpArguments up ns xs) ws vs found ls
+
+pub pushed_construct : (line : Nodes) (object : Value) (n : ℕ) (ws us : List Waiting) (vs found all : List Value) (ls : List Local) → us ≡ kept.Construct line object n ∷ ws → n ≡ length vs → all ≡ vs ++ found → unpacked us all ls ≡ frames.Construct line object found ∷ unpacked ws vs ls
+pushed_construct line object n ws us vs found all ls e is more =
+    ap (λ (xs : List Waiting). unpacked xs all ls) e
+    ∙ ap (λ (k : ℕ). unpacked (kept.Construct line object k ∷ ws) all ls) is
+    ∙ ap (λ (xs : List Value). unpacked (kept.Construct line object (length vs) ∷ ws) xs ls) more
+    ∙ with_values (λ (xs : List Value). frames.Construct line object xs) ws vs found ls
 
 pub pushed_leave : (void : Bool) (this : Value) (n : ℕ) (ws us : List Waiting) (vs : List Value) (ls ms all : List Local) → us ≡ kept.Leave void this n ∷ ws → n ≡ length ls → all ≡ ls ++ ms → unpacked us vs all ≡ frames.Leave void this ms ∷ unpacked ws vs ls
 pushed_leave void this n ws us vs ls ms all e is more =

@@ -20,6 +20,8 @@ pub data Frame : Type 0 where
   UpArguments : Up → Nodes → List v.Value → Frame
   -- the unit of a written call of the superclass's constructor is spent
   UpEnter : Up → Nodes → Frame
+  -- the constructors of a line of classes, on an object, with arguments
+  Construct : Nodes → v.Value → List v.Value → Frame
   -- the locals of a block end: so many were there before
   Scope : ℕ → Frame
   -- a method's body ends, and gives no value or one: `this` and the locals are those of its caller

@@ -204,9 +204,16 @@ abbrev mutual
   -- something is done that gives nothing
   pub out_unit : Code → Doing → List Frame → Outcome (Unit {0}) → Outcome Value
   out_unit code d (frames.Unit f ∷ fs) o = out_unit code d fs (continued o (λ u. done code d f))
+  out_unit code d (frames.Construct line object vs ∷ fs) o = out_unit code d fs (continued o (λ u. constructed code d (listed code line) object vs))
   out_unit code d (frames.Back this locals ∷ fs) o = out_unit code d fs (restored this locals o)
   out_unit code d (frames.Made object ∷ fs) o = out_value code d fs (continued o (λ u. give object))
   out_unit code d _ o = misled o
+
+-- the arguments that are left come for the topmost frame
+abbrev pub out_arguments : Code → Doing → List Frame → State → Outcome Value
+out_arguments code d (frames.Arguments goal ns vs ∷ fs) s = out_value code d fs (continued (values_at d (listed code ns) s) (λ ws. applied code d goal (onto (reverse vs) ws)))
+out_arguments code d (frames.UpArguments up ns vs ∷ fs) s = out_unit code d fs (continued (values_at d (listed code ns) s) (λ ws. upwards code d up (onto (reverse vs) ws)))
+out_arguments code d _ s = stop Stuck s
 
 -- the outcome of the whole run, where a task comes next
 abbrev pub resumed : Code → Doing → List Frame → Task → State → Outcome Value
@@ -217,12 +224,9 @@ resumed code d fs (tasks.Led flow) s = out_flow code d fs (give (flow_of flow) s
 resumed code d fs tasks.Done s = out_unit code d fs (give tt s)
 resumed code d fs (tasks.Act action) s = out_value code d fs (acted code action s)
 resumed code d fs (tasks.Alter change cell v) s = out_value code d fs (altered code d change cell v s)
-resumed code d fs (tasks.Values goal ns vs) s = out_value code d fs (continued (values_at d (listed code ns) s) (λ ws. applied code d goal (onto (reverse vs.items) ws)))
-resumed code d fs (tasks.UpValues up ns vs) s = out_unit code d fs (continued (values_at d (listed code ns) s) (λ ws. upwards code d up (onto (reverse vs.items) ws)))
-resumed code d fs (tasks.Apply goal vs) s = out_value code d fs (applied code d goal vs.items s)
+resumed code d fs tasks.Arguments s = out_arguments code d fs s
 resumed code d fs (tasks.All ns) s = out_flow code d fs (all_at d (listed code ns) s)
 resumed code d fs (tasks.Declare ns) s = out_flow code d fs (all_declared code d (listed code ns) s)
 resumed code d fs (tasks.Update ns) s = out_flow code d fs (updates_at d (listed code ns) s)
 resumed code d fs (tasks.Repeat l) s = out_flow code d fs (repeated code d l s)
-resumed code d fs (tasks.Construct line o vs) s = out_unit code d fs (constructed code d (listed code line) o vs.items s)
 resumed code d fs (tasks.Initialise ns o) s = out_unit code d fs (initialised code d o (listed code ns) s)

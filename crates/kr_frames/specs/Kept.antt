@@ -16,6 +16,7 @@ frame_of (kept.Unit f) vs ls = frames.Unit f
 frame_of (kept.Arguments goal ns k) vs ls = frames.Arguments goal ns vs
 frame_of (kept.UpArguments up ns k) vs ls = frames.UpArguments up ns vs
 frame_of (kept.UpEnter up ns) vs ls = frames.UpEnter up ns
+frame_of (kept.Construct line object k) vs ls = frames.Construct line object vs
 frame_of (kept.Scope n) vs ls = frames.Scope n
 frame_of (kept.Leave void this k) vs ls = frames.Leave void this ls
 frame_of kept.Complete vs ls = frames.Complete
@@ -27,6 +28,7 @@ frame_of (kept.Store field object) vs ls = frames.Store field object
 abbrev pub HasNoList : Waiting → Type 0
 HasNoList (kept.Arguments goal ns k) = ⊥
 HasNoList (kept.UpArguments up ns k) = ⊥
+HasNoList (kept.Construct line object k) = ⊥
 HasNoList (kept.Leave void this k) = ⊥
 HasNoList (kept.Back this k) = ⊥
 HasNoList _ = Unit {0}
@@ -35,6 +37,7 @@ HasNoList _ = Unit {0}
 abbrev pub values_from : Waiting → ℕ → ℕ
 values_from (kept.Arguments goal ns k) n = k
 values_from (kept.UpArguments up ns k) n = k
+values_from (kept.Construct line object k) n = k
 values_from _ n = n
 
 abbrev pub locals_from : Waiting → ℕ → ℕ
@@ -54,6 +57,7 @@ unpacked (w ∷ ws) vs ls =
 abbrev pub values_on : List Frame → List Value
 values_on (frames.Arguments goal ns vs ∷ fs) = vs
 values_on (frames.UpArguments up ns vs ∷ fs) = vs
+values_on (frames.Construct line object vs ∷ fs) = vs
 values_on _ = []
 
 abbrev pub locals_on : List Frame → List Local
@@ -62,5 +66,8 @@ locals_on (frames.Back this ls ∷ fs) = ls
 locals_on _ = []
 
 -- the topmost frame is kept so
-abbrev pub IsOnTop : Waiting → List Frame → Type 0
-IsOnTop w fs = fs ≡ frame_of w (values_on fs) (locals_on fs) ∷ drop 1 fs
+pub record IsOnTop (w : Waiting) (fs : List Frame) : Type 0 where
+  pub values : List Value
+  pub locals : List Local
+  pub rest : List Frame
+  pub is : fs ≡ frame_of w values locals ∷ rest

@@ -144,6 +144,8 @@ pub enum Waiting {
     UpArguments(Up, Nodes, usize),
     /// The unit of a written call of the superclass's constructor is spent.
     UpEnter(Up, Nodes),
+    /// The constructors of a line of classes, on an object, with arguments.
+    Construct(Nodes, Value, usize),
     /// The locals of a block end: so many were there before.
     Scope(usize),
     /// A method's body ends, and gives no value or one: `this` and the locals are those of its caller.

@@ -1,6 +1,6 @@
 // What comes next.
 
-use crate::{Change, Goal, Loop, Up};
+use crate::{Change, Loop};
 use kr_code::Nodes;
 use kr_value::Value;
 use kr_world::{Action, Cell};
@@ -16,7 +16,7 @@ pub enum Flow {
 }
 
 /// What comes next.
-#[derive(Debug, Drop)]
+#[derive(Clone, Copy, Debug)]
 pub enum Task {
     /// A node as an expression.
     Evaluate(u32),
@@ -31,11 +31,8 @@ pub enum Task {
     Act(Action),
     /// A variable is changed from its value.
     Alter(Change, Cell, Value),
-    /// The values of nodes are found, behind these.
-    Values(Goal, Nodes, Vec<Value>),
-    UpValues(Up, Nodes, Vec<Value>),
-    /// With all its arguments.
-    Apply(Goal, Vec<Value>),
+    /// The arguments for which the topmost frame waits: those that are left, one after another.
+    Arguments,
     /// Statements.
     All(Nodes),
     /// Declarators.
@@ -43,8 +40,6 @@ pub enum Task {
     /// Updates of a loop.
     Update(Nodes),
     Repeat(Loop),
-    /// The constructors of a line of classes, on an object.
-    Construct(Nodes, Value, Vec<Value>),
     /// The initial values of fields.
     Initialise(Nodes, Value),
 }
