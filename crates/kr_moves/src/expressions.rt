@@ -9,7 +9,7 @@ ghost use Rattle.kr_frames.specs.Leads.{Leads, next_task};
 ghost use Rattle.kr_world.specs.Worlds.{state_at};
 ghost use Rattle.kr_code.specs.Tables.{expression_of, listed, node_at};
 
-use crate::pushes::{first, then_write, write};
+use crate::pushes::{await_arguments, first, then_write, write};
 use crate::values::take_array;
 use kr_code::{Callee, Code, CollectionCall, Expression, Nodes, Variable};
 use kr_frames::{Change, Goal, Stack, Task, ValueFrame, WriteFrame};
@@ -24,12 +24,12 @@ fn enter_call(
     alloc: Global,
     code: &Code,
     world: &World,
-    stack: &Stack,
+    stack: &mut Stack,
     callee: Callee,
     arguments: Nodes,
     task: &mut Task,
 ) -> Result<(), Halt>
-    ensures { Leads code.now (next_task result task.new) stack.now world.now world.now (λ d x. out_value code.now d stack.now (call code.now d callee (listed code.now arguments) (state_at world.now x))) }
+    ensures { Leads code.now (next_task result task.new) stack.new world.now world.now (λ d x. out_value code.now d stack.old (call code.now d callee (listed code.now arguments) (state_at world.now x))) }
 {
     let goal = match callee {
         Callee::Unknown => Goal::Stop,
@@ -40,7 +40,8 @@ fn enter_call(
         Callee::NewSet => Goal::NewCollection(Class::Set),
         Callee::NewList => Goal::NewCollection(Class::List),
     };
-    *task = Task::Values(goal, arguments, Vec::new(alloc));
+    await_arguments(stack, goal, arguments, &[])?;
+    *task = Task::Arguments;
     Ok(())
 }
 
@@ -212,7 +213,7 @@ fn collect_one(
     alloc: Global,
     code: &Code,
     world: &mut World,
-    stack: &Stack,
+    stack: &mut Stack,
     call: CollectionCall,
     object: Value,
     arguments: Nodes,
@@ -220,7 +221,7 @@ fn collect_one(
     task: &mut Task,
 ) -> Result<(), Halt>
     requires { listed code.now arguments ≡ node ∷ [] }
-    ensures { Leads code.now (next_task result task.new) stack.now world.new world.old (λ d x. out_value code.now d stack.now (bind (values_at d (listed code.now arguments)) (collect_step (name_of call) object) (state_at world.old x))) }
+    ensures { Leads code.now (next_task result task.new) stack.new world.new world.old (λ d x. out_value code.now d stack.old (bind (values_at d (listed code.now arguments)) (collect_step (name_of call) object) (state_at world.old x))) }
 {
     match at_once(code, world, node) {
         Some(argument) => collected_with(code, world, stack, call, object, argument, task),
@@ -234,13 +235,13 @@ fn collect_next(
     alloc: Global,
     code: &Code,
     world: &mut World,
-    stack: &Stack,
+    stack: &mut Stack,
     call: CollectionCall,
     object: Value,
     arguments: Nodes,
     task: &mut Task,
 ) -> Result<(), Halt>
-    ensures { Leads code.now (next_task result task.new) stack.now world.new world.old (λ d x. out_value code.now d stack.now (bind (values_at d (listed code.now arguments)) (collect_step (name_of call) object) (state_at world.old x))) }
+    ensures { Leads code.now (next_task result task.new) stack.new world.new world.old (λ d x. out_value code.now d stack.old (bind (values_at d (listed code.now arguments)) (collect_step (name_of call) object) (state_at world.old x))) }
 {
     match code.split(arguments) {
         None => collected(code, world, stack, call, object, &[], task),
@@ -262,15 +263,16 @@ fn collect_later(
     alloc: Global,
     code: &Code,
     world: &World,
-    stack: &Stack,
+    stack: &mut Stack,
     call: CollectionCall,
     object: Value,
     arguments: Nodes,
     task: &mut Task,
 ) -> Result<(), Halt>
-    ensures { Leads code.now (next_task result task.new) stack.now world.now world.now (λ d x. out_value code.now d stack.now (bind (values_at d (listed code.now arguments)) (collect_step (name_of call) object) (state_at world.now x))) }
+    ensures { Leads code.now (next_task result task.new) stack.new world.now world.now (λ d x. out_value code.now d stack.old (bind (values_at d (listed code.now arguments)) (collect_step (name_of call) object) (state_at world.now x))) }
 {
-    *task = Task::Values(Goal::Collect(call, object), arguments, Vec::new(alloc));
+    await_arguments(stack, Goal::Collect(call, object), arguments, &[])?;
+    *task = Task::Arguments;
     Ok(())
 }
 

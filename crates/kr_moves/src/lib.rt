@@ -11,9 +11,7 @@ mod values;
 
 pub use expressions::enter_node;
 pub use flows::take_flow;
-pub use lists::{
-    all, arguments, declare, repeat, take_argument, take_up_argument, up_arguments, update,
-};
-pub use pushes::{push, unit, value, write};
+pub use lists::{all, declare, repeat, update};
+pub use pushes::{await_arguments, push, unit, value, write};
 pub use statements::enter_statement;
 pub use values::{stop, take_test, take_value};

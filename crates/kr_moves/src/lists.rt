@@ -9,11 +9,10 @@ ghost use Rattle.kr_frames.specs.Frames.{out_value, out_flow, out_unit, continue
 ghost use Rattle.kr_frames.specs.Leads.{Leads, next_task};
 ghost use Rattle.kr_world.specs.Worlds.{state_at};
 
-use crate::pushes::{flow, test, unit};
+use crate::pushes::{flow, test};
 use crate::values::{begin_round, stop};
 use kr_code::{Code, Nodes};
-use kr_frames::{Flow, FlowFrame, Goal, Loop, Stack, Task, TestFrame, UnitFrame, Up};
-use kr_value::Value;
+use kr_frames::{Flow, FlowFrame, Loop, Stack, Task, TestFrame};
 use kr_world::{Action, Halt, World, tick};
 use std::alloc::Global;
 
@@ -132,142 +131,5 @@ pub fn declare(
                 Ok(())
             }
         },
-    }
-}
-
-/// Arguments are awaited, behind those that are there.
-fn await_arguments(stack: &mut Stack, goal: Goal, nodes: Nodes, found: &[Value]) -> Result<(), Halt>
-    ensures pushed { OnOk result (stack.new ≡ frames.Arguments goal nodes found.now ∷ stack.old) }
-    ensures memory { IfErr result (λ halt. halt ≡ Memory) }
-{
-    if stack.push_arguments(goal, nodes, found).is_err() {
-        return Err(Halt::Memory);
-    }
-    Ok(())
-}
-
-/// Arguments of a superclass's constructor are awaited, behind those that are there.
-fn await_up_arguments(stack: &mut Stack, up: Up, nodes: Nodes, found: &[Value]) -> Result<(), Halt>
-    ensures pushed { OnOk result (stack.new ≡ frames.UpArguments up nodes found.now ∷ stack.old) }
-    ensures memory { IfErr result (λ halt. halt ≡ Memory) }
-{
-    if stack.push_up_arguments(up, nodes, found).is_err() {
-        return Err(Halt::Memory);
-    }
-    Ok(())
-}
-
-/// Arguments, one after another, and then what is done with them.
-#[tactic(auto, using(crate::proofs::Moves::onto_all), unfolding(kr_mean::specs::Steps::bind))]
-pub fn arguments(
-    code: &Code,
-    world: &World,
-    stack: &mut Stack,
-    goal: Goal,
-    nodes: Nodes,
-    found: Vec<Value>,
-    task: &mut Task,
-) -> Result<(), Halt>
-    ensures { Leads code.now (next_task result task.new) stack.new world.now world.now (λ d x. out_value code.now d stack.old (continued (values_at d (listed code.now nodes) (state_at world.now x)) (λ ws. applied code.now d goal (onto (reverse found.items) ws)))) }
-{
-    match code.split(nodes) {
-        None => {
-            *task = Task::Apply(goal, found);
-            return Ok(());
-        }
-        Some((node, others)) => {
-            await_arguments(stack, goal, others, found.as_slice())?;
-            *task = Task::Evaluate(node);
-            return Ok(());
-        }
-    }
-}
-
-/// The arguments of a superclass's constructor, one after another.
-#[tactic(auto, using(crate::proofs::Moves::onto_all), unfolding(kr_mean::specs::Steps::bind))]
-pub fn up_arguments(
-    code: &Code,
-    world: &World,
-    stack: &mut Stack,
-    up: Up,
-    nodes: Nodes,
-    found: Vec<Value>,
-    task: &mut Task,
-) -> Result<(), Halt>
-    ensures { Leads code.now (next_task result task.new) stack.new world.now world.now (λ d x. out_unit code.now d stack.old (continued (values_at d (listed code.now nodes) (state_at world.now x)) (λ ws. upwards code.now d up (onto (reverse found.items) ws)))) }
-{
-    match code.split(nodes) {
-        None => {
-            unit(
-                stack,
-                UnitFrame::Behind(up.object, up.initialisers, up.body),
-            )?;
-            *task = Task::Construct(up.line, up.object, found);
-            return Ok(());
-        }
-        Some((node, others)) => {
-            await_up_arguments(stack, up, others, found.as_slice())?;
-            *task = Task::Evaluate(node);
-            return Ok(());
-        }
-    }
-}
-
-/// Values with one more.
-#[tactic(auto, using(crate::proofs::Moves::one_more))]
-fn with_value(found: Vec<Value>, given: Value) -> Result<Vec<Value>, Halt>
-    ensures more { IfOk result (λ values. reverse values.items ≡ given ∷ reverse found.items) }
-    ensures memory { IfErr result (λ halt. halt ≡ Memory) }
-{
-    let mut values = found;
-    if values.push(given).is_err() {
-        return Err(Halt::Memory);
-    }
-    Ok(values)
-}
-
-/// One more argument is there.
-#[tactic(auto, unfolding(kr_mean::specs::Steps::bind))]
-pub fn take_argument(
-    code: &Code,
-    world: &World,
-    stack: &Stack,
-    goal: Goal,
-    others: Nodes,
-    found: Vec<Value>,
-    given: Value,
-    task: &mut Task,
-) -> Result<(), Halt>
-    ensures { Leads code.now (next_task result task.new) stack.now world.now world.now (λ d x. out_value code.now d stack.now (continued (bind (values_at d (listed code.now others)) (λ ws. give (given ∷ ws)) (state_at world.now x)) (λ ws. applied code.now d goal (onto (reverse found.items) ws)))) }
-{
-    match with_value(found, given) {
-        Err(_) => return Err(Halt::Memory),
-        Ok(values) => {
-            *task = Task::Values(goal, others, values);
-            return Ok(());
-        }
-    }
-}
-
-/// One more argument of a superclass's constructor is there.
-#[tactic(auto, unfolding(kr_mean::specs::Steps::bind))]
-pub fn take_up_argument(
-    code: &Code,
-    world: &World,
-    stack: &Stack,
-    up: Up,
-    others: Nodes,
-    found: Vec<Value>,
-    given: Value,
-    task: &mut Task,
-) -> Result<(), Halt>
-    ensures { Leads code.now (next_task result task.new) stack.now world.now world.now (λ d x. out_unit code.now d stack.now (continued (bind (values_at d (listed code.now others)) (λ ws. give (given ∷ ws)) (state_at world.now x)) (λ ws. upwards code.now d up (onto (reverse found.items) ws)))) }
-{
-    match with_value(found, given) {
-        Err(_) => return Err(Halt::Memory),
-        Ok(values) => {
-            *task = Task::UpValues(up, others, values);
-            return Ok(());
-        }
     }
 }

@@ -12,7 +12,11 @@ ghost use Rattle.kr_world.specs.declared.world.World.{World};
 ghost use Rattle.kr_world.specs.declared.world.Halt.TheVariants.{Memory};
 ghost use Rattle.kr_world.specs.Worlds.{state_at};
 
-use kr_frames::{FlowFrame, Stack, Task, TestFrame, UnitFrame, ValueFrame, Waiting, WriteFrame};
+use kr_code::Nodes;
+use kr_frames::{
+    FlowFrame, Goal, Stack, Task, TestFrame, UnitFrame, ValueFrame, Waiting, WriteFrame,
+};
+use kr_value::Value;
 use kr_world::Halt;
 
 /// A frame more, without lists.
@@ -66,6 +70,22 @@ pub fn unit(stack: &mut Stack, frame: UnitFrame) -> Result<(), Halt>
     ensures memory { IfErr result (λ halt. halt ≡ Memory) }
 {
     push(stack, Waiting::Unit(frame))
+}
+
+/// The arguments of what is called come next, behind those that are there.
+pub fn await_arguments(
+    stack: &mut Stack,
+    goal: Goal,
+    nodes: Nodes,
+    found: &[Value],
+) -> Result<(), Halt>
+    ensures pushed { OnOk result (stack.new ≡ frames.Arguments goal nodes found.now ∷ stack.old) }
+    ensures memory { IfErr result (λ halt. halt ≡ Memory) }
+{
+    if stack.push_arguments(goal, nodes, found).is_err() {
+        return Err(Halt::Memory);
+    }
+    Ok(())
 }
 
 /// A node's value comes next, and then the frame.

@@ -13,7 +13,7 @@ ghost use Rattle.kr_frames.specs.Leads.{Leads, next_task};
 ghost use Rattle.kr_world.specs.Worlds.{state_at};
 
 use crate::expressions::enter_node;
-use crate::pushes::{first, flow, test, then_write, value, write};
+use crate::pushes::{await_arguments, first, flow, test, then_write, value, write};
 use kr_ast::{BinaryOperator, StepOperator, UnaryOperator};
 use kr_code::{Code, Nodes};
 use kr_frames::{Flow, FlowFrame, Goal, Loop, Stack, Task, TestFrame, ValueFrame, WriteFrame};
@@ -291,15 +291,18 @@ pub fn take_value(
             Ok(())
         }
         ValueFrame::CallOn(method, arguments) => {
-            *task = Task::Values(Goal::On(method, given), arguments, Vec::new(alloc));
+            await_arguments(stack, Goal::On(method, given), arguments, &[])?;
+            *task = Task::Arguments;
             Ok(())
         }
         ValueFrame::StaticCallOn(method, arguments) => {
-            *task = Task::Values(Goal::StaticOn(method, given), arguments, Vec::new(alloc));
+            await_arguments(stack, Goal::StaticOn(method, given), arguments, &[])?;
+            *task = Task::Arguments;
             Ok(())
         }
         ValueFrame::CallCollection(call, arguments) => {
-            *task = Task::Values(Goal::Collect(call, given), arguments, Vec::new(alloc));
+            await_arguments(stack, Goal::Collect(call, given), arguments, &[])?;
+            *task = Task::Arguments;
             Ok(())
         }
         ValueFrame::Write(writing) => take_write(code, world, stack, writing, given, task),

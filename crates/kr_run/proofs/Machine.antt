@@ -1,20 +1,18 @@
 -- What the machine's steps need of the meaning.
 use Rattle.std.proofs.Common.{◌≡◌, ◌<◌, arith, ℕ, List, [], ◌∷◌, length, Result, Ok, Err, refl, sym, ap, ◌∙◌, subst}
-use Rattle.std.specs.Prelude.{map, take, drop, reverse, Bool, true, nat_eq}
+use Rattle.std.specs.Prelude.{map, take, drop, Bool, true, nat_eq}
 use Rattle.std.proofs.lemmas.Bool.{eq-eqb}
 use Rattle.std.proofs.lemmas.List.{take-map}
 use Rattle.kr_value.specs.declared.value.Value.{Value}
 use Rattle.kr_ast.specs.declared.node.BinaryOperator.{BinaryOperator}
 use Rattle.kr_mean.specs.Places.{SlotPlace}
 use Rattle.kr_mean.specs.Steps as steps
-use Rattle.kr_mean.specs.Steps.{Stop, State, Run, after_reads, go_on, bind, give, stop, Stuck, say, tick, within, entered, back_to, plain_local}
+use Rattle.kr_mean.specs.Steps.{Stop, State, Outcome, Run, after_reads, go_on, bind, give, stop, Stuck, say, tick, within, entered, back_to, plain_local}
 use Rattle.kr_mean.specs.Operators.{operated}
 use Rattle.kr_mean.specs.Meaning.{Change, change_to}
 use Rattle.kr_code.specs.declared.code.Code.{Code}
 use Rattle.kr_code.specs.declared.statement.Statement.{Statement}
-use Rattle.kr_code.specs.declared.expression.Nodes.{Nodes}
-use Rattle.kr_code.specs.Tables.{listed}
-use Rattle.kr_code.specs.Doing.{Doing, constructed, statement_done, flow_of, values_at}
+use Rattle.kr_code.specs.Doing.{Doing, constructed, statement_done, flow_of}
 use Rattle.kr_world.specs.declared.world.Local.{Local}
 use Rattle.kr_world.specs.declared.action.Cell.{Cell}
 use Rattle.kr_world.specs.Actions.{written}
@@ -22,16 +20,13 @@ use Rattle.kr_world.specs.Shown.{local_of}
 use Rattle.kr_frames.specs.declared.frame.Change.TheVariants as changes
 use Rattle.kr_world.specs.declared.world.World.{World}
 use Rattle.kr_world.specs.declared.world.Halt.{Halt}
-use Rattle.kr_world.specs.Worlds.{state_at}
-use Rattle.kr_frames.specs.declared.frame.Goal.{Goal}
-use Rattle.kr_frames.specs.declared.frame.Up.{Up}
+use Rattle.kr_world.specs.Worlds.{Others}
 use Rattle.kr_frames.specs.declared.task.Task.{Task}
 use Rattle.kr_frames.specs.Frame.{Frame}
-use Rattle.kr_frames.specs.Frame as frames
 use Rattle.kr_frames.specs.Kept.{values_on}
 use Rattle.kr_frames.specs.Leads.{Leads}
-use Rattle.kr_frames.specs.Frames.{continued, altered, applied, upwards, onto, out_value, out_unit}
-use Rattle.kr_frames.proofs.Outcomes.{continued_reads}
+use Rattle.kr_frames.specs.Frames.{continued, altered}
+use Rattle.kr_frames.proofs.Outcomes.{continued_reads, leads_alike}
 
 pub locals_cut : (locals : List Local) (n : ℕ) → take n (map local_of locals) ≡ map local_of (take n locals)
 locals_cut locals n = take-map local_of n locals
@@ -84,25 +79,14 @@ pub last_stuck : (code : Code) (d : Doing) (o : Value) (args : List Value) (s : 
 last_stuck code d o [] s lt = absurd (omega (arith, lt))
 last_stuck code d o (v ∷ vs) s lt = refl
 
--- ---- arguments
+-- ---- frames with lists
 
--- one more argument comes to a frame
-pub argument_there : (code : Code) (r : Result Task Halt) (gs top rest after : List Frame) (goal : Goal) (others : Nodes) (given : Value) (vs found : List Value) (w : World)
-    → top ≡ frames.Arguments goal others vs ∷ rest → after ≡ drop 1 top → found ≡ values_on top
-    → Leads code r gs w w (λ d x. out_value code d after (continued (bind (values_at d (listed code others)) (λ ws. give (given ∷ ws)) (state_at w x)) (λ ws. applied code d goal (onto (reverse found) ws))))
-    → Leads code r gs w w (λ d x. out_value code d top (give given (state_at w x)))
-unfolding bind
-argument_there code r gs top rest after goal others given vs found w is behind values h =
-    subst (λ (fs : List Frame). Leads code r gs w w (λ d x. out_value code d fs (give given (state_at w x)))) (sym is)
-    (subst (λ (us : List Value). Leads code r gs w w (λ d x. out_value code d rest (continued (bind (values_at d (listed code others)) (λ ws. give (given ∷ ws)) (state_at w x)) (λ ws. applied code d goal (onto (reverse us) ws))))) (values ∙ ap values_on is)
-    (subst (λ (fs : List Frame). Leads code r gs w w (λ d x. out_value code d fs (continued (bind (values_at d (listed code others)) (λ ws. give (given ∷ ws)) (state_at w x)) (λ ws. applied code d goal (onto (reverse found) ws))))) (behind ∙ ap (λ (fs : List Frame). drop 1 fs) is) h))
-
-pub up_argument_there : (code : Code) (r : Result Task Halt) (gs top rest after : List Frame) (up : Up) (others : Nodes) (given : Value) (vs found : List Value) (w : World)
-    → top ≡ frames.UpArguments up others vs ∷ rest → after ≡ drop 1 top → found ≡ values_on top
-    → Leads code r gs w w (λ d x. out_unit code d after (continued (bind (values_at d (listed code others)) (λ ws. give (given ∷ ws)) (state_at w x)) (λ ws. upwards code d up (onto (reverse found) ws))))
-    → Leads code r gs w w (λ d x. out_value code d top (give given (state_at w x)))
-unfolding bind
-up_argument_there code r gs top rest after up others given vs found w is behind values h =
-    subst (λ (fs : List Frame). Leads code r gs w w (λ d x. out_value code d fs (give given (state_at w x)))) (sym is)
-    (subst (λ (us : List Value). Leads code r gs w w (λ d x. out_unit code d rest (continued (bind (values_at d (listed code others)) (λ ws. give (given ∷ ws)) (state_at w x)) (λ ws. upwards code d up (onto (reverse us) ws))))) (values ∙ ap values_on is)
-    (subst (λ (fs : List Frame). Leads code r gs w w (λ d x. out_unit code d fs (continued (bind (values_at d (listed code others)) (λ ws. give (given ∷ ws)) (state_at w x)) (λ ws. upwards code d up (onto (reverse found) ws))))) (behind ∙ ap (λ (fs : List Frame). drop 1 fs) is) h))
+-- the topmost frame has gone, with the values that it had
+pub taken : (code : Code) (r : Result Task Halt) (gs : List Frame) (w before : World) (top rest after : List Frame) (vs found : List Value) (f : List Value → Frame) (o : List Frame → Doing → Others → Outcome Value) (p : List Frame → List Value → Doing → Others → Outcome Value)
+    → top ≡ f vs ∷ rest → after ≡ drop 1 top → found ≡ values_on top → values_on (f vs ∷ rest) ≡ vs → ((x : Others) (d : Doing) → o (f vs ∷ rest) d x ≡ p rest vs d x)
+    → Leads code r gs w before (p after found) → Leads code r gs w before (o top)
+taken code r gs w before top rest after vs found f o p is behind values has same h =
+    subst (λ (fs : List Frame). Leads code r gs w before (o fs)) (sym is)
+    (leads_alike code r gs w before (o (f vs ∷ rest)) (p rest vs) (λ x d m. same x d)
+    (subst (λ (us : List Value). Leads code r gs w before (p rest us)) (values ∙ ap values_on is ∙ has)
+    (subst (λ (fs : List Frame). Leads code r gs w before (p fs found)) (behind ∙ ap (λ (fs : List Frame). drop 1 fs) is) h)))

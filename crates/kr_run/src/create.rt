@@ -40,7 +40,8 @@ pub fn create(
             Err(halt) => return Err(halt),
             Ok(object) => {
                 push(stack, Waiting::Made(object))?;
-                *task = Task::Construct(found.line, object, arguments);
+                await_construct(stack, found.line, object, arguments.as_slice())?;
+                *task = Task::Done;
                 return Ok(());
             }
         },
@@ -54,6 +55,22 @@ pub fn stop_unit(code: &Code, world: &World, stack: &mut Stack, task: &mut Task)
 {
     push(stack, Waiting::Store(0, Value::Null))?;
     *task = Task::Act(Action::End(End::Stuck));
+    Ok(())
+}
+
+/// The constructors of a line of classes come, on an object, with these arguments.
+pub fn await_construct(
+    stack: &mut Stack,
+    line: Nodes,
+    object: Value,
+    arguments: &[Value],
+) -> Result<(), Halt>
+    ensures pushed { OnOk result (stack.new ≡ frames.Construct line object arguments.now ∷ stack.old) }
+    ensures memory { IfErr result (λ halt. halt ≡ Memory) }
+{
+    if stack.push_construct(line, object, arguments).is_err() {
+        return Err(Halt::Memory);
+    }
     Ok(())
 }
 
@@ -90,7 +107,8 @@ fn construct_plain(
     become_arguments(&mut world.locals, arguments.as_slice())?;
     world.this = object;
     unit(stack, UnitFrame::Initialise(initialisers, object))?;
-    *task = Task::Construct(others, object, Vec::new(alloc));
+    await_construct(stack, others, object, &[])?;
+    *task = Task::Done;
     Ok(())
 }
 
@@ -120,7 +138,8 @@ fn construct_declared(
                 stack,
                 UnitFrame::Behind(up.object, up.initialisers, up.body),
             )?;
-            *task = Task::Construct(up.line, up.object, Vec::new(alloc));
+            await_construct(stack, up.line, up.object, &[])?;
+            *task = Task::Done;
             Ok(())
         }
         Some(nodes) => {

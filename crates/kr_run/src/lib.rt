@@ -2,6 +2,7 @@
 //! What it answers, leaves and has read is what the code means.
 #![tactic(auto)]
 
+mod arguments;
 mod calls;
 mod create;
 mod run;

@@ -1,9 +1,9 @@
 // The machine: one task after another, until the run ends.
-ghost use Rattle.std.specs.Prelude.{◌≡◌, ◌∷◌, List, MatchOption, drop, IfErr, IfOk, OnOk};
-ghost use Rattle.kr_world.specs.declared.world.Halt.TheVariants.{Memory};
+ghost use Rattle.std.specs.Prelude.{◌≡◌, ◌∷◌, List, MatchOption};
+ghost use Rattle.kr_value.specs.declared.value.Value.{Value as Argument};
 ghost use Rattle.kr_frames.specs.Frame.{Frame};
 ghost use Rattle.kr_frames.specs.Frame as frames;
-ghost use Rattle.kr_frames.specs.Kept.{IsOnTop, values_on};
+ghost use Rattle.kr_frames.specs.Kept.{IsOnTop};
 ghost use Rattle.kr_code.specs.declared.statement.Statement.TheVariants.{Stuck as NoStatement, Declare as Declarations};
 ghost use Rattle.kr_run.specs.Statements.{IsTicked};
 ghost use Rattle.kr_code.specs.Doing.{statement_done, flow_of as statement_flow};
@@ -19,22 +19,23 @@ ghost use Rattle.kr_mean.specs.Steps.{bind, give, tick};
 ghost use Rattle.kr_run.specs.Answers.{StepsTo, Answers};
 ghost use Rattle.kr_world.specs.Worlds.{state_at};
 
-use crate::calls::apply;
+use crate::arguments::{
+    await_upwards, next_arguments, take_argument, take_found, take_up_argument,
+};
 use crate::create::{construct, initialise, stop_unit, take_unit};
 use crate::steps::Step;
 use kr_ast::{BinaryOperator, StepOperator};
 use kr_code::{Code, Node, Nodes, Statement};
-use kr_frames::{Change, Flow, Goal, Stack, Task, Up, ValueFrame, Waiting, WriteFrame};
+use kr_frames::{Change, Flow, Stack, Task, ValueFrame, Waiting, WriteFrame};
 use kr_known::at_once;
 use kr_mean::Kind;
 use kr_moves::{
-    all, arguments, declare, enter_node, enter_statement, repeat, take_argument, take_flow,
-    take_test, take_up_argument, take_value, up_arguments, update, value, write,
+    all, declare, enter_node, enter_statement, repeat, take_flow, take_test, take_value, update,
+    value, write,
 };
 use kr_value::Value;
 use kr_world::{Action, Cell, End, Halt, Local, World, act, store_initial, tick};
 use std::alloc::Global;
-use std::mem;
 
 /// An expression: at once where its value is known, else part by part.
 #[inline(always)]
@@ -225,61 +226,6 @@ fn store(
     }
 }
 
-/// The topmost frame goes, with the values that it has.
-fn take_found(alloc: Global, stack: &mut Stack) -> Result<Vec<Value>, Halt>
-    ensures rest { OnOk result (stack.new ≡ drop 1 stack.old) }
-    ensures values { IfOk result (λ found. found.items ≡ values_on stack.old) }
-    ensures memory { IfErr result (λ halt. halt ≡ Memory) }
-{
-    let mut found = Vec::new(alloc);
-    match stack.take_values(&mut found) {
-        Ok(()) => Ok(found),
-        Err(_) => Err(Halt::Memory),
-    }
-}
-
-/// One more argument comes, and a frame waited for it with those that are there.
-#[tactic(auto, unfolding(kr_mean::specs::Steps::bind))]
-fn argument_frame(
-    alloc: Global,
-    code: &Code,
-    world: &World,
-    stack: &mut Stack,
-    goal: Goal,
-    others: Nodes,
-    given: Value,
-    task: &mut Task,
-) -> Result<(), Halt>
-    requires { (found : List Value) × (fs : List Frame) × (stack.old ≡ frames.Arguments goal others found ∷ fs) }
-    ensures { Leads code.now (next_task result task.new) stack.new world.now world.now (λ d x. out_value code.now d stack.old (give given (state_at world.now x))) }
-{
-    match take_found(alloc, stack) {
-        Err(halt) => Err(halt),
-        Ok(found) => take_argument(code, world, stack, goal, others, found, given, task),
-    }
-}
-
-/// One more argument of a superclass's constructor comes.
-#[tactic(auto, unfolding(kr_mean::specs::Steps::bind))]
-fn up_argument_frame(
-    alloc: Global,
-    code: &Code,
-    world: &World,
-    stack: &mut Stack,
-    up: Up,
-    others: Nodes,
-    given: Value,
-    task: &mut Task,
-) -> Result<(), Halt>
-    requires { (found : List Value) × (fs : List Frame) × (stack.old ≡ frames.UpArguments up others found ∷ fs) }
-    ensures { Leads code.now (next_task result task.new) stack.new world.now world.now (λ d x. out_value code.now d stack.old (give given (state_at world.now x))) }
-{
-    match take_found(alloc, stack) {
-        Err(halt) => Err(halt),
-        Ok(found) => take_up_argument(code, world, stack, up, others, found, given, task),
-    }
-}
-
 /// A value comes to the topmost frame.
 #[inline(always)]
 #[tactic(auto, unfolding(kr_mean::specs::Steps::bind))]
@@ -305,14 +251,15 @@ fn value_frame(
             return take_test(code, world, stack, waiting, given, task);
         }
         Waiting::Arguments(goal, others, _) => {
-            return argument_frame(alloc, code, world, stack, goal, others, given, task);
+            return take_argument(alloc, code, world, stack, goal, others, given, task);
         }
         Waiting::UpArguments(up, others, _) => {
-            return up_argument_frame(alloc, code, world, stack, up, others, given, task);
+            return take_up_argument(alloc, code, world, stack, up, others, given, task);
         }
         Waiting::UpEnter(up, nodes) => {
             stack.drop_top();
-            *task = Task::UpValues(up, nodes, Vec::new(alloc));
+            await_upwards(stack, up, nodes, &[])?;
+            *task = Task::Arguments;
             return Ok(());
         }
         Waiting::Store(field, object) => {
@@ -461,6 +408,25 @@ fn go_back(
     Ok(())
 }
 
+/// The constructors of a line of classes come, for the topmost frame, which has their arguments.
+fn construct_on(
+    alloc: Global,
+    code: &Code,
+    world: &mut World,
+    stack: &mut Stack,
+    line: Nodes,
+    object: Value,
+    task: &mut Task,
+) -> Result<(), Halt>
+    requires { (arguments : List Argument) × (fs : List Frame) × (stack.old ≡ frames.Construct line object arguments ∷ fs) }
+    ensures { Leads code.now (next_task result task.new) stack.new world.new world.old (λ d x. out_unit code.now d stack.old (give tt (state_at world.old x))) }
+{
+    match take_found(alloc, stack) {
+        Err(halt) => Err(halt),
+        Ok(arguments) => construct(alloc, code, world, stack, line, object, &arguments, task),
+    }
+}
+
 /// What gives nothing is done, and the topmost frame waited for it.
 #[tactic(auto, unfolding(kr_mean::specs::Steps::bind))]
 fn unit_frame(
@@ -478,6 +444,9 @@ fn unit_frame(
         Waiting::Unit(waiting) => {
             stack.drop_top();
             return take_unit(code, world, stack, waiting, task);
+        }
+        Waiting::Construct(line, object, _) => {
+            return construct_on(alloc, code, world, stack, line, object, task);
         }
         Waiting::Back(this, _) => return go_back(code, world, stack, this, task),
         Waiting::Made(object) => {
@@ -511,42 +480,6 @@ fn act_on(
     }
 }
 
-/// What a task leads to that is rare, or owns values.
-#[tactic(auto, unfolding(kr_mean::specs::Steps::bind))]
-fn do_rare(
-    alloc: Global,
-    code: &Code,
-    world: &mut World,
-    stack: &mut Stack,
-    rare: Task,
-    task: &mut Task,
-) -> Result<(), Halt>
-    ensures { Leads code.now (next_task result task.new) stack.new world.new world.old (λ d x. resumed code.now d stack.old rare (state_at world.old x)) }
-{
-    match rare {
-        Task::Alter(change, cell, old) => {
-            return alter(code, world, stack, change, cell, old, task);
-        }
-        Task::Values(goal, nodes, found) => {
-            return arguments(code, world, stack, goal, nodes, found, task);
-        }
-        Task::UpValues(up, nodes, found) => {
-            return up_arguments(code, world, stack, up, nodes, found, task);
-        }
-        Task::Apply(goal, found) => return apply(alloc, code, world, stack, goal, found, task),
-        Task::Construct(line, object, found) => {
-            return construct(alloc, code, world, stack, line, object, &found, task);
-        }
-        Task::Initialise(nodes, object) => {
-            return initialise(code, world, stack, nodes, object, task);
-        }
-        other => {
-            *task = other;
-            return Ok(());
-        }
-    }
-}
-
 /// What a task leads to, but for a value that comes to a frame.
 #[inline(always)]
 #[tactic(auto, unfolding(kr_mean::specs::Steps::bind))]
@@ -569,10 +502,14 @@ fn do_task(
         Task::Declare(nodes) => return declare(code, world, stack, nodes, task),
         Task::Update(nodes) => return update(code, world, stack, nodes, task),
         Task::Repeat(turn) => return repeat(alloc, code, world, stack, turn, task),
-        _ => {
-            let rare = mem::replace(task, Task::Done);
-            return do_rare(alloc, code, world, stack, rare, task);
+        Task::Alter(change, cell, old) => {
+            return alter(code, world, stack, change, cell, old, task);
         }
+        Task::Arguments => return next_arguments(alloc, code, world, stack, task),
+        Task::Initialise(nodes, object) => {
+            return initialise(code, world, stack, nodes, object, task);
+        }
+        Task::Got(_) => return Ok(()),
     }
 }
 

@@ -32,4 +32,4 @@ returns-in-None c =
     let w = c.args.world.now in
     let then = c.at_once.new.world in
     let same : then ≡ w = search rules in
-    leads_from code (next_task c.collect_later.result c.collect_later.new.task) c.args.stack.now then w (λ (u : World) (d : Doing) (x : Others). out_value code d c.args.stack.now (bind (values_at d (listed code c.args.arguments)) (collect (name_of c.args.call) c.args.object) (state_at u x))) same c.collect_later.ensures
+    leads_from code (next_task c.collect_later.result c.collect_later.new.task) c.collect_later.new.stack then w (λ (u : World) (d : Doing) (x : Others). out_value code d c.args.stack.now (bind (values_at d (listed code c.args.arguments)) (collect (name_of c.args.call) c.args.object) (state_at u x))) same c.collect_later.ensures

@@ -16,7 +16,7 @@ returns-in-Some c =
     let code = c.args.code.now in
     let w = c.args.world.now in
     let then = c.at_once.new.world in
-    value_then code (next_task c.collect_next.result c.collect_next.new.task) c.args.stack.now c.args.stack.now c.collect_next.new.world then w (λ (d : Doing). d.value c.args.object) (λ (d : Doing) (u : Value). bind (values_at d (listed c.args.code.now c.args.arguments)) (collect (name_of c.args.call) u)) c.in-Some.value c.in-Some.ensures c.collect_next.ensures
+    value_then code (next_task c.collect_next.result c.collect_next.new.task) c.args.stack.now c.collect_next.new.stack c.collect_next.new.world then w (λ (d : Doing). d.value c.args.object) (λ (d : Doing) (u : Value). bind (values_at d (listed c.args.code.now c.args.arguments)) (collect (name_of c.args.call) u)) c.in-Some.value c.in-Some.ensures c.collect_next.ensures
 
 pub returns-in-None : goal.returns-in-None
 returns-in-None c =

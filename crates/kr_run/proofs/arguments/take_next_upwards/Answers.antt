@@ -1,0 +1,27 @@
+use Rattle.std.proofs.Common.{List, ◌∷◌, ap, sym, ◌∙◌}
+use Rattle.std.specs.Prelude.{reverse}
+use Rattle.kr_value.specs.declared.value.Value.{Value}
+use Rattle.kr_mean.specs.Steps.{bind, give}
+use Rattle.kr_code.specs.Doing.{values_at}
+use Rattle.kr_code.specs.Tables.{listed}
+use Rattle.kr_world.specs.Worlds.{state_at}
+use Rattle.kr_frames.specs.Frames.{continued, onto, upwards, out_unit}
+use Rattle.kr_frames.specs.Leads.{next_task}
+use Rattle.kr_frames.proofs.Outcomes.{leads_alike}
+use Rattle.kr_moves.proofs.Moves.{mapped}
+use Rattle.kr_run.proofs.arguments.take_next_upwards.Goals as goal
+
+pub returns-in-Ok : goal.returns-in-Ok
+unfolding bind
+returns-in-Ok c =
+    let code = c.args.code.now in
+    let w = c.args.world.now in
+    let fs = c.args.stack.now in
+    let ns = listed code c.args.others in
+    leads_alike code (next_task c.next_upwards.result c.next_upwards.new.task) c.next_upwards.new.stack w w
+    (λ d x. out_unit code d fs (continued (bind (values_at d ns) (λ ws. give (c.args.given ∷ ws)) (state_at w x)) (λ ws. upwards code d c.args.up (onto (reverse c.args.found.items) ws))))
+    (λ d x. out_unit code d fs (continued (values_at d ns (state_at w x)) (λ ws. upwards code d c.args.up (onto (reverse c.in-Ok.values.items) ws))))
+    (λ x d m.
+    ap (λ q. out_unit code d fs q) (mapped (values_at d ns) (λ ws. c.args.given ∷ ws) (λ ws. upwards code d c.args.up (onto (reverse c.args.found.items) ws)) (state_at w x))
+    ∙ ap (λ (us : List Value). out_unit code d fs (continued (values_at d ns (state_at w x)) (λ ws. upwards code d c.args.up (onto us ws)))) (sym c.in-Ok.ensures.more))
+    c.next_upwards.ensures
