@@ -10,7 +10,7 @@ ghost use Rattle.kr_world.specs.Worlds.{state_at};
 ghost use Rattle.kr_code.specs.Tables.{expression_of, listed, node_at};
 
 use crate::pushes::{await_arguments, first, then_write, write};
-use crate::values::take_array;
+use crate::values::{feed, take_array};
 use kr_code::{Callee, Code, CollectionCall, Expression, Nodes, Variable};
 use kr_frames::{Change, Goal, Stack, Task, ValueFrame, WriteFrame};
 use kr_known::{at_once, expression_at};
@@ -176,19 +176,16 @@ fn enter_element(
 fn collected(
     code: &Code,
     world: &mut World,
-    stack: &Stack,
+    stack: &mut Stack,
     call: CollectionCall,
     object: Value,
     arguments: &[Value],
     task: &mut Task,
 ) -> Result<(), Halt>
-    ensures { Leads code.now (next_task result task.new) stack.now world.new world.old (λ d x. out_value code.now d stack.now (collect_step (name_of call) object arguments.now (state_at world.old x))) }
+    ensures { Leads code.now (next_task result task.new) stack.new world.new world.old (λ d x. out_value code.now d stack.old (collect_step (name_of call) object arguments.now (state_at world.old x))) }
 {
     match collect(world, call, object, arguments) {
-        Ok(given) => {
-            *task = Task::Got(given);
-            Ok(())
-        }
+        Ok(given) => feed(code, world, stack, given, task),
         Err(halt) => Err(halt),
     }
 }
@@ -197,13 +194,13 @@ fn collected(
 fn collected_with(
     code: &Code,
     world: &mut World,
-    stack: &Stack,
+    stack: &mut Stack,
     call: CollectionCall,
     object: Value,
     argument: Value,
     task: &mut Task,
 ) -> Result<(), Halt>
-    ensures { Leads code.now (next_task result task.new) stack.now world.new world.old (λ d x. out_value code.now d stack.now (collect_step (name_of call) object (argument ∷ []) (state_at world.old x))) }
+    ensures { Leads code.now (next_task result task.new) stack.new world.new world.old (λ d x. out_value code.now d stack.old (collect_step (name_of call) object (argument ∷ []) (state_at world.old x))) }
 {
     collected(code, world, stack, call, object, &[argument], task)
 }

@@ -14,4 +14,4 @@ pub use flows::take_flow;
 pub use lists::{all, declare, repeat, update};
 pub use pushes::{await_arguments, push, unit, value, write};
 pub use statements::enter_statement;
-pub use values::{stop, take_test, take_value};
+pub use values::{feed, stop, take_test, take_value};

@@ -3,7 +3,7 @@ ghost use Rattle.std.specs.Prelude.{◌≡◌, true};
 ghost use Rattle.kr_value.specs.declared.value.Value.TheVariants.{Bool as Truth};
 ghost use Rattle.kr_mean.specs.Operators.{gives_old as gives_old_step};
 ghost use Rattle.kr_mean.specs.Operators.{operated as operated_step, operated_alone as alone_step};
-ghost use Rattle.kr_mean.specs.Steps.{Stuck, bind, say, stop as stop_step};
+ghost use Rattle.kr_mean.specs.Steps.{Stuck, bind, give, say, stop as stop_step};
 ghost use Rattle.kr_code.specs.Steps.{load_named};
 ghost use Rattle.kr_mean.specs.Steps.{element as element_step};
 ghost use Rattle.kr_frames.specs.declared.frame.WriteFrame.TheVariants as writes;
@@ -16,7 +16,9 @@ use crate::expressions::enter_node;
 use crate::pushes::{await_arguments, first, flow, test, then_write, value, write};
 use kr_ast::{BinaryOperator, StepOperator, UnaryOperator};
 use kr_code::{Code, Nodes};
-use kr_frames::{Flow, FlowFrame, Goal, Loop, Stack, Task, TestFrame, ValueFrame, WriteFrame};
+use kr_frames::{
+    Flow, FlowFrame, Goal, Loop, Stack, Task, TestFrame, ValueFrame, Waiting, WriteFrame,
+};
 use kr_known::at_once;
 use kr_value::Value;
 use kr_world::{Action, Cell, End, Halt, World, operated, operated_alone};
@@ -123,23 +125,82 @@ fn take_write(
     }
 }
 
+/// A value comes to the topmost frame, where that is a test; else it comes next.
+#[tactic(auto, unfolding(kr_mean::specs::Steps::bind))]
+pub fn feed_test(
+    code: &Code,
+    world: &World,
+    stack: &mut Stack,
+    given: Value,
+    task: &mut Task,
+) -> Result<(), Halt>
+    ensures { Leads code.now (next_task result task.new) stack.new world.now world.now (λ d x. out_value code.now d stack.old (give given (state_at world.now x))) }
+{
+    let Some(top) = stack.top() else {
+        *task = Task::Got(given);
+        return Ok(());
+    };
+    match *top {
+        Waiting::Test(frame) => {
+            stack.drop_top();
+            return take_test(code, world, stack, frame, given, task);
+        }
+        _ => {
+            *task = Task::Got(given);
+            return Ok(());
+        }
+    }
+}
+
+/// A value comes to the topmost frame, where that is an operator or a test; else it comes next.
+#[tactic(auto, unfolding(kr_mean::specs::Steps::bind))]
+pub fn feed(
+    code: &Code,
+    world: &mut World,
+    stack: &mut Stack,
+    given: Value,
+    task: &mut Task,
+) -> Result<(), Halt>
+    ensures { Leads code.now (next_task result task.new) stack.new world.new world.old (λ d x. out_value code.now d stack.old (give given (state_at world.old x))) }
+{
+    let Some(top) = stack.top() else {
+        *task = Task::Got(given);
+        return Ok(());
+    };
+    match *top {
+        Waiting::Value(ValueFrame::Unary(operator)) => {
+            stack.drop_top();
+            return operate_alone(code, world, stack, operator, given, task);
+        }
+        Waiting::Value(ValueFrame::Left(operator, right)) => {
+            stack.drop_top();
+            return take_left(code, world, stack, operator, right, given, task);
+        }
+        Waiting::Test(frame) => {
+            stack.drop_top();
+            return take_test(code, world, stack, frame, given, task);
+        }
+        _ => {
+            *task = Task::Got(given);
+            return Ok(());
+        }
+    }
+}
+
 /// An operator has its operand.
 #[inline(always)]
 fn operate_alone(
     code: &Code,
     world: &World,
-    stack: &Stack,
+    stack: &mut Stack,
     operator: UnaryOperator,
     given: Value,
     task: &mut Task,
 ) -> Result<(), Halt>
-    ensures { Leads code.now (next_task result task.new) stack.now world.now world.now (λ d x. out_value code.now d stack.now (say (alone_step operator given) (state_at world.now x))) }
+    ensures { Leads code.now (next_task result task.new) stack.new world.now world.now (λ d x. out_value code.now d stack.old (say (alone_step operator given) (state_at world.now x))) }
 {
     match operated_alone(world, operator, given) {
-        Ok(value) => {
-            *task = Task::Got(value);
-            Ok(())
-        }
+        Ok(value) => feed_test(code, world, stack, value, task),
         Err(halt) => Err(halt),
     }
 }
@@ -149,19 +210,16 @@ fn operate_alone(
 fn operate(
     code: &Code,
     world: &World,
-    stack: &Stack,
+    stack: &mut Stack,
     operator: BinaryOperator,
     left: Value,
     right: Value,
     task: &mut Task,
 ) -> Result<(), Halt>
-    ensures { Leads code.now (next_task result task.new) stack.now world.now world.now (λ d x. out_value code.now d stack.now (say (operated_step operator left right) (state_at world.now x))) }
+    ensures { Leads code.now (next_task result task.new) stack.new world.now world.now (λ d x. out_value code.now d stack.old (say (operated_step operator left right) (state_at world.now x))) }
 {
     match operated(world, operator, left, right) {
-        Ok(value) => {
-            *task = Task::Got(value);
-            Ok(())
-        }
+        Ok(value) => feed_test(code, world, stack, value, task),
         Err(halt) => Err(halt),
     }
 }

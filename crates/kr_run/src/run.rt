@@ -1,11 +1,13 @@
 // The machine: one task after another, until the run ends.
-ghost use Rattle.std.specs.Prelude.{◌≡◌, ◌∷◌, List, MatchOption};
+ghost use Rattle.std.specs.Prelude.{◌≡◌, ◌∷◌, List, MatchOption, Ok, true};
 ghost use Rattle.kr_value.specs.declared.value.Value.{Value as Argument};
 ghost use Rattle.kr_frames.specs.Frame.{Frame};
 ghost use Rattle.kr_frames.specs.Frame as frames;
 ghost use Rattle.kr_frames.specs.Kept.{IsOnTop};
 ghost use Rattle.kr_code.specs.declared.statement.Statement.TheVariants.{Stuck as NoStatement, Declare as Declarations};
 ghost use Rattle.kr_run.specs.Statements.{IsTicked};
+ghost use Rattle.kr_run.specs.Leaving.{IsLeaving};
+ghost use Rattle.kr_frames.specs.declared.task.Task.TheVariants as tasks;
 ghost use Rattle.kr_code.specs.Doing.{statement_done, flow_of as statement_flow};
 ghost use Rattle.kr_code.specs.Steps.{store_initial as store_step};
 ghost use Rattle.kr_code.specs.Tables.{node_at, statement_of};
@@ -30,8 +32,8 @@ use kr_frames::{Change, Flow, Stack, Task, ValueFrame, Waiting, WriteFrame};
 use kr_known::at_once;
 use kr_mean::Kind;
 use kr_moves::{
-    all, declare, enter_node, enter_statement, repeat, take_flow, take_test, take_value, update,
-    value, write,
+    all, declare, enter_node, enter_statement, feed, repeat, take_flow, take_test, take_value,
+    update, value, write,
 };
 use kr_value::Value;
 use kr_world::{Action, Cell, End, Halt, Local, World, act, store_initial, tick};
@@ -465,17 +467,14 @@ fn act_on(
     alloc: Global,
     code: &Code,
     world: &mut World,
-    stack: &Stack,
+    stack: &mut Stack,
     action: Action,
     task: &mut Task,
 ) -> Result<(), Halt>
-    ensures { Leads code.now (next_task result task.new) stack.now world.new world.old (λ d x. out_value code.now d stack.now (acted code.now action (state_at world.old x))) }
+    ensures { Leads code.now (next_task result task.new) stack.new world.new world.old (λ d x. out_value code.now d stack.old (acted code.now action (state_at world.old x))) }
 {
     match act(alloc, code, action, world) {
-        Ok(given) => {
-            *task = Task::Got(given);
-            Ok(())
-        }
+        Ok(given) => feed(code, world, stack, given, task),
         Err(halt) => Err(halt),
     }
 }
@@ -535,6 +534,44 @@ fn give_value(
     }
 }
 
+/// Whether a flow leaves the body.
+#[inline(always)]
+fn is_leaving(flow: Flow) -> bool
+    ensures { result ≡ true → IsLeaving flow }
+{
+    match flow {
+        Flow::Left => true,
+        Flow::Gave(_) => true,
+        Flow::Next => false,
+        Flow::Broke => false,
+        Flow::Continued => false,
+    }
+}
+
+/// Blocks, loops and lists of statements are left, whose frames only pass on what leaves the body.
+fn pass_by(code: &Code, world: &mut World, stack: &mut Stack, flow: Flow)
+    requires { IsLeaving flow }
+    ensures { Leads code.now (Ok (tasks.Led flow)) stack.new world.new world.old (λ d x. out_flow code.now d stack.old (give (flow_of flow) (state_at world.old x))) }
+{
+    'frames: for _ in 0..stack.len() {
+        let Some(top) = stack.top() else {
+            return;
+        };
+        match *top {
+            Waiting::Flow(_) => {
+                stack.drop_top();
+                continue 'frames;
+            }
+            Waiting::Scope(count) => {
+                stack.drop_top();
+                world.locals.truncate(count);
+                continue 'frames;
+            }
+            _ => return,
+        }
+    }
+}
+
 /// A statement's end comes to the topmost frame.
 #[inline(always)]
 #[tactic(auto, unfolding(kr_mean::specs::Steps::bind))]
@@ -547,6 +584,9 @@ fn give_flow(
 ) -> Result<(), Halt>
     ensures { Leads code.now (next_task result task.new) stack.new world.new world.old (λ d x. out_flow code.now d stack.old (give (flow_of flow) (state_at world.old x))) }
 {
+    if is_leaving(flow) {
+        pass_by(code, world, stack, flow);
+    }
     let Some(top) = stack.top() else {
         return Err(Halt::Ended(End::Stuck));
     };

@@ -18,6 +18,6 @@ returns-in-None c =
     let fs = c.args.stack.now in
     let k = collect (name_of c.args.call) c.args.object in
     let none : listed code c.args.arguments ≡ [] = search rules in
-    leads_alike code (next_task c.collected.result c.collected.new.task) fs c.collected.new.world w (λ d x. out_value code d fs (bind (values_at d (listed code c.args.arguments)) k (state_at w x))) (λ d x. out_value code d fs (k [] (state_at w x)))
+    leads_alike code (next_task c.collected.result c.collected.new.task) c.collected.new.stack c.collected.new.world w (λ d x. out_value code d fs (bind (values_at d (listed code c.args.arguments)) k (state_at w x))) (λ d x. out_value code d fs (k [] (state_at w x)))
     (λ x d m. ap (λ (is : List ℕ). out_value code d fs (bind (values_at d is) k (state_at w x))) none)
     c.collected.ensures

@@ -22,9 +22,9 @@ returns-in-Some c =
     let fs = c.args.stack.now in
     let k = collect (name_of c.args.call) c.args.object in
     let last = c.collected_with.new.world in
-    leads_alike code (next_task c.collected_with.result c.collected_with.new.task) fs last w (λ d x. out_value code d fs (bind (values_at d (listed code c.args.arguments)) k (state_at w x))) (λ d x. out_value code d fs (bind (d.value c.args.node) (λ v. k (v ∷ [])) (state_at w x)))
+    leads_alike code (next_task c.collected_with.result c.collected_with.new.task) c.collected_with.new.stack last w (λ d x. out_value code d fs (bind (values_at d (listed code c.args.arguments)) k (state_at w x))) (λ d x. out_value code d fs (bind (d.value c.args.node) (λ v. k (v ∷ [])) (state_at w x)))
     (λ x d m. ap (λ (is : List ℕ). out_value code d fs (bind (values_at d is) k (state_at w x))) c.requires ∙ ap (out_value code d fs) (one_value d c.args.node k (state_at w x)))
-    (value_then code (next_task c.collected_with.result c.collected_with.new.task) fs fs last then w (λ (d : Doing). d.value c.args.node) (λ (d : Doing) (v : Value). k (v ∷ [])) c.in-Some.argument c.in-Some.ensures c.collected_with.ensures)
+    (value_then code (next_task c.collected_with.result c.collected_with.new.task) fs c.collected_with.new.stack last then w (λ (d : Doing). d.value c.args.node) (λ (d : Doing) (v : Value). k (v ∷ [])) c.in-Some.argument c.in-Some.ensures c.collected_with.ensures)
 
 pub returns-in-None : goal.returns-in-None
 returns-in-None c =

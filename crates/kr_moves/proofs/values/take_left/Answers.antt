@@ -15,7 +15,7 @@ returns-in-Some c =
     let code = c.args.code.now in
     let w = c.args.world.now in
     let then = c.at_once.new.world in
-    value_then code (next_task c.operate.result c.operate.new.task) c.args.stack.now c.args.stack.now then then w (λ (d : Doing). d.value c.args.right) (λ (d : Doing) (u : Value). say (operated c.args.operator c.args.given u)) c.in-Some.value c.in-Some.ensures c.operate.ensures
+    value_then code (next_task c.operate.result c.operate.new.task) c.args.stack.now c.operate.new.stack then then w (λ (d : Doing). d.value c.args.right) (λ (d : Doing) (u : Value). say (operated c.args.operator c.args.given u)) c.in-Some.value c.in-Some.ensures c.operate.ensures
 
 pub returns-in-None : goal.returns-in-None
 returns-in-None c =

@@ -1,12 +1,20 @@
+use Rattle.kr_mean.specs.Steps.{give}
 use Rattle.kr_world.specs.Worlds.{state_at}
 use Rattle.kr_world.specs.Actions.{acted}
-use Rattle.kr_frames.proofs.Outcomes.{gave_value, value_halts}
+use Rattle.kr_frames.specs.Frames.{out_value}
+use Rattle.kr_frames.specs.Leads.{next_task}
+use Rattle.kr_frames.proofs.Outcomes.{gave_value, leads_same, value_halts}
 use Rattle.kr_run.proofs.run.act_on.Goals as goal
 
 pub returns-in-Ok : goal.returns-in-Ok
-returns-in-Ok c = λ x a.
-    let r = c.in-Ok.ensures x a in
-    (r.0, λ d m. gave_value c.args.code.now d c.args.stack.now c.args.world.now.reads c.act.new.world.reads (acted c.args.code.now c.args.action (state_at c.args.world.now x)) c.in-Ok.given (state_at c.act.new.world x) r.1)
+returns-in-Ok c =
+    let code = c.args.code.now in
+    let w = c.args.world.now in
+    let then = c.act.new.world in
+    let fs = c.args.stack.now in
+    leads_same code (next_task c.feed.result c.feed.new.task) c.feed.new.stack c.feed.new.world then w (λ d x. out_value code d fs (acted code c.args.action (state_at w x))) (λ d x. out_value code d fs (give c.in-Ok.given (state_at then x)))
+    (λ x a. let r = c.in-Ok.ensures x a in (r.0, λ d m. gave_value code d fs w.reads then.reads (acted code c.args.action (state_at w x)) c.in-Ok.given (state_at then x) r.1))
+    c.feed.ensures
 
 pub returns-in-Err : goal.returns-in-Err
 returns-in-Err c = value_halts c.args.code.now c.in-Err.halt c.args.stack.now c.args.stack.now c.act.new.world c.args.world.now (λ x. acted c.args.code.now c.args.action (state_at c.args.world.now x)) c.in-Err.ensures
