@@ -69,17 +69,12 @@ pub(crate) fn replace<T: Copy + Drop>(items: &mut Vec<T>, others: &[T]) -> Resul
     Ok(())
 }
 
-/// Others, from a place on, in place of all.
-pub(crate) fn replace_from<T: Copy + Drop>(
-    items: &mut Vec<T>,
-    others: &[T],
-    start: usize,
-) -> Result<(), NoMemory>
-    ensures { OnOk result (items.new.items ≡ drop start others.now) }
+/// Those from a place on.
+pub(crate) fn behind<T>(items: &[T], start: usize) -> &[T]
+    ensures { result.now ≡ drop start items.now }
 {
-    items.clear();
-    if start < others.len() {
-        items.extend_from_slice(&others[start..])?;
+    if start < items.len() {
+        return &items[start..];
     }
-    Ok(())
+    &items[items.len()..]
 }
