@@ -632,6 +632,16 @@ pub fn step(
     }
 }
 
+/// Whether a task may read a place of a candidate: correctness doesn't depend on it.
+#[inline(always)]
+fn may_read(task: &Task) -> bool {
+    match task {
+        Task::Act(Action::Load(_, _)) => true,
+        Task::Act(Action::Element(_, _)) => true,
+        _ => false,
+    }
+}
+
 /// Steps on to where a step may read, or to the run's end.
 pub fn advance(
     alloc: Global,
@@ -649,7 +659,7 @@ pub fn advance(
             Err(Halt::Written) => return Err(Halt::Written),
             Ok(Step::Finished(given)) => return Ok(Step::Finished(given)),
             Ok(Step::More) => {
-                if let Task::Act(_) = *task {
+                if may_read(task) {
                     return Ok(Step::More);
                 }
             }
