@@ -14,10 +14,10 @@ ghost use Rattle.kr_world.specs.Worlds.{state_at, state_of};
 
 use crate::executed::{Ending, Executed, Method};
 use kr_base::NoMemory;
-use kr_code::Code;
+use kr_code::{Code, Nodes};
 use kr_frames::{Goal, Stack, Task};
 use kr_heap::Heap;
-use kr_run::{Step, step};
+use kr_run::{Step, advance};
 use kr_value::Value;
 use kr_world::{End, Halt, Reads, World};
 use std::alloc::Global;
@@ -42,13 +42,18 @@ fn world_of(alloc: Global, heap: Heap, fuel: u64) -> World
 }
 
 /// Runs the machine from a task on, to the run's end.
-fn run(alloc: Global, code: &Code, world: &mut World, task: Task) -> Result<Value, Halt>
-    ensures { Answers code.now result world.new world.old (λ d x. resumed code.now d [] task (state_at world.old x)) }
+fn run(
+    alloc: Global,
+    code: &Code,
+    world: &mut World,
+    stack: &mut Stack,
+    task: Task,
+) -> Result<Value, Halt>
+    ensures { Answers code.now result world.new world.old (λ d x. resumed code.now d stack.old task (state_at world.old x)) }
 {
-    let mut stack = Stack::new(alloc);
     let mut next = task;
     'steps: for _ in 0..u64::MAX {
-        match step(alloc, code, world, &mut stack, &mut next) {
+        match advance(alloc, code, world, stack, &mut next) {
             Err(Halt::Ended(end)) => return Err(Halt::Ended(end)),
             Err(Halt::Memory) => return Err(Halt::Memory),
             Err(Halt::Written) => return Err(Halt::Written),
@@ -57,6 +62,26 @@ fn run(alloc: Global, code: &Code, world: &mut World, task: Task) -> Result<Valu
         }
     }
     Err(Halt::Memory)
+}
+
+/// Calls a method on a receiver and arguments: what it gives, or how the run ends.
+fn call(
+    alloc: Global,
+    code: &Code,
+    world: &mut World,
+    method: u32,
+    receiver: Value,
+    arguments: &[Value],
+) -> Result<Value, Halt>
+    ensures { Answers code.now result world.new world.old (λ d x. run_step code.now d receiver arguments.now (method_at code.now method) (state_at world.old x)) }
+{
+    let mut stack = Stack::new(alloc);
+    let goal = Goal::Run(receiver, Some(method));
+    let none = Nodes { first: 0, count: 0 };
+    if stack.push_arguments(goal, none, arguments).is_err() {
+        return Err(Halt::Memory);
+    }
+    run(alloc, code, world, &mut stack, Task::Arguments)
 }
 
 /// Whether a method has no result.
@@ -103,9 +128,7 @@ fn run_on(
     ensures { IfOk result (λ run. (d : Doing) → IsMeaning code.now d → run ≡ left_by (gives_nothing (method_at code.now method)) (run_step code.now d receiver arguments.now (method_at code.now method) (begun heap fuel))) }
 {
     let mut world = world_of(alloc, heap, fuel);
-    let given = arguments.to_vec(alloc)?;
-    let task = Task::Apply(Goal::Run(receiver, Some(method)), given);
-    let said = run(alloc, code, &mut world, task);
+    let said = call(alloc, code, &mut world, method, receiver, arguments);
     let end = ending_of(is_void(code, method), said)?;
     Ok(Executed {
         end,

@@ -1,5 +1,4 @@
-use Rattle.std.proofs.Common.{rules, ◌≡◌, ◌∙◌, Bool, List, ap}
-use Rattle.kr_value.specs.declared.value.Value.{Value}
+use Rattle.std.proofs.Common.{◌∙◌, Bool, ap}
 use Rattle.kr_mean.specs.Steps.{State}
 use Rattle.kr_code.specs.Doing.{run_method}
 use Rattle.kr_code.specs.Tables.{method_at}
@@ -13,9 +12,7 @@ returns c = λ d m.
     let code = c.args.code.now in
     let before = c.world_of-world.result in
     let found = method_at code c.args.method in
-    let given = c.in_ok-given.given.items in
-    let items : given ≡ c.args.arguments.now = search rules in
-    leaves code c.is_void.result c.run-said.result c.in_ok-end.end c.run-said.new.world before (λ e x. run_method code e c.args.receiver given found (state_at before x)) c.world_of-world.ensures.candidates c.world_of-world.ensures.frozen c.in_ok-end.ensures c.run-said.ensures d m
+    let given = c.args.arguments.now in
+    leaves code c.is_void.result c.call-said.result c.in_ok-end.end c.call-said.new.world before (λ e x. run_method code e c.args.receiver given found (state_at before x)) c.world_of-world.ensures.candidates c.world_of-world.ensures.frozen c.in_ok-end.ensures c.call-said.ensures d m
     ∙ ap (λ (void : Bool). left_by void (run_method code d c.args.receiver given found (state_of before))) c.is_void.ensures
-    ∙ ap (λ (vs : List Value). left_by (gives_nothing found) (run_method code d c.args.receiver vs found (state_of before))) items
-    ∙ ap (λ (s : State). left_by (gives_nothing found) (run_method code d c.args.receiver c.args.arguments.now found s)) c.world_of-world.ensures.state
+    ∙ ap (λ (s : State). left_by (gives_nothing found) (run_method code d c.args.receiver given found s)) c.world_of-world.ensures.state
