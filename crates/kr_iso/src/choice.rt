@@ -1,40 +1,43 @@
 // The next choice at a slot.
 ghost use Rattle.std.specs.Prelude.{◌≡◌, ◌<◌, [], IsTrue, ◌↔◌};
 ghost use Rattle.kr_iso.specs.Choices.{PathIn, AllowedPath, IsAllowed, IsNextChoice};
-ghost use Rattle.kr_iso.specs.Objects.{shown};
-ghost use Rattle.kr_iso.specs.Unused.{next_after, next_of};
+ghost use Rattle.kr_iso.specs.Objects.{object_of, shown};
+ghost use Rattle.kr_iso.specs.Unused.{IsNear, IsReached};
 
 use crate::{Object, Slots};
 
-/// The next unused number of a domain, where one more object stands on the path.
-fn with_object(next: u64, domain: u32, object: Option<Object>) -> u64
-    ensures { result ≡ next_after domain next (shown object) }
+/// Whether a choice is an object of the same domain, whose number is at most one less.
+#[inline(always)]
+fn is_near(other: Option<Object>, object: Object) -> bool
+    ensures { IsTrue result ↔ IsNear (shown other) (object_of object) }
 {
-    match object {
-        None => next,
-        Some(object) => {
-            if object.domain == domain && next <= u64::from(object.number) {
-                u64::from(object.number) + 1
-            } else {
-                next
-            }
+    match other {
+        None => false,
+        Some(other) => {
+            other.domain == object.domain && u64::from(object.number) <= u64::from(other.number) + 1
         }
     }
 }
 
-/// The number of a domain's next unused object.
-fn next_unused<S: Slots>(slots: &S, path: &[(u32, u32)], domain: u32) -> u64
+/// Whether an object stands on the path whose number is at most one less: looked for from the path's end.
+#[inline(always)]
+fn is_reached<S: Slots>(slots: &S, path: &[(u32, u32)], object: Object) -> bool
     requires { PathIn (S.space slots.now) path.now }
-    ensures { result ≡ next_of (S.space slots.now) domain 0 path.now }
+    ensures { IsTrue result ↔ IsReached (S.space slots.now) path.now (object_of object) }
 {
-    let mut next = 0;
-    for (slot, index) in path {
-        next = with_object(next, domain, slots.object_at(*slot, *index));
+    let mut left = path.len();
+    while left > 0 {
+        left -= 1;
+        let (slot, index) = path[left];
+        if is_near(slots.object_at(slot, index), object) {
+            return true;
+        }
     }
-    next
+    false
 }
 
 /// Whether an index is allowed after a path.
+#[inline(always)]
 fn is_allowed<S: Slots>(slots: &S, path: &[(u32, u32)], slot: u32, index: u32) -> bool
     requires path { PathIn (S.space slots.now) path.now }
     requires allowed { AllowedPath (S.space slots.now) [] path.now }
@@ -44,12 +47,13 @@ fn is_allowed<S: Slots>(slots: &S, path: &[(u32, u32)], slot: u32, index: u32) -
 {
     match slots.object_at(slot, index) {
         None => true,
-        Some(object) => u64::from(object.number) <= next_unused(slots, path, object.domain),
+        Some(object) => object.number == 0 || is_reached(slots, path, object),
     }
 }
 
 /// The least allowed index that is at least `least`: a number, a boolean or null, an object on the path, or the next
 /// unused one of its class domain.
+#[inline(always)]
 pub fn next_choice<S: Slots>(slots: &S, path: &[(u32, u32)], slot: u32, least: u32) -> Option<u32>
     requires path { PathIn (S.space slots.now) path.now }
     requires allowed { AllowedPath (S.space slots.now) [] path.now }
