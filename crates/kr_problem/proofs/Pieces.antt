@@ -100,3 +100,15 @@ some_pieces (p ∷ ps) size index a h = let e = a.counted.0 in (omega arith, ome
 
 pub fit_push : (ps : List Piece) (p : Piece) → All (λ q. Fits q.stretch) ps → Fits p.stretch → All (λ q. Fits q.stretch) (ps ++ p ∷ [])
 fit_push ps p a h = All-push (λ (q : Piece). Fits q.stretch) ps p a h
+
+-- what is known of the pieces where the value is looked for
+pub there : (ps qs : List Piece) (now : List Stretch) (size index k : ℕ) → ps ≡ qs → stretches_of qs ≡ now → ArePieces qs size → index < length (all_choices now) → IsLast ps index k → InPiece 0 ps index k × (stretches_of ps ≡ now)
+there ps qs now size index k e v a h l =
+    let w : stretches_of ps ≡ now = ap stretches_of e ∙ v in
+    let b : ArePieces ps size = subst (λ (x : List Piece). ArePieces x size) (sym e) a in
+    (at_index ps size index k b (subst (λ (x : List Stretch). index < length (all_choices x)) (sym w) h) l, w)
+
+pub whole : (index : ℕ) (ps : List Piece) (k : ℕ) → InPiece 0 ps index k → get_or (all_choices (stretches_of ps)) index no_choice ≡ get_or (choices_of (stretch_at ps k)) (index - start_at ps k) no_choice
+whole index ps k r =
+    let e : index ≡ index - 0 = omega arith in
+    ap (λ (n : ℕ). get_or (all_choices (stretches_of ps)) n no_choice) e ∙ r.is

@@ -129,6 +129,7 @@ impl Layout {
     }
 
     /// The values of its domain, if it has a domain.
+    #[inline(always)]
     fn values(&self, slot: u32) -> Option<&Values>
         requires { slot < length (slots (bare self.now)) }
         ensures { all_choices (unwrap_or (option_copied result) []) ≡ choices_at (bare self.now) slot }
@@ -140,6 +141,7 @@ impl Layout {
     }
 
     /// How many values its domain has.
+    #[inline(always)]
     pub fn size(&self, slot: u32) -> u32
         requires { slot < length (slots (bare self.now)) }
         ensures { result ≡ length (choices_at (bare self.now) slot) }
@@ -162,6 +164,19 @@ impl Layout {
                 object: None,
             },
             Some(values) => values.at(index),
+        }
+    }
+
+    /// The object at an index of its domain, if it is one.
+    #[inline(always)]
+    pub fn object(&self, slot: u32, index: u32) -> Option<Object>
+        requires slot { slot < length (slots (bare self.now)) }
+        requires index { index < length (choices_at (bare self.now) slot) }
+        ensures { shown result ≡ (get_or (choices_at (bare self.now) slot) index no_choice).object }
+    {
+        match self.values(slot) {
+            None => None,
+            Some(values) => values.object_at(index),
         }
     }
 
@@ -282,7 +297,7 @@ impl Slots for Layout {
 
     #[tactic(auto, unfolding(kr_mean::specs::Space::space_of))]
     fn object_at(&self, slot: u32, index: u32) -> Option<Object> {
-        self.choice(slot, index).object
+        self.object(slot, index)
     }
 }
 

@@ -1,12 +1,14 @@
 // The values of a domain.
-ghost use Rattle.std.specs.Prelude.{◌≡◌, ◌<◌, ◌≤◌, ◌++◌, ◌∷◌, [], All, IfOk, OnOk, length, map};
+ghost use Rattle.std.specs.Prelude.{◌≡◌, ◌<◌, ◌≤◌, ◌-◌, ◌++◌, ◌∷◌, [], All, IfOk, OnOk, length, map};
+ghost use Rattle.kr_iso.specs.Objects.{shown};
 ghost use Rattle.std.proofs.Common.{get_or};
 ghost use Rattle.kr_mean.specs.Space.{no_choice};
-ghost use Rattle.kr_problem.specs.Stretches.{IsLast, IsNumbered, Fits, all_choices, chosen, no_piece, stretch_of};
+ghost use Rattle.kr_problem.specs.Stretches.{IsLast, IsNumbered, Fits, all_choices, choices_of, chosen, count_of, no_piece, stretch_of};
 
 use crate::Item;
 use crate::stretch::{Block, Chosen, Stretch};
 use kr_base::NoMemory;
+use kr_iso::Object;
 use std::alloc::Global;
 use std::marker::Model;
 
@@ -37,13 +39,17 @@ impl Model for Values {
 }
 
 /// The last piece that begins at an index or before it.
+#[inline(always)]
 fn piece_at(pieces: &[Piece], index: u32) -> usize
     requires some { 0 < length pieces.now }
     requires from { (get_or pieces.now 0 no_piece).start ≤ index }
     ensures { IsLast pieces.now index result }
 {
     let mut low = 0;
-    let mut high = pieces.len();
+    let mut high = pieces.len() - 1;
+    if pieces[high].start <= index {
+        return high;
+    }
     while low + 1 < high {
         let middle = low + (high - low) / 2;
         if pieces[middle].start <= index {
@@ -53,6 +59,23 @@ fn piece_at(pieces: &[Piece], index: u32) -> usize
         }
     }
     low
+}
+
+/// The object at an index that is within a piece, if it is one.
+#[inline(always)]
+fn object_in(piece: &Piece, index: u32) -> Option<Object>
+    requires from { piece.now.start ≤ index }
+    requires within { index - piece.now.start < count_of piece.now.stretch }
+    ensures { shown result ≡ (get_or (choices_of piece.now.stretch) (index - piece.now.start) no_choice).object }
+{
+    match &piece.stretch {
+        Stretch::Plain(_) => None,
+        Stretch::Integers(_, _) => None,
+        Stretch::Objects(block) => Some(Object {
+            domain: block.domain,
+            number: index - piece.start,
+        }),
+    }
 }
 
 impl Values {
@@ -107,5 +130,16 @@ impl Values {
         let pieces = self.pieces.as_slice();
         let piece = pieces[piece_at(pieces, index)];
         piece.stretch.at(index - piece.start)
+    }
+
+    /// The object at an index, if it is one.
+    #[inline(always)]
+    pub fn object_at(&self, index: u32) -> Option<Object>
+        requires { index < length (all_choices self.now) }
+        ensures { shown result ≡ (get_or (all_choices self.now) index no_choice).object }
+    {
+        let pieces = self.pieces.as_slice();
+        let piece = &pieces[piece_at(pieces, index)];
+        object_in(piece, index)
     }
 }
