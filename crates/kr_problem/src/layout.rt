@@ -153,6 +153,7 @@ impl Layout {
     }
 
     /// The value at an index of its domain, with the object that it is where it is one.
+    #[inline(always)]
     pub fn choice(&self, slot: u32, index: u32) -> Chosen
         requires slot { slot < length (slots (bare self.now)) }
         requires index { index < length (choices_at (bare self.now) slot) }
@@ -181,6 +182,7 @@ impl Layout {
     }
 
     /// The value at an index of its domain.
+    #[inline(always)]
     pub fn value(&self, slot: u32, index: u32) -> Value
         requires slot { slot < length (slots (bare self.now)) }
         requires index { index < length (choices_at (bare self.now) slot) }

@@ -123,6 +123,7 @@ impl Values {
     }
 
     /// The value at an index.
+    #[inline(always)]
     pub fn at(&self, index: u32) -> Chosen
         requires { index < length (all_choices self.now) }
         ensures { chosen result ≡ get_or (all_choices self.now) index no_choice }
