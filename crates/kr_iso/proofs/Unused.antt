@@ -4,7 +4,7 @@ use Rattle.std.proofs.lemmas.Bool.{cases_lt, cases_eq}
 use Rattle.kr_mean.specs.Problem.{DomainObject}
 use Rattle.kr_mean.specs.Space.{Space}
 use Rattle.kr_iso.specs.Choices.{IsUsed, MayStand, AllowedPath}
-use Rattle.kr_iso.specs.Unused.{IsReached}
+use Rattle.kr_iso.specs.Unused.{IsBarred, IsReached, MayNotStand}
 use Rattle.kr_iso.proofs.Least.{split_used, used_more, used_last}
 
 record Counts (S : Space) (path : List (ℕ × ℕ)) (d next : ℕ) : Type 0 where
@@ -57,19 +57,34 @@ reached S path d k some (inl used) = (k, omega arith, used)
 reached S path d zero some (inr smaller) = absurd (some refl)
 reached S path d (suc k) some (inr smaller) = (k, omega arith, smaller k (omega arith))
 
+pub first_may : (S : Space) (path : List (ℕ × ℕ)) (o : DomainObject) → o.number ≡ 0 → MayStand S path (Some o)
+first_may S path o z = inr (λ k h. absurd (omega arith))
+
+pub reached_may : (S : Space) (path : List (ℕ × ℕ)) (o : DomainObject) → AllowedPath S [] path → IsReached S path o → MayStand S path (Some o)
+reached_may S path o a r =
+    let c = counts S path o.domain a in
+    let below = c.1.below r.0 r.2 in
+    let near = r.1 in
+    inr (λ k h. c.1.used k (omega arith))
+
+pub may_reached : (S : Space) (path : List (ℕ × ℕ)) (o : DomainObject) → (o.number ≡ 0 → ⊥) → MayStand S path (Some o) → IsReached S path o
+may_reached S path o some may = reached S path o.domain o.number some may
+
+-- ---- what may stand at an index
+
 pub plain_allowed : (S : Space) (path : List (ℕ × ℕ)) (x : Option DomainObject) → x ≡ None → MayStand S path x
 plain_allowed S path None e = tt
 plain_allowed S path (Some o) e = absurd (cc (e))
 
-pub first_allowed : (S : Space) (path : List (ℕ × ℕ)) (x : Option DomainObject) (o : DomainObject) → x ≡ Some o → o.number ≡ 0 → MayStand S path x
-first_allowed S path x o e z = subst (MayStand S path) (sym e) (inr (λ k h. absurd (omega arith)))
+-- an object that comes no later may stand too
+earlier_may : (S : Space) (path : List (ℕ × ℕ)) (d j k : ℕ) → AllowedPath S [] path → j ≤ k → IsUsed S path d k ⊎ ((i : ℕ) → i < k → IsUsed S path d i) → MayStand S path (Some (record { domain = d; number = j }))
+earlier_may S path d j k a le (inl used) =
+    let c = counts S path d a in
+    let below = c.1.below k used in
+    inr (λ i h. c.1.used i (omega arith))
+earlier_may S path d j k a le (inr smaller) = inr (λ i h. smaller i (omega arith))
 
-pub reached_allowed : (S : Space) (path : List (ℕ × ℕ)) (x : Option DomainObject) (o : DomainObject) → x ≡ Some o → AllowedPath S [] path → IsReached S path o → MayStand S path x
-reached_allowed S path x o e a r =
-    let c = counts S path o.domain a in
-    let below = c.1.below r.0 r.2 in
-    let near = r.1 in
-    subst (MayStand S path) (sym e) (inr (λ k h. c.1.used k (omega arith)))
-
-pub allowed_reached : (S : Space) (path : List (ℕ × ℕ)) (x : Option DomainObject) (o : DomainObject) → x ≡ Some o → (o.number ≡ 0 → ⊥) → MayStand S path x → IsReached S path o
-allowed_reached S path x o e some may = reached S path o.domain o.number some (subst (MayStand S path) e may)
+pub barred_not : (S : Space) (path : List (ℕ × ℕ)) (x : Option DomainObject) (o : DomainObject) → AllowedPath S [] path → MayNotStand S path x → IsBarred x o → MayStand S path (Some o) → ⊥
+barred_not S path None o a not b may = b
+barred_not S path (Some before) o a not b may =
+    not (earlier_may S path before.domain before.number o.number a b.1 (subst (λ (d : ℕ). IsUsed S path d o.number ⊎ ((i : ℕ) → i < o.number → IsUsed S path d i)) (sym b.0) may))

@@ -1,8 +1,8 @@
 // The next choice at a slot.
-ghost use Rattle.std.specs.Prelude.{◌≡◌, ◌<◌, [], IsTrue, ◌↔◌};
-ghost use Rattle.kr_iso.specs.Choices.{PathIn, AllowedPath, IsAllowed, IsNextChoice};
+ghost use Rattle.std.specs.Prelude.{◌≡◌, ◌<◌, [], Some, IsTrue, ◌↔◌};
+ghost use Rattle.kr_iso.specs.Choices.{PathIn, AllowedPath, IsAllowed, IsNextChoice, MayStand};
 ghost use Rattle.kr_iso.specs.Objects.{object_of, shown};
-ghost use Rattle.kr_iso.specs.Unused.{IsNear, IsReached};
+ghost use Rattle.kr_iso.specs.Unused.{IsBarred, IsNear, IsReached, MayNotStand};
 
 use crate::{Object, Slots};
 
@@ -36,18 +36,56 @@ fn is_reached<S: Slots>(slots: &S, path: &[(u32, u32)], object: Object) -> bool
     false
 }
 
-/// Whether an index is allowed after a path.
+/// Whether an object may stand after a path.
 #[inline(always)]
-fn is_allowed<S: Slots>(slots: &S, path: &[(u32, u32)], slot: u32, index: u32) -> bool
+fn may_stand<S: Slots>(slots: &S, path: &[(u32, u32)], object: Object) -> bool
+    requires path { PathIn (S.space slots.now) path.now }
+    requires allowed { AllowedPath (S.space slots.now) [] path.now }
+    ensures { IsTrue result ↔ MayStand (S.space slots.now) path.now (Some (object_of object)) }
+{
+    object.number == 0 || is_reached(slots, path, object)
+}
+
+/// Whether an object that may not stand is of the same domain and comes no later, so that this one may not stand either.
+#[inline(always)]
+fn is_barred(barred: Option<Object>, object: Object) -> bool
+    ensures { IsTrue result ↔ IsBarred (shown barred) (object_of object) }
+{
+    match barred {
+        None => false,
+        Some(before) => before.domain == object.domain && before.number <= object.number,
+    }
+}
+
+/// Whether an index is allowed after a path. Notes an object that may not stand.
+#[inline(always)]
+fn is_allowed<S: Slots>(
+    slots: &S,
+    path: &[(u32, u32)],
+    slot: u32,
+    index: u32,
+    barred: &mut Option<Object>,
+) -> bool
     requires path { PathIn (S.space slots.now) path.now }
     requires allowed { AllowedPath (S.space slots.now) [] path.now }
     requires slot { slot < (S.space slots.now).slots }
     requires index { index < (S.space slots.now).size slot }
-    ensures { IsTrue result ↔ IsAllowed (S.space slots.now) path.now slot index }
+    requires barred { MayNotStand (S.space slots.now) path.now (shown barred.old) }
+    ensures allowed { IsTrue result ↔ IsAllowed (S.space slots.now) path.now slot index }
+    ensures barred { MayNotStand (S.space slots.now) path.now (shown barred.new) }
 {
     match slots.object_at(slot, index) {
         None => true,
-        Some(object) => object.number == 0 || is_reached(slots, path, object),
+        Some(object) => {
+            if is_barred(*barred, object) {
+                return false;
+            }
+            if may_stand(slots, path, object) {
+                return true;
+            }
+            *barred = Some(object);
+            false
+        }
     }
 }
 
@@ -61,8 +99,9 @@ pub fn next_choice<S: Slots>(slots: &S, path: &[(u32, u32)], slot: u32, least: u
     ensures { IsNextChoice (S.space slots.now) path.now slot least result }
 {
     let size = slots.size(slot);
+    let mut barred = None;
     for index in least..size {
-        if is_allowed(slots, path, slot, index) {
+        if is_allowed(slots, path, slot, index, &mut barred) {
             return Some(index);
         }
     }
