@@ -1,10 +1,11 @@
 -- Which value stands at an index of some pieces.
-use Rattle.std.proofs.Common.{◌≡◌, ℕ, zero, suc, ◌+◌, ◌-◌, ◌<◌, ◌≤◌, List, [], ◌∷◌, ◌++◌, length, get_or, refl, sym, ap, ◌∙◌, arith, subst}
+use Rattle.std.proofs.Common.{◌≡◌, ℕ, zero, suc, ◌+◌, ◌-◌, ◌<◌, ◌≤◌, List, [], ◌∷◌, ◌++◌, length, get_or, refl, sym, ap, ◌∙◌, arith, subst, append_assoc, append-nil}
 use Rattle.std.specs.Prelude.{ℤ, pos, ◌+ℤ◌, All}
 use Rattle.std.proofs.lemmas.Int.{ints}
 use Rattle.std.proofs.lemmas.List.{get_or_append_left, get_or-append_right, length-append, length-map, get_or-map}
 use Rattle.std.proofs.lemmas.List.Elements.{All-push}
 use Rattle.std.proofs.lemmas.List.FromFn.{length-map-range_with_len, get_or-map-range_with_len}
+use Rattle.kr_mean.specs.Problem.{Choice}
 use Rattle.kr_mean.specs.Space.{no_choice}
 use Rattle.kr_problem.specs.declared.stretch.Block.{Block}
 use Rattle.kr_problem.specs.declared.stretch.Stretch.{Stretch}
@@ -112,3 +113,7 @@ pub whole : (index : ℕ) (ps : List Piece) (k : ℕ) → InPiece 0 ps index k �
 whole index ps k r =
     let e : index ≡ index - 0 = omega arith in
     ap (λ (n : ℕ). get_or (all_choices (stretches_of ps)) n no_choice) e ∙ r.is
+
+pub all_push : (ps : List Piece) (p : Piece) → all_choices (stretches_of (ps ++ p ∷ [])) ≡ all_choices (stretches_of ps) ++ choices_of p.stretch
+all_push [] p = append-nil (choices_of p.stretch)
+all_push (q ∷ ps) p = ap (λ (cs : List Choice). choices_of q.stretch ++ cs) (all_push ps p) ∙ sym (append_assoc (choices_of q.stretch) (all_choices (stretches_of ps)) (choices_of p.stretch))

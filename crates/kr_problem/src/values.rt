@@ -1,14 +1,14 @@
 // The values of a domain.
-ghost use Rattle.std.specs.Prelude.{◌≡◌, ◌<◌, ◌≤◌, ◌-◌, ◌++◌, ◌∷◌, [], All, IfOk, OnOk, length, map};
-ghost use Rattle.kr_iso.specs.Objects.{shown};
+ghost use Rattle.std.specs.Prelude.{◌≡◌, ◌<◌, ◌≤◌, ◌++◌, ◌∷◌, [], All, IfOk, OnOk, length, map};
 ghost use Rattle.std.proofs.Common.{get_or};
 ghost use Rattle.kr_mean.specs.Space.{no_choice};
-ghost use Rattle.kr_problem.specs.Stretches.{IsLast, IsNumbered, Fits, all_choices, choices_of, chosen, count_of, no_piece, stretch_of};
+ghost use Rattle.kr_problem.specs.Shapes.{IsShape};
+ghost use Rattle.kr_problem.specs.Stretches.{IsLast, IsNumbered, Fits, all_choices, chosen, no_piece, stretch_of};
 
 use crate::Item;
+use crate::shape::Shape;
 use crate::stretch::{Block, Chosen, Stretch};
 use kr_base::NoMemory;
-use kr_iso::Object;
 use std::alloc::Global;
 use std::marker::Model;
 
@@ -24,18 +24,20 @@ struct Piece {
 pub struct Values {
     pieces: Vec<Piece>,
     size: u32,
+    shape: Shape,
 }
 
 impl Model for Values {
     ghost use Rattle.std.specs.Prelude.{List};
     ghost use Rattle.kr_problem.specs.declared.stretch.Stretch.{Stretch};
-    ghost use Rattle.kr_problem.specs.Stretches.{ArePieces, stretches_of};
+    ghost use Rattle.kr_problem.specs.Stretches.{ArePieces, all_choices, stretches_of};
+    ghost use Rattle.kr_problem.specs.Shapes.{IsShape};
 
     ghost Value = { List Stretch };
 
     ghost view = { λ v. stretches_of v.pieces.items };
 
-    ghost invariant = { λ v. ArePieces v.pieces.items v.size };
+    ghost invariant = { λ v. ArePieces v.pieces.items v.size × IsShape (all_choices (stretches_of v.pieces.items)) v.shape };
 }
 
 /// The last piece that begins at an index or before it.
@@ -61,23 +63,6 @@ fn piece_at(pieces: &[Piece], index: u32) -> usize
     low
 }
 
-/// The object at an index that is within a piece, if it is one.
-#[inline(always)]
-fn object_in(piece: &Piece, index: u32) -> Option<Object>
-    requires from { piece.now.start ≤ index }
-    requires within { index - piece.now.start < count_of piece.now.stretch }
-    ensures { shown result ≡ (get_or (choices_of piece.now.stretch) (index - piece.now.start) no_choice).object }
-{
-    match &piece.stretch {
-        Stretch::Plain(_) => None,
-        Stretch::Integers(_, _) => None,
-        Stretch::Objects(block) => Some(Object {
-            domain: block.domain,
-            number: index - piece.start,
-        }),
-    }
-}
-
 impl Values {
     /// No values. It takes no memory.
     fn new(alloc: Global) -> Values
@@ -86,6 +71,7 @@ impl Values {
         Values {
             pieces: Vec::new(alloc),
             size: 0,
+            shape: Shape::none(),
         }
     }
 
@@ -98,8 +84,10 @@ impl Values {
             return Err(NoMemory);
         };
         let start = self.size;
+        let shape = self.shape.with(stretch, size);
         self.pieces.push(Piece { start, stretch })?;
         self.size = size;
+        self.shape = shape;
         Ok(())
     }
 
@@ -122,6 +110,13 @@ impl Values {
         self.size
     }
 
+    /// Where the objects stand among them.
+    pub(crate) fn shape(&self) -> Shape
+        ensures { IsShape (all_choices self.now) result }
+    {
+        self.shape
+    }
+
     /// The value at an index.
     #[inline(always)]
     pub fn at(&self, index: u32) -> Chosen
@@ -131,16 +126,5 @@ impl Values {
         let pieces = self.pieces.as_slice();
         let piece = pieces[piece_at(pieces, index)];
         piece.stretch.at(index - piece.start)
-    }
-
-    /// The object at an index, if it is one.
-    #[inline(always)]
-    pub fn object_at(&self, index: u32) -> Option<Object>
-        requires { index < length (all_choices self.now) }
-        ensures { shown result ≡ (get_or (all_choices self.now) index no_choice).object }
-    {
-        let pieces = self.pieces.as_slice();
-        let piece = &pieces[piece_at(pieces, index)];
-        object_in(piece, index)
     }
 }
