@@ -36,6 +36,7 @@ impl<R: Runner> Model for Search<R> {
 }
 
 /// Runs the candidate at which a search has come to stand, and writes its path down in full.
+#[inline(always)]
 fn arrive<R: Runner, L: Ledger>(
     runner: &mut R,
     path: &mut Vec<(u32, u32)>,
