@@ -1,17 +1,16 @@
 -- Candidates of a problem whose slots are laid out, and their runs.
-use Rattle.std.proofs.Common.{◌≡◌, ℕ, ◌<◌, List, length, get_or, refl, sym, ap, ◌∙◌, subst}
+use Rattle.std.proofs.Common.{◌≡◌, ℕ, ◌<◌, List, Option, length, get_or, refl, sym, ap, ◌∙◌, subst}
 use Rattle.std.proofs.Math.Logic.{∥∥₁_elim}
 use Rattle.std.proofs.Props.{props}
-use Rattle.kr_mean.specs.Problem.{Problem, Choice, slots, choices_at}
+use Rattle.kr_mean.specs.Problem.{Problem, slots, choices_at}
 use Rattle.kr_mean.specs.Program.{Program}
 use Rattle.kr_mean.specs.Runs.{end_on, order_of}
 use Rattle.kr_mean.specs.Space.{no_choice, space_of}
 use Rattle.kr_mean.specs.WellFormed.{IsWellFormed}
 use Rattle.kr_code.specs.Resolved.{Numbering}
 use Rattle.kr_iso.specs.Objects.{shown}
+use Rattle.kr_iso.specs.declared.object.Object.{Object}
 use Rattle.kr_problem.specs.Bounds.{Bounds, bare, problem_with}
-use Rattle.kr_problem.specs.Stretches.{chosen}
-use Rattle.kr_problem.specs.declared.stretch.Chosen.{Chosen}
 use Rattle.kr_judge.specs.Predicates.{IsPredicateOf}
 use Rattle.kr_judge.specs.Runs.{end_said}
 use Rattle.kr_judge.specs.declared.predicate.Predicate.{Predicate}
@@ -56,9 +55,9 @@ module _ (problem : Problem) (b : Bounds) (laid : problem ≡ problem_with probl
   unfolding space_of
   index_in s i h = subst (λ (p : Problem). i < length (choices_at p s)) laid h
 
-  pub object_is : (s i : ℕ) (x : Chosen) → chosen x ≡ get_or (choices_at (bare b) s) i no_choice → shown x.object ≡ (space_of problem).object_at s i
+  pub object_is : (s i : ℕ) (x : Option Object) → shown x ≡ (get_or (choices_at (bare b) s) i no_choice).object → shown x ≡ (space_of problem).object_at s i
   unfolding space_of
-  object_is s i x e = ap (λ (c : Choice). c.object) e ∙ ap (λ (p : Problem). (get_or (choices_at p s) i no_choice).object) (sym laid)
+  object_is s i x e = e ∙ ap (λ (p : Problem). (get_or (choices_at p s) i no_choice).object) (sym laid)
 
 -- ---- endings by numbers
 

@@ -51,12 +51,14 @@ impl<'s, S: Subject> Slots for Candidates<'s, S> {
         self.runner.layout().slots()
     }
 
+    #[inline(always)]
     fn size(&self, slot: u32) -> u32 {
         self.runner.layout().size(slot)
     }
 
+    #[inline(always)]
     fn object_at(&self, slot: u32, index: u32) -> Option<Object> {
-        self.runner.layout().choice(slot, index).object
+        self.runner.layout().object(slot, index)
     }
 }
 
@@ -84,6 +86,7 @@ impl<'s, S: Subject> Runner for Candidates<'s, S> {
 
     ghost last = { λ c. c.order };
 
+    #[inline(always)]
     fn set(&mut self, slot: u32, index: u32) {
         self.runner.set(slot, index);
     }
@@ -94,10 +97,12 @@ impl<'s, S: Subject> Runner for Candidates<'s, S> {
         Ok(ending_for(judgement))
     }
 
+    #[inline(always)]
     fn last_order(&self) -> &[u32] {
         self.runner.order()
     }
 
+    #[inline(always)]
     fn index(&self, slot: u32) -> u32 {
         self.runner.index(slot)
     }

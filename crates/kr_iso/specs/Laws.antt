@@ -1,5 +1,5 @@
 -- What makes a candidate the least of its class.
-use Rattle.std.specs.Prelude.{◌≡◌, ℕ, List, []}
+use Rattle.std.specs.Prelude.{ℕ, List, []}
 use Rattle.kr_mean.specs.Space.{Space, IsVector, IsSpace}
 use Rattle.kr_mean.specs.Readings.{IsReading}
 use Rattle.kr_mean.specs.Isomorphism.{IsLeast}

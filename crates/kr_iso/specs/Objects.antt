@@ -1,5 +1,5 @@
 -- Objects as the program has them.
-use Rattle.std.specs.Prelude.{ℕ, Option, Some, None}
+use Rattle.std.specs.Prelude.{Option, Some, None}
 use Rattle.kr_mean.specs.Problem.{DomainObject}
 use Rattle.kr_iso.specs.declared.object.Object.{Object}
 

@@ -1,14 +1,24 @@
--- The next unused object of a class domain, counted along a path.
-use Rattle.std.specs.Prelude.{ℕ, ◌+◌, ◌==◌, ◌&&◌, nat_le, List, [], ◌∷◌, Option, Some, None, if◌then◌else◌}
+-- Which objects of a class domain may stand next: those up to the one behind the last that stands on the path.
+use Rattle.std.specs.Prelude.{◌≡◌, ℕ, ◌+◌, ◌≤◌, List, Option, Some, None}
 use Rattle.kr_mean.specs.Problem.{DomainObject}
 use Rattle.kr_mean.specs.Space.{Space}
+use Rattle.kr_iso.specs.Choices.{IsUsed, MayStand}
 
--- behind one object more
-abbrev pub next_after : ℕ → ℕ → Option DomainObject → ℕ
-next_after d next None = next
-next_after d next (Some o) = if (o.domain == d) && nat_le next o.number then o.number + 1 else next
+-- an object of the same domain, whose number is at most one less
+abbrev pub IsNear : Option DomainObject → DomainObject → Type 0
+IsNear None o = ⊥
+IsNear (Some other) o = (other.domain ≡ o.domain) × (o.number ≤ other.number + 1)
 
--- behind a path
-abbrev pub next_of : Space → ℕ → ℕ → List (ℕ × ℕ) → ℕ
-next_of space d next [] = next
-next_of space d next (p ∷ path) = next_of space d (next_after d next (space.object_at p.0 p.1)) path
+-- such an object stands on the path
+abbrev pub IsReached : Space → List (ℕ × ℕ) → DomainObject → Type 0
+IsReached space path o = (k : ℕ) × (o.number ≤ k + 1) × IsUsed space path o.domain k
+
+-- ---- an object that may not stand, so that no later one of its domain may
+
+abbrev pub MayNotStand : Space → List (ℕ × ℕ) → Option DomainObject → Type 0
+MayNotStand space path None = Unit {0}
+MayNotStand space path (Some o) = MayStand space path (Some o) → ⊥
+
+abbrev pub IsBarred : Option DomainObject → DomainObject → Type 0
+IsBarred None o = ⊥
+IsBarred (Some before) o = (before.domain ≡ o.domain) × (before.number ≤ o.number)

@@ -14,8 +14,10 @@ use Rattle.kr_problem.specs.declared.layout.Layout.TheInside.{Inside}
 use Rattle.kr_iso.specs.Objects.{shown}
 use Rattle.kr_problem.specs.Stretches.{all_choices, domain_of}
 use Rattle.kr_problem.specs.Bounds.{Bounds, bare, bounds_of}
-use Rattle.kr_problem.specs.Tables.{all_entries, blocks_from, place_of, slot_of, domain_with}
+use Rattle.kr_problem.specs.Tables.{all_entries, this_entry, blocks_from, place_of, slot_of, domain_with}
 use Rattle.kr_problem.specs.Layouts.{IsLaid, stretches}
+use Rattle.kr_problem.specs.Shapes.{AreShapes, IsShape, values_with}
+use Rattle.kr_problem.specs.declared.shape.Shape.{Shape}
 use Rattle.kr_problem.proofs.Slots.{slots_are}
 use Rattle.kr_problem.proofs.Choices.{choices_are, domain_is}
 
@@ -64,11 +66,6 @@ module _ (root : ℕ) (mode : Mode) (fuel : ℕ) (parameters : List ℕ) (classe
 
 -- ---- what is known of a layout, beside its bounds
 
--- the values of a domain of the pool, or those of `this`
-abbrev pub values_with : List Stretch → List (List Stretch) → Option ℕ → List Choice
-values_with this pool None = all_choices this
-values_with this pool (Some d) = all_choices (get_or pool d [])
-
 pub record Known (i : Inside) (b : Bounds) : Type 0 where
   pub count : i.count ≡ length (slots (bare b))
   pub long : length i.entries.items ≡ length (slots (bare b))
@@ -94,3 +91,13 @@ known i b laid e = subst (Known i) e record {
     each : (d : Option ℕ) → values_with i.this i.pool.items d ≡ choices_in whole (domain_with i.root (map domain_of i.pool.items) d)
     each None = this_values i.root i.mode i.fuel i.parameters i.classes i.blocks.items i.starts.items i.entries.items i.count i.this i.pool.items laid
     each (Some d) = pool_values i.root i.mode i.fuel i.parameters i.classes i.blocks.items i.starts.items i.entries.items i.count i.this i.pool.items laid d
+
+-- the shape of a slot's domain
+pub shape_is : (i : Inside) (b : Bounds) → IsLaid i.root i.parameters i.classes i.blocks.items i.starts.items i.entries.items i.count i.this i.pool.items → bounds_of i.root i.mode i.fuel i.parameters i.classes (map domain_of i.pool.items) ≡ b → AreShapes i.this i.pool.items i.entries.items i.shapes.items → (s : ℕ) (x : Shape) → s < length (slots (bare b)) → x ≡ get_or i.shapes.items s x → IsShape (choices_at (bare b) s) x
+shape_is i b laid e shapes s x h is =
+    let k = known i b laid e in
+    let long = k.long in
+    let inside : s < length i.entries.items = omega arith in
+    let each = shapes.each s this_entry x inside in
+    subst (λ (cs : List Choice). IsShape cs x) (k.values s this_entry h)
+    (subst (λ (y : Shape). IsShape (values_with i.this i.pool.items (get_or i.entries.items s this_entry).domain) y) (sym is) each)

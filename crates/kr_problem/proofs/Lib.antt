@@ -5,3 +5,4 @@ pub mod Choices
 pub mod Layouts
 pub mod Starts
 pub mod Objects
+pub mod Shapes

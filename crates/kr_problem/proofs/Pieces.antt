@@ -1,10 +1,11 @@
 -- Which value stands at an index of some pieces.
-use Rattle.std.proofs.Common.{◌≡◌, ℕ, zero, suc, ◌+◌, ◌-◌, ◌<◌, ◌≤◌, List, [], ◌∷◌, ◌++◌, length, get_or, refl, sym, ap, ◌∙◌, arith, subst}
+use Rattle.std.proofs.Common.{◌≡◌, ℕ, zero, suc, ◌+◌, ◌-◌, ◌<◌, ◌≤◌, List, [], ◌∷◌, ◌++◌, length, get_or, refl, sym, ap, ◌∙◌, arith, subst, append_assoc, append-nil}
 use Rattle.std.specs.Prelude.{ℤ, pos, ◌+ℤ◌, All}
 use Rattle.std.proofs.lemmas.Int.{ints}
 use Rattle.std.proofs.lemmas.List.{get_or_append_left, get_or-append_right, length-append, length-map, get_or-map}
 use Rattle.std.proofs.lemmas.List.Elements.{All-push}
 use Rattle.std.proofs.lemmas.List.FromFn.{length-map-range_with_len, get_or-map-range_with_len}
+use Rattle.kr_mean.specs.Problem.{Choice}
 use Rattle.kr_mean.specs.Space.{no_choice}
 use Rattle.kr_problem.specs.declared.stretch.Block.{Block}
 use Rattle.kr_problem.specs.declared.stretch.Stretch.{Stretch}
@@ -100,3 +101,19 @@ some_pieces (p ∷ ps) size index a h = let e = a.counted.0 in (omega arith, ome
 
 pub fit_push : (ps : List Piece) (p : Piece) → All (λ q. Fits q.stretch) ps → Fits p.stretch → All (λ q. Fits q.stretch) (ps ++ p ∷ [])
 fit_push ps p a h = All-push (λ (q : Piece). Fits q.stretch) ps p a h
+
+-- what is known of the pieces where the value is looked for
+pub there : (ps qs : List Piece) (now : List Stretch) (size index k : ℕ) → ps ≡ qs → stretches_of qs ≡ now → ArePieces qs size → index < length (all_choices now) → IsLast ps index k → InPiece 0 ps index k × (stretches_of ps ≡ now)
+there ps qs now size index k e v a h l =
+    let w : stretches_of ps ≡ now = ap stretches_of e ∙ v in
+    let b : ArePieces ps size = subst (λ (x : List Piece). ArePieces x size) (sym e) a in
+    (at_index ps size index k b (subst (λ (x : List Stretch). index < length (all_choices x)) (sym w) h) l, w)
+
+pub whole : (index : ℕ) (ps : List Piece) (k : ℕ) → InPiece 0 ps index k → get_or (all_choices (stretches_of ps)) index no_choice ≡ get_or (choices_of (stretch_at ps k)) (index - start_at ps k) no_choice
+whole index ps k r =
+    let e : index ≡ index - 0 = omega arith in
+    ap (λ (n : ℕ). get_or (all_choices (stretches_of ps)) n no_choice) e ∙ r.is
+
+pub all_push : (ps : List Piece) (p : Piece) → all_choices (stretches_of (ps ++ p ∷ [])) ≡ all_choices (stretches_of ps) ++ choices_of p.stretch
+all_push [] p = append-nil (choices_of p.stretch)
+all_push (q ∷ ps) p = ap (λ (cs : List Choice). choices_of q.stretch ++ cs) (all_push ps p) ∙ sym (append_assoc (choices_of q.stretch) (all_choices (stretches_of ps)) (choices_of p.stretch))

@@ -3,3 +3,4 @@ pub mod Stretches
 pub mod Bounds
 pub mod Tables
 pub mod Layouts
+pub mod Shapes

@@ -7,12 +7,14 @@ ghost use Rattle.kr_mean.specs.Space.{no_choice, space_of};
 ghost use Rattle.kr_problem.specs.Items.{domain_of};
 ghost use Rattle.kr_problem.specs.Stretches.{IsNumbered, all_choices, chosen};
 ghost use Rattle.kr_problem.specs.Bounds.{bare, bounds_of};
+ghost use Rattle.kr_problem.specs.Shapes.{AreShapes, IsShape, values_with};
 ghost use Rattle.kr_problem.specs.Tables.{place_of};
 ghost use Rattle.kr_problem.specs.Layouts.{AnyProgramLaw, first_slot, stretches};
 
 use crate::classes::ClassDomain;
 use crate::entry::{Entry, SlotPlace};
 use crate::item::Item;
+use crate::shape::Shape;
 use crate::stretch::{Block, Chosen};
 use crate::tables::{Tables, blocks_of, counted, tables_of};
 use crate::values::Values;
@@ -38,6 +40,7 @@ pub struct Layout {
     count: u32,
     this: Values,
     pool: Vec<Values>,
+    shapes: Vec<Shape>,
 }
 
 impl Model for Layout {
@@ -45,12 +48,14 @@ impl Model for Layout {
     ghost use Rattle.kr_problem.specs.Stretches.{domain_of as meant_domain};
     ghost use Rattle.kr_problem.specs.Bounds.{Bounds, bounds_of};
     ghost use Rattle.kr_problem.specs.Layouts.{IsLaid};
+    ghost use Rattle.kr_problem.specs.Shapes.{AreShapes};
 
     ghost Value = { Bounds };
 
     ghost view = { λ l. bounds_of l.root l.mode l.fuel l.parameters l.classes (map meant_domain l.pool.items) };
 
-    ghost invariant = { λ l. IsLaid l.root l.parameters l.classes l.blocks.items l.starts.items l.entries.items l.count l.this l.pool.items };
+    ghost invariant = { λ l. IsLaid l.root l.parameters l.classes l.blocks.items l.starts.items l.entries.items l.count l.this l.pool.items
+        × AreShapes l.this l.pool.items l.entries.items l.shapes.items };
 }
 
 /// The values of these domains, where these are the objects of the class domains.
@@ -67,6 +72,35 @@ fn pool_of(
         pool.push(Values::of(alloc, items.as_slice(), blocks)?)?;
     }
     Ok(pool)
+}
+
+/// Where the objects of the domain of this number stand; of none, those of `this`.
+fn shape_with(this: &Values, pool: &[Values], domain: Option<u32>) -> Shape
+    ensures { IsShape (values_with this.now pool.now domain) result }
+{
+    match domain {
+        None => this.shape(),
+        Some(domain) => match pool.get(domain as usize) {
+            None => Shape::none(),
+            Some(values) => values.shape(),
+        },
+    }
+}
+
+/// Where the objects of each slot's domain stand.
+fn shapes_of(
+    alloc: Global,
+    this: &Values,
+    pool: &[Values],
+    entries: &[Entry],
+) -> Result<Vec<Shape>, NoMemory>
+    ensures { IfOk result (λ shapes. AreShapes this.now pool.now entries.now shapes.items) }
+{
+    let mut shapes = Vec::new(alloc);
+    for entry in entries {
+        shapes.push(shape_with(this, pool, entry.domain))?;
+    }
+    Ok(shapes)
 }
 
 impl Layout {
@@ -90,6 +124,7 @@ impl Layout {
         let listed = classes.as_slice();
         let Tables { entries, starts } = tables_of(alloc, parameters.as_slice(), objects, listed)?;
         let count = counted(entries.len())?;
+        let shapes = shapes_of(alloc, &this, pool.as_slice(), entries.as_slice())?;
         Ok(Layout {
             root,
             mode,
@@ -102,6 +137,7 @@ impl Layout {
             count,
             this,
             pool,
+            shapes,
         })
     }
 
@@ -129,6 +165,7 @@ impl Layout {
     }
 
     /// The values of its domain, if it has a domain.
+    #[inline(always)]
     fn values(&self, slot: u32) -> Option<&Values>
         requires { slot < length (slots (bare self.now)) }
         ensures { all_choices (unwrap_or (option_copied result) []) ≡ choices_at (bare self.now) slot }
@@ -140,17 +177,16 @@ impl Layout {
     }
 
     /// How many values its domain has.
+    #[inline(always)]
     pub fn size(&self, slot: u32) -> u32
         requires { slot < length (slots (bare self.now)) }
         ensures { result ≡ length (choices_at (bare self.now) slot) }
     {
-        match self.values(slot) {
-            None => 0,
-            Some(values) => values.size(),
-        }
+        self.shapes[slot as usize].size
     }
 
     /// The value at an index of its domain, with the object that it is where it is one.
+    #[inline(always)]
     pub fn choice(&self, slot: u32, index: u32) -> Chosen
         requires slot { slot < length (slots (bare self.now)) }
         requires index { index < length (choices_at (bare self.now) slot) }
@@ -165,7 +201,22 @@ impl Layout {
         }
     }
 
+    /// The object at an index of its domain, if it is one.
+    #[inline(always)]
+    pub fn object(&self, slot: u32, index: u32) -> Option<Object>
+        requires slot { slot < length (slots (bare self.now)) }
+        requires index { index < length (choices_at (bare self.now) slot) }
+        ensures { shown result ≡ (get_or (choices_at (bare self.now) slot) index no_choice).object }
+    {
+        let shape = &self.shapes[slot as usize];
+        if shape.simple {
+            return shape.object(index);
+        }
+        self.choice(slot, index).object
+    }
+
     /// The value at an index of its domain.
+    #[inline(always)]
     pub fn value(&self, slot: u32, index: u32) -> Value
         requires slot { slot < length (slots (bare self.now)) }
         requires index { index < length (choices_at (bare self.now) slot) }
@@ -282,7 +333,7 @@ impl Slots for Layout {
 
     #[tactic(auto, unfolding(kr_mean::specs::Space::space_of))]
     fn object_at(&self, slot: u32, index: u32) -> Option<Object> {
-        self.choice(slot, index).object
+        self.object(slot, index)
     }
 }
 

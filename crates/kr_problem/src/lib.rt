@@ -6,6 +6,7 @@ mod classes;
 mod entry;
 mod item;
 mod layout;
+mod shape;
 mod stretch;
 mod tables;
 #[cfg(test)]

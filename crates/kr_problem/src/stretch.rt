@@ -45,6 +45,7 @@ fn width_of(from: i32, to: i32) -> u64
 }
 
 /// The integer so many places behind the first.
+#[inline(always)]
 fn integer_at(from: i32, to: i32, index: u32) -> i32
     requires { index < width_between from to }
     ensures { result ≡ from +ℤ pos index }
@@ -76,6 +77,7 @@ impl Stretch {
     }
 
     /// The value at an index.
+    #[inline(always)]
     pub fn at(self, index: u32) -> Chosen
         requires index { index < count_of self }
         requires fits { Fits self }

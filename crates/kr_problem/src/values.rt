@@ -2,9 +2,11 @@
 ghost use Rattle.std.specs.Prelude.{◌≡◌, ◌<◌, ◌≤◌, ◌++◌, ◌∷◌, [], All, IfOk, OnOk, length, map};
 ghost use Rattle.std.proofs.Common.{get_or};
 ghost use Rattle.kr_mean.specs.Space.{no_choice};
+ghost use Rattle.kr_problem.specs.Shapes.{IsShape};
 ghost use Rattle.kr_problem.specs.Stretches.{IsLast, IsNumbered, Fits, all_choices, chosen, no_piece, stretch_of};
 
 use crate::Item;
+use crate::shape::Shape;
 use crate::stretch::{Block, Chosen, Stretch};
 use kr_base::NoMemory;
 use std::alloc::Global;
@@ -22,28 +24,34 @@ struct Piece {
 pub struct Values {
     pieces: Vec<Piece>,
     size: u32,
+    shape: Shape,
 }
 
 impl Model for Values {
     ghost use Rattle.std.specs.Prelude.{List};
     ghost use Rattle.kr_problem.specs.declared.stretch.Stretch.{Stretch};
-    ghost use Rattle.kr_problem.specs.Stretches.{ArePieces, stretches_of};
+    ghost use Rattle.kr_problem.specs.Stretches.{ArePieces, all_choices, stretches_of};
+    ghost use Rattle.kr_problem.specs.Shapes.{IsShape};
 
     ghost Value = { List Stretch };
 
     ghost view = { λ v. stretches_of v.pieces.items };
 
-    ghost invariant = { λ v. ArePieces v.pieces.items v.size };
+    ghost invariant = { λ v. ArePieces v.pieces.items v.size × IsShape (all_choices (stretches_of v.pieces.items)) v.shape };
 }
 
 /// The last piece that begins at an index or before it.
+#[inline(always)]
 fn piece_at(pieces: &[Piece], index: u32) -> usize
     requires some { 0 < length pieces.now }
     requires from { (get_or pieces.now 0 no_piece).start ≤ index }
     ensures { IsLast pieces.now index result }
 {
     let mut low = 0;
-    let mut high = pieces.len();
+    let mut high = pieces.len() - 1;
+    if pieces[high].start <= index {
+        return high;
+    }
     while low + 1 < high {
         let middle = low + (high - low) / 2;
         if pieces[middle].start <= index {
@@ -63,6 +71,7 @@ impl Values {
         Values {
             pieces: Vec::new(alloc),
             size: 0,
+            shape: Shape::none(),
         }
     }
 
@@ -75,8 +84,10 @@ impl Values {
             return Err(NoMemory);
         };
         let start = self.size;
+        let shape = self.shape.with(stretch, size);
         self.pieces.push(Piece { start, stretch })?;
         self.size = size;
+        self.shape = shape;
         Ok(())
     }
 
@@ -99,7 +110,15 @@ impl Values {
         self.size
     }
 
+    /// Where the objects stand among them.
+    pub(crate) fn shape(&self) -> Shape
+        ensures { IsShape (all_choices self.now) result }
+    {
+        self.shape
+    }
+
     /// The value at an index.
+    #[inline(always)]
     pub fn at(&self, index: u32) -> Chosen
         requires { index < length (all_choices self.now) }
         ensures { chosen result ≡ get_or (all_choices self.now) index no_choice }

@@ -1,13 +1,9 @@
 -- The first candidate above a cut, and the entries.
-use Rattle.std.proofs.Common.{◌≡◌, ℕ, List, [], ◌∷◌, sym, subst}
+use Rattle.std.proofs.Common.{sym, subst}
 use Rattle.kr_base.specs.Cuts.{Before}
 use Rattle.kr_base.specs.declared.entry.Entry.{Entry}
-use Rattle.kr_base.specs.declared.entry.Mark.{Mark}
-use Rattle.kr_base.specs.Entries.{IsAmong}
-use Rattle.kr_mean.specs.Space.{Space}
 use Rattle.kr_mean.specs.Runs.{key_along}
-use Rattle.kr_mean.specs.Entries.{IsListed, IsAll, entry_of}
-use Rattle.kr_step.specs.Steps.{IsFirst, above}
+use Rattle.kr_mean.specs.Entries.{entry_of}
 use Rattle.kr_step.specs.Stages.{FirstLaw}
 use Rattle.kr_step.proofs.Spans.{above_first, above_none}
 

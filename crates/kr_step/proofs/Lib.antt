@@ -7,3 +7,4 @@ pub mod Seeks
 pub mod Firsts
 pub mod Turns
 pub mod Bases
+pub mod Keeps

@@ -1,6 +1,6 @@
 -- Ascending lists of entries, cut into spans.
-use Rattle.std.proofs.Common.{◌≡◌, ℕ, ◌⊎◌, inl, inr, List, [], ◌∷◌, ◌++◌, refl, sym, ap, ◌∙◌, subst, Bool, true, false, cond}
-use Rattle.kr_base.specs.Cuts.{Before, is_before}
+use Rattle.std.proofs.Common.{◌≡◌, ℕ, inl, inr, List, [], ◌∷◌, refl, sym, ap, ◌∙◌, subst}
+use Rattle.kr_base.specs.Cuts.{Before}
 use Rattle.kr_base.specs.declared.entry.Entry.{Entry}
 use Rattle.kr_base.specs.Entries.{AllAfter, Ascends, IsAmong}
 use Rattle.kr_step.specs.Steps.{above}

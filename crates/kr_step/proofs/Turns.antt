@@ -1,15 +1,14 @@
 -- Turns of a search, over plain lists.
-use Rattle.std.proofs.Common.{◌≡◌, ℕ, ◌+◌, ◌<◌, ◌≤◌, zero, suc, Bool, true, false, List, [], ◌∷◌, ◌++◌, Option, Some, None, refl, sym, ap, ◌∙◌, subst, arith, get_or, length, take, drop, set, append_assoc, append-nil}
-use Rattle.std.specs.Prelude.{map, Result, Ok, Err, OnErr, is_ok, if◌then◌else◌}
+use Rattle.std.proofs.Common.{◌≡◌, ℕ, ◌<◌, ◌≤◌, zero, suc, Bool, List, [], ◌∷◌, ◌++◌, Some, refl, sym, ap, ◌∙◌, subst, arith, get_or, length, drop, set, append-nil}
+use Rattle.std.specs.Prelude.{Result, Ok, Err, OnErr, is_ok, if◌then◌else◌}
 use Rattle.kr_base.specs.Cuts.{Before}
-use Rattle.kr_mean.specs.Space.{Space, IsVector, IsSpace}
-use Rattle.kr_mean.specs.Readings.{AllBelow, Lacks, IsReading}
+use Rattle.kr_mean.specs.Space.{Space, IsSpace}
+use Rattle.kr_mean.specs.Readings.{AllBelow, IsReading}
 use Rattle.kr_mean.specs.Runs.{key_along}
 use Rattle.kr_mean.specs.Entries.{IsListed}
 use Rattle.kr_iso.specs.Choices.{PathIn, AllowedPath, IsAllowed, IsNextChoice}
-use Rattle.kr_step.specs.Steps.{path_of, slots_of, indices_of, OnPath, IsOf, NextIs, IsFirst, IsStuck, IsMoved, IsFront, Advanced}
+use Rattle.kr_step.specs.Steps.{path_of, indices_of, NextIs, IsFirst, IsStuck, IsMoved, IsFront, Advanced}
 use Rattle.kr_step.specs.declared.seeking.Lead.{Lead}
-use Rattle.kr_step.specs.declared.seeking.Lead.TheVariants.{On, Past, Stuck}
 use Rattle.kr_step.specs.Turns.{Turned, Leads}
 use Rattle.kr_step.specs.declared.runner.Ending.{Ending}
 use Rattle.kr_step.specs.declared.stage.Stage.{Stage}
@@ -17,7 +16,7 @@ use Rattle.kr_step.specs.declared.stage.Stage.TheVariants.{Behind}
 use Rattle.kr_step.specs.Stages.{StandsAt}
 use Rattle.kr_step.proofs.Paths.{allowed_front}
 use Rattle.kr_step.proofs.Seeks.{extend, indices_more, seek_end, seek_past, seek_whole}
-use Rattle.kr_step.proofs.Nexts.{Top, top, top_in, pop_stuck, push_moved, stuck_none, found_stuck}
+use Rattle.kr_step.proofs.Nexts.{Top, top, top_in, stuck_none, found_stuck}
 
 -- the same of candidates that are said to be the same
 pub stuck_along : (S T : Space) (o p : List ℕ → List ℕ) (c v : List ℕ) (path : List (ℕ × ℕ)) → T ≡ S → p ≡ o → IsStuck S o c v path → IsStuck T p c v path

@@ -3,3 +3,4 @@ pub mod Turns
 pub mod Stages
 pub mod Found
 pub mod Bases
+pub mod Keeps

@@ -3,8 +3,7 @@ use Rattle.std.specs.Prelude.{◌≡◌, ℕ, List, [], ◌∷◌}
 use Rattle.kr_base.specs.Cuts.{Before}
 use Rattle.kr_base.specs.declared.entry.Entry.{Entry}
 use Rattle.kr_base.specs.declared.entry.Mark.{Mark}
-use Rattle.kr_mean.specs.Space.{Space, IsSpace}
-use Rattle.kr_mean.specs.Readings.{IsReading}
+use Rattle.kr_mean.specs.Space.{Space}
 use Rattle.kr_mean.specs.Runs.{key_along}
 use Rattle.kr_mean.specs.Entries.{IsListed, IsAll, entry_of}
 use Rattle.kr_step.specs.declared.runner.Ending.{Ending}

@@ -1,5 +1,5 @@
 -- Where a search stands, and the next candidate above a cut.
-use Rattle.std.specs.Prelude.{◌≡◌, ℕ, ◌<◌, ◌≤◌, List, [], ◌∷◌, ◌++◌, map, filter, Option, Some, None, Bool, true, false}
+use Rattle.std.specs.Prelude.{◌≡◌, ℕ, ◌<◌, List, [], ◌∷◌, ◌++◌, map, filter, Bool, true, false}
 use Rattle.std.proofs.Common.{get_or}
 use Rattle.kr_mean.specs.Space.{Space, IsVector}
 use Rattle.kr_base.specs.Cuts.{Before, is_before}

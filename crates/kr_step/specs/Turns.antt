@@ -1,5 +1,5 @@
 -- One turn of a search on its way.
-use Rattle.std.specs.Prelude.{◌≡◌, ℕ, ◌≤◌, List, [], ◌∷◌, ◌++◌, Bool, true, false, length, take}
+use Rattle.std.specs.Prelude.{◌≡◌, ℕ, List, [], ◌∷◌, ◌++◌, Bool, true, false}
 use Rattle.kr_mean.specs.Space.{Space}
 use Rattle.kr_step.specs.Steps.{IsStuck, IsMoved, IsFront, indices_of}
 use Rattle.kr_step.specs.declared.seeking.Lead.{Lead}

@@ -2,11 +2,13 @@
 ghost use Rattle.std.specs.Prelude.{◌≡◌, ◌++◌, length, drop, IfOk, OnOk, OnErr};
 ghost use Rattle.kr_mean.specs.Readings.{AllBelow};
 ghost use Rattle.kr_step.specs.Steps.{path_of, indices_of};
+ghost use Rattle.kr_step.specs.Keeps.{Keeps};
 
 use crate::Runner;
 use kr_base::NoMemory;
 
 /// Adds the slots that the last order has behind a path, with their indices. Without memory the path stays as it was.
+#[inline(always)]
 pub(crate) fn extend<R: Runner>(runner: &R, path: &mut Vec<(u32, u32)>) -> Result<(), NoMemory>
     requires { AllBelow (length (R.vector runner.now)) (R.last runner.now) }
     ensures ok { OnOk result (path.new.items ≡ path.old.items ++ path_of (R.vector runner.now) (drop (length path.old.items) (R.last runner.now))) }
@@ -24,13 +26,46 @@ pub(crate) fn extend<R: Runner>(runner: &R, path: &mut Vec<(u32, u32)>) -> Resul
     Ok(())
 }
 
-/// Makes the indices of a path a key. Without memory the key is whatever came to stand in it.
-pub(crate) fn write_key(key: &mut Vec<u32>, path: &[(u32, u32)]) -> Result<(), NoMemory>
-    ensures { OnOk result (key.new.items ≡ indices_of path.now) }
+/// Writes the indices of a path from one step on into a key of the same length, which has those before it already.
+#[inline(always)]
+fn copy_indices(key: &mut [u32], path: &[(u32, u32)], kept: usize)
+    requires long { length key.old ≡ length path.now }
+    requires kept { Keeps key.old path.now kept }
+    ensures { key.new ≡ indices_of path.now }
 {
-    key.clear();
-    for (_, index) in path {
-        key.push(*index)?;
+    for at in kept..path.len() {
+        key[at] = path[at].1;
     }
+}
+
+/// Makes a key as long as a path, of which it has the first so many indices. Without memory it stays as it was.
+#[inline(always)]
+fn fit(key: &mut Vec<u32>, path: &[(u32, u32)], kept: usize) -> Result<(), NoMemory>
+    requires { Keeps key.old.items path.now kept }
+    ensures long { OnOk result (length key.new.items ≡ length path.now) }
+    ensures kept { OnOk result (Keeps key.new.items path.now kept) }
+    ensures err { OnErr result (key.new.items ≡ key.old.items) }
+{
+    let length = path.len();
+    if key.len() == length {
+        return Ok(());
+    }
+    key.resize(length, 0)?;
+    Ok(())
+}
+
+/// Makes the indices of a path a key, of which the first so many are the same already. Without memory the key stays as it was.
+#[inline(always)]
+pub(crate) fn write_key(
+    key: &mut Vec<u32>,
+    path: &[(u32, u32)],
+    kept: usize,
+) -> Result<(), NoMemory>
+    requires { Keeps key.old.items path.now kept }
+    ensures ok { OnOk result (key.new.items ≡ indices_of path.now) }
+    ensures err { OnErr result (key.new.items ≡ key.old.items) }
+{
+    fit(key, path, kept)?;
+    copy_indices(key.as_mut_slice(), path, kept);
     Ok(())
 }

@@ -3,6 +3,7 @@ ghost use Rattle.std.specs.Prelude.{◌≡◌, ◌<◌, ◌≤◌, ◌+◌, List
 ghost use Rattle.kr_step.specs.Steps.{IsMoved, path_of};
 ghost use Rattle.kr_step.specs.Stages.{StandsAt, ahead_of};
 ghost use Rattle.kr_step.specs.Found.{Finds, Counts};
+ghost use Rattle.kr_step.specs.Keeps.{Keeps};
 
 use crate::path::{extend, write_key};
 use crate::seeking::come_to;
@@ -13,15 +14,13 @@ use kr_base::NoMemory;
 use kr_steps::Steps;
 use std::alloc::Global;
 use std::marker::Model;
-use std::mem;
 use std::sync::ledger::Ledger;
 
-/// A search: the candidates, the cut above which it looks, the path to where it stands, and room for the next key.
+/// A search: the candidates, the cut above which it looks, and the path to where it stands.
 #[derive(Drop)]
 pub struct Search<R: Runner> {
     runner: R,
     after: Vec<u32>,
-    spare: Vec<u32>,
     path: Vec<(u32, u32)>,
     stage: Stage,
 }
@@ -37,6 +36,7 @@ impl<R: Runner> Model for Search<R> {
 }
 
 /// Runs the candidate at which a search has come to stand, and writes its path down in full.
+#[inline(always)]
 fn arrive<R: Runner, L: Ledger>(
     runner: &mut R,
     path: &mut Vec<(u32, u32)>,
@@ -60,14 +60,16 @@ fn arrive<R: Runner, L: Ledger>(
 }
 
 /// Comes to stand at the next candidate, run, if there is one. Where memory is refused it stands as before, or at that
-/// candidate, not run yet.
+/// candidate, not run yet. Says how many numbers of the cut are still on the path.
 fn find<R: Runner, L: Ledger>(
     runner: &mut R,
     path: &mut Vec<(u32, u32)>,
     stage: &mut Stage,
+    kept: &mut usize,
     runs: &mut Steps<L>,
 ) -> Result<Option<Ending>, NoMemory>
-    requires { (c : List ℕ) × StandsAt (R.space runner.old) (R.order runner.old) (R.ending runner.old) stage.old c (R.vector runner.old) path.old.items }
+    requires none { kept.old ≡ 0 }
+    requires stands { (c : List ℕ) × StandsAt (R.space runner.old) (R.order runner.old) (R.ending runner.old) stage.old c (R.vector runner.old) path.old.items }
     ensures space { R.space runner.new ≡ R.space runner.old }
     ensures order { R.order runner.new ≡ R.order runner.old }
     ensures ending { R.ending runner.new ≡ R.ending runner.old }
@@ -75,6 +77,8 @@ fn find<R: Runner, L: Ledger>(
         StandsAt (R.space runner.old) (R.order runner.old) (R.ending runner.old) stage.new c (R.vector runner.new) path.new.items }
     ensures found { IfOk result (λ found. (c : List ℕ) → StandsAt (R.space runner.old) (R.order runner.old) (R.ending runner.old) stage.old c (R.vector runner.old) path.old.items →
         Finds (R.space runner.old) (R.order runner.old) (R.ending runner.old) c found (R.vector runner.new) path.new.items) }
+    ensures kept { IfOk result (λ found. (c : List ℕ) → StandsAt (R.space runner.old) (R.order runner.old) (R.ending runner.old) stage.old c (R.vector runner.old) path.old.items →
+        Keeps c path.new.items kept.new) }
     ensures runs { IfOk result (λ found. runs.new + ahead_of stage.old ≡ runs.old + ahead_of stage.new) }
     ensures ahead { IfOk result (λ found. Counts found (ahead_of stage.new)) }
 {
@@ -89,6 +93,7 @@ fn find<R: Runner, L: Ledger>(
             if !advance(runner, path) {
                 return Ok(None);
             }
+            *kept = path.as_slice().len() - 1;
             *stage = Stage::Moved;
             let ending = arrive(runner, path, runs)?;
             *stage = Stage::Ahead(ending);
@@ -122,7 +127,6 @@ impl<R: Runner + Drop> Search<R> {
         Ok(Search {
             runner,
             after: cut,
-            spare: Vec::new(alloc),
             path,
             stage,
         })
@@ -140,11 +144,17 @@ impl<R: Runner + Drop> Search<R> {
         ensures err { OnErr result (self.new.cut ≡ self.old.cut) }
     {
         self.runner.laws();
-        match find(&mut self.runner, &mut self.path, &mut self.stage, runs)? {
+        let mut kept = 0;
+        match find(
+            &mut self.runner,
+            &mut self.path,
+            &mut self.stage,
+            &mut kept,
+            runs,
+        )? {
             None => Ok(Next::End),
             Some(ending) => {
-                write_key(&mut self.spare, self.path.as_slice())?;
-                mem::swap(&mut self.after, &mut self.spare);
+                write_key(&mut self.after, self.path.as_slice(), kept)?;
                 self.stage = Stage::Behind;
                 Ok(Next::Found(ending))
             }

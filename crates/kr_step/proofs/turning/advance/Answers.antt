@@ -1,7 +1,8 @@
-use Rattle.std.proofs.Common.{◌≡◌, ℕ, List, [], ◌∷◌, ◌++◌, Bool, true, false, subst, ap, ◌∙◌, ◌-◌, take, append-nil, arith, vec_len}
+use Rattle.std.proofs.Common.{◌≡◌, ℕ, List, [], ◌∷◌, ◌++◌, Bool, true, false, Vec, Global, sym, subst, ap, ◌∙◌, ◌-◌, take, append-nil, arith, vec_len}
 use Rattle.kr_step.specs.Steps.{IsStuck}
 use Rattle.kr_step.specs.Turns.{Turned}
 use Rattle.kr_step.proofs.Turns.{stuck_along, turned_along, none_left}
+use Rattle.kr_step.proofs.Keeps.{one_less, follows_on}
 use Rattle.kr_step.proofs.turning.advance.Goals as goal
 
 pub returns-then-raise-clause-advanced : goal.returns-then-raise-clause-advanced
@@ -30,6 +31,8 @@ loop-slot-preserved g c =
     let p = g.R.Runner.order c.loop-slot.runner in
     let v = g.R.Runner.vector c.loop-slot.runner in
     let inv = c.loop-slot.invariant in
+    let fewer = one_less c.args.path.now.items c.loop-slot.path.items inv.gone.0 c.pop.new.self.items (c.in-Some.slot, c.in-Some.index) inv.gone.1 c.in-Some.ensures.items in
+    let gone : c.args.path.now.items ≡ c.raise.new.path.items ++ ((c.in-Some.slot, c.in-Some.index) ∷ [] ++ inv.gone.0) = fewer ∙ ap (λ (v : Vec (ℕ × ℕ) Global). v.items ++ ((c.in-Some.slot, c.in-Some.index) ∷ [] ++ inv.gone.0)) (sym (c.raise.ensures.kept c.if-raise.false)) in
     let on : (after : List ℕ) → IsStuck S o after v c.loop-slot.path.items → IsStuck S o after (g.R.Runner.vector c.raise.new.runner) c.raise.new.path.items = λ after stuck.
     let here : IsStuck S o after v (c.pop.new.self.items ++ (c.in-Some.slot, c.in-Some.index) ∷ []) = subst (IsStuck S o after v) c.in-Some.ensures.items stuck in
     let there = stuck_along S T o p after v (c.pop.new.self.items ++ (c.in-Some.slot, c.in-Some.index) ∷ []) inv.space inv.order here in
@@ -41,6 +44,7 @@ loop-slot-preserved g c =
       ending = c.raise.ensures.ending ∙ inv.ending;
       some = (inv.some.0, on inv.some.0 inv.some.1);
       stuck = λ after stuck. on after (inv.stuck after stuck);
+      gone = ((c.in-Some.slot, c.in-Some.index) ∷ [] ++ inv.gone.0, gone);
     }
 
 pub returns-clause-advanced : goal.returns-clause-advanced
@@ -53,3 +57,9 @@ returns-clause-advanced g c = λ after stuck.
     let items : c.loop-slot.path.items ≡ c.pop.new.self.items = c.in_default.ensures.items ∙ append-nil c.pop.new.self.items in
     let here : IsStuck S o after v c.pop.new.self.items = subst (IsStuck S o after v) items (c.loop-slot.invariant.stuck after stuck) in
     (here, none_left S o m c.laws.ensures.space c.laws.ensures.reading after v c.pop.new.self.items empty here)
+
+pub returns-then-raise-clause-front : goal.returns-then-raise-clause-front
+returns-then-raise-clause-front g c = λ t.
+    let gone = c.loop-slot.invariant.gone in
+    let old = one_less c.args.path.now.items c.loop-slot.path.items gone.0 c.pop.new.self.items (c.in-Some.slot, c.in-Some.index) gone.1 c.in-Some.ensures.items in
+    follows_on c.args.path.now.items c.pop.new.self.items c.raise.new.path.items ((c.in-Some.slot, c.in-Some.index) ∷ [] ++ gone.0) old (c.raise.ensures.front c.if-raise.true)

@@ -1,4 +1,4 @@
-use Rattle.std.proofs.Common.{◌≡◌, ℕ, List, vec_len}
+use Rattle.std.proofs.Common.{◌≡◌, ◌++◌, ℕ, List, vec_len}
 use Rattle.kr_step.specs.Steps.{IsStuck}
 use Rattle.kr_step.proofs.turning.advance.Given as goal
 
@@ -10,6 +10,7 @@ invariant-loop-slot g l = record {
   some : (c : List ℕ) × IsStuck (g.R.Slots.space l.initial.runner) (g.R.Runner.order l.initial.runner) c (g.R.Runner.vector l.runner) l.path.items;
   stuck : (c : List ℕ) → IsStuck (g.R.Slots.space l.initial.runner) (g.R.Runner.order l.initial.runner) c (g.R.Runner.vector l.initial.runner) l.initial.path.items
       → IsStuck (g.R.Slots.space l.initial.runner) (g.R.Runner.order l.initial.runner) c (g.R.Runner.vector l.runner) l.path.items;
+  gone : (rest : List (ℕ × ℕ)) × (l.initial.path.items ≡ l.path.items ++ rest);
 }
 
 abbrev pub decreases-loop-slot : goal.decreases-loop-slot

@@ -1,4 +1,4 @@
-use Rattle.std.proofs.Common.{◌≡◌, ◌+◌, ℕ, List, [], ◌∷◌, ◌++◌, Some, None, subst, arith, vec_len, vec_capacity}
+use Rattle.std.proofs.Common.{◌≡◌, ◌+◌, ℕ, List, [], ◌∷◌, ◌++◌, Some, None, sym, subst, append-nil, arith, vec_len, vec_capacity}
 use Rattle.kr_iso.specs.Choices.{IsNextChoice}
 use Rattle.kr_step.proofs.Nexts.{push_moved, pop_stuck}
 use Rattle.kr_step.proofs.Turns.{popped, pushed}
@@ -99,3 +99,9 @@ returns-in-None-clause-turned g c = λ after stuck.
     let w = g.R.Runner.vector c.args.runner.now in
     let none : IsNextChoice S c.args.path.now.items c.args.slot (c.args.index + 1) None = subst (λ (l : List (ℕ × ℕ)). IsNextChoice S l c.args.slot (c.args.index + 1) None) c.as_slice.ensures.value c.in-None.ensures in
     rw c.set-in-None.ensures.vector (pop_stuck S o m c.laws.ensures.space c.laws.ensures.reading c.args.path.now.items c.args.slot c.args.index after w stuck none)
+
+pub returns-in-Some-clause-front : goal.returns-in-Some-clause-front
+returns-in-Some-clause-front g c = λ t.
+    let items : c.push.new.self.items ≡ c.args.path.now.items ++ (c.args.slot, c.in-Some.next) ∷ [] =
+    pushed c.push.result (c.args.path.now.items ++ (c.args.slot, c.in-Some.next) ∷ []) c.args.path.now.items c.push.new.self.items (vec_len c.args.path.now) (vec_capacity c.args.path.now) c.push.ensures.full c.requires.room c.push.ensures.items in
+    record { front = c.args.path.now.items; back = []; last = (c.args.slot, c.in-Some.next); old_is = sym (append-nil c.args.path.now.items); new_is = items }

@@ -10,18 +10,18 @@ row number count width start total h r =
     omega (arith, m, r)
 
 pub index-start-requires : goal.index-start-requires
-index-start-requires c = omega (arith, c.requires.domain, (of_objects c.self.inside c.args.self.now c.self.invariant c.self.view_is).starts, c.self.inside.starts.ok.0)
+index-start-requires c = omega (arith, c.requires.domain, (of_objects c.self.inside c.args.self.now c.self.invariant.0 c.self.view_is).starts, c.self.inside.starts.ok.0)
 
 pub overflow_cast-width : goal.overflow_cast-width
 overflow_cast-width c =
-    let k = of_objects c.self.inside c.args.self.now c.self.invariant c.self.view_is in
+    let k = of_objects c.self.inside c.args.self.now c.self.invariant.0 c.self.view_is in
     let r = row c.args.object.number _ _ _ _ c.requires.number (k.room c.args.object.domain c.requires.domain) in
     let f : c.width-width.result < 2 ^ 32 = omega (arith, r, k.small, c.width-width.ensures) in
     search rules
 
 pub overflow_mul-result : goal.overflow_mul-result
 overflow_mul-result c =
-    let k = of_objects c.self.inside c.args.self.now c.self.invariant c.self.view_is in
+    let k = of_objects c.self.inside c.args.self.now c.self.invariant.0 c.self.view_is in
     let r = row c.args.object.number _ _ _ _ c.requires.number (k.room c.args.object.domain c.requires.domain) in
     let w = ap (λ (n : ℕ). c.args.object.number * n) c.width-width.ensures in
     let f : c.args.object.number * c.width-width.result < 2 ^ 32 = omega (arith, r, w, k.small) in
@@ -29,7 +29,7 @@ overflow_mul-result c =
 
 pub overflow_add-result : goal.overflow_add-result
 overflow_add-result c =
-    let k = of_objects c.self.inside c.args.self.now c.self.invariant c.self.view_is in
+    let k = of_objects c.self.inside c.args.self.now c.self.invariant.0 c.self.view_is in
     let r = row c.args.object.number _ _ _ _ c.requires.number (k.room c.args.object.domain c.requires.domain) in
     let w = ap (λ (n : ℕ). c.args.object.number * n) c.width-width.ensures in
     let s = c.index-start.ensures ∙ k.start c.args.object.domain c.index-start.result.now c.requires.domain in
@@ -38,7 +38,7 @@ overflow_add-result c =
 
 pub returns : goal.returns
 returns c =
-    let k = of_objects c.self.inside c.args.self.now c.self.invariant c.self.view_is in
+    let k = of_objects c.self.inside c.args.self.now c.self.invariant.0 c.self.view_is in
     let w = ap (λ (n : ℕ). c.args.object.number * n) c.width-width.ensures in
     let s = c.index-start.ensures ∙ k.start c.args.object.domain c.index-start.result.now c.requires.domain in
     omega (arith, s, w)

@@ -5,9 +5,9 @@ use Rattle.kr_problem.specs.declared.entry.Entry.{Entry}
 use Rattle.kr_problem.proofs.layout.Layout.owner.Goals as goal
 
 pub index-requires : goal.index-requires
-index-requires c = omega (arith, c.requires, (known c.self.inside c.args.self.now c.self.invariant c.self.view_is).long, c.self.inside.entries.ok.0)
+index-requires c = omega (arith, c.requires, (known c.self.inside c.args.self.now c.self.invariant.0 c.self.view_is).long, c.self.inside.entries.ok.0)
 
 pub returns : goal.returns
 returns c =
     ap (λ (e : Entry). shown e.owner) c.index.ensures
-    ∙ (known c.self.inside c.args.self.now c.self.invariant c.self.view_is).owner c.args.slot c.index.result.now c.requires
+    ∙ (known c.self.inside c.args.self.now c.self.invariant.0 c.self.view_is).owner c.args.slot c.index.result.now c.requires

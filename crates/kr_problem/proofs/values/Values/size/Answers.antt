@@ -6,4 +6,4 @@ use Rattle.kr_problem.proofs.values.Values.size.Goals as goal
 
 pub returns : goal.returns
 returns c =
-    omega (arith, all_long 0 c.self.inside.pieces.items c.self.inside.size c.self.invariant.counted, ap (λ (s : List Stretch). length (all_choices s)) c.self.view_is)
+    omega (arith, all_long 0 c.self.inside.pieces.items c.self.inside.size c.self.invariant.0.counted, ap (λ (s : List Stretch). length (all_choices s)) c.self.view_is)

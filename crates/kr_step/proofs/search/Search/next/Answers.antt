@@ -1,8 +1,6 @@
-use Rattle.std.proofs.Common.{◌≡◌, ℕ, List, Vec, Global, Option, Some, ap, ◌∙◌, sym, subst}
+use Rattle.std.proofs.Common.{◌≡◌, Option, Some, ap, ◌∙◌, subst}
 use Rattle.kr_step.specs.declared.runner.Ending.{Ending}
-use Rattle.kr_step.specs.declared.stage.Next.TheVariants.{Found}
 use Rattle.kr_step.specs.Steps.{indices_of}
-use Rattle.kr_step.specs.Stages.{Seen, Answers}
 use Rattle.kr_step.specs.Found.{Finds}
 use Rattle.kr_step.proofs.Turns.{stuck_along, behind}
 use Rattle.kr_step.proofs.search.Search.next.Goals as goal
@@ -15,9 +13,9 @@ invariant_of-self-in-Some g c =
     let v = g.R.Runner.vector c.find.new.runner in
     let cut = c.self.inside.after.items in
     let found : Finds S o m cut (Some c.in-Some.ending) v c.find.new.path.items = subst (λ (f : Option Ending). Finds S o m cut f v c.find.new.path.items) c.in-Some.is (c.in_ok-find.ensures.found cut c.self.invariant) in
-    let key : c.swap.new.x.items ≡ indices_of c.find.new.path.items = ap (λ (k : Vec ℕ Global). k.items) c.swap.ensures.x_after ∙ (c.in_ok-write_key-in-Some.ensures ∙ ap indices_of c.as_slice.ensures.value) in
-    let both = behind S o m c.laws.ensures.space c.laws.ensures.reading cut c.swap.new.x.items v c.find.new.path.items found.0 found.2 key in
-    stuck_along S (g.R.Slots.space c.find.new.runner) o (g.R.Runner.order c.find.new.runner) c.swap.new.x.items v c.find.new.path.items c.find.ensures.space c.find.ensures.order both.0
+    let key : c.write_key.new.key.items ≡ indices_of c.find.new.path.items = c.in_ok-write_key-in-Some.ensures.ok ∙ ap indices_of c.as_slice.ensures.value in
+    let both = behind S o m c.laws.ensures.space c.laws.ensures.reading cut c.write_key.new.key.items v c.find.new.path.items found.0 found.2 key in
+    stuck_along S (g.R.Slots.space c.find.new.runner) o (g.R.Runner.order c.find.new.runner) c.write_key.new.key.items v c.find.new.path.items c.find.ensures.space c.find.ensures.order both.0
 
 pub returns-in_ok-write_key-in-Some-clause-found : goal.returns-in_ok-write_key-in-Some-clause-found
 returns-in_ok-write_key-in-Some-clause-found g c =
@@ -27,6 +25,6 @@ returns-in_ok-write_key-in-Some-clause-found g c =
     let v = g.R.Runner.vector c.find.new.runner in
     let cut = c.self.inside.after.items in
     let found : Finds S o m cut (Some c.in-Some.ending) v c.find.new.path.items = subst (λ (f : Option Ending). Finds S o m cut f v c.find.new.path.items) c.in-Some.is (c.in_ok-find.ensures.found cut c.self.invariant) in
-    let key : c.swap.new.x.items ≡ indices_of c.find.new.path.items = ap (λ (k : Vec ℕ Global). k.items) c.swap.ensures.x_after ∙ (c.in_ok-write_key-in-Some.ensures ∙ ap indices_of c.as_slice.ensures.value) in
-    let both = behind S o m c.laws.ensures.space c.laws.ensures.reading cut c.swap.new.x.items v c.find.new.path.items found.0 found.2 key in
+    let key : c.write_key.new.key.items ≡ indices_of c.find.new.path.items = c.in_ok-write_key-in-Some.ensures.ok ∙ ap indices_of c.as_slice.ensures.value in
+    let both = behind S o m c.laws.ensures.space c.laws.ensures.reading cut c.write_key.new.key.items v c.find.new.path.items found.0 found.2 key in
     rw (← c.self.view_is) (found.0, found.1, both.1)
