@@ -1,0 +1,21 @@
+// Lists that take others' items.
+ghost use Rattle.std.specs.Prelude.{◌≡◌, ◌≤◌, length, OnOk};
+
+use kr_base::NoMemory;
+
+/// Others in place of these, in the room that is there.
+#[inline(always)]
+pub fn refill<T: Copy + Drop>(items: &mut Vec<T>, others: &[T]) -> Result<(), NoMemory>
+    ensures few { length items.new.items ≤ length others.now }
+    ensures same { OnOk result (items.new.items ≡ others.now) }
+{
+    if items.len() > others.len() {
+        items.truncate(others.len());
+    }
+    let common = items.len();
+    items.as_mut_slice().copy_from_slice(&others[..common]);
+    if common < others.len() {
+        items.extend_from_slice(&others[common..])?;
+    }
+    Ok(())
+}
