@@ -7,7 +7,7 @@ mod members;
 mod object;
 
 pub use heap::Heap;
-pub use lists::refill;
+pub use lists::{append, refill};
 pub use members::Members;
 
 #[cfg(test)]

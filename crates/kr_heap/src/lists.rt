@@ -1,5 +1,5 @@
-// Lists that take others' items.
-ghost use Rattle.std.specs.Prelude.{◌≡◌, ◌≤◌, length, OnOk};
+// Lists of what is copied: others' items, and one more.
+ghost use Rattle.std.specs.Prelude.{◌≡◌, ◌≤◌, [], ◌∷◌, ◌++◌, length, OnErr, OnOk};
 
 use kr_base::NoMemory;
 
@@ -17,5 +17,19 @@ pub fn refill<T: Copy + Drop>(items: &mut Vec<T>, others: &[T]) -> Result<(), No
     if common < others.len() {
         items.extend_from_slice(&others[common..])?;
     }
+    Ok(())
+}
+
+/// One more at the end: where there is room, without a call.
+#[inline(always)]
+pub fn append<T: Copy + Drop>(items: &mut Vec<T>, item: T) -> Result<(), NoMemory>
+    ensures added { OnOk result (items.new.items ≡ items.old.items ++ item ∷ []) }
+    ensures unchanged { OnErr result (items.new.items ≡ items.old.items) }
+{
+    if items.len() < items.capacity() {
+        items.push_reserved(item);
+        return Ok(());
+    }
+    items.push(item)?;
     Ok(())
 }

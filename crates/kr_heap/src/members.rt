@@ -2,7 +2,7 @@
 ghost use Rattle.std.specs.Prelude.{◌≡◌, ◌<◌, ◌≤◌, [], ◌∷◌, ◌++◌, length, take, slice_get, slice_set, OnOk, OnErr, IfOk, MatchOption};
 ghost use Rattle.std.specs.List.{remove};
 
-use crate::refill;
+use crate::{append, refill};
 use kr_base::NoMemory;
 use kr_value::Value;
 use std::alloc::Global;
@@ -111,8 +111,7 @@ impl Members {
         if self.items.len() / 2 < self.gone {
             self.compact();
         }
-        self.items.push(member)?;
-        Ok(())
+        append(&mut self.items, member)
     }
 
     /// Takes the first member away.

@@ -10,6 +10,7 @@ ghost use Rattle.kr_world.specs.Worlds.{state_at, Agrees};
 
 use crate::{End, Halt, Local, SlotPlace, World};
 use kr_base::Place;
+use kr_heap::append;
 use kr_value::Value;
 
 /// One unit of fuel.
@@ -39,7 +40,7 @@ pub fn declare(world: &mut World, value: Value) -> Result<Value, Halt>
         value,
         parameter: None,
     };
-    if world.locals.push(local).is_err() {
+    if append(&mut world.locals, local).is_err() {
         return Err(Halt::Memory);
     }
     Ok(Value::Null)

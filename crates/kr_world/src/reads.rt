@@ -7,7 +7,7 @@ ghost use Rattle.kr_world.specs.Ranks.{IsTop, rank_of};
 ghost use Rattle.kr_world.specs.Shown.{place_of};
 
 use kr_base::NoMemory;
-use kr_heap::refill;
+use kr_heap::{append, refill};
 use kr_value::{Obj, Spot};
 use std::alloc::Global;
 use std::marker::Model;
@@ -192,7 +192,7 @@ impl Reads {
             return Ok(());
         }
         let count = self.places.len();
-        self.places.push(place)?;
+        append(&mut self.places, place)?;
         if rank <= self.top {
             self.from = count;
             self.top = rank;
