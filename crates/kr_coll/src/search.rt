@@ -6,7 +6,6 @@ ghost use Rattle.kr_coll.specs.Positions.{IsAbsent, IsFirstAt};
 
 use kr_value::Value;
 
-#[inline(always)]
 fn is_same(a: Value, b: Value) -> bool
     ensures { result ≡ is_same_value a b }
 {
@@ -20,7 +19,6 @@ fn is_same(a: Value, b: Value) -> bool
     }
 }
 
-#[inline(never)]
 fn first_position(members: &[Value], member: Value) -> Option<usize>
     ensures { result ≡ position (λ x. is_same_value x member) members.now }
 {
@@ -28,7 +26,6 @@ fn first_position(members: &[Value], member: Value) -> Option<usize>
 }
 
 /// The position of the first one that is this member.
-#[inline(always)]
 pub(crate) fn position_of(members: &[Value], member: Value) -> Option<usize>
     ensures { MatchOption result (IsAbsent members.now member) (λ at. IsFirstAt members.now member at) }
 {
