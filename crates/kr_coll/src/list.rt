@@ -15,6 +15,7 @@ pub struct ListObj<'a> {
 
 impl<'a> ListObj<'a> {
     /// The list of these members.
+    #[inline(always)]
     pub fn of(members: &'a mut Members) -> ListObj<'a>
         ensures same_reference { result.members.ghost_name ≡ members.entry.ghost_name }
         ensures members { result.members.now ≡ members.old }
@@ -23,6 +24,7 @@ impl<'a> ListObj<'a> {
     }
 
     /// Adds a member at the end, and answers true. Only this takes memory.
+    #[inline(always)]
     pub fn add(&mut self, member: Value) -> Result<bool, NoMemory>
         ensures same_reference { self.new.members.ghost_name ≡ self.old.members.ghost_name }
         ensures answer { IfOk result (λ added. added ≡ true) }
@@ -33,6 +35,7 @@ impl<'a> ListObj<'a> {
         Ok(true)
     }
 
+    #[inline(always)]
     pub fn contains(&self, member: Value) -> bool
         ensures { result ≡ has_member member self.now.members.now }
     {
@@ -40,6 +43,7 @@ impl<'a> ListObj<'a> {
     }
 
     /// Takes the first one that is this member away, and says whether there was one.
+    #[inline(always)]
     pub fn remove(&mut self, member: Value) -> bool
         ensures same_reference { self.new.members.ghost_name ≡ self.old.members.ghost_name }
         ensures answer { result ≡ has_member member self.old.members.now }
@@ -55,6 +59,7 @@ impl<'a> ListObj<'a> {
     }
 
     /// Takes the first member away; none where there is none.
+    #[inline(always)]
     pub fn remove_first(&mut self) -> Option<Value>
         ensures same_reference { self.new.members.ghost_name ≡ self.old.members.ghost_name }
         ensures first { MatchOption result ((self.old.members.now ≡ []) × (self.new.members.now ≡ [])) (λ m. self.old.members.now ≡ m ∷ self.new.members.now) }
@@ -62,12 +67,14 @@ impl<'a> ListObj<'a> {
         self.members.pop_first()
     }
 
+    #[inline(always)]
     pub fn size(&self) -> usize
         ensures { result ≡ length self.now.members.now }
     {
         self.members.as_slice().len()
     }
 
+    #[inline(always)]
     pub fn is_empty(&self) -> bool
         ensures { result ≡ (length self.now.members.now == 0) }
     {

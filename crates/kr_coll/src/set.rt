@@ -16,6 +16,7 @@ pub struct SetObj<'a> {
 
 impl<'a> SetObj<'a> {
     /// The set of these members. They are a set's where each is another one, which adding and removing keep (`set_law`).
+    #[inline(always)]
     pub fn of(members: &'a mut Members) -> SetObj<'a>
         ensures same_reference { result.members.ghost_name ≡ members.entry.ghost_name }
         ensures members { result.members.now ≡ members.old }
@@ -24,6 +25,7 @@ impl<'a> SetObj<'a> {
     }
 
     /// Adds a member, where it is none yet, and says whether it was none. Only this takes memory.
+    #[inline(always)]
     pub fn add(&mut self, member: Value) -> Result<bool, NoMemory>
         ensures same_reference { self.new.members.ghost_name ≡ self.old.members.ghost_name }
         ensures answer { IfOk result (λ added. added ≡ not (has_member member self.old.members.now)) }
@@ -37,6 +39,7 @@ impl<'a> SetObj<'a> {
         Ok(true)
     }
 
+    #[inline(always)]
     pub fn contains(&self, member: Value) -> bool
         ensures { result ≡ has_member member self.now.members.now }
     {
@@ -44,6 +47,7 @@ impl<'a> SetObj<'a> {
     }
 
     /// Takes a member away, and says whether it was one.
+    #[inline(always)]
     pub fn remove(&mut self, member: Value) -> bool
         ensures same_reference { self.new.members.ghost_name ≡ self.old.members.ghost_name }
         ensures answer { result ≡ has_member member self.old.members.now }
@@ -58,12 +62,14 @@ impl<'a> SetObj<'a> {
         }
     }
 
+    #[inline(always)]
     pub fn size(&self) -> usize
         ensures { result ≡ length self.now.members.now }
     {
         self.members.as_slice().len()
     }
 
+    #[inline(always)]
     pub fn is_empty(&self) -> bool
         ensures { result ≡ (length self.now.members.now == 0) }
     {

@@ -102,6 +102,7 @@ impl Heap {
         copy_objects(alloc, &mut self.objects, other.objects.as_slice())
     }
 
+    #[inline(always)]
     pub fn len(&self) -> usize
         ensures { result ≡ length self.now }
     {
@@ -109,6 +110,7 @@ impl Heap {
     }
 
     /// What an object is of.
+    #[inline(always)]
     pub fn class_of(&self, object: Obj) -> Class
         ensures { result ≡ (object_in self.now object).class }
     {
@@ -119,6 +121,7 @@ impl Heap {
     }
 
     /// How many values an object has.
+    #[inline(always)]
     pub fn size_of(&self, object: Obj) -> usize
         ensures { result ≡ length (object_in self.now object).values }
     {
@@ -129,6 +132,7 @@ impl Heap {
     }
 
     /// What an object has at a spot; none where it has no such spot.
+    #[inline(always)]
     pub fn read(&self, object: Obj, spot: Spot) -> Option<Value>
         ensures { result ≡ found (object_in self.now object) spot }
     {
@@ -139,6 +143,7 @@ impl Heap {
     }
 
     /// Gives an object another value in one of its fields or elements, where it has that.
+    #[inline(always)]
     pub fn write(&mut self, object: Obj, at: usize, value: Value)
         ensures { self.new ≡ with_value self.old object at value }
     {
@@ -148,6 +153,7 @@ impl Heap {
     }
 
     /// An object's fields or elements, or the members of a collection.
+    #[inline(always)]
     pub fn members(&self, object: Obj) -> &[Value]
         requires { object < length self.now }
         ensures { result.now ≡ (object_in self.now object).values }
@@ -156,6 +162,7 @@ impl Heap {
     }
 
     /// The members of a collection, to be changed.
+    #[inline(always)]
     pub fn members_mut(&mut self, object: Obj) -> &mut Members
         requires { object < length self.old }
         ensures* lends { sem 𝓛 (LendsMembers self.entry object result) }

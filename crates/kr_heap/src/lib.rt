@@ -2,10 +2,12 @@
 #![tactic(auto)]
 
 mod heap;
+mod lists;
 mod members;
 mod object;
 
 pub use heap::Heap;
+pub use lists::{append, refill};
 pub use members::Members;
 
 #[cfg(test)]

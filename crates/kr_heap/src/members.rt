@@ -2,6 +2,7 @@
 ghost use Rattle.std.specs.Prelude.{◌≡◌, ◌<◌, ◌≤◌, [], ◌∷◌, ◌++◌, length, take, slice_get, slice_set, OnOk, OnErr, IfOk, MatchOption};
 ghost use Rattle.std.specs.List.{remove};
 
+use crate::{append, refill};
 use kr_base::NoMemory;
 use kr_value::Value;
 use std::alloc::Global;
@@ -54,15 +55,15 @@ impl Members {
     }
 
     /// Others' members in place of these, in the room that is there.
+    #[inline(always)]
     pub fn copy_from(&mut self, others: &Members) -> Result<(), NoMemory>
         ensures { OnOk result (self.new ≡ others.now) }
     {
-        self.items.clear();
         self.gone = 0;
-        self.items.extend_from_slice(others.as_slice())?;
-        Ok(())
+        refill(&mut self.items, others.as_slice())
     }
 
+    #[inline(always)]
     pub fn as_slice(&self) -> &[Value]
         ensures members { result.now ≡ self.now }
         ensures few { length result.now ≤ 2147483647 }
@@ -71,6 +72,7 @@ impl Members {
     }
 
     /// The member at a position, if there is one.
+    #[inline(always)]
     pub fn get(&self, at: usize) -> Option<Value>
         ensures { result ≡ slice_get self.now at }
     {
@@ -78,6 +80,7 @@ impl Members {
     }
 
     /// Puts another member at a position, where there is one.
+    #[inline(always)]
     #[tactic(auto, using(crate::proofs::Parts::drop_replaced))]
     pub fn set(&mut self, at: usize, member: Value)
         ensures { self.new ≡ slice_set self.old at member }
@@ -87,14 +90,14 @@ impl Members {
         }
     }
 
-    // Gives the room of what is gone back, where that is most of the list.
+    // Gives the room of what is gone back.
+    #[cold]
+    #[inline(never)]
     fn compact(&mut self)
         ensures { self.new ≡ self.old }
     {
-        if self.items.len() / 2 < self.gone {
-            self.items.drain(..self.gone);
-            self.gone = 0;
-        }
+        self.items.drain(..self.gone);
+        self.gone = 0;
     }
 
     /// Adds a member at the end.
@@ -105,12 +108,14 @@ impl Members {
         if self.as_slice().len() >= 2147483647 {
             return Err(NoMemory);
         }
-        self.compact();
-        self.items.push(member)?;
-        Ok(())
+        if self.items.len() / 2 < self.gone {
+            self.compact();
+        }
+        append(&mut self.items, member)
     }
 
     /// Takes the first member away.
+    #[inline(always)]
     pub fn pop_first(&mut self) -> Option<Value>
         ensures { MatchOption result ((self.old ≡ []) × (self.new ≡ [])) (λ m. self.old ≡ m ∷ self.new) }
     {

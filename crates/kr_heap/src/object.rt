@@ -17,19 +17,23 @@ impl Object {
     ghost use Rattle.kr_heap.specs.Shown.{shown};
 
     /// What it has at a spot; none where it has no such spot.
+    #[inline(always)]
     pub fn read(&self, spot: Spot) -> Option<Value>
         ensures { result ≡ found (shown self.now) spot }
     {
-        match (self.class, spot) {
-            (Class::Object(_), Spot::Field(at)) => self.values.get(at as usize),
-            (Class::Array(_), Spot::Element(at)) => self.values.get(at as usize),
-            (Class::Array(_), Spot::Length) => {
-                match i32::try_from(self.values.as_slice().len()) {
-                    Ok(length) => Some(Value::Int(length)),
-                    Err(_) => None,
-                }
-            }
-            _ => None,
+        match spot {
+            Spot::Field(at) => match &self.class {
+                Class::Object(_) => self.values.get(at as usize),
+                _ => None,
+            },
+            Spot::Element(at) => match &self.class {
+                Class::Array(_) => self.values.get(at as usize),
+                _ => None,
+            },
+            Spot::Length => match &self.class {
+                Class::Array(_) => Some(Value::Int(self.values.as_slice().len() as i32)),
+                _ => None,
+            },
         }
     }
 
@@ -44,6 +48,7 @@ impl Object {
     }
 
     /// Another's class and values in place of these, in the room that is there.
+    #[inline(always)]
     pub fn copy_from(&mut self, other: &Object) -> Result<(), NoMemory>
         ensures { OnOk result (shown self.new ≡ shown other.now) }
     {
@@ -51,6 +56,7 @@ impl Object {
         self.values.copy_from(&other.values)
     }
 
+    #[inline(always)]
     pub fn write(&mut self, at: usize, value: Value)
         ensures class { self.new.class ≡ self.old.class }
         ensures values { self.new.values ≡ slice_set self.old.values at value }

@@ -1,6 +1,6 @@
 -- What was read already.
-use Rattle.std.proofs.Common.{◌≡◌, ℕ, suc, ◌<◌, Bool, true, false, List, [], ◌∷◌, length, get_or, refl, ap, arith, ◌∙◌}
-use Rattle.std.specs.Prelude.{zero, map, ◌||◌, nat_eq, Option, Some, Ok, option_map, slice_get, if◌then◌else◌, min, pos}
+use Rattle.std.proofs.Common.{◌≡◌, ℕ, suc, Bool, true, false, List, [], ◌∷◌, length, ap, ◌∙◌}
+use Rattle.std.specs.Prelude.{map, nat_eq, Option, Some, Ok, option_map, slice_get, if◌then◌else◌, min, pos}
 use Rattle.std.proofs.Common.{◌+◌, ◌++◌, sym, rules}
 use Rattle.std.proofs.lemmas.List.{set-get_or}
 use Rattle.kr_value.specs.declared.value.Value.{Value}
@@ -20,20 +20,8 @@ use Rattle.kr_world.proofs.Calls.{collects_made}
 use Rattle.kr_world.proofs.Locals.{local_there}
 use Rattle.kr_known.specs.Knowing.{Shows, fuelled}
 use Rattle.kr_mean.specs.Places as places
-use Rattle.kr_mean.specs.Runs.{is_same_place}
-use Rattle.kr_world.specs.declared.reads.SlotPlace.{SlotPlace}
 use Rattle.kr_world.specs.Noting.{is_read, noted_once, noting}
-use Rattle.kr_world.specs.Shown.{local_of, place_of}
-
-or_true : (b : Bool) → (b || true) ≡ true
-or_true true = refl
-or_true false = refl
-
--- a place among those that were read
-pub read_at : (p : places.SlotPlace) (qs : List SlotPlace) (i : ℕ) (none : SlotPlace) → i < length qs → is_same_place (place_of (get_or qs i none)) p ≡ true → is_read p (map place_of qs) ≡ true
-read_at p [] i none lt h = absurd (omega (arith, lt))
-read_at p (q ∷ qs) zero none lt h = ap (λ (b : Bool). b || is_read p (map place_of qs)) h
-read_at p (q ∷ qs) (suc i) none lt h = ap (λ (b : Bool). is_same_place (place_of q) p || b) (read_at p qs i none (omega (arith, lt)) h) ∙ or_true (is_same_place (place_of q) p)
+use Rattle.kr_world.specs.Shown.{local_of}
 
 -- a parameter that was read
 pub read_again : (p : places.SlotPlace) (seen : List places.SlotPlace) → is_read p seen ≡ true → noted_once seen (p ∷ []) ≡ seen

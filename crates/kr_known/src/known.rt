@@ -15,6 +15,7 @@ pub struct Known {
 }
 
 /// A node's value as an expression, where that is known at once; its fuel is spent.
+#[inline(always)]
 pub fn at_once(code: &Code, world: &mut World, node: u32) -> Option<Value>
     ensures { MatchOption result (world.new ≡ world.old) (λ v. HasGiven code.now v world.new world.old (λ d. d.value node)) }
 {

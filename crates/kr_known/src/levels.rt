@@ -43,6 +43,7 @@ impl Look for Below {
 }
 
 /// The expression that is a node, if it is one.
+#[inline(always)]
 pub fn expression_at(code: &Code, node: u32) -> Option<&Expression>
     ensures { MatchOption result (expression_of (node_at code.now node) ≡ NoExpression) (λ e. e.now ≡ expression_of (node_at code.now node)) }
 {
@@ -53,6 +54,7 @@ pub fn expression_at(code: &Code, node: u32) -> Option<&Expression>
 }
 
 impl<L: Look> Look for Above<L> {
+    #[inline(always)]
     fn look(code: &Code, world: &World, node: u32, fuel: u64) -> Option<Known> {
         if fuel == 0 {
             return None;
@@ -75,6 +77,7 @@ fn known_with(value: Option<Value>, fuel: u64) -> Option<Known>
 }
 
 /// A local.
+#[inline(always)]
 fn local_of(code: &Code, world: &World, number: u32, fuel: u64) -> Option<Known>
     ensures { IfSome result (λ k. Knows code.now world.now fuel k (λ d. read_local number)) }
 {
@@ -82,6 +85,7 @@ fn local_of(code: &Code, world: &World, number: u32, fuel: u64) -> Option<Known>
 }
 
 /// The field of a name, of `this`.
+#[inline(always)]
 fn own_field(code: &Code, world: &World, name: u32, fuel: u64) -> Option<Known>
     ensures { IfSome result (λ k. Knows code.now world.now fuel k (λ d. bind get_this (load_named code.now name))) }
 {
@@ -89,6 +93,7 @@ fn own_field(code: &Code, world: &World, name: u32, fuel: u64) -> Option<Known>
 }
 
 /// The field of a name, of an object.
+#[inline(always)]
 fn field_of<L: Look>(code: &Code, world: &World, object: u32, name: u32, fuel: u64) -> Option<Known>
     ensures { IfSome result (λ k. Knows code.now world.now fuel k (λ d. bind (d.value object) (load_named code.now name))) }
 {
@@ -99,6 +104,7 @@ fn field_of<L: Look>(code: &Code, world: &World, object: u32, name: u32, fuel: u
 }
 
 /// An element of an array.
+#[inline(never)]
 fn element_of<L: Look>(
     code: &Code,
     world: &World,
@@ -118,6 +124,7 @@ fn element_of<L: Look>(
 }
 
 /// An operator with one operand.
+#[inline(always)]
 fn unary_of<L: Look>(
     code: &Code,
     world: &World,
@@ -140,6 +147,7 @@ fn unary_of<L: Look>(
 }
 
 /// An operator with two operands.
+#[inline(never)]
 fn binary_of<L: Look>(
     code: &Code,
     world: &World,
@@ -166,6 +174,7 @@ fn binary_of<L: Look>(
 }
 
 /// A conjunction: the right operand is looked at only where the left one holds.
+#[inline(never)]
 fn and_of<L: Look>(code: &Code, world: &World, left: u32, right: u32, fuel: u64) -> Option<Known>
     ensures { IfSome result (λ k. Knows code.now world.now fuel k (λ d. bind (d.value left) (λ v. choose v (d.value right) (give (Truth false))))) }
 {
@@ -183,6 +192,7 @@ fn and_of<L: Look>(code: &Code, world: &World, left: u32, right: u32, fuel: u64)
 }
 
 /// A disjunction: the right operand is looked at only where the left one doesn't hold.
+#[inline(never)]
 fn or_of<L: Look>(code: &Code, world: &World, left: u32, right: u32, fuel: u64) -> Option<Known>
     ensures { IfSome result (λ k. Knows code.now world.now fuel k (λ d. bind (d.value left) (λ v. choose v (give (Truth true)) (d.value right)))) }
 {
@@ -200,6 +210,7 @@ fn or_of<L: Look>(code: &Code, world: &World, left: u32, right: u32, fuel: u64) 
 }
 
 /// A call without arguments on a collection.
+#[inline(never)]
 fn call_of<L: Look>(
     code: &Code,
     world: &World,
@@ -208,18 +219,57 @@ fn call_of<L: Look>(
     arguments: Nodes,
     fuel: u64,
 ) -> Option<Known>
+    requires { arguments.count ≡ 0 }
     ensures { IfSome result (λ k. Knows code.now world.now fuel k (λ d. bind (d.value object) (λ o. bind (values_at d (listed code.now arguments)) (collect_step (name_of call) o)))) }
 {
-    if arguments.count != 0 {
-        return None;
-    }
     match L::look(code, world, object, fuel) {
         None => None,
         Some(found) => known_with(asked(world, call, found.value), found.fuel),
     }
 }
 
-/// An expression, after its unit.
+/// An expression that isn't the simplest, after its unit.
+#[inline(never)]
+fn parts_in<L: Look>(
+    code: &Code,
+    world: &World,
+    expression: &Expression,
+    fuel: u64,
+) -> Option<Known>
+    ensures { IfSome result (λ k. Knows code.now world.now fuel k (λ d. value_of code.now d expression.now)) }
+{
+    match expression {
+        Expression::OwnField(name) => own_field(code, world, *name, fuel),
+        Expression::FieldOf { object, name } => field_of::<L>(code, world, *object, *name, fuel),
+        Expression::Element { array, index } => element_of::<L>(code, world, *array, *index, fuel),
+        Expression::Unary { operator, operand } => {
+            unary_of::<L>(code, world, *operator, *operand, fuel)
+        }
+        Expression::Binary {
+            operator,
+            left,
+            right,
+        } => binary_of::<L>(code, world, *operator, *left, *right, fuel),
+        Expression::And { left, right } => and_of::<L>(code, world, *left, *right, fuel),
+        Expression::Or { left, right } => or_of::<L>(code, world, *left, *right, fuel),
+        Expression::CallCollection {
+            object,
+            call,
+            arguments,
+        } => {
+            if arguments.count == 0 {
+                call_of::<L>(code, world, *object, *call, *arguments, fuel)
+            } else {
+                None
+            }
+        }
+        Expression::Same(operand) => L::look(code, world, *operand, fuel),
+        _ => None,
+    }
+}
+
+/// An expression, after its unit: what is simplest, and what is never known, is found here, so that it costs little.
+#[inline(always)]
 fn value_in<L: Look>(
     code: &Code,
     world: &World,
@@ -238,25 +288,13 @@ fn value_in<L: Look>(
             fuel,
         }),
         Expression::Local(number) => local_of(code, world, *number, fuel),
-        Expression::OwnField(name) => own_field(code, world, *name, fuel),
-        Expression::FieldOf { object, name } => field_of::<L>(code, world, *object, *name, fuel),
-        Expression::Element { array, index } => element_of::<L>(code, world, *array, *index, fuel),
-        Expression::Unary { operator, operand } => {
-            unary_of::<L>(code, world, *operator, *operand, fuel)
-        }
-        Expression::Binary {
-            operator,
-            left,
-            right,
-        } => binary_of::<L>(code, world, *operator, *left, *right, fuel),
-        Expression::And { left, right } => and_of::<L>(code, world, *left, *right, fuel),
-        Expression::Or { left, right } => or_of::<L>(code, world, *left, *right, fuel),
-        Expression::CallCollection {
-            object,
-            call,
-            arguments,
-        } => call_of::<L>(code, world, *object, *call, *arguments, fuel),
-        Expression::Same(operand) => L::look(code, world, *operand, fuel),
-        _ => None,
+        Expression::CallCollection { arguments, .. } if arguments.count != 0 => None,
+        _ => match parts_in::<L>(code, world, expression, fuel) {
+            None => None,
+            Some(known) => Some(Known {
+                value: known.value,
+                fuel: known.fuel,
+            }),
+        },
     }
 }

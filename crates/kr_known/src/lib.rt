@@ -5,7 +5,6 @@
 
 mod known;
 mod levels;
-mod noted;
 mod places;
 
 pub use known::{Known, at_once};

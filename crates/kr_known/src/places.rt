@@ -11,11 +11,11 @@ ghost use Rattle.kr_code.specs.Collections.{name_of};
 ghost use Rattle.kr_world.specs.Worlds.{IsArray, is_fixed};
 ghost use Rattle.kr_known.specs.Knowing.{Shows};
 
-use crate::noted::is_noted;
 use kr_code::{Code, CollectionCall};
 use kr_value::{Class, Obj, Spot, Value};
 use kr_world::{Local, SlotPlace, World, class_of, index_below, made_number, size_value};
 
+#[inline(always)]
 fn found_in(locals: &Vec<Local>, local: u32) -> Option<Local>
     ensures { result ≡ slice_get locals.now.items local }
 {
@@ -23,16 +23,18 @@ fn found_in(locals: &Vec<Local>, local: u32) -> Option<Local>
 }
 
 /// Whether a local is no parameter that a candidate gives, or one that was read.
+#[inline(always)]
 fn is_free(world: &World, parameter: Option<u32>) -> bool
     ensures { result ≡ true → noted_once world.now.reads (place_reads (option_map Parameter parameter)) ≡ world.now.reads }
 {
     match parameter {
         None => true,
-        Some(number) => is_noted(world, SlotPlace::Parameter(number)),
+        Some(number) => world.reads.contains(SlotPlace::Parameter(number)),
     }
 }
 
 /// A local that no candidate gives, or that was read.
+#[inline(always)]
 pub(crate) fn local(world: &World, local: u32) -> Option<Value>
     ensures { IfSome result (λ v. Shows world.now v (read_local local)) }
 {
@@ -49,18 +51,20 @@ pub(crate) fn local(world: &World, local: u32) -> Option<Value>
 }
 
 /// A field or the length of a candidate, that was read.
+#[inline(always)]
 fn told(world: &World, object: Obj, spot: Spot) -> Option<Value>
     requires candidate { object < length world.now.candidates }
     requires fixed { is_fixed spot ≡ true }
     ensures { IfSome result (λ v. Shows world.now v (load_step (Reference object) spot)) }
 {
-    if !is_noted(world, SlotPlace::At(object, spot)) {
+    if !world.reads.contains(SlotPlace::At(object, spot)) {
         return None;
     }
     world.candidates.read(object, spot)
 }
 
 /// A field or the length of what the run has made.
+#[inline(always)]
 fn made(world: &World, object: Obj, number: u32, spot: Spot) -> Option<Value>
     requires { object ≡ length world.now.candidates + number }
     ensures { IfSome result (λ v. Shows world.now v (load_step (Reference object) spot)) }
@@ -69,6 +73,7 @@ fn made(world: &World, object: Obj, number: u32, spot: Spot) -> Option<Value>
 }
 
 /// A field, or an array's length.
+#[inline(always)]
 fn loaded(world: &World, object: Obj, spot: Spot) -> Option<Value>
     requires { is_fixed spot ≡ true }
     ensures { IfSome result (λ v. Shows world.now v (load_step (Reference object) spot)) }
@@ -80,6 +85,7 @@ fn loaded(world: &World, object: Obj, spot: Spot) -> Option<Value>
 }
 
 /// The field of a name, or an array's length.
+#[inline(always)]
 #[tactic(auto, unfolding(kr_mean::specs::Steps::bind))]
 pub(crate) fn field(code: &Code, world: &World, name: u32, object: Value) -> Option<Value>
     ensures { IfSome result (λ v. Shows world.now v (load_named code.now name object)) }
@@ -112,10 +118,13 @@ fn element_told(world: &World, object: Obj, index: i32) -> Option<Value>
     match index_below(index, world.candidates.size_of(object)) {
         None => None,
         Some(at) => {
-            if !is_noted(world, SlotPlace::At(object, Spot::Element(at))) {
+            if !world
+                .reads
+                .contains(SlotPlace::At(object, Spot::Element(at)))
+            {
                 return None;
             }
-            if !is_noted(world, SlotPlace::At(object, Spot::Length)) {
+            if !world.reads.contains(SlotPlace::At(object, Spot::Length)) {
                 return None;
             }
             world.candidates.read(object, Spot::Element(at))
@@ -152,6 +161,7 @@ pub(crate) fn element(world: &World, array: Value, index: Value) -> Option<Value
 }
 
 /// How many members a collection has, or whether it has none.
+#[inline(always)]
 fn asked_of(world: &World, call: CollectionCall, object: Obj, number: u32) -> Option<Value>
     requires made { object ≡ length world.now.candidates + number }
     requires collection { is_collection (object_in world.now.made number).class ≡ true }
@@ -165,6 +175,7 @@ fn asked_of(world: &World, call: CollectionCall, object: Obj, number: u32) -> Op
 }
 
 /// A question about what the run has made.
+#[inline(always)]
 fn asked_made(world: &World, call: CollectionCall, object: Obj, number: u32) -> Option<Value>
     requires { object ≡ length world.now.candidates + number }
     ensures { IfSome result (λ v. Shows world.now v (collect_step (name_of call) (Reference object) [])) }
@@ -178,6 +189,7 @@ fn asked_made(world: &World, call: CollectionCall, object: Obj, number: u32) -> 
 }
 
 /// Such a question about a collection.
+#[inline(always)]
 pub(crate) fn asked(world: &World, call: CollectionCall, object: Value) -> Option<Value>
     ensures { IfSome result (λ v. Shows world.now v (collect_step (name_of call) object [])) }
 {

@@ -1,6 +1,6 @@
 -- Calls on collections of a world.
-use Rattle.std.proofs.Common.{◌≡◌, ℕ, ◌+◌, ◌<◌, Bool, false, List, [], ◌++◌, length, refl, sym, ap, ◌∙◌, subst}
-use Rattle.std.specs.Prelude.{Option, Some, None, Result, Ok, Err, slice_set}
+use Rattle.std.proofs.Common.{◌≡◌, ℕ, ◌+◌, ◌<◌, false, List, [], ◌++◌, length, refl, sym, ap, ◌∙◌, subst}
+use Rattle.std.specs.Prelude.{Option, Some, None, Result, Ok, Err}
 use Rattle.std.proofs.lemmas.List.{set-get_or, get_or_append_left, length-set}
 use Rattle.kr_value.specs.declared.value.Value.{Value}
 use Rattle.kr_value.specs.declared.value.Value.TheVariants.{Ref as Reference}
@@ -8,9 +8,8 @@ use Rattle.kr_value.specs.declared.object.Class.{Class}
 use Rattle.kr_value.specs.Heaps.{Heap, HeapObject, object_in, no_object}
 use Rattle.kr_heap.specs.Objects.{with_values}
 use Rattle.kr_mean.specs.declared.kind.Kind.{Kind}
-use Rattle.kr_mean.specs.Collections.{Collected, collected, gives}
-use Rattle.kr_mean.specs.Places.{SlotPlace}
-use Rattle.kr_mean.specs.Steps.{Stop, Trapped, Stuck, State, Outcome, collect, collect_as, collected_said, with_members}
+use Rattle.kr_mean.specs.Collections.{Collected, collected}
+use Rattle.kr_mean.specs.Steps.{Stop, Trapped, Stuck, State, Outcome, collect, collect_as, collected_said}
 use Rattle.kr_world.specs.declared.world.World.{World}
 use Rattle.kr_world.specs.declared.world.End.TheVariants as ends
 use Rattle.kr_world.specs.declared.world.Halt.{Halt}

@@ -1,15 +1,15 @@
 -- What a run can't tell from its own candidates.
-use Rattle.std.proofs.Common.{◌≡◌, ℕ, ◌+◌, ◌-◌, ◌<◌, ◌≤◌, Bool, true, false, List, [], ◌∷◌, ◌++◌, length, get_or, Some, None, refl, sym, ap, ◌∙◌, subst, arith, append_assoc}
+use Rattle.std.proofs.Common.{◌≡◌, ℕ, ◌+◌, ◌-◌, ◌<◌, Bool, true, false, List, [], ◌∷◌, ◌++◌, length, Some, None, refl, sym, ap, ◌∙◌, subst, arith}
 use Rattle.std.specs.Prelude.{◌||◌, slice_set, Option, if◌then◌else◌, nat_lt}
 use Rattle.std.proofs.lemmas.List.{set-append_left, set-append_right, get_or_append_left, get_or-append-add, length-set}
 use Rattle.std.proofs.lemmas.Bool.{eq-eqb, lt-ltb, le-ltb, ltb-false, ltb-true}
-use Rattle.std.specs.Prelude.{◌==◌, ◌&&◌, Result, Ok, Err, OnOk, ℤ, pos}
+use Rattle.std.specs.Prelude.{◌&&◌, Result, Ok, Err, OnOk, ℤ, pos}
 use Rattle.std.specs.Result.{is_err}
 use Rattle.kr_value.specs.declared.value.Value.{Value}
 use Rattle.kr_value.specs.declared.value.Value.TheVariants.{Int, Ref as Reference, Null}
 use Rattle.kr_value.specs.declared.object.Class.TheVariants.{Object, Array, Set, List as Sequence}
 use Rattle.kr_value.specs.declared.object.Spot.TheVariants.{Field, Length, Element}
-use Rattle.kr_mean.specs.Steps.{State, Outcome, Trapped, load, load_if, element, element_if, element_read, index_within, noted, store_index, give, bind, put}
+use Rattle.kr_mean.specs.Steps.{State, Outcome, Trapped, load, load_if, element, element_if, element_read, index_within, noted}
 use Rattle.kr_mean.specs.declared.kind.Kind.TheVariants.{ArrayIndexOutOfBoundsException}
 use Rattle.kr_value.specs.declared.object.Class.{Class}
 use Rattle.kr_value.specs.declared.object.Spot.{Spot}
@@ -18,7 +18,7 @@ use Rattle.kr_heap.specs.Objects.{found, with_value, with_values}
 use Rattle.kr_mean.specs.Places.{SlotPlace, At}
 use Rattle.kr_mean.specs.Runs.{is_same_place, is_same_spot}
 use Rattle.kr_world.specs.Noting.{is_read, with_read, noted_once, noting}
-use Rattle.kr_world.specs.Worlds.{Others, AreLike, StandFor, StandsFor, candidates_of, is_fixed, IsArray, Allows, Agrees, Keeps}
+use Rattle.kr_world.specs.Worlds.{Others, AreLike, candidates_of, is_fixed, IsArray, Allows, Agrees, Keeps}
 use Rattle.kr_world.specs.declared.world.World.{World}
 use Rattle.kr_world.specs.declared.world.Halt.{Halt}
 use Rattle.kr_world.specs.declared.world.Halt.TheVariants.{Ended, Memory, Written}

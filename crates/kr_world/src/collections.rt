@@ -17,6 +17,7 @@ use kr_mean::Kind;
 use kr_value::{Class, Value};
 
 /// A size, which is at most the greatest int.
+#[inline(always)]
 pub fn size_value(size: usize) -> Value
     ensures { result ≡ Int (pos (min size 2147483647)) }
 {
@@ -24,6 +25,7 @@ pub fn size_value(size: usize) -> Value
 }
 
 /// A call on a set, with an argument.
+#[inline(always)]
 #[tactic(auto, using(crate::proofs::Members::set_adds))]
 fn set_with(members: &mut Members, call: CollectionCall, member: Value) -> Result<Value, Halt>
     ensures { Collects result members.old members.new (called_with Set (name_of call) member members.old) }
@@ -41,6 +43,7 @@ fn set_with(members: &mut Members, call: CollectionCall, member: Value) -> Resul
 }
 
 /// A call on a list, with an argument.
+#[inline(always)]
 fn list_with(members: &mut Members, call: CollectionCall, member: Value) -> Result<Value, Halt>
     ensures { Collects result members.old members.new (called_with ListClass (name_of call) member members.old) }
 {
@@ -57,6 +60,7 @@ fn list_with(members: &mut Members, call: CollectionCall, member: Value) -> Resu
 }
 
 /// A call on a set, without arguments.
+#[inline(always)]
 #[tactic(auto, using(crate::proofs::Members::empty_is))]
 fn set_alone(members: &mut Members, call: CollectionCall) -> Result<Value, Halt>
     ensures { Collects result members.old members.new (called_alone Set (name_of call) members.old) }
@@ -70,6 +74,7 @@ fn set_alone(members: &mut Members, call: CollectionCall) -> Result<Value, Halt>
 }
 
 /// A call on a list, without arguments.
+#[inline(always)]
 #[tactic(auto, using(crate::proofs::Members::empty_is))]
 fn list_alone(members: &mut Members, call: CollectionCall) -> Result<Value, Halt>
     ensures { Collects result members.old members.new (called_alone ListClass (name_of call) members.old) }
@@ -87,6 +92,7 @@ fn list_alone(members: &mut Members, call: CollectionCall) -> Result<Value, Halt
 }
 
 /// A call on a set.
+#[inline(always)]
 fn set_call(members: &mut Members, call: CollectionCall, arguments: &[Value]) -> Result<Value, Halt>
     ensures { Collects result members.old members.new (collected Set (name_of call) arguments.now members.old) }
 {
@@ -100,6 +106,7 @@ fn set_call(members: &mut Members, call: CollectionCall, arguments: &[Value]) ->
 }
 
 /// A call on a list.
+#[inline(always)]
 fn list_call(
     members: &mut Members,
     call: CollectionCall,
@@ -117,6 +124,7 @@ fn list_call(
 }
 
 /// A call on what has members, where it is a collection.
+#[inline(always)]
 fn call_on(
     members: &mut Members,
     class: Class,
@@ -133,6 +141,7 @@ fn call_on(
 }
 
 /// A call on a collection that the run has made.
+#[inline(always)]
 fn collect_made(
     world: &mut World,
     call: CollectionCall,

@@ -16,6 +16,7 @@ use kr_value::{Class, Spot, Value};
 use std::alloc::Global;
 
 /// An object's number among those that the run has made; none where it is a candidate.
+#[inline(always)]
 pub fn made_number(world: &World, object: u32) -> Option<u32>
     ensures { MatchOption result (object < length world.now.candidates) (λ k. object ≡ length world.now.candidates + k) }
 {
@@ -28,6 +29,7 @@ pub fn made_number(world: &World, object: u32) -> Option<u32>
 }
 
 /// What an object is of.
+#[inline(always)]
 pub fn class_of(world: &World, object: u32) -> Class
     ensures own { result ≡ (object_in (world.now.candidates ++ world.now.made) object).class }
     ensures all { (x : Others) → Allows world.now x → result ≡ (object_in (candidates_of world.now.candidates x ++ world.now.made) object).class }
@@ -39,6 +41,7 @@ pub fn class_of(world: &World, object: u32) -> Class
 }
 
 /// A field or the length of what the run has made.
+#[inline(always)]
 fn load_made(world: &World, object: u32, number: u32, spot: Spot) -> Result<Value, Halt>
     requires { object ≡ length world.now.candidates + number }
     ensures { Agrees result world.now world.now (λ x. load_step (Reference object) spot (state_at world.now x)) }
@@ -50,6 +53,7 @@ fn load_made(world: &World, object: u32, number: u32, spot: Spot) -> Result<Valu
 }
 
 /// A field or the length of a candidate, which is read.
+#[inline(always)]
 fn load_candidate(world: &mut World, object: u32, spot: Spot) -> Result<Value, Halt>
     requires candidate { object < length world.old.candidates }
     requires fixed { is_fixed spot ≡ true }
@@ -65,6 +69,7 @@ fn load_candidate(world: &mut World, object: u32, spot: Spot) -> Result<Value, H
 }
 
 /// A field of an object, or an array's length.
+#[inline(always)]
 fn load(world: &mut World, object: u32, spot: Spot) -> Result<Value, Halt>
     requires { is_fixed spot ≡ true }
     ensures { Agrees result world.new world.old (λ x. load_step (Reference object) spot (state_at world.old x)) }
@@ -101,6 +106,7 @@ pub fn load_named(code: &Code, world: &mut World, name: u32, object: Value) -> R
 }
 
 /// An index below a length.
+#[inline(always)]
 pub fn index_below(index: i32, length: usize) -> Option<u32>
     ensures { result ≡ index_within index length }
 {
@@ -261,6 +267,7 @@ pub fn store_initial(
 }
 
 /// How many values an object has.
+#[inline(always)]
 fn size_of(world: &World, object: u32) -> usize
     ensures { result ≡ length (object_in (world.now.candidates ++ world.now.made) object).values }
 {
@@ -271,6 +278,7 @@ fn size_of(world: &World, object: u32) -> usize
 }
 
 /// Whether an object is a candidate that isn't written.
+#[inline(always)]
 fn is_kept(world: &World, object: u32) -> bool
     ensures { IsKept world.now object result }
 {

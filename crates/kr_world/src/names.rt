@@ -10,9 +10,11 @@ ghost use Rattle.kr_world.specs.Worlds.{state_at, Agrees};
 
 use crate::{End, Halt, Local, SlotPlace, World};
 use kr_base::Place;
+use kr_heap::append;
 use kr_value::Value;
 
 /// One unit of fuel.
+#[inline(always)]
 #[tactic(auto, unfolding(kr_mean::specs::Steps::bind))]
 pub fn tick(world: &mut World) -> Result<Value, Halt>
     ensures { Agrees result world.new world.old (λ x. bind tick_step (λ u. give Null) (state_at world.old x)) }
@@ -25,6 +27,7 @@ pub fn tick(world: &mut World) -> Result<Value, Halt>
 }
 
 /// One unit of fuel, and a new local.
+#[inline(always)]
 #[tactic(auto, unfolding(kr_mean::specs::Steps::bind))]
 pub fn declare(world: &mut World, value: Value) -> Result<Value, Halt>
     ensures { Agrees result world.new world.old (λ x. bind tick_step (λ u. bind (declare_step value) (λ w. give Null)) (state_at world.old x)) }
@@ -37,13 +40,14 @@ pub fn declare(world: &mut World, value: Value) -> Result<Value, Halt>
         value,
         parameter: None,
     };
-    if world.locals.push(local).is_err() {
+    if append(&mut world.locals, local).is_err() {
         return Err(Halt::Memory);
     }
     Ok(Value::Null)
 }
 
 /// Gives a local another value, and then what is to be given.
+#[inline(always)]
 #[tactic(auto, unfolding(kr_mean::specs::Steps::bind))]
 pub fn assign(world: &mut World, local: u32, value: Value, given: Value) -> Result<Value, Halt>
     ensures { Agrees result world.new world.old (λ x. bind (assign_step local value) (λ u. give given) (state_at world.old x)) }
@@ -58,18 +62,21 @@ pub fn assign(world: &mut World, local: u32, value: Value, given: Value) -> Resu
     Err(Halt::Ended(End::Stuck))
 }
 
+#[inline(always)]
 fn found_in(locals: &Vec<Local>, local: u32) -> Option<Local>
     ensures { result ≡ slice_get locals.now.items local }
 {
     locals.get(local as usize).copied()
 }
 
+#[inline(always)]
 fn local_in(locals: &Vec<Local>, local: u32) -> Option<Local>
     ensures { option_map local_of result ≡ local_at (map local_of locals.now.items) local }
 {
     found_in(locals, local)
 }
 
+#[inline(always)]
 fn note_parameter(world: &mut World, parameter: Option<u32>) -> Result<(), Halt>
     ensures { Agrees result world.new world.old (λ x. record { said = Ok tt; after = state_at world.old x; reads = place_reads (option_map Parameter parameter) }) }
 {
@@ -85,6 +92,7 @@ fn note_parameter(world: &mut World, parameter: Option<u32>) -> Result<(), Halt>
 }
 
 /// The value of a local, which is read where a candidate gives it.
+#[inline(always)]
 pub fn read_local(world: &mut World, local: u32) -> Result<Value, Halt>
     ensures { Agrees result world.new world.old (λ x. read_step local (state_at world.old x)) }
 {
@@ -98,6 +106,7 @@ pub fn read_local(world: &mut World, local: u32) -> Result<Value, Halt>
 }
 
 /// What the method under test has given.
+#[inline(always)]
 pub fn result(world: &World) -> Result<Value, Halt>
     ensures { Agrees result world.now world.now (λ x. get_result (state_at world.now x)) }
 {

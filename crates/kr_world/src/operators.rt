@@ -1,5 +1,6 @@
 // Operators on values.
 ghost use Rattle.std.specs.Prelude.{◌≡◌};
+ghost use Rattle.kr_value.specs.declared.value.Value.TheVariants.{Int, Bool};
 ghost use Rattle.kr_mean.specs.Steps.{say};
 ghost use Rattle.kr_mean.specs.Operators as meaning;
 ghost use Rattle.kr_operators.specs.Shown.{constant_shown, shown};
@@ -12,6 +13,7 @@ use kr_mean::Kind;
 use kr_operators::{Constant, of_booleans, of_ints, unary};
 use kr_value::Value;
 
+#[inline(always)]
 fn value_of(constant: Constant) -> Value
     ensures { result ≡ meaning.value_of_constant (constant_shown constant) }
 {
@@ -22,6 +24,7 @@ fn value_of(constant: Constant) -> Value
     }
 }
 
+#[inline(always)]
 fn is_division(operator: BinaryOperator) -> bool
     ensures { result ≡ meaning.is_division operator }
 {
@@ -32,6 +35,7 @@ fn is_division(operator: BinaryOperator) -> bool
     }
 }
 
+#[inline(always)]
 fn is_same_object(operator: BinaryOperator, same: bool) -> Result<Value, End>
     ensures { IsSaid result (meaning.of_references operator same) }
 {
@@ -42,6 +46,7 @@ fn is_same_object(operator: BinaryOperator, same: bool) -> Result<Value, End>
     }
 }
 
+#[inline(always)]
 fn said(is_division: bool, found: Option<Constant>) -> Result<Value, End>
     ensures { IsSaid result (meaning.constant_result is_division (shown found)) }
 {
@@ -57,13 +62,30 @@ fn said(is_division: bool, found: Option<Constant>) -> Result<Value, End>
     }
 }
 
+/// What an operator gives of two ints.
+#[inline(never)]
+fn ints(operator: BinaryOperator, left: i32, right: i32) -> Result<Value, End>
+    ensures { IsSaid result (meaning.operated operator (Int left) (Int right)) }
+{
+    said(is_division(operator), of_ints(operator, left, right))
+}
+
+/// What an operator gives of two booleans.
+#[inline(never)]
+fn booleans(operator: BinaryOperator, left: bool, right: bool) -> Result<Value, End>
+    ensures { IsSaid result (meaning.operated operator (Bool left) (Bool right)) }
+{
+    said(false, of_booleans(operator, left, right))
+}
+
 /// What an operator gives of two operands.
+#[inline(always)]
 pub fn binary(operator: BinaryOperator, left: Value, right: Value) -> Result<Value, End>
     ensures { IsSaid result (meaning.operated operator left right) }
 {
     match (left, right) {
-        (Value::Int(a), Value::Int(b)) => said(is_division(operator), of_ints(operator, a, b)),
-        (Value::Bool(a), Value::Bool(b)) => said(false, of_booleans(operator, a, b)),
+        (Value::Int(a), Value::Int(b)) => ints(operator, a, b),
+        (Value::Bool(a), Value::Bool(b)) => booleans(operator, a, b),
         (Value::Null, Value::Null) => is_same_object(operator, true),
         (Value::Null, Value::Ref(_)) => is_same_object(operator, false),
         (Value::Ref(_), Value::Null) => is_same_object(operator, false),
@@ -73,6 +95,7 @@ pub fn binary(operator: BinaryOperator, left: Value, right: Value) -> Result<Val
 }
 
 /// What an operator gives of one operand.
+#[inline(always)]
 pub fn alone(operator: UnaryOperator, value: Value) -> Result<Value, End>
     ensures { IsSaid result (meaning.operated_alone operator value) }
 {
@@ -84,6 +107,7 @@ pub fn alone(operator: UnaryOperator, value: Value) -> Result<Value, End>
 }
 
 /// Two operands.
+#[inline(always)]
 pub fn operated(
     world: &World,
     operator: BinaryOperator,
@@ -99,6 +123,7 @@ pub fn operated(
 }
 
 /// One operand.
+#[inline(always)]
 pub fn operated_alone(world: &World, operator: UnaryOperator, value: Value) -> Result<Value, Halt>
     ensures { Agrees result world.now world.now (λ x. say (meaning.operated_alone operator value) (state_at world.now x)) }
 {

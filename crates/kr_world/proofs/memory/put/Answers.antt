@@ -1,5 +1,5 @@
-use Rattle.std.proofs.Common.{rules, ◌≡◌, ◌++◌, refl, sym, ap, ◌∙◌}
-use Rattle.std.specs.Prelude.{Ok, length}
+use Rattle.std.proofs.Common.{rules, ◌++◌, refl, sym, ap, ◌∙◌}
+use Rattle.std.specs.Prelude.{Ok}
 use Rattle.kr_value.specs.Heaps.{Heap}
 use Rattle.kr_mean.specs.Steps.{State}
 use Rattle.kr_world.specs.Worlds.{state_at, candidates_of}

@@ -1,8 +1,7 @@
-use Rattle.std.proofs.Common.{refl, ◌<◌, false, ◌≡◌, ◌++◌, ℕ, length, sym, ap, ◌∙◌, rules}
+use Rattle.std.proofs.Common.{refl, ◌<◌, false, ◌≡◌, ◌++◌, ℕ, length, ap, ◌∙◌, rules}
 use Rattle.std.specs.Prelude.{Option, Some, None}
-use Rattle.kr_value.specs.declared.value.Value.{Value}
 use Rattle.kr_value.specs.Heaps.{HeapObject, object_in}
-use Rattle.kr_mean.specs.Steps.{State, Outcome, bind, give, store_index, index_within}
+use Rattle.kr_mean.specs.Steps.{bind, give, store_index, index_within}
 use Rattle.kr_world.specs.Noting.{noting}
 use Rattle.kr_world.specs.Worlds.{state_at, candidates_of}
 use Rattle.kr_world.proofs.Candidates.{writable, agrees_same}

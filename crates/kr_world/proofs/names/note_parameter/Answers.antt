@@ -1,7 +1,7 @@
-use Rattle.std.proofs.Common.{◌≡◌, ℕ, List, Some, refl, ap, sym, subst, ◌∙◌}
+use Rattle.std.proofs.Common.{ℕ, List, refl, ap, sym, subst, ◌∙◌}
 use Rattle.std.specs.Prelude.{Ok, Option, option_map}
 use Rattle.kr_mean.specs.Places.{SlotPlace, Parameter}
-use Rattle.kr_mean.specs.Steps.{Outcome, place_reads}
+use Rattle.kr_mean.specs.Steps.{place_reads}
 use Rattle.kr_world.specs.Noting.{noting}
 use Rattle.kr_world.specs.Worlds.{state_at, AreLike}
 use Rattle.kr_world.proofs.Candidates.{allowed_before, ok_is}

@@ -2,7 +2,7 @@ use Rattle.std.proofs.Common.{◌≡◌, ◌≤◌, drop, length, false}
 use Rattle.std.specs.Prelude.{map}
 use Rattle.kr_world.specs.Noting.{is_read}
 use Rattle.kr_world.specs.Shown.{place_of}
-use Rattle.kr_world.proofs.reads.contains.Given as goal
+use Rattle.kr_world.proofs.reads.contains_any.Given as goal
 
 -- the place is none of those that were looked at
 abbrev pub invariant-reads : goal.invariant-reads
