@@ -3,7 +3,7 @@ use Rattle.std.proofs.Common.{◌≡◌, ℕ, zero, suc, ◌<◌, ◌≤◌, ari
 use Rattle.std.specs.Prelude.{flat_map, map, reverse, ◌||◌, ◌==◌, if◌then◌else◌}
 use Rattle.std.proofs.Math.Seq.{take-append_seam, drop-cons}
 use Rattle.std.proofs.lemmas.Bool.{eqb-true, eq-eqb}
-use Rattle.std.proofs.lemmas.List.{append-nil, append_assoc, map-append, reverse-append, reverse-reverse, take-append-drop, take-map}
+use Rattle.std.proofs.lemmas.List.{append-nil, append_assoc, map-append, reverse-append, reverse-reverse, take-append-drop, take-map, take_all}
 use Rattle.std.proofs.lemmas.List.Concat.{flat_map-append}
 use Rattle.kr_mean.specs.Places.{SlotPlace}
 use Rattle.kr_mean.specs.Runs.{contains_number, is_same_place}
@@ -66,22 +66,22 @@ contains_at (s ∷ ss) (suc n) h = or_right (s == get_or ss n 0) (contains_numbe
 pub once_before : (ss : List ℕ) (n x : ℕ) → EachOnce ss → n < length ss → get_or ss n 0 ≡ x → contains_number (take n ss) x ≡ false
 once_before [] n x o h e = absurd (omega (arith, h))
 once_before (s ∷ ss) zero x o h e = refl
-once_before (s ∷ ss) (suc n) x o h e = go (bool_cases (s == x))
+once_before (s ∷ ss) (suc n) x o h e = go (bool_cases (s == x)) (once_before ss n x o.1 (omega (arith, h)) e)
   where
-    go : ((s == x) ≡ true) ⊎ ((s == x) ≡ false) → contains_number (take (suc n) (s ∷ ss)) x ≡ false
-    go (inl i) = absurd (cc (subst (λ (y : ℕ). contains_number ss y ≡ true) (e ∙ sym (eqb-true s x i)) (contains_at ss n (omega (arith, h))), o.0))
-    go (inr i) = ap (λ (b : Bool). b || contains_number (take n ss) x) i ∙ once_before ss n x o.1 (omega (arith, h)) e
+    go : ((s == x) ≡ true) ⊎ ((s == x) ≡ false) → contains_number (take n ss) x ≡ false → contains_number (take (suc n) (s ∷ ss)) x ≡ false
+    go (inl i) r = absurd (cc (subst (λ (y : ℕ). contains_number ss y ≡ true) (e ∙ sym (eqb-true s x i)) (contains_at ss n (omega (arith, h))), o.0))
+    go (inr i) r = ap (λ (b : Bool). b || contains_number (take n ss) x) i ∙ r
 
 -- nor is one that none of them is
 pub none_before : (ss : List ℕ) (n x : ℕ) → ((i : ℕ) → i < n → get_or ss i 0 ≡ x → ⊥) → contains_number (take n ss) x ≡ false
 none_before [] zero x h = refl
 none_before [] (suc n) x h = refl
 none_before (s ∷ ss) zero x h = refl
-none_before (s ∷ ss) (suc n) x h = go (bool_cases (s == x))
+none_before (s ∷ ss) (suc n) x h = go (bool_cases (s == x)) (none_before ss n x (λ k l. h (suc k) (omega (arith, l))))
   where
-    go : ((s == x) ≡ true) ⊎ ((s == x) ≡ false) → contains_number (take (suc n) (s ∷ ss)) x ≡ false
-    go (inl i) = absurd (h 0 (omega arith) (eqb-true s x i))
-    go (inr i) = ap (λ (b : Bool). b || contains_number (take n ss) x) i ∙ none_before ss n x (λ k l. h (suc k) (omega (arith, l)))
+    go : ((s == x) ≡ true) ⊎ ((s == x) ≡ false) → contains_number (take n ss) x ≡ false → contains_number (take (suc n) (s ∷ ss)) x ≡ false
+    go (inl i) r = absurd (h 0 (omega arith) (eqb-true s x i))
+    go (inr i) r = ap (λ (b : Bool). b || contains_number (take n ss) x) i ∙ r
 
 -- more of the first have all that fewer have
 pub contains_within : (ss : List ℕ) (m n x : ℕ) → m ≤ n → contains_number (take m ss) x ≡ true → contains_number (take n ss) x ≡ true
@@ -156,7 +156,7 @@ module _ (slots_of : SlotPlace → List ℕ) where
 
   -- ---- slots that have come
 
-  take_front : (ss : List ℕ) (m n s : ℕ) → contains_number (take m (take n ss)) s ≡ true → contains_number (take m ss) s ≡ true
+  pub take_front : (ss : List ℕ) (m n s : ℕ) → contains_number (take m (take n ss)) s ≡ true → contains_number (take m ss) s ≡ true
   take_front [] zero zero s h = h
   take_front [] zero (suc n) s h = h
   take_front [] (suc m) zero s h = h
@@ -175,7 +175,7 @@ module _ (slots_of : SlotPlace → List ℕ) where
     where
       go : (contains_number order s ≡ true) ⊎ (contains_number order s ≡ false) → contains_number (with_slot order s) t ≡ true
       go (inl e) = rw e h
-      go (inr e) = rw e (contains_more order t s ∙ here (s == t))
+      go (inr e) = rw e (contains_more order s t ∙ here (t == s))
         where
           here : (b : Bool) → (if b then true else contains_number order t) ≡ true
           here true = refl
@@ -186,7 +186,7 @@ module _ (slots_of : SlotPlace → List ℕ) where
     where
       go : (contains_number order s ≡ true) ⊎ (contains_number order s ≡ false) → contains_number (with_slot order s) t ≡ true
       go (inl e) = rw e (subst (λ (x : ℕ). contains_number order x ≡ true) (eqb-true s t q) e)
-      go (inr e) = rw e (contains_more order t s ∙ ap (λ (b : Bool). if b then true else contains_number order t) q)
+      go (inr e) = rw e (contains_more order s t ∙ ap (λ (b : Bool). if b then true else contains_number order t) (eq-eqb t s (sym (eqb-true s t q))))
 
   with_slots_has : (order ss : List ℕ) (t : ℕ) → contains_number order t ≡ true → contains_number (with_slots order ss) t ≡ true
   with_slots_has order [] t h = h
@@ -217,16 +217,21 @@ module _ (slots_of : SlotPlace → List ℕ) where
   all_there [] order a p s i h = absurd (cc (i))
   all_there (b ∷ accesses) order a p s i h =
       let more : map place_in (reverse (b ∷ accesses)) ≡ map place_in (reverse accesses) ++ place_in b ∷ [] = ap (map place_in) (reverse-append (b ∷ []) accesses) ∙ map-append place_in (reverse accesses) (b ∷ []) in
-      ap (λ (l : List ℕ). contains_number l s) a.1 ∙ go (is_read_more (map place_in (reverse accesses)) (place_in b) p (sym (ap (is_read p) more) ∙ i))
+      ap (λ (l : List ℕ). contains_number l s) a.1 ∙ go (is_read_more (map place_in (reverse accesses)) (place_in b) p (sym (ap (is_read p) more) ∙ i)) (λ r. all_there accesses (take b.before order) a.0 p s r h)
     where
-      go : (is_read p (map place_in (reverse accesses)) ≡ true) ⊎ (is_same_place (place_in b) p ≡ true) → contains_number (with_slots (take b.before order) (slots_of (place_in b))) s ≡ true
-      go (inl r) = with_slots_has (take b.before order) (slots_of (place_in b)) s (all_there accesses (take b.before order) a.0 p s r h)
-      go (inr e) = with_slots_new (take b.before order) (slots_of (place_in b)) s (subst (λ (q : SlotPlace). contains_number (slots_of q) s ≡ true) (sym (same_places (place_in b) p e)) h)
+      go : (is_read p (map place_in (reverse accesses)) ≡ true) ⊎ (is_same_place (place_in b) p ≡ true) → (is_read p (map place_in (reverse accesses)) ≡ true → contains_number (take b.before order) s ≡ true)
+          → contains_number (with_slots (take b.before order) (slots_of (place_in b))) s ≡ true
+      go (inl r) f = with_slots_has (take b.before order) (slots_of (place_in b)) s (f r)
+      go (inr e) f = with_slots_new (take b.before order) (slots_of (place_in b)) s (subst (λ (q : SlotPlace). contains_number (slots_of q) s ≡ true) (sym (same_places (place_in b) p e)) h)
+
+  pub all_come_before : (accesses : List Access) (n : ℕ) (order : List ℕ) → length accesses ≤ n → AreOf slots_of (reverse accesses) order → HaveCome slots_of (take n (map place_in accesses)) order
+  all_come_before accesses n order le a =
+      subst (λ (ps : List SlotPlace). HaveCome slots_of ps order) (ap (map place_in) (reverse-reverse accesses ∙ sym (take_all n accesses le)) ∙ sym (take-map place_in n accesses)) (all_there (reverse accesses) order a)
 
   -- those of the places before one have come with them
   there_before : (later : List Access) (b : Access) (accesses : List Access) (order : List ℕ) → AreOf slots_of (later ++ b ∷ accesses) order → HaveCome slots_of (map place_in (reverse accesses)) (take b.before order)
   there_before [] b accesses order a = all_there accesses (take b.before order) a.0
-  there_before (x ∷ later) b accesses order a p s i h = take_front order b.before x.before s (there_before later b accesses (take x.before order) a.0 p s i h)
+  there_before (x ∷ later) b accesses order a = λ p s i h. take_front order b.before x.before s (there_before later b accesses (take x.before order) a.0 p s i h)
 
   pub come_before : (accesses : List Access) (n : ℕ) (other : Access) (order : List ℕ) → n < length accesses → AreOf slots_of (reverse accesses) order → HaveCome slots_of (take n (map place_in accesses)) (take (get_or accesses n other).before order)
   come_before accesses n other order lt a =

@@ -15,7 +15,7 @@ use Rattle.kr_world.specs.declared.world.World.{World}
 use Rattle.kr_world.specs.declared.world.Halt.{Halt}
 use Rattle.kr_world.specs.declared.world.Halt.TheVariants.{Ended, Memory, Written}
 use Rattle.kr_world.specs.Noting.{noted_once}
-use Rattle.kr_world.specs.Pauses.{IsPaused}
+use Rattle.kr_runner.specs.States.{HasStateOf}
 use Rattle.kr_frames.specs.Copies.{GoOnAlike}
 use Rattle.kr_frames.specs.declared.frame.Frame.{Frame}
 use Rattle.kr_frames.specs.declared.task.Task.TheVariants as tasks
@@ -42,7 +42,7 @@ pub record IsCopyOf (condition : ℕ) (action : Action) (fs : List Frame) (w : W
   pub condition_is : c.condition ≡ condition
   pub action_is : c.action ≡ action
   pub stack : GoOnAlike fs c.stack
-  pub world : IsPaused w c.world
+  pub world : HasStateOf w c.world
   pub count_is : c.count ≡ length w.reads
 
 -- A checkpoint of where a run stands that has read the length of each array of which it has read an element.
@@ -69,7 +69,7 @@ pub record Wakes (checks : List Check) (start : Start) (reads : List SlotPlace) 
   pub task_is : start.task ≡ tasks.Act check.action
   pub count_is : start.count ≡ check.count
   pub stack : GoOnAlike check.stack fs
-  pub world : IsPaused check.world w
+  pub world : HasStateOf check.world w
   pub reads_are : w.reads ≡ take check.count reads
 
 -- the run's end, and the places that it has read, each where it is read first

@@ -2,3 +2,4 @@ pub mod Kept
 pub mod Seen
 pub mod Going
 pub mod Ascending
+pub mod States

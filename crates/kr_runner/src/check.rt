@@ -1,6 +1,7 @@
 // Where a run stood.
 ghost use Rattle.std.specs.Prelude.{◌≡◌, OnOk};
 ghost use Rattle.kr_runner.specs.Going.{IsCopyOf};
+ghost use Rattle.kr_runner.specs.States.{HasStateOf};
 
 use kr_base::NoMemory;
 use kr_frames::Stack;
@@ -18,6 +19,36 @@ pub struct Check {
     pub stack: Stack,
     pub world: World,
     pub count: usize,
+}
+
+/// Others in place of these, in the room that is there.
+#[inline(always)]
+fn refill<T: Copy + Drop>(items: &mut Vec<T>, others: &[T]) -> Result<(), NoMemory>
+    ensures { OnOk result (items.new.items ≡ others.now) }
+{
+    if others.is_empty() {
+        items.truncate(0);
+        return Ok(());
+    }
+    items.clear();
+    items.extend_from_slice(others)?;
+    Ok(())
+}
+
+/// A world's state in place of another's, in the room that is there; the candidates stay, and what was read.
+pub(crate) fn resume(alloc: Global, world: &mut World, other: &World) -> Result<(), NoMemory>
+    ensures copied { OnOk result (HasStateOf other.now world.new) }
+    ensures candidates { world.new.candidates ≡ world.old.candidates }
+    ensures frozen { world.new.is_frozen ≡ world.old.is_frozen }
+    ensures reads { world.new.reads ≡ world.old.reads }
+{
+    world.this = other.this;
+    world.result = other.result;
+    world.fuel = other.fuel;
+    refill(&mut world.locals, other.locals.as_slice())?;
+    refill(&mut world.olds, other.olds.as_slice())?;
+    world.made.copy_from(alloc, &other.made)?;
+    Ok(())
 }
 
 impl Check {
@@ -46,7 +77,7 @@ impl Check {
         self.condition = condition;
         self.action = action;
         self.stack.copy_from(alloc, stack)?;
-        self.world.resume(alloc, world)?;
+        resume(alloc, &mut self.world, world)?;
         self.count = world.reads.as_slice().len();
         Ok(())
     }

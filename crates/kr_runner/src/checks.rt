@@ -9,7 +9,7 @@ ghost use Rattle.kr_world.specs.Shown.{place_of};
 ghost use Rattle.kr_runner.specs.Kept.{IsClosed};
 ghost use Rattle.kr_runner.specs.Going.{Adds, IsCheckOf, IsHeld, Wakes};
 
-use crate::check::Check;
+use crate::check::{Check, resume};
 use kr_base::NoMemory;
 use kr_frames::{Stack, Task};
 use kr_judge::Accesses;
@@ -189,7 +189,7 @@ impl Checks {
             return Ok(None);
         }
         let check = &self.items[self.count - 1];
-        world.resume(alloc, &check.world)?;
+        resume(alloc, world, &check.world)?;
         world.reads.truncate(check.count);
         stack.copy_from(alloc, &check.stack)?;
         Ok(Some(Start {

@@ -2,7 +2,7 @@
 use Rattle.std.specs.Prelude.{◌≡◌}
 use Rattle.kr_world.specs.declared.world.World.{World}
 
--- all but the candidates and what was read is the same
+-- all but the candidates is the same
 pub record IsPaused (w p : World) : Type 0 where
   pub this : p.this ≡ w.this
   pub locals : p.locals.items ≡ w.locals.items
@@ -10,3 +10,4 @@ pub record IsPaused (w p : World) : Type 0 where
   pub olds : p.olds.items ≡ w.olds.items
   pub made : p.made ≡ w.made
   pub fuel : p.fuel ≡ w.fuel
+  pub reads : p.reads ≡ w.reads

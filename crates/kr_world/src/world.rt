@@ -59,22 +59,34 @@ pub struct World {
 fn refill<T: Copy + Drop>(items: &mut Vec<T>, others: &[T]) -> Result<(), NoMemory>
     ensures { OnOk result (items.new.items ≡ others.now) }
 {
-    if others.is_empty() {
-        items.truncate(0);
-        return Ok(());
-    }
     items.clear();
     items.extend_from_slice(others)?;
     Ok(())
 }
 
 impl World {
-    /// Another world's state in place of this one's, in the room that is there; the candidates stay, and what was read.
-    pub fn resume(&mut self, alloc: Global, other: &World) -> Result<(), NoMemory>
+    /// The world once more, but for the candidates: none are there.
+    pub fn pause(&self, alloc: Global) -> Result<World, NoMemory>
+        ensures { IfOk result (λ world. IsPaused self.now world) }
+    {
+        Ok(World {
+            this: self.this,
+            locals: self.locals.as_slice().to_vec(alloc)?,
+            result: self.result,
+            olds: self.olds.as_slice().to_vec(alloc)?,
+            candidates: Heap::new(alloc),
+            made: self.made.copy(alloc)?,
+            is_frozen: self.is_frozen,
+            fuel: self.fuel,
+            reads: self.reads.copy(alloc)?,
+        })
+    }
+
+    /// Another world's state in place of this one's, in the room that is there; the candidates stay.
+    pub fn copy_from(&mut self, alloc: Global, other: &World) -> Result<(), NoMemory>
         ensures copied { OnOk result (IsPaused other.now self.new) }
         ensures candidates { self.new.candidates ≡ self.old.candidates }
         ensures frozen { self.new.is_frozen ≡ self.old.is_frozen }
-        ensures reads { self.new.reads ≡ self.old.reads }
     {
         self.this = other.this;
         self.result = other.result;
@@ -82,6 +94,7 @@ impl World {
         refill(&mut self.locals, other.locals.as_slice())?;
         refill(&mut self.olds, other.olds.as_slice())?;
         self.made.copy_from(alloc, &other.made)?;
+        self.reads.copy_from(&other.reads)?;
         Ok(())
     }
 }
