@@ -1,5 +1,5 @@
 -- What is left of a run, with which candidates, and what a checkpoint keeps.
-use Rattle.std.specs.Prelude.{◌≡◌, ℕ, ◌+◌, Bool, true, List, [], ◌∷◌, drop, map, Option, Some, None}
+use Rattle.std.specs.Prelude.{◌≡◌, ℕ, ◌+◌, Bool, true, List, [], ◌∷◌, drop, length, take, Some}
 use Rattle.kr_value.specs.declared.value.Value.{Value}
 use Rattle.kr_value.specs.declared.object.Spot.TheVariants.{Length, Element}
 use Rattle.kr_value.specs.Heaps.{Heap}

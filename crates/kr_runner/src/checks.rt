@@ -3,18 +3,19 @@ ghost use Rattle.std.specs.Prelude.{◌≡◌, ◌++◌, ◌∷◌, [], ◌<◌,
 ghost use Rattle.std.specs.List.{All};
 ghost use Rattle.std.proofs.Common.{get_or};
 ghost use Rattle.kr_mean.specs.Places.{At};
-ghost use Rattle.kr_value.specs.declared.object.Spot.TheVariants.{Length};
+ghost use Rattle.kr_value.specs.declared.object.Spot.TheVariants.{Element, Length};
 ghost use Rattle.kr_world.specs.Noting.{is_read};
 ghost use Rattle.kr_world.specs.Shown.{place_of};
 ghost use Rattle.kr_runner.specs.Kept.{IsClosed};
-ghost use Rattle.kr_runner.specs.Going.{Adds, IsCheckOf, IsHeld, Wakes};
+ghost use Rattle.kr_runner.specs.Ascending.{Ascend, HadRead};
+ghost use Rattle.kr_runner.specs.Going.{Adds, IsCheckOf, IsCopyOf, IsHeld, Wakes};
 
 use crate::check::{Check, resume};
 use kr_base::NoMemory;
 use kr_frames::{Stack, Task};
 use kr_judge::Accesses;
-use kr_value::{Obj, Spot};
-use kr_world::{Action, SlotPlace, World};
+use kr_value::Spot;
+use kr_world::{Action, Reads, SlotPlace, World};
 use std::alloc::Global;
 use std::marker::Model;
 
@@ -43,7 +44,7 @@ impl Model for Checks {
 
     ghost view = { λ c. take c.count c.items.items };
 
-    ghost invariant = { λ c. (c.count ≤ vec_len c.items) × Ascend c.count c.items.items };
+    ghost invariant = { λ c. (c.count ≤ vec_len c.items) × Ascend (take c.count c.items.items) };
 }
 
 /// Makes sure that there is a checkpoint at a position, at most one more than there are.
@@ -60,15 +61,14 @@ fn make_room(alloc: Global, items: &mut Vec<Check>, count: usize) -> Result<(), 
     Ok(())
 }
 
-/// How many checkpoints, of so many, had read at most so many places.
-fn up_to(items: &[Check], count: usize, places: usize) -> usize
-    requires { count ≤ length items.now }
-    ensures fewer { result ≤ count }
-    ensures few { (other : Check) → 0 < result → (get_or items.now (result - 1) other).count ≤ places }
+/// How many checkpoints had read at most so many places.
+fn up_to(checks: &Checks, places: usize) -> usize
+    ensures fewer { result ≤ length checks.now }
+    ensures few { All (HadRead places) (take result checks.now) }
 {
-    let mut left = count;
+    let mut left = checks.len();
     'checks: while left > 0 {
-        if items[left - 1].count <= places {
+        if checks.places_at(left - 1) <= places {
             return left;
         }
         left -= 1;
@@ -76,19 +76,18 @@ fn up_to(items: &[Check], count: usize, places: usize) -> usize
     0
 }
 
-/// How many checkpoints, of so many, a candidate holds to that has the indices of the last run at so many of its first slots.
-fn holding(items: &[Check], count: usize, accesses: &Accesses, fresh: usize) -> usize
-    requires { count ≤ length items.now }
-    ensures fewer { result ≤ count }
+/// How many checkpoints a candidate holds to that has the indices of the last run at so many of its first slots.
+fn holding(checks: &Checks, accesses: &Accesses, fresh: usize) -> usize
+    ensures fewer { result ≤ length checks.now }
     ensures fresh { fresh ≡ 0 → result ≡ 0 }
-    ensures held { (other : Check) → 0 < result → IsHeld accesses.now fresh (get_or items.now (result - 1) other) }
+    ensures held { All (IsHeld accesses.now fresh) (take result checks.now) }
 {
     if fresh == 0 {
         return 0;
     }
-    let mut left = count;
+    let mut left = checks.len();
     'checks: while left > 0 {
-        if accesses.slots_before(items[left - 1].count) <= fresh {
+        if accesses.slots_before(checks.places_at(left - 1)) <= fresh {
             return left;
         }
         left -= 1;
@@ -96,29 +95,28 @@ fn holding(items: &[Check], count: usize, accesses: &Accesses, fresh: usize) -> 
     0
 }
 
-/// Whether the length of an array was read.
-fn has_length(places: &[SlotPlace], array: Obj) -> bool
-    ensures { result ≡ true → is_read (At array Length) (map place_of places.now) ≡ true }
+/// Whether the length of an array was read, if a place is one of its elements.
+fn is_closed(reads: &Reads, place: SlotPlace) -> bool
+    ensures { result ≡ true → (o i : ℕ) → place_of place ≡ At o (Element i) → is_read (At o Length) reads.now ≡ true }
 {
-    for place in places {
-        if let SlotPlace::At(object, Spot::Length) = place {
-            if *object == array {
-                return true;
-            }
-        }
+    let SlotPlace::At(object, spot) = place else {
+        return true;
+    };
+    match spot {
+        Spot::Element(_) => reads.contains(SlotPlace::At(object, Spot::Length)),
+        Spot::Field(_) => true,
+        Spot::Length => true,
     }
-    false
 }
 
 /// Whether of each array an element of which was read the length was, too.
-fn are_closed(places: &[SlotPlace]) -> bool
-    ensures { result ≡ true → IsClosed (map place_of places.now) }
+fn are_closed(reads: &Reads) -> bool
+    ensures { result ≡ true → IsClosed reads.now }
 {
+    let places = reads.as_slice();
     for place in places {
-        if let SlotPlace::At(object, Spot::Element(_)) = place {
-            if !has_length(places, *object) {
-                return false;
-            }
+        if !is_closed(reads, *place) {
+            return false;
         }
     }
     true
@@ -142,6 +140,52 @@ impl Checks {
         self.count = 0;
     }
 
+    #[inline(always)]
+    fn len(&self) -> usize
+        ensures is { result ≡ length self.now }
+        ensures ascend { Ascend self.now }
+    {
+        self.count
+    }
+
+    /// How many places one had read.
+    #[inline(always)]
+    fn places_at(&self, at: usize) -> usize
+        requires { at < length self.now }
+        ensures { (other : Check) → result ≡ (get_or self.now at other).count }
+    {
+        self.items[at].count
+    }
+
+    /// The first ones alone.
+    #[inline(always)]
+    fn truncate(&mut self, count: usize)
+        ensures { self.new ≡ take count self.old }
+    {
+        if count < self.count {
+            self.count = count;
+        }
+    }
+
+    /// One more, of where a run stands that has read as many places as the others, at least.
+    fn add(
+        &mut self,
+        alloc: Global,
+        condition: usize,
+        action: Action,
+        stack: &Stack,
+        world: &World,
+    ) -> Result<(), NoMemory>
+        requires { All (HadRead (length world.now.reads)) self.old }
+        ensures kept { OnOk result ((check : Check) × IsCopyOf condition action stack.now world.now check × (self.new ≡ self.old ++ check ∷ [])) }
+        ensures unchanged { OnErr result (self.new ≡ self.old) }
+    {
+        make_room(alloc, &mut self.items, self.count)?;
+        self.items[self.count].fill(alloc, condition, action, stack, world)?;
+        self.count += 1;
+        Ok(())
+    }
+
     /// One more, of where a run stands, unless an element was read of an array whose length wasn't.
     pub(crate) fn keep(
         &mut self,
@@ -151,18 +195,17 @@ impl Checks {
         stack: &Stack,
         world: &World,
     ) -> Result<(), NoMemory>
-        ensures kept { OnOk result (Adds (IsCheckOf condition action stack.now world.now) self.old self.new) }
-        ensures unchanged { OnErr result ((n : ℕ) × (self.new ≡ take n self.old)) }
+        ensures { Adds (IsCheckOf condition action stack.now world.now) self.old self.new }
     {
-        let reads = world.reads.as_slice();
-        if !are_closed(reads) {
+        if !are_closed(&world.reads) {
             return Ok(());
         }
-        self.count = up_to(self.items.as_slice(), self.count, reads.len());
-        make_room(alloc, &mut self.items, self.count)?;
-        self.items[self.count].fill(alloc, condition, action, stack, world)?;
-        self.count += 1;
-        Ok(())
+        let count = up_to(&*self, world.reads.as_slice().len());
+        self.truncate(count);
+        match self.add(alloc, condition, action, stack, world) {
+            Ok(()) => Ok(()),
+            Err(NoMemory) => Err(NoMemory),
+        }
     }
 
     /// Those alone that a candidate holds to that has the indices of the last run at so many of its first slots.
@@ -171,7 +214,8 @@ impl Checks {
         ensures fresh { fresh ≡ 0 → self.new ≡ [] }
         ensures held { All (IsHeld accesses.now fresh) self.new }
     {
-        self.count = holding(self.items.as_slice(), self.count, accesses, fresh);
+        let count = holding(&*self, accesses, fresh);
+        self.truncate(count);
     }
 
     /// Goes on from the last one, if there is one.

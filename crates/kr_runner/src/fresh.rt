@@ -18,7 +18,8 @@ use std::alloc::Global;
 fn copy(copy: &mut Vector, layout: &Layout, vector: &Vector)
     requires vector { IsVector (space_of (bare layout.now)) vector.now }
     requires long { length copy.old ≡ length (slots (bare layout.now)) }
-    ensures { copy.new ≡ vector.now }
+    ensures is { copy.new ≡ vector.now }
+    ensures long { length copy.new ≡ length copy.old }
 {
     'each: for slot in 0..layout.slots() {
         copy.set(Slot(slot), vector.get(Slot(slot)));

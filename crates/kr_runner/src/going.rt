@@ -1,9 +1,9 @@
 // A run that goes on from where it stands, with a checkpoint before each first read.
-ghost use Rattle.std.specs.Prelude.{◌≡◌, ◌<◌, ◌^◌, ◌∷◌, [], ℕ, IfOk, IfSome, Some, false, length, slice_get, take, true};
+ghost use Rattle.std.specs.Prelude.{◌≡◌, ◌<◌, ◌^◌, ◌∷◌, [], ℕ, List, IfOk, IfSome, Some, false, length, slice_get, take, true};
 ghost use Rattle.std.specs.List.{All};
 ghost use Rattle.kr_code.specs.Resolved.{Numbering};
 ghost use Rattle.kr_mean.specs.Heaps.{heap_of};
-ghost use Rattle.kr_mean.specs.Places.{This};
+ghost use Rattle.kr_mean.specs.Places.{SlotPlace, This};
 ghost use Rattle.kr_mean.specs.Problem.{slots};
 ghost use Rattle.kr_mean.specs.Program.{Program};
 ghost use Rattle.kr_mean.specs.Runs.{slots_for, start};
@@ -188,7 +188,7 @@ fn stand(
     requires kept { All (Kept layout.now predicate.now vector.now) checks.now }
     requires shared { All (Shares layout.now predicate.now vector.now world.old.reads) checks.now }
     ensures goes_on { IfOk result (λ start. GoesOn layout.now predicate.now vector.now start.condition stack.new start.task world.new) }
-    ensures shared { IfOk result (λ start. AreShared layout.now predicate.now vector.now world.old.reads start.count) }
+    ensures shared { IfOk result (λ start. (places : List SlotPlace) → All (Shares layout.now predicate.now vector.now places) checks.now → AreShared layout.now predicate.now vector.now places start.count) }
 {
     match checks.wake(alloc, world, stack)? {
         Some(start) => Ok(start),
@@ -243,7 +243,14 @@ pub(crate) fn run(
         return Ok(None);
     };
     settle(checks, is_known, accesses, fresh);
-    refresh(alloc, layout, vector, is_known, known, &mut world.candidates)?;
+    refresh(
+        alloc,
+        layout,
+        vector,
+        is_known,
+        known,
+        &mut world.candidates,
+    )?;
     world.is_frozen = true;
     let start = stand(alloc, layout, vector, predicate, checks, world, stack, node)?;
     let shared = start.count;

@@ -1,10 +1,10 @@
 // Runs of candidates that go on from before the first place that changed.
-ghost use Rattle.std.specs.Prelude.{◌≡◌, ◌<◌, ◌^◌, [], IfOk, OnOk, length, replicate, slice_index, slice_set};
+ghost use Rattle.std.specs.Prelude.{◌≡◌, ◌<◌, ◌≤◌, ◌^◌, [], false, take, IfOk, OnOk, length, replicate, slice_index, slice_set};
 ghost use Rattle.std.specs.List.{All};
 ghost use Rattle.kr_code.specs.Resolved.{Numbering};
 ghost use Rattle.kr_mean.specs.Problem.{slots};
 ghost use Rattle.kr_mean.specs.Program.{Program};
-ghost use Rattle.kr_mean.specs.Runs.{end_on, order_of};
+ghost use Rattle.kr_mean.specs.Runs.{contains_number, end_on, order_of};
 ghost use Rattle.kr_mean.specs.Space.{IsVector, space_of};
 ghost use Rattle.kr_mean.specs.WellFormed.{IsWellFormed};
 ghost use Rattle.kr_problem.specs.Bounds.{bare, problem_with};
@@ -61,6 +61,20 @@ impl<'s> Model for Runner<'s> {
         × (r.is_known ≡ true → IsLast r.layout.now r.predicate.now r.known r.checks r.world r.accesses × Alike r.layout.now r.known r.vector r.fresh r.accesses) };
 }
 
+/// How many of the first slots, of so many, come before one; none where it's a root.
+#[inline(always)]
+fn first_without(layout: &Layout, accesses: &Accesses, fresh: usize, slot: u32) -> usize
+    ensures few { result ≤ fresh }
+    ensures none { contains_number (take result accesses.now.order) slot ≡ false }
+    ensures root { slot ≤ length layout.now.parameters → result ≡ 0 }
+{
+    if (slot as usize) <= layout.parameters() {
+        0
+    } else {
+        accesses.order.first_without(fresh, slot)
+    }
+}
+
 impl<'s> Runner<'s> {
     /// The candidate of index 0 in every slot stands.
     pub fn new(
@@ -109,11 +123,7 @@ impl<'s> Runner<'s> {
         requires { slot < length self.old.vector }
         ensures { self.new ≡ record self.old { vector = slice_set self.old.vector slot index } }
     {
-        self.fresh = if (slot as usize) <= self.layout.parameters() {
-            0
-        } else {
-            self.accesses.order.first_without(self.fresh, slot)
-        };
+        self.fresh = first_without(self.layout, &self.accesses, self.fresh, slot);
         self.vector.set(Slot(slot), index);
     }
 
