@@ -1,5 +1,5 @@
 -- The heap of a vector whose slot has another index.
-use Rattle.std.proofs.Common.{◌≡◌, ℕ, zero, suc, ◌+◌, ◌++◌, ◌<◌, ◌⊎◌, inl, inr, Bool, true, false, List, [], ◌∷◌, length, get_or, Option, Some, None, refl, sym, ap, ◌∙◌, subst, arith, append_assoc}
+use Rattle.std.proofs.Common.{◌≡◌, ℕ, zero, suc, ◌+◌, ◌++◌, ◌<◌, ◌≤◌, ◌⊎◌, inl, inr, Bool, true, false, List, [], ◌∷◌, length, get_or, Option, Some, None, refl, sym, ap, ◌∙◌, subst, arith, append_assoc}
 use Rattle.std.specs.Prelude.{map, filter, take, slice_set}
 use Rattle.std.specs.List.{range_with_len}
 use Rattle.std.proofs.lemmas.List.{ext_get_or, get_or-set_same, get_or-set_other, length-set}
@@ -8,14 +8,15 @@ use Rattle.kr_value.specs.Heaps.{Heap, HeapObject, object_in, no_object}
 use Rattle.kr_value.specs.declared.object.Class.{Class}
 use Rattle.kr_value.specs.declared.object.Class.TheVariants.{Object, Array, Set, List as ListClass}
 use Rattle.kr_value.specs.declared.value.Value.{Value}
-use Rattle.kr_heap.specs.Objects.{with_values}
+use Rattle.kr_heap.specs.Objects.{with_value, with_values}
 use Rattle.kr_mean.specs.Problem.{Problem, DomainObject, all_objects, choices_at, Slot, domain_at, heap_number, slot_at, slots, upto}
 use Rattle.kr_mean.specs.Heaps.{first_value, heap_object, heap_of, is_owner, is_same_object, length_in, slots_owned, slots_there, value_at, values_there}
 use Rattle.kr_mean.specs.Space.{IsVector, no_choice, space_of}
 use Rattle.kr_mean.specs.WellFormed.{IsWellFormed}
-use Rattle.kr_pruning.proofs.Numbering.{object, number_of_object, object_at_number, count_at, parameter_slot, object_slot, SlotCase, is_this, is_parameter, is_spot, slot_case}
+use Rattle.kr_pruning.proofs.Numbering as numbering
+use Rattle.kr_pruning.proofs.Numbering.{width_at, object, number_of_object, object_at_number, count_at, parameter_slot, object_slot, SlotCase, is_this, is_parameter, is_spot, slot_case}
 use Rattle.kr_build.proofs.Rows.{InDomain}
-use Rattle.kr_pruning.proofs.Places.{heap_class, heap_get, heap_long, same_objects}
+use Rattle.kr_pruning.proofs.Places.{heap_class, heap_get, heap_long, heap_values, same_objects}
 
 -- ---- slots at which two functions agree
 
@@ -151,6 +152,54 @@ owner_in problem s o h e = go (slot_case problem s h)
         let q : (slot_at problem s).owner ≡ Some (object d k) = ap (λ (x : ℕ). (slot_at problem x).owner) z ∙ ap (λ (x : Slot). x.owner) (object_slot problem d k j a b c).1 in
         let is : object d k ≡ o = cc (q, e) in
         subst (InDomain problem) is (record { domain = a; number = b })
+
+-- and where it stands there
+pub record StandsIn (problem : Problem) (s : ℕ) (o : DomainObject) : Type 0 where
+  pub after : numbering.first_slot problem o.domain o.number ≤ s
+  pub within : s < numbering.first_slot problem o.domain o.number + width_at problem o.domain
+
+pub stands_in : (problem : Problem) (s : ℕ) (o : DomainObject) → s < length (slots problem) → (slot_at problem s).owner ≡ Some o → StandsIn problem s o
+stands_in problem s o h e = go (slot_case problem s h)
+  where
+    go : SlotCase problem s → StandsIn problem s o
+    go (is_this z) = let q : (slot_at problem s).owner ≡ None = rw z refl in absurd (cc (q, e))
+    go (is_parameter i l z) = let q : (slot_at problem s).owner ≡ None = rw (z, (parameter_slot problem i l).1) refl in absurd (cc (q, e))
+    go (is_spot d k j a b c z) =
+        let q : (slot_at problem s).owner ≡ Some (object d k) = ap (λ (x : ℕ). (slot_at problem x).owner) z ∙ ap (λ (x : Slot). x.owner) (object_slot problem d k j a b c).1 in
+        let is : object d k ≡ o = cc (q, e) in
+        subst (StandsIn problem s) is (record { after = omega (arith, z); within = omega (arith, z, c) })
+
+-- values at slots that stand one after another, of which one has changed
+same_range : (f g : ℕ → Value) (a n : ℕ) → ((t : ℕ) → a ≤ t → f t ≡ g t) → map f (range_with_len a n) ≡ map g (range_with_len a n)
+same_range f g a zero h = refl
+same_range f g a (suc n) h = ap (λ (x : Value). x ∷ map f (range_with_len (a + 1) n)) (h a (omega arith)) ∙ ap (λ (xs : List Value). g a ∷ xs) (same_range f g (a + 1) n (λ t l. h t (omega (arith, l))))
+
+set_range : (f g : ℕ → Value) (a n j : ℕ) (x : Value) → j < n → ((t : ℕ) → (t ≡ a + j → ⊥) → f t ≡ g t) → f (a + j) ≡ x → map f (range_with_len a n) ≡ slice_set (map g (range_with_len a n)) j x
+set_range f g a zero j x l h e = absurd (omega (arith, l))
+set_range f g a (suc n) zero x l h e =
+    let at : a ≡ a + 0 = omega arith in
+    ap (λ (y : Value). y ∷ map f (range_with_len (a + 1) n)) (ap f at ∙ e)
+    ∙ ap (λ (xs : List Value). x ∷ xs) (same_range f g (a + 1) n (λ t m. h t (λ q. omega (arith, m, q))))
+set_range f g a (suc n) (suc j) x l h e =
+    let at : a + 1 + j ≡ a + suc j = omega arith in
+    ap (λ (y : Value). y ∷ map f (range_with_len (a + 1) n)) (h a (λ q. omega (arith, q)))
+    ∙ ap (λ (xs : List Value). g a ∷ xs) (set_range f g (a + 1) n j x (omega (arith, l)) (λ t m. h t (λ q. m (q ∙ sym at))) (ap f at ∙ e))
+
+-- a slot of an object that has fields changes that field alone
+pub field_set : (problem : Problem) → IsWellFormed problem → (v u : List ℕ) (s i : ℕ) → u ≡ slice_set v s i → (o : DomainObject) → InDomain problem o → (slot_at problem s).owner ≡ Some o → (c : ℕ) → (domain_at problem o.domain).class ≡ Object c
+    → (j : ℕ) → numbering.first_slot problem o.domain o.number + j ≡ s → j < width_at problem o.domain → heap_of problem u ≡ with_value (heap_of problem v) (heap_number problem o) j (value_at problem u s)
+unfolding new
+field_set problem w v u s i q o d e c class j at l =
+    let first = numbering.first_slot problem o.domain o.number in
+    let width = width_at problem o.domain in
+    let old = heap_values problem w v o.domain o.number (Object c) d.domain d.number class in
+    let new : (heap_object problem u o).values ≡ map (value_at problem u) (range_with_len first width) =
+    ap (λ (x : HeapObject). x.values) (sym (heap_get problem w u o.domain o.number d.domain d.number)) ∙ heap_values problem w u o.domain o.number (Object c) d.domain d.number class in
+    let others = λ (t : ℕ) (m : t ≡ first + j → ⊥).
+    subst (λ (x : List ℕ). value_at problem x t ≡ value_at problem v t) (sym q) (value_same problem v s i t (λ y. m (y ∙ sym at))) in
+    let one = set_range (value_at problem u) (value_at problem v) first width j (value_at problem u s) l others (ap (value_at problem u) at) in
+    heap_with problem v s i w o u q d e
+    ∙ ap (λ (xs : List Value). with_values (heap_of problem v) (heap_number problem o) xs) (new ∙ (one ∙ ap (λ (xs : List Value). slice_set xs j (value_at problem u s)) (sym old)))
 
 pub vector_long : (problem : Problem) (v : List ℕ) → IsVector (space_of problem) v → length v ≡ length (slots problem)
 unfolding space_of

@@ -1,14 +1,15 @@
 // A heap that is brought from one candidate to another.
-ghost use Rattle.std.specs.Prelude.{◌≡◌, ◌<◌, ◌≤◌, ◌+◌, ◌^◌, ◌++◌, ℕ, OnOk, length, map, slice_set};
+ghost use Rattle.std.specs.Prelude.{◌≡◌, ◌<◌, ◌≤◌, ◌+◌, ◌^◌, ◌++◌, ℕ, OnOk, Some, length, map, slice_set};
 ghost use Rattle.std.specs.List.{range_with_len};
 ghost use Rattle.kr_heap.specs.Objects.{with_values};
 ghost use Rattle.kr_iso.specs.Objects.{object_of};
 ghost use Rattle.kr_mean.specs.Heaps.{heap_object, heap_of, value_at};
-ghost use Rattle.kr_mean.specs.Problem.{choices_at, domain_at, heap_number, slots};
+ghost use Rattle.kr_mean.specs.Problem.{choices_at, domain_at, heap_number, slot_at, slots};
 ghost use Rattle.kr_mean.specs.Space.{IsVector, space_of};
 ghost use Rattle.kr_mean.specs.WellFormed.{IsWellFormed};
 ghost use Rattle.kr_problem.specs.Bounds.{bare};
 ghost use Rattle.kr_value.specs.Heaps.{object_in};
+ghost use Rattle.kr_build.specs.Renewed.{IsBut};
 
 use crate::heap::kept;
 use crate::objects::{Stretch, slots_of};
@@ -16,7 +17,7 @@ use kr_base::NoMemory;
 use kr_heap::Heap;
 use kr_iso::Object;
 use kr_problem::Layout;
-use kr_value::Obj;
+use kr_value::{Class, Obj};
 use kr_vector::{Slot, Vector};
 
 /// Adds the values that a candidate has at slots that stand one after another behind those of an object.
@@ -61,8 +62,67 @@ fn rebuild(
     Ok(())
 }
 
-/// Gives a slot of a candidate an index, in its heap too.
+/// Gives an object of a heap what a candidate has there, where one of its slots has changed: a field alone, if it has fields.
+fn renew(
+    heap: &mut Heap,
+    layout: &Layout,
+    vector: &Vector,
+    object: Object,
+    slot: u32,
+) -> Result<(), NoMemory>
+    requires well { IsWellFormed (bare layout.now) }
+    requires vector { IsVector (space_of (bare layout.now)) vector.now }
+    requires small { length (slots (bare layout.now)) < 2 ^ 31 }
+    requires slot { slot < length (slots (bare layout.now)) }
+    requires owner { (slot_at (bare layout.now) slot).owner ≡ Some (object_of object) }
+    requires heap { IsBut (bare layout.now) slot vector.now heap.old }
+    ensures { OnOk result (heap.new ≡ heap_of (bare layout.now) vector.now) }
+{
+    match layout.class(object.domain) {
+        Class::Object(_) => {
+            let at = slot - layout.first_slot(object);
+            let value = layout.value(slot, vector.get(Slot(slot)));
+            heap.write(layout.heap_number(object), at as usize, value);
+            Ok(())
+        }
+        _ => {
+            rebuild(heap, layout, vector, object)?;
+            Ok(())
+        }
+    }
+}
+
+/// Gives a slot of a candidate another index, in its heap too.
+#[inline(never)]
 fn change(
+    heap: &mut Heap,
+    vector: &mut Vector,
+    layout: &Layout,
+    slot: u32,
+    index: u32,
+) -> Result<(), NoMemory>
+    requires well { IsWellFormed (bare layout.now) }
+    requires vector { IsVector (space_of (bare layout.now)) vector.old }
+    requires small { length (slots (bare layout.now)) < 2 ^ 31 }
+    requires slot { slot < length (slots (bare layout.now)) }
+    requires index { index < length (choices_at (bare layout.now) slot) }
+    requires heap { heap.old ≡ heap_of (bare layout.now) vector.old }
+    ensures vector { vector.new ≡ slice_set vector.old slot index }
+    ensures heap { OnOk result (heap.new ≡ heap_of (bare layout.now) vector.new) }
+{
+    vector.set(Slot(slot), index);
+    match layout.owner(slot) {
+        None => Ok(()),
+        Some(object) => {
+            renew(heap, layout, vector, object, slot)?;
+            Ok(())
+        }
+    }
+}
+
+/// Gives a slot of a candidate an index, in its heap too.
+#[inline(always)]
+fn take_on(
     heap: &mut Heap,
     vector: &mut Vector,
     layout: &Layout,
@@ -81,14 +141,7 @@ fn change(
     if vector.get(Slot(slot)) == index {
         return Ok(());
     }
-    vector.set(Slot(slot), index);
-    match layout.owner(slot) {
-        None => Ok(()),
-        Some(object) => {
-            rebuild(heap, layout, vector, object)?;
-            Ok(())
-        }
-    }
+    change(heap, vector, layout, slot, index)
 }
 
 /// Brings the heap that one candidate spells to another candidate: only objects whose slots changed are built anew, in the
@@ -110,7 +163,7 @@ pub fn update(
 {
     'each: for slot in 0..layout.slots() {
         let index = vector.get(Slot(slot));
-        change(heap, built, layout, slot, index)?;
+        take_on(heap, built, layout, slot, index)?;
     }
     Ok(())
 }

@@ -1,6 +1,8 @@
 -- Places in the order in which a run has read them, and the slots that came with them.
-use Rattle.std.specs.Prelude.{◌≡◌, ℕ, List, [], ◌∷◌, reverse, take}
+use Rattle.std.specs.Prelude.{◌≡◌, ℕ, true, List, [], ◌∷◌, reverse, take}
 use Rattle.kr_mean.specs.Places.{SlotPlace}
+use Rattle.kr_mean.specs.Runs.{contains_number}
+use Rattle.kr_world.specs.Noting.{is_read}
 use Rattle.kr_world.specs.Shown.{place_of}
 use Rattle.kr_judge.specs.Orders.{with_slots}
 use Rattle.kr_judge.specs.declared.accesses.Access.{Access}
@@ -14,6 +16,10 @@ AreOf slots_of (a ∷ others) order = AreOf slots_of others (take a.before order
 -- the slots that have come are those of the places, and others behind them
 abbrev pub Follow : (SlotPlace → List ℕ) → Accesses → Type 0
 Follow slots_of a = AreOf slots_of (reverse a.places.items) (take a.count a.order)
+
+-- the slots of places are among these
+abbrev pub HaveCome : (SlotPlace → List ℕ) → List SlotPlace → List ℕ → Type 0
+HaveCome slots_of places order = (p : SlotPlace) (s : ℕ) → is_read p places ≡ true → contains_number (slots_of p) s ≡ true → contains_number order s ≡ true
 
 abbrev pub place_in : Access → SlotPlace
 place_in a = place_of a.place

@@ -1,5 +1,5 @@
 // The order of slots of the last run: of it the next run keeps what both have read from the start.
-ghost use Rattle.std.specs.Prelude.{◌≡◌, ◌<◌, ◌≤◌, ◌^◌, ◌++◌, [], IfOk, OnOk, List, ℕ, flat_map, if◌then◌else◌, length, map, reverse, take, true};
+ghost use Rattle.std.specs.Prelude.{◌≡◌, ◌<◌, ◌≤◌, ◌^◌, ◌++◌, ◌⊎◌, [], IfOk, OnOk, List, ℕ, flat_map, if◌then◌else◌, length, map, reverse, take, true};
 ghost use Rattle.kr_mean.specs.Heaps.{walk};
 ghost use Rattle.kr_mean.specs.Places.{SlotPlace as Place};
 ghost use Rattle.kr_mean.specs.Problem.{slots};
@@ -8,7 +8,7 @@ ghost use Rattle.kr_mean.specs.Space.{IsVector, space_of};
 ghost use Rattle.kr_mean.specs.WellFormed.{IsWellFormed};
 ghost use Rattle.kr_problem.specs.Bounds.{bare};
 ghost use Rattle.kr_world.specs.Shown.{place_of};
-ghost use Rattle.kr_judge.specs.Follows.{AreOf, Follow, place_in};
+ghost use Rattle.kr_judge.specs.Follows.{AreOf, Follow, HaveCome, place_in};
 ghost use Rattle.kr_judge.specs.Orders.{with_slots};
 ghost use Rattle.kr_judge.specs.Runs.{end_said};
 
@@ -18,7 +18,6 @@ use crate::run::Judgement;
 use kr_base::NoMemory;
 use kr_build::Walk;
 use kr_problem::Layout;
-use kr_value::Spot;
 use kr_vector::Vector;
 use kr_world::{Reads, SlotPlace};
 use std::alloc::Global;
@@ -37,37 +36,6 @@ pub struct Accesses {
     pub places: Vec<Access>,
     pub count: usize,
     pub walk: Walk,
-}
-
-fn is_same(a: SlotPlace, b: SlotPlace) -> bool
-    ensures { result ≡ true → a ≡ b }
-{
-    match (a, b) {
-        (SlotPlace::This, SlotPlace::This) => true,
-        (SlotPlace::Parameter(i), SlotPlace::Parameter(j)) => i == j,
-        (SlotPlace::At(o, Spot::Field(f)), SlotPlace::At(p, Spot::Field(g))) => o == p && f == g,
-        (SlotPlace::At(o, Spot::Length), SlotPlace::At(p, Spot::Length)) => o == p,
-        (SlotPlace::At(o, Spot::Element(i)), SlotPlace::At(p, Spot::Element(j))) => {
-            o == p && i == j
-        }
-        _ => false,
-    }
-}
-
-/// How many places are the same from the start.
-fn common(places: &[Access], reads: &[SlotPlace]) -> usize
-    ensures few { result ≤ length places.now }
-    ensures read { result ≤ length reads.now }
-    ensures same { map place_in (take result places.now) ≡ map place_of (take result reads.now) }
-{
-    let mut count = 0;
-    'places: while count < places.len() && count < reads.len() {
-        if !is_same(places[count].place, reads[count]) {
-            return count;
-        }
-        count += 1;
-    }
-    count
 }
 
 /// The first places alone stay, with their slots.
@@ -119,20 +87,32 @@ fn add_places(
     Ok(())
 }
 
-/// The places become those of a run, and the order that of their slots.
+/// A number that is at most both others; else 0.
+#[inline(always)]
+fn within(number: usize, a: usize, b: usize) -> usize
+    ensures first { result ≤ a }
+    ensures second { result ≤ b }
+    ensures is { (result ≡ number) ⊎ (result ≡ 0) }
+{
+    if number <= a && number <= b { number } else { 0 }
+}
+
+/// The places become those of a run, so many of which are there from the start, and the order that of their slots.
 fn follow(
     order: &mut Order,
     places: &mut Vec<Access>,
     layout: &Layout,
     reads: &[SlotPlace],
+    shared: usize,
 ) -> Result<(), NoMemory>
     requires well { IsWellFormed (bare layout.now) }
     requires small { length (slots (bare layout.now)) < 2 ^ 31 }
     requires old { AreOf (slots_for (bare layout.now)) (reverse places.old.items) order.old }
     ensures places { OnOk result (AreOf (slots_for (bare layout.now)) (reverse places.new.items) order.new) }
-    ensures order { OnOk result (order.new ≡ with_slots [] (flat_map (slots_for (bare layout.now)) (map place_of reads.now))) }
+    ensures order { OnOk result (take shared (map place_in places.old.items) ≡ take shared (map place_of reads.now) → order.new ≡ with_slots [] (flat_map (slots_for (bare layout.now)) (map place_of reads.now))) }
+    ensures read { OnOk result (take shared (map place_in places.old.items) ≡ take shared (map place_of reads.now) → map place_in places.new.items ≡ map place_of reads.now) }
 {
-    let count = common(places.as_slice(), reads);
+    let count = within(shared, places.len(), reads.len());
     go_back(order, places, count);
     add_places(order, places, layout, &reads[count..])?;
     Ok(())
@@ -195,6 +175,18 @@ impl Accesses {
         self.count = 0;
     }
 
+    /// How many of the first slots are those of so many of the first places.
+    #[inline(always)]
+    pub fn slots_before(&self, places: usize) -> usize
+        ensures { (slots_of : Place → List ℕ) → Follow slots_of self.now → HaveCome slots_of (take places (map place_in self.now.places.items)) (take result self.now.order) }
+    {
+        if places < self.places.len() {
+            self.places[places].before
+        } else {
+            self.count
+        }
+    }
+
     /// Becomes those of a run; where memory is refused, what is there is no run's.
     fn fill(
         &mut self,
@@ -202,38 +194,48 @@ impl Accesses {
         vector: &Vector,
         end: Judgement,
         reads: &Reads,
+        shared: usize,
     ) -> Result<(), NoMemory>
         requires well { IsWellFormed (bare layout.now) }
         requires vector { IsVector (space_of (bare layout.now)) vector.now }
         requires small { length (slots (bare layout.now)) < 2 ^ 31 }
         requires follow { Follow (slots_for (bare layout.now)) self.old }
         ensures follow { OnOk result (Follow (slots_for (bare layout.now)) self.new) }
-        ensures order { OnOk result (self.new.order ≡ with_slots (with_slots [] (flat_map (slots_for (bare layout.now)) reads.now)) (if is_accepted (end_said end) then walk (bare layout.now) vector.now else [])) }
+        ensures order { OnOk result (take shared (map place_in self.old.places.items) ≡ take shared reads.now → self.new.order ≡ with_slots (with_slots [] (flat_map (slots_for (bare layout.now)) reads.now)) (if is_accepted (end_said end) then walk (bare layout.now) vector.now else [])) }
+        ensures read { OnOk result (take shared (map place_in self.old.places.items) ≡ take shared reads.now → map place_in self.new.places.items ≡ reads.now) }
     {
         self.order.truncate(self.count);
-        follow(&mut self.order, &mut self.places, layout, reads.as_slice())?;
+        follow(
+            &mut self.order,
+            &mut self.places,
+            layout,
+            reads.as_slice(),
+            shared,
+        )?;
         self.count = self.order.len();
         add_reachable(end, &mut self.order, &mut self.walk, layout, vector)?;
         Ok(())
     }
 
-    /// Becomes those of a candidate whose run has ended so and has read these places. Only places behind those that the run
-    /// before has read too are looked up.
+    /// Becomes those of a candidate whose run has ended so and has read these places, of which so many were read from the
+    /// start by the run before, too. Only those behind them are looked up.
     pub fn take(
         &mut self,
         layout: &Layout,
         vector: &Vector,
         end: Judgement,
         reads: &Reads,
+        shared: usize,
     ) -> Result<(), NoMemory>
         requires well { IsWellFormed (bare layout.now) }
         requires vector { IsVector (space_of (bare layout.now)) vector.now }
         requires small { length (slots (bare layout.now)) < 2 ^ 31 }
         requires follow { Follow (slots_for (bare layout.now)) self.old }
         ensures follow { Follow (slots_for (bare layout.now)) self.new }
-        ensures order { OnOk result (self.new.order ≡ with_slots (with_slots [] (flat_map (slots_for (bare layout.now)) reads.now)) (if is_accepted (end_said end) then walk (bare layout.now) vector.now else [])) }
+        ensures order { OnOk result (take shared (map place_in self.old.places.items) ≡ take shared reads.now → self.new.order ≡ with_slots (with_slots [] (flat_map (slots_for (bare layout.now)) reads.now)) (if is_accepted (end_said end) then walk (bare layout.now) vector.now else [])) }
+        ensures read { OnOk result (take shared (map place_in self.old.places.items) ≡ take shared reads.now → map place_in self.new.places.items ≡ reads.now) }
     {
-        match self.fill(layout, vector, end, reads) {
+        match self.fill(layout, vector, end, reads, shared) {
             Ok(()) => Ok(()),
             Err(NoMemory) => {
                 self.forget();

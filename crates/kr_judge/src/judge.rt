@@ -64,7 +64,7 @@ impl Judge {
         ensures { OnOk result (self.new ≡ with_slots (with_slots [] (flat_map (slots_for (bare layout.now)) reads.now)) (if is_accepted (end_said end) then walk (bare layout.now) vector.now else [])) }
     {
         self.accesses.forget();
-        self.accesses.take(layout, vector, end, reads)
+        self.accesses.take(layout, vector, end, reads, 0)
     }
 
     /// Runs the predicate on a candidate: how the run ends, and the order of the slots that decide it, those that it has read

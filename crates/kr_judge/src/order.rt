@@ -1,6 +1,7 @@
 // The order in which slots come, each once.
-ghost use Rattle.std.specs.Prelude.{◌≡◌, ◌==◌, ℕ, [], OnOk, false, if◌then◌else◌, length, take};
+ghost use Rattle.std.specs.Prelude.{◌≡◌, ◌==◌, ◌≤◌, ℕ, [], OnOk, false, if◌then◌else◌, length, take};
 ghost use Rattle.std.proofs.Common.{get_or};
+ghost use Rattle.kr_mean.specs.Runs.{contains_number};
 ghost use Rattle.kr_judge.specs.Orders.{AreMarked, EachOnce, with_slot};
 
 use kr_base::NoMemory;
@@ -17,7 +18,8 @@ pub struct Order {
 
 impl Model for Order {
     ghost use Rattle.std.specs.Prelude.{List, ℕ};
-    ghost use Rattle.kr_judge.specs.Orders.{AreMarked, EachOnce};
+    ghost use Rattle.kr_mean.specs.Runs.{contains_number};
+ghost use Rattle.kr_judge.specs.Orders.{AreMarked, EachOnce};
 
     ghost Value = { List ℕ };
 
@@ -34,6 +36,23 @@ fn unmark(marks: &mut Vec<bool>, number: u32)
     if at < marks.len() {
         marks[at] = false;
     }
+}
+
+/// How many of the first slots, of so many, come before one.
+fn first_without(slots: &[u32], count: usize, slot: u32) -> usize
+    requires { EachOnce slots.now }
+    ensures few { result ≤ count }
+    ensures none { contains_number (take result slots.now) slot ≡ false }
+{
+    let all = slots.len().min(count);
+    let mut left = all;
+    'slots: while left > 0 {
+        left -= 1;
+        if slots[left] == slot {
+            return left;
+        }
+    }
+    all
 }
 
 /// The first slots alone stay, and are marked.
@@ -76,6 +95,15 @@ impl Order {
         ensures { self.new ≡ take count self.old }
     {
         cut(&mut self.slots, &mut self.marks, count);
+    }
+
+    /// How many of the first slots, of so many, come before one. It looks from the last of them on.
+    #[inline(always)]
+    pub fn first_without(&self, count: usize, slot: u32) -> usize
+        ensures few { result ≤ count }
+        ensures none { contains_number (take result self.now) slot ≡ false }
+    {
+        first_without(self.slots.as_slice(), count, slot)
     }
 
     /// How many slots there are.

@@ -1,3 +1,5 @@
 mod Shapes
 mod Steps
 mod Lists
+mod Held
+mod Meanings

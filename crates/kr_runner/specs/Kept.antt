@@ -1,9 +1,9 @@
 -- What is left of a run, with which candidates, and what a checkpoint keeps.
-use Rattle.std.specs.Prelude.{◌≡◌, ℕ, ◌+◌, Bool, true, List, [], ◌∷◌, drop, map, Option, Some, None}
+use Rattle.std.specs.Prelude.{◌≡◌, ℕ, ◌+◌, Bool, true, List, [], ◌∷◌, drop, length, take, Some}
 use Rattle.kr_value.specs.declared.value.Value.{Value}
-use Rattle.kr_value.specs.Heaps.{Heap, object_in}
-use Rattle.kr_heap.specs.Objects.{found}
-use Rattle.kr_mean.specs.Places.{SlotPlace, This, Parameter, At}
+use Rattle.kr_value.specs.declared.object.Spot.TheVariants.{Length, Element}
+use Rattle.kr_value.specs.Heaps.{Heap}
+use Rattle.kr_mean.specs.Places.{SlotPlace, This, At}
 use Rattle.kr_mean.specs.Steps.{State, Outcome}
 use Rattle.kr_mean.specs.Heaps.{heap_of}
 use Rattle.kr_mean.specs.Runs.{start, where_true}
@@ -12,7 +12,7 @@ use Rattle.kr_code.specs.declared.code.Code.{Code}
 use Rattle.kr_code.specs.Doing.{Doing, IsMeaning}
 use Rattle.kr_problem.specs.Bounds.{Bounds, bare}
 use Rattle.kr_world.specs.declared.world.World.{World}
-use Rattle.kr_world.specs.Noting.{noting}
+use Rattle.kr_world.specs.Noting.{is_read, noting}
 use Rattle.kr_world.specs.Worlds.{StandFor, state_at, state_of}
 use Rattle.kr_frames.specs.Frame.{Frame}
 use Rattle.kr_frames.specs.declared.task.Task.{Task}
@@ -52,24 +52,40 @@ pub record Gave (b : Bounds) (p : Predicate) (v : List ℕ) (condition : ℕ) (g
 
 -- ---- checkpoints
 
--- what candidates have at a place
-abbrev pub value_told : Heap → SlotPlace → Option Value
-value_told heap (At o s) = found (object_in heap o) s
-value_told heap This = None
-value_told heap (Parameter i) = None
-
-abbrev pub told_of : Heap → List SlotPlace → List (Option Value)
-told_of heap places = map (value_told heap) places
-
 -- a world that pauses, with candidates
 abbrev pub woken : World → Heap → World
 woken w heap = record w { candidates = heap; is_frozen = true }
 
--- A checkpoint was made on a candidate that has what it tells; a run on each candidate that can't be told from that one goes
--- on from it. The roots are those of a vector.
-pub record Kept (b : Bounds) (p : Predicate) (v : List ℕ) (c : Check) : Type 0 where
-  pub made_on : List ℕ
-  pub vector : IsVector (space_of (bare b)) made_on
-  pub told : c.told.items ≡ told_of (heap_of (bare b) made_on) c.world.reads
-  pub is : (u : List ℕ) → IsVector (space_of (bare b)) u → StandFor true c.world.reads (heap_of (bare b) made_on) (heap_of (bare b) u) → (d : Doing) → IsMeaning p.code d
-      → noting (This ∷ []) (hold_at d p.conditions.items (with_heap (start (bare b) v) (heap_of (bare b) u))) ≡ noting c.world.reads (rest_of p.code d (behind p c.condition) c.stack (tasks.Act c.action) (state_of (woken c.world (heap_of (bare b) u))))
+-- the whole run on a candidate that has the roots of a vector and the heap of another, and what it reads
+abbrev pub whole : Bounds → Predicate → List ℕ → List ℕ → Doing → Outcome Bool
+whole b p v u d = noting (This ∷ []) (hold_at d p.conditions.items (with_heap (start (bare b) v) (heap_of (bare b) u)))
+
+abbrev pub reads_on : Bounds → Predicate → List ℕ → Doing → List SlotPlace
+reads_on b p v d = (whole b p v v d).reads
+
+-- of each array an element of which was read the length was, too
+abbrev pub IsClosed : List SlotPlace → Type 0
+IsClosed places = (o i : ℕ) → is_read (At o (Element i)) places ≡ true → is_read (At o Length) places ≡ true
+
+-- What a candidate's run had read when it stood at a checkpoint; the run on each candidate that can't be told from that one by
+-- it goes on from there.
+pub record IsOn (b : Bounds) (p : Predicate) (v : List ℕ) (c : Check) (d : Doing) (seen : List SlotPlace) : Type 0 where
+  pub long : length seen ≡ c.count
+  pub closed : IsClosed seen
+  pub is : (u : List ℕ) → IsVector (space_of (bare b)) u → StandFor true seen (heap_of (bare b) v) (heap_of (bare b) u)
+      → whole b p v u d ≡ noting seen (rest_of p.code d (behind p c.condition) c.stack (tasks.Act c.action) (state_of (woken c.world (heap_of (bare b) u))))
+
+-- the run on a candidate stood at the checkpoint when it had read so many places
+abbrev pub Kept : Bounds → Predicate → List ℕ → Check → Type 0
+Kept b p v c = (d : Doing) → IsMeaning p.code d → IsOn b p v c d (take c.count (reads_on b p v d))
+
+-- these are the places that a candidate's run reads
+abbrev pub AreReads : Bounds → Predicate → List ℕ → List SlotPlace → Type 0
+AreReads b p v places = (d : Doing) → IsMeaning p.code d → places ≡ reads_on b p v d
+
+-- so many of these places a candidate's run reads from the start
+abbrev pub AreShared : Bounds → Predicate → List ℕ → List SlotPlace → ℕ → Type 0
+AreShared b p v places count = (d : Doing) → IsMeaning p.code d → take count places ≡ take count (reads_on b p v d)
+
+abbrev pub Shares : Bounds → Predicate → List ℕ → List SlotPlace → Check → Type 0
+Shares b p v places c = AreShared b p v places c.count

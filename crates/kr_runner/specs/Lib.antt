@@ -1,3 +1,5 @@
 pub mod Kept
 pub mod Seen
 pub mod Going
+pub mod Ascending
+pub mod States

@@ -1,74 +1,54 @@
-// Where a run stood, and what it had read until then.
-ghost use Rattle.std.specs.Prelude.{◌≡◌, ◌++◌, map, OnOk, true};
-ghost use Rattle.kr_world.specs.Shown.{place_of};
-ghost use Rattle.kr_runner.specs.Kept.{value_told, told_of};
-ghost use Rattle.kr_runner.specs.Going.{IsCheckOf};
+// Where a run stood.
+ghost use Rattle.std.specs.Prelude.{◌≡◌, OnOk};
+ghost use Rattle.kr_runner.specs.Going.{IsCopyOf};
+ghost use Rattle.kr_runner.specs.States.{HasStateOf};
 
 use kr_base::NoMemory;
 use kr_frames::Stack;
 use kr_heap::Heap;
 use kr_value::Value;
-use kr_world::{Action, Reads, SlotPlace, World};
+use kr_world::{Action, Reads, World};
 use std::alloc::Global;
 
-/// Where a run stood: at which condition, what it was about to do, the frames that waited, the world but for its candidates,
-/// and what the candidates had where they were read.
+/// Where a run stood: at which condition, what it was about to do, the frames that waited, the world but for its candidates
+/// and what it had read, and how many places it had read.
 #[derive(Drop)]
 pub struct Check {
     pub condition: usize,
     pub action: Action,
     pub stack: Stack,
     pub world: World,
-    pub told: Vec<Option<Value>>,
+    pub count: usize,
 }
 
-/// What candidates have at a place.
-fn value_told(heap: &Heap, place: SlotPlace) -> Option<Value>
-    ensures { result ≡ value_told heap.now (place_of place) }
+/// Others in place of these, in the room that is there.
+#[inline(always)]
+fn refill<T: Copy + Drop>(items: &mut Vec<T>, others: &[T]) -> Result<(), NoMemory>
+    ensures { OnOk result (items.new.items ≡ others.now) }
 {
-    match place {
-        SlotPlace::At(object, spot) => heap.read(object, spot),
-        SlotPlace::This => None,
-        SlotPlace::Parameter(_) => None,
+    if others.is_empty() {
+        items.truncate(0);
+        return Ok(());
     }
-}
-
-/// What candidates have at places comes behind what is told.
-fn tell(told: &mut Vec<Option<Value>>, heap: &Heap, places: &[SlotPlace]) -> Result<(), NoMemory>
-    ensures { OnOk result (told.new.items ≡ told.old.items ++ told_of heap.now (map place_of places.now)) }
-{
-    for place in places {
-        told.push(value_told(heap, *place))?;
-    }
+    items.clear();
+    items.extend_from_slice(others)?;
     Ok(())
 }
 
-fn is_same(a: Option<Value>, b: Option<Value>) -> bool
-    ensures { result ≡ true → a ≡ b }
+/// A world's state in place of another's, in the room that is there; the candidates stay, and what was read.
+pub(crate) fn resume(alloc: Global, world: &mut World, other: &World) -> Result<(), NoMemory>
+    ensures copied { OnOk result (HasStateOf other.now world.new) }
+    ensures candidates { world.new.candidates ≡ world.old.candidates }
+    ensures frozen { world.new.is_frozen ≡ world.old.is_frozen }
+    ensures reads { world.new.reads ≡ world.old.reads }
 {
-    match (a, b) {
-        (None, None) => true,
-        (Some(Value::Int(m)), Some(Value::Int(n))) => m == n,
-        (Some(Value::Bool(m)), Some(Value::Bool(n))) => m == n,
-        (Some(Value::Null), Some(Value::Null)) => true,
-        (Some(Value::Ref(m)), Some(Value::Ref(n))) => m == n,
-        _ => false,
-    }
-}
-
-/// Whether candidates have this at places.
-fn are_told(heap: &Heap, places: &[SlotPlace], told: &[Option<Value>]) -> bool
-    ensures { result ≡ true → told.now ≡ told_of heap.now (map place_of places.now) }
-{
-    if places.len() != told.len() {
-        return false;
-    }
-    for index in 0..places.len() {
-        if !is_same(told[index], value_told(heap, places[index])) {
-            return false;
-        }
-    }
-    true
+    world.this = other.this;
+    world.result = other.result;
+    world.fuel = other.fuel;
+    refill(&mut world.locals, other.locals.as_slice())?;
+    refill(&mut world.olds, other.olds.as_slice())?;
+    world.made.copy_from(alloc, &other.made)?;
+    Ok(())
 }
 
 impl Check {
@@ -79,7 +59,7 @@ impl Check {
             action: Action::This,
             stack: Stack::new(alloc),
             world: blank_world(alloc),
-            told: Vec::new(alloc),
+            count: 0,
         }
     }
 
@@ -92,22 +72,14 @@ impl Check {
         stack: &Stack,
         world: &World,
     ) -> Result<(), NoMemory>
-        ensures { OnOk result (IsCheckOf condition action stack.now world.now self.new) }
+        ensures { OnOk result (IsCopyOf condition action stack.now world.now self.new) }
     {
         self.condition = condition;
         self.action = action;
         self.stack.copy_from(alloc, stack)?;
-        self.world.copy_from(alloc, world)?;
-        self.told.clear();
-        tell(&mut self.told, &world.candidates, world.reads.as_slice())?;
+        resume(alloc, &mut self.world, world)?;
+        self.count = world.reads.as_slice().len();
         Ok(())
-    }
-
-    /// Whether candidates have what was told.
-    pub(crate) fn holds(&self, heap: &Heap) -> bool
-        ensures { result ≡ true → self.now.told.items ≡ told_of heap.now self.now.world.reads }
-    {
-        are_told(heap, self.world.reads.as_slice(), self.told.as_slice())
     }
 }
 

@@ -1,11 +1,11 @@
 // The candidates' heap, which stays from run to run.
-ghost use Rattle.std.specs.Prelude.{◌≡◌, ◌<◌, ◌^◌, IfOk, OnOk, length};
+ghost use Rattle.std.specs.Prelude.{◌≡◌, ◌<◌, ◌^◌, OnOk, length, true};
 ghost use Rattle.kr_mean.specs.Heaps.{heap_of};
 ghost use Rattle.kr_mean.specs.Problem.{slots};
 ghost use Rattle.kr_mean.specs.Space.{IsVector, space_of};
 ghost use Rattle.kr_mean.specs.WellFormed.{IsWellFormed};
 ghost use Rattle.kr_problem.specs.Bounds.{bare};
-ghost use Rattle.kr_runner.specs.Going.{IsKnown};
+ghost use Rattle.kr_runner.specs.Going.{IsHeapOf};
 
 use kr_base::NoMemory;
 use kr_build::{build, update};
@@ -14,16 +14,16 @@ use kr_problem::Layout;
 use kr_vector::{Slot, Vector};
 use std::alloc::Global;
 
-/// The same candidate once more.
-fn copied(alloc: Global, layout: &Layout, vector: &Vector) -> Result<Vector, NoMemory>
-    requires { IsVector (space_of (bare layout.now)) vector.now }
-    ensures { IfOk result (λ copy. copy ≡ vector.now) }
+/// Becomes the same candidate.
+fn copy(copy: &mut Vector, layout: &Layout, vector: &Vector)
+    requires vector { IsVector (space_of (bare layout.now)) vector.now }
+    requires long { length copy.old ≡ length (slots (bare layout.now)) }
+    ensures is { copy.new ≡ vector.now }
+    ensures long { length copy.new ≡ length copy.old }
 {
-    let mut copy = Vector::zero(alloc, vector.len())?;
     'each: for slot in 0..layout.slots() {
         copy.set(Slot(slot), vector.get(Slot(slot)));
     }
-    Ok(copy)
 }
 
 /// Makes a heap the candidate's: from the one whose heap it is, if it is known, else from nothing.
@@ -31,26 +31,24 @@ pub(crate) fn refresh(
     alloc: Global,
     layout: &Layout,
     vector: &Vector,
-    known: Option<Vector>,
+    is_known: bool,
+    known: &mut Vector,
     heap: &mut Heap,
-) -> Result<Vector, NoMemory>
+) -> Result<(), NoMemory>
     requires well { IsWellFormed (bare layout.now) }
     requires vector { IsVector (space_of (bare layout.now)) vector.now }
     requires small { length (slots (bare layout.now)) < 2 ^ 31 }
-    requires known { IsKnown layout.now known heap.old }
-    ensures built { IfOk result (λ built. built ≡ vector.now) }
+    requires long { length known.old ≡ length (slots (bare layout.now)) }
+    requires known { is_known ≡ true → IsHeapOf layout.now known.old heap.old }
+    ensures built { OnOk result (known.new ≡ vector.now) }
     ensures heap { OnOk result (heap.new ≡ heap_of (bare layout.now) vector.now) }
+    ensures long { length known.new ≡ length known.old }
 {
-    match known {
-        Some(before) => {
-            let mut built = before;
-            update(heap, &mut built, layout, vector)?;
-            Ok(built)
-        }
-        None => {
-            let built = copied(alloc, layout, vector)?;
-            *heap = build(alloc, layout, vector)?;
-            Ok(built)
-        }
+    if is_known {
+        update(heap, known, layout, vector)?;
+        return Ok(());
     }
+    copy(known, layout, vector);
+    *heap = build(alloc, layout, vector)?;
+    Ok(())
 }

@@ -1,27 +1,27 @@
 // A run that goes on from where it stands, with a checkpoint before each first read.
-ghost use Rattle.std.specs.Prelude.{◌≡◌, ◌<◌, ◌^◌, ◌∷◌, [], IfOk, IfSome, Some, length, slice_get, true};
+ghost use Rattle.std.specs.Prelude.{◌≡◌, ◌<◌, ◌^◌, ◌∷◌, [], ℕ, List, IfOk, IfSome, Some, false, length, slice_get, take, true};
 ghost use Rattle.std.specs.List.{All};
 ghost use Rattle.kr_code.specs.Resolved.{Numbering};
 ghost use Rattle.kr_mean.specs.Heaps.{heap_of};
-ghost use Rattle.kr_mean.specs.Places.{This};
+ghost use Rattle.kr_mean.specs.Places.{SlotPlace, This};
 ghost use Rattle.kr_mean.specs.Problem.{slots};
 ghost use Rattle.kr_mean.specs.Program.{Program};
-ghost use Rattle.kr_mean.specs.Runs.{start};
+ghost use Rattle.kr_mean.specs.Runs.{slots_for, start};
 ghost use Rattle.kr_mean.specs.Space.{IsVector, space_of};
 ghost use Rattle.kr_mean.specs.WellFormed.{IsWellFormed};
 ghost use Rattle.kr_problem.specs.Bounds.{bare, problem_with};
+ghost use Rattle.kr_judge.specs.Follows.{Follow};
 ghost use Rattle.kr_judge.specs.Judged.{HoldsAs, hold_at};
 ghost use Rattle.kr_judge.specs.Predicates.{IsPredicateOf};
-ghost use Rattle.kr_runner.specs.Going.{IsRunTo};
-ghost use Rattle.kr_runner.specs.Kept.{GoesOn, Kept};
-ghost use Rattle.kr_runner.specs.Going.{Gives, IsKnown, Stays};
+ghost use Rattle.kr_runner.specs.Going.{Alike, Gives, HasGone, IsHeld, IsLast, IsRunTo, Stays};
+ghost use Rattle.kr_runner.specs.Kept.{AreShared, GoesOn, Kept, Shares};
 
 use crate::checks::{Checks, Start};
 use crate::fresh::refresh;
 use crate::pauses::pause_of;
 use kr_base::NoMemory;
 use kr_frames::{Stack, Task};
-use kr_judge::{Judgement, Predicate, begin, judged};
+use kr_judge::{Accesses, Judgement, Predicate, begin, judged};
 use kr_problem::Layout;
 use kr_run::{Step, advance};
 use kr_value::Value;
@@ -154,13 +154,27 @@ fn go_on(
     Err(Halt::Memory)
 }
 
+/// The checkpoints alone that a candidate holds to, if what they are of is known.
+fn settle(checks: &mut Checks, is_known: bool, accesses: &Accesses, fresh: usize)
+    ensures front { (n : ℕ) × (checks.new ≡ take n checks.old) }
+    ensures known { is_known ≡ false → checks.new ≡ [] }
+    ensures fresh { fresh ≡ 0 → checks.new ≡ [] }
+    ensures held { All (IsHeld accesses.now fresh) checks.new }
+{
+    if is_known {
+        checks.cut(accesses, fresh);
+    } else {
+        checks.clear();
+    }
+}
+
 /// Where a candidate's run goes on, or begins.
 fn stand(
     alloc: Global,
     layout: &Layout,
     vector: &Vector,
     predicate: &Predicate,
-    checks: &mut Checks,
+    checks: &Checks,
     world: &mut World,
     stack: &mut Stack,
     node: u32,
@@ -171,9 +185,10 @@ fn stand(
     requires candidates { world.old.candidates ≡ heap_of (bare layout.now) vector.now }
     requires frozen { world.old.is_frozen ≡ true }
     requires first { slice_get predicate.now.conditions.items 0 ≡ Some node }
-    requires kept { All (Kept layout.now predicate.now vector.now) checks.old }
+    requires kept { All (Kept layout.now predicate.now vector.now) checks.now }
+    requires shared { All (Shares layout.now predicate.now vector.now world.old.reads) checks.now }
     ensures goes_on { IfOk result (λ start. GoesOn layout.now predicate.now vector.now start.condition stack.new start.task world.new) }
-    ensures kept { All (Kept layout.now predicate.now vector.now) checks.new }
+    ensures shared { IfOk result (λ start. (places : List SlotPlace) → All (Shares layout.now predicate.now vector.now places) checks.now → AreShared layout.now predicate.now vector.now places start.count) }
 {
     match checks.wake(alloc, world, stack)? {
         Some(start) => Ok(start),
@@ -183,39 +198,62 @@ fn stand(
             Ok(Start {
                 condition: 0,
                 task: Task::Evaluate(node),
+                count: 0,
             })
         }
     }
 }
 
-/// The run of a candidate, with checkpoints of earlier runs, in a world and on a stack whose room is used: how it ends, and
-/// the places that the world then has read; none where the candidate has no conditions, or would have been written. The known vector
-/// is whose heap the world has.
+/// How a run has ended, and how many of the places that it has read were read from the start by the run before, too.
+#[derive(Clone, Copy)]
+pub(crate) struct Went {
+    pub end: Judgement,
+    pub shared: usize,
+}
+
+/// The run of a candidate, with checkpoints of the last run, in a world and on a stack whose room is used: how it ends, and
+/// the places that the world then has read; none where the candidate has no conditions, or would have been written. If the
+/// known vector is known, it is the one of the last run, the world has its heap, and the accesses are that run's; the
+/// candidate has its indices at so many of their first slots.
 pub(crate) fn run(
     alloc: Global,
     layout: &Layout,
     predicate: &Predicate,
     vector: &Vector,
-    known: &mut Option<Vector>,
+    is_known: bool,
+    known: &mut Vector,
+    fresh: usize,
+    accesses: &Accesses,
     checks: &mut Checks,
     world: &mut World,
     stack: &mut Stack,
-) -> Result<Option<Judgement>, NoMemory>
+) -> Result<Option<Went>, NoMemory>
     requires well { IsWellFormed (bare layout.now) }
     requires vector { IsVector (space_of (bare layout.now)) vector.now }
     requires small { length (slots (bare layout.now)) < 2 ^ 31 }
-    requires known { IsKnown layout.now known.old world.old.candidates }
-    requires kept { All (Kept layout.now predicate.now vector.now) checks.old }
-    ensures runs { IfOk result (λ found. IfSome found (λ end. (program : Program) (n : Numbering) → IsPredicateOf (problem_with program layout.now) predicate.now n → IsRunTo (problem_with program layout.now) vector.now end world.new.reads)) }
-    ensures known { IsKnown layout.now known.new world.new.candidates }
-    ensures kept { All (Kept layout.now predicate.now vector.now) checks.new }
+    requires long { length known.old ≡ length (slots (bare layout.now)) }
+    requires follow { Follow (slots_for (bare layout.now)) accesses.now }
+    requires last { is_known ≡ true → IsLast layout.now predicate.now known.old checks.old world.old accesses.now }
+    requires alike { is_known ≡ true → Alike layout.now known.old vector.now fresh accesses.now }
+    ensures runs { IfOk result (λ found. IfSome found (λ went. (program : Program) (n : Numbering) → IsPredicateOf (problem_with program layout.now) predicate.now n → IsRunTo (problem_with program layout.now) vector.now went.end world.new.reads)) }
+    ensures went { IfOk result (λ found. IfSome found (λ went. HasGone layout.now predicate.now vector.now went known.new checks.new world.new accesses.now)) }
+    ensures long { length known.new ≡ length known.old }
 {
     let Some(node) = condition_at(predicate, 0) else {
         return Ok(None);
     };
-    let built = refresh(alloc, layout, vector, known.take(), &mut world.candidates)?;
+    settle(checks, is_known, accesses, fresh);
+    refresh(
+        alloc,
+        layout,
+        vector,
+        is_known,
+        known,
+        &mut world.candidates,
+    )?;
     world.is_frozen = true;
     let start = stand(alloc, layout, vector, predicate, checks, world, stack, node)?;
+    let shared = start.count;
     let answer = go_on(
         alloc,
         layout,
@@ -231,6 +269,5 @@ pub(crate) fn run(
         return Ok(None);
     }
     let end = judged(answer)?;
-    *known = Some(built);
-    Ok(Some(end))
+    Ok(Some(Went { end, shared }))
 }

@@ -1,10 +1,10 @@
 // Runs of candidates that go on from before the first place that changed.
-ghost use Rattle.std.specs.Prelude.{◌≡◌, ◌<◌, ◌^◌, [], IfOk, OnOk, length, replicate, slice_index, slice_set};
+ghost use Rattle.std.specs.Prelude.{◌≡◌, ◌<◌, ◌≤◌, ◌^◌, [], false, take, IfOk, OnOk, length, replicate, slice_index, slice_set};
 ghost use Rattle.std.specs.List.{All};
 ghost use Rattle.kr_code.specs.Resolved.{Numbering};
 ghost use Rattle.kr_mean.specs.Problem.{slots};
 ghost use Rattle.kr_mean.specs.Program.{Program};
-ghost use Rattle.kr_mean.specs.Runs.{end_on, order_of};
+ghost use Rattle.kr_mean.specs.Runs.{contains_number, end_on, order_of};
 ghost use Rattle.kr_mean.specs.Space.{IsVector, space_of};
 ghost use Rattle.kr_mean.specs.WellFormed.{IsWellFormed};
 ghost use Rattle.kr_problem.specs.Bounds.{bare, problem_with};
@@ -34,48 +34,45 @@ pub struct Runner<'s> {
     predicate: &'s Predicate,
     vector: Vector,
     checks: Checks,
-    known: Option<Vector>,
+    // the vector of the last run, whose heap the world has, if it is known
+    known: Vector,
+    is_known: bool,
+    // at so many of the first slots of its order the candidate has its indices
+    fresh: usize,
     world: World,
     stack: Stack,
     accesses: Accesses,
 }
 
 impl<'s> Model for Runner<'s> {
-    ghost use Rattle.std.specs.List.{All};
+    ghost use Rattle.std.specs.Prelude.{◌≡◌, length, true};
+    ghost use Rattle.kr_mean.specs.Problem.{slots};
     ghost use Rattle.kr_mean.specs.Runs.{slots_for};
     ghost use Rattle.kr_problem.specs.Bounds.{bare};
     ghost use Rattle.kr_judge.specs.Follows.{Follow};
-    ghost use Rattle.kr_runner.specs.Going.{IsKnown};
-    ghost use Rattle.kr_runner.specs.Kept.{Kept};
+    ghost use Rattle.kr_runner.specs.Going.{Alike, IsLast};
     ghost use Rattle.kr_runner.specs.Seen.{Seen};
 
     ghost Value = { Seen };
 
     ghost view = { λ r. record { bounds = r.layout.now; predicate = r.predicate.now; vector = r.vector; order = r.accesses.order } };
 
-    ghost invariant = { λ r. All (Kept r.layout.now r.predicate.now r.vector) r.checks × IsKnown r.layout.now r.known r.world.candidates × Follow (slots_for (bare r.layout.now)) r.accesses };
+    ghost invariant = { λ r. Follow (slots_for (bare r.layout.now)) r.accesses × (length r.known ≡ length (slots (bare r.layout.now)))
+        × (r.is_known ≡ true → IsLast r.layout.now r.predicate.now r.known r.checks r.world r.accesses × Alike r.layout.now r.known r.vector r.fresh r.accesses) };
 }
 
-/// Gives a slot another index. No checkpoint stays where a root changes.
-fn change(
-    layout: &Layout,
-    predicate: &Predicate,
-    vector: &mut Vector,
-    checks: &mut Checks,
-    slot: u32,
-    index: u32,
-)
-    requires slot { slot < length vector.old }
-    requires kept { All (Kept layout.now predicate.now vector.old) checks.old }
-    ensures vector { vector.new ≡ slice_set vector.old slot index }
-    ensures kept { All (Kept layout.now predicate.now vector.new) checks.new }
+/// How many of the first slots, of so many, come before one; none where it's a root.
+#[inline(always)]
+fn first_without(layout: &Layout, accesses: &Accesses, fresh: usize, slot: u32) -> usize
+    ensures few { result ≤ fresh }
+    ensures none { contains_number (take result accesses.now.order) slot ≡ false }
+    ensures root { slot ≤ length layout.now.parameters → result ≡ 0 }
 {
     if (slot as usize) <= layout.parameters() {
-        checks.clear();
-        vector.set(Slot(slot), index);
-        return;
+        0
+    } else {
+        accesses.order.first_without(fresh, slot)
     }
-    vector.set(Slot(slot), index);
 }
 
 impl<'s> Runner<'s> {
@@ -90,13 +87,16 @@ impl<'s> Runner<'s> {
         ensures vector { IfOk result (λ runner. runner.vector ≡ replicate (length (slots (bare layout.now))) 0) }
     {
         let vector = Vector::zero(alloc, layout.slots() as usize)?;
+        let known = Vector::zero(alloc, layout.slots() as usize)?;
         Ok(Runner {
             alloc,
             layout,
             predicate,
             vector,
             checks: Checks::new(alloc),
-            known: None,
+            known,
+            is_known: false,
+            fresh: 0,
             world: blank_world(alloc),
             stack: Stack::new(alloc),
             accesses: Accesses::new(alloc),
@@ -123,14 +123,8 @@ impl<'s> Runner<'s> {
         requires { slot < length self.old.vector }
         ensures { self.new ≡ record self.old { vector = slice_set self.old.vector slot index } }
     {
-        change(
-            self.layout,
-            self.predicate,
-            &mut self.vector,
-            &mut self.checks,
-            slot,
-            index,
-        );
+        self.fresh = first_without(self.layout, &self.accesses, self.fresh, slot);
+        self.vector.set(Slot(slot), index);
     }
 
     /// Runs the predicate on the candidate: how the run ends, and the order of the slots that decide it.
@@ -142,25 +136,37 @@ impl<'s> Runner<'s> {
         ensures order { OnOk result ((program : Program) (n : Numbering) → IsPredicateOf (problem_with program self.old.bounds) self.old.predicate n → self.new.order ≡ order_of (problem_with program self.old.bounds) self.old.vector) }
         ensures others { self.new ≡ record self.old { order = self.new.order } }
     {
+        let is_known = self.is_known;
+        self.is_known = false;
         match run(
             self.alloc,
             self.layout,
             self.predicate,
             &self.vector,
+            is_known,
             &mut self.known,
+            self.fresh,
+            &self.accesses,
             &mut self.checks,
             &mut self.world,
             &mut self.stack,
         )? {
-            Some(end) => {
-                self.accesses
-                    .take(self.layout, &self.vector, end, &self.world.reads)?;
-                Ok(end)
+            Some(went) => {
+                self.accesses.take(
+                    self.layout,
+                    &self.vector,
+                    went.end,
+                    &self.world.reads,
+                    went.shared,
+                )?;
+                self.is_known = true;
+                self.fresh = self.accesses.order.len();
+                Ok(went.end)
             }
             None => {
                 let ran = run_predicate(self.alloc, self.layout, self.predicate, &self.vector)?;
                 self.accesses
-                    .take(self.layout, &self.vector, ran.end, &ran.reads)?;
+                    .take(self.layout, &self.vector, ran.end, &ran.reads, 0)?;
                 Ok(ran.end)
             }
         }

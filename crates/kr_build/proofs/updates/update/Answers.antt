@@ -14,8 +14,8 @@ get-index-requires c =
     let inside : c.each.slot < length (slots (bare c.args.layout.now)) = omega (arith, c.each-test.true, c.slots-slot-end.ensures) in
     (in_vector (bare c.args.layout.now) c.args.vector.now c.each.slot c.requires.vector inside).slot
 
-pub change-requires-clause-index : goal.change-requires-clause-index
-change-requires-clause-index c =
+pub take_on-requires-clause-index : goal.take_on-requires-clause-index
+take_on-requires-clause-index c =
     let inside : c.each.slot < length (slots (bare c.args.layout.now)) = omega (arith, c.each-test.true, c.slots-slot-end.ensures) in
     subst (λ (i : ℕ). i < length (choices_at (bare c.args.layout.now) c.each.slot)) (sym c.get-index.ensures) (in_vector (bare c.args.layout.now) c.args.vector.now c.each.slot c.requires.vector inside).index
 
@@ -27,9 +27,9 @@ each-preserved c =
     let s = c.each.slot in
     let inside : s < length (slots b) = omega (arith, c.each-test.true, c.slots-slot-end.ensures) in
     let there : s < length u = omega (arith, inside, vector_long b u c.each.invariant.0) in
-    let is = c.in_ok-change.ensures.vector ∙ ap (λ (i : ℕ). slice_set u s i) c.get-index.ensures in (
+    let is = c.in_ok-take_on.ensures.vector ∙ ap (λ (i : ℕ). slice_set u s i) c.get-index.ensures in (
       subst (λ (x : List ℕ). IsVector (space_of b) x) (sym is) (vector_set b u s (get_or v s 0) c.each.invariant.0 inside (in_vector b v s c.requires.vector inside).index),
-      c.in_ok-change.ensures.heap,
+      c.in_ok-take_on.ensures.heap,
       ap (λ (x : List ℕ). length x) is ∙ (length-set u s (get_or v s 0) ∙ c.each.invariant.2),
       λ t l. subst (λ (x : List ℕ). get_or x t 0 ≡ get_or v t 0) (sym is) (front_more u v s there c.each.invariant.3 t l),
     )

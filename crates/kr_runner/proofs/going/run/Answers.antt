@@ -9,7 +9,8 @@ use Rattle.kr_judge.specs.Judged.{MeansAs}
 use Rattle.kr_judge.proofs.Ends.{ran}
 use Rattle.kr_judge.proofs.Holding.{means}
 use Rattle.kr_judge.proofs.Programs.{start_same}
-use Rattle.kr_runner.proofs.Steps.{stays_known}
+use Rattle.kr_judge.specs.Follows.{place_in}
+use Rattle.kr_runner.proofs.Steps.{reads_of, settled, stays_same}
 use Rattle.kr_runner.proofs.going.run.Goals as goal
 
 pub returns-clause-runs : goal.returns-clause-runs
@@ -27,5 +28,34 @@ returns-clause-runs c = λ program n p.
     let r = ran answer c.in_ok-end.end w (hold_all program (conditions (problem_with program b)) (start (problem_with program b) v)) c.in_ok-end.ensures whole in
     (r.0, r.1)
 
-pub returns-clause-known : goal.returns-clause-known
-returns-clause-known c = stays_known c.args.layout.now c.args.predicate.now c.args.vector.now c.requires.vector c.go_on-answer.result c.in_ok-end.end c.in_ok-built.built c.go_on-answer.new.world c.in_ok-end.ensures c.go_on-answer.ensures.stays c.in_ok-built.ensures.built
+pub stand-requires-clause-kept : goal.stand-requires-clause-kept
+stand-requires-clause-kept c =
+    (settled c.args.layout.now c.args.predicate.now c.args.known.now c.args.vector.now c.requires.well c.requires.vector c.args.is_known c.args.fresh c.args.accesses.now c.args.checks.now c.settle.new.checks c.args.world.now c.requires.follow
+    c.requires.last c.requires.alike c.settle.ensures.front c.settle.ensures.known c.settle.ensures.fresh c.settle.ensures.held).kept
+
+pub stand-requires-clause-shared : goal.stand-requires-clause-shared
+stand-requires-clause-shared c =
+    (settled c.args.layout.now c.args.predicate.now c.args.known.now c.args.vector.now c.requires.well c.requires.vector c.args.is_known c.args.fresh c.args.accesses.now c.args.checks.now c.settle.new.checks c.args.world.now c.requires.follow
+    c.requires.last c.requires.alike c.settle.ensures.front c.settle.ensures.known c.settle.ensures.fresh c.settle.ensures.held).with_reads
+
+pub returns-clause-went : goal.returns-clause-went
+returns-clause-went c =
+    let b = c.args.layout.now in
+    let p = c.args.predicate.now in
+    let v = c.args.vector.now in
+    let answer = c.go_on-answer.result in
+    let w = c.go_on-answer.new.world in
+    let places = (settled b p c.args.known.now v c.requires.well c.requires.vector c.args.is_known c.args.fresh c.args.accesses.now c.args.checks.now c.settle.new.checks c.args.world.now c.requires.follow
+    c.requires.last c.requires.alike c.settle.ensures.front c.settle.ensures.known c.settle.ensures.fresh c.settle.ensures.held).with_places in
+    record {
+      known_is = c.in_ok-refresh.ensures.built;
+      heap = stays_same b p v c.requires.vector answer c.in_ok-end.end w c.in_ok-end.ensures c.go_on-answer.ensures.stays;
+      kept = c.go_on-answer.ensures.kept;
+      reads = reads_of b p v c.requires.vector answer c.in_ok-end.end w c.in_ok-end.ensures c.go_on-answer.ensures.means;
+      shared = c.in_ok-start.ensures.shared (map place_in c.args.accesses.now.places.items) places;
+    }
+
+pub go_on-answer-requires-clause-kept : goal.go_on-answer-requires-clause-kept
+go_on-answer-requires-clause-kept c =
+    (settled c.args.layout.now c.args.predicate.now c.args.known.now c.args.vector.now c.requires.well c.requires.vector c.args.is_known c.args.fresh c.args.accesses.now c.args.checks.now c.settle.new.checks c.args.world.now c.requires.follow
+    c.requires.last c.requires.alike c.settle.ensures.front c.settle.ensures.known c.settle.ensures.fresh c.settle.ensures.held).kept

@@ -1,22 +1,23 @@
 use Rattle.std.proofs.Common.{◌∙◌, subst}
 use Rattle.std.specs.Prelude.{Option, IfSome}
 use Rattle.kr_runner.specs.Going.{Wakes}
-use Rattle.kr_runner.specs.Kept.{Kept}
 use Rattle.kr_runner.specs.declared.checks.Start.{Start}
-use Rattle.kr_runner.proofs.Steps.{all_cut, begins, goes_on_from}
+use Rattle.kr_runner.proofs.Steps.{begins, goes_on_from, shared_from}
 use Rattle.kr_runner.proofs.going.stand.Goals as goal
 
 pub returns-in-Some-clause-goes_on : goal.returns-in-Some-clause-goes_on
 returns-in-Some-clause-goes_on c =
-    let b = c.args.layout.now in
-    let p = c.args.predicate.now in
-    let v = c.args.vector.now in
-    let kept = all_cut (Kept b p v) c.args.checks.now c.wake.new.self c.in_ok-start.ensures.front c.requires.kept in
-    let woken = subst (λ (f : Option Start). IfSome f (λ s. Wakes c.wake.new.self s c.wake.new.stack c.wake.new.world)) c.in-Some.is c.in_ok-start.ensures.woken in
-    goes_on_from b p v c.wake.new.self c.in-Some.start c.wake.new.stack c.wake.new.world c.requires.well (c.in_ok-start.ensures.candidates ∙ c.requires.candidates) (c.in_ok-start.ensures.frozen ∙ c.requires.frozen) kept woken
+    let checks = c.args.checks.now in
+    let reads = c.args.world.now.reads in
+    let woken = subst (λ (f : Option Start). IfSome f (λ s. Wakes checks s reads c.wake.new.stack c.wake.new.world)) c.in-Some.is c.in_ok-start.ensures.woken in
+    goes_on_from c.args.layout.now c.args.predicate.now c.args.vector.now checks c.in-Some.start reads c.wake.new.stack c.wake.new.world (c.in_ok-start.ensures.candidates ∙ c.requires.candidates) (c.in_ok-start.ensures.frozen ∙ c.requires.frozen) c.requires.kept c.requires.shared woken
 
-pub returns-in-Some-clause-kept : goal.returns-in-Some-clause-kept
-returns-in-Some-clause-kept c = all_cut (Kept c.args.layout.now c.args.predicate.now c.args.vector.now) c.args.checks.now c.wake.new.self c.in_ok-start.ensures.front c.requires.kept
+pub returns-in-Some-clause-shared : goal.returns-in-Some-clause-shared
+returns-in-Some-clause-shared c =
+    let checks = c.args.checks.now in
+    let reads = c.args.world.now.reads in
+    let woken = subst (λ (f : Option Start). IfSome f (λ s. Wakes checks s reads c.wake.new.stack c.wake.new.world)) c.in-Some.is c.in_ok-start.ensures.woken in
+    shared_from c.args.layout.now c.args.predicate.now c.args.vector.now checks c.in-Some.start reads c.wake.new.stack c.wake.new.world woken
 
 pub returns-in_ok-begin-in-None-clause-goes_on : goal.returns-in_ok-begin-in-None-clause-goes_on
 returns-in_ok-begin-in-None-clause-goes_on c =

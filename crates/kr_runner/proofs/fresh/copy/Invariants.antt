@@ -1,5 +1,5 @@
 use Rattle.std.proofs.Common.{◌≡◌, ℕ, ◌<◌, length, get_or}
-use Rattle.kr_runner.proofs.fresh.copied.Given as goal
+use Rattle.kr_runner.proofs.fresh.copy.Given as goal
 
 -- the first slots have their indices
 abbrev pub invariant-each : goal.invariant-each

@@ -1,0 +1,12 @@
+-- A heap that is a vector's but for one slot.
+use Rattle.std.specs.Prelude.{◌≡◌, ℕ, List, slice_set}
+use Rattle.kr_value.specs.Heaps.{Heap}
+use Rattle.kr_mean.specs.Heaps.{heap_of}
+use Rattle.kr_mean.specs.Problem.{Problem}
+
+-- it's the heap of one that has another index there
+pub record IsBut (problem : Problem) (slot : ℕ) (vector : List ℕ) (heap : Heap) : Type 0 where
+  pub old : List ℕ
+  pub index : ℕ
+  pub changed : vector ≡ slice_set old slot index
+  pub heap_is : heap ≡ heap_of problem old

@@ -1,0 +1,130 @@
+-- Checkpoints that are held, and places of which lengths were read.
+use Rattle.std.proofs.Common.{◌≡◌, ◌⊎◌, inl, inr, ℕ, zero, suc, ◌+◌, ◌-◌, ◌<◌, ◌≤◌, Bool, true, false, List, [], ◌∷◌, ◌++◌, length, get_or, take, refl, sym, ap, ◌∙◌, subst, arith}
+use Rattle.std.specs.Prelude.{map, slice_set, ◌==◌, ◌||◌}
+use Rattle.std.specs.List.{All}
+use Rattle.std.proofs.lemmas.List.{get_or-append-add, get_or-set_other, get_or-take, get_or_append_left, length-append, length-take}
+use Rattle.std.proofs.lemmas.Bool.{cases_lt}
+use Rattle.kr_mean.specs.Places.{SlotPlace}
+use Rattle.kr_mean.specs.Runs.{contains_number, is_same_place}
+use Rattle.kr_problem.specs.Bounds.{Bounds}
+use Rattle.kr_world.specs.Noting.{is_read}
+use Rattle.kr_judge.specs.Follows.{place_in}
+use Rattle.kr_judge.specs.declared.accesses.Accesses.{Accesses}
+use Rattle.kr_judge.proofs.Orders.{same_places}
+use Rattle.kr_runner.specs.Ascending.{Ascend, HadRead}
+use Rattle.kr_runner.specs.Going.{Alike, IsHeld}
+use Rattle.kr_runner.specs.declared.check.Check.{Check}
+
+-- more of the first have all that fewer have
+read_within : (ps : List SlotPlace) (m n : ℕ) (p : SlotPlace) → m ≤ n → is_read p (take m ps) ≡ true → is_read p (take n ps) ≡ true
+read_within [] zero zero p l h = h
+read_within [] zero (suc n) p l h = h
+read_within [] (suc m) zero p l h = h
+read_within [] (suc m) (suc n) p l h = h
+read_within (q ∷ qs) zero n p l h = absurd (cc (h))
+read_within (q ∷ qs) (suc m) zero p l h = absurd (omega (arith, l))
+read_within (q ∷ qs) (suc m) (suc n) p l h = go (is_same_place q p) h (read_within qs m n p (omega (arith, l)))
+  where
+    go : (b : Bool) → (b || is_read p (take m qs)) ≡ true → (is_read p (take m qs) ≡ true → is_read p (take n qs) ≡ true) → (b || is_read p (take n qs)) ≡ true
+    go true h f = refl
+    go false h f = f h
+
+-- where the last one is held all are
+pub held_all : (xs : List Check) (n fresh : ℕ) (accesses : Accesses) → Ascend xs → n ≤ length xs → ((other : Check) → 0 < n → IsHeld accesses fresh (get_or xs (n - 1) other)) → All (IsHeld accesses fresh) (take n xs)
+held_all xs n fresh accesses ascend few held = λ k d lt f h p s i m.
+    let inside : k < n = omega (arith, lt, length-take n xs) in
+    let here = subst (λ (x : Check). is_read p (take x.count (map place_in accesses.places.items)) ≡ true) (get_or-take n xs k d inside) i in
+    held d (omega (arith, inside)) f h p s (read_within (map place_in accesses.places.items) (get_or xs k d).count (get_or xs (n - 1) d).count p (ascend k (n - 1) d (omega (arith, inside)) (omega (arith, inside, few))) here) m
+
+-- where the last one had read no more than so many places none had
+pub few_all : (xs : List Check) (n places : ℕ) → Ascend xs → n ≤ length xs → ((other : Check) → 0 < n → (get_or xs (n - 1) other).count ≤ places) → All (HadRead places) (take n xs)
+few_all xs n places ascend few last = λ k d lt.
+    let inside : k < n = omega (arith, lt, length-take n xs) in
+    let below = ascend k (n - 1) d (omega (arith, inside)) (omega (arith, inside, few)) in
+    let is : (get_or (take n xs) k d).count ≡ (get_or xs k d).count = ap (λ (x : Check). x.count) (get_or-take n xs k d inside) in
+    omega (arith, is, below, last d (omega (arith, inside)))
+
+none_of : (P : Check → Type 0) (xs : List Check) → All P (take 0 xs)
+none_of P [] = λ k d lt. absurd (omega (arith, lt))
+none_of P (x ∷ xs) = λ k d lt. absurd (omega (arith, lt))
+
+pub none_read : (xs : List Check) (places : ℕ) → All (HadRead places) (take 0 xs)
+none_read xs places = none_of (HadRead places) xs
+
+pub none_held : (xs : List Check) (fresh : ℕ) (accesses : Accesses) → All (IsHeld accesses fresh) (take 0 xs)
+none_held xs fresh accesses = none_of (IsHeld accesses fresh) xs
+
+pub ascend_take : (xs : List Check) (n : ℕ) → Ascend xs → Ascend (take n xs)
+ascend_take xs n a = λ i j other l lt.
+    let inside : j < n = omega (arith, lt, length-take n xs) in
+    let long : j < length xs = omega (arith, lt, length-take n xs) in
+    let first : (get_or (take n xs) i other).count ≡ (get_or xs i other).count = ap (λ (x : Check). x.count) (get_or-take n xs i other (omega (arith, l, inside))) in
+    let second : (get_or (take n xs) j other).count ≡ (get_or xs j other).count = ap (λ (x : Check). x.count) (get_or-take n xs j other inside) in
+    omega (arith, first, second, a i j other l long)
+
+pub ascend_add : (xs : List Check) (x : Check) → Ascend xs → All (HadRead x.count) xs → Ascend (xs ++ x ∷ [])
+ascend_add xs x a few = λ i j other l lt. go i j other l (cases_lt j (length xs)) (cases_lt i (length xs)) (omega (arith, lt, length-append xs (x ∷ [])))
+  where
+    old : (i : ℕ) (other : Check) → i < length xs → (get_or (xs ++ x ∷ []) i other).count ≡ (get_or xs i other).count
+    old i other l = ap (λ (y : Check). y.count) (get_or_append_left xs (x ∷ []) other i l)
+
+    new : (i : ℕ) (other : Check) → i ≡ length xs + 0 → (get_or (xs ++ x ∷ []) i other).count ≡ x.count
+    new i other e = ap (λ (k : ℕ). (get_or (xs ++ x ∷ []) k other).count) e ∙ ap (λ (y : Check). y.count) (get_or-append-add xs (x ∷ []) 0 other)
+
+    go : (i j : ℕ) (other : Check) → i ≤ j → (j < length xs) ⊎ (length xs ≤ j) → (i < length xs) ⊎ (length xs ≤ i) → j < length xs + 1 → (get_or (xs ++ x ∷ []) i other).count ≤ (get_or (xs ++ x ∷ []) j other).count
+    go i j other l (inl b) c lt = omega (arith, old i other (omega (arith, l, b)), old j other b, a i j other l b)
+    go i j other l (inr b) (inl c) lt = omega (arith, old i other c, new j other (omega (arith, b, lt)), few i other c)
+    go i j other l (inr b) (inr c) lt = omega (arith, new i other (omega (arith, c, l, lt)), new j other (omega (arith, b, lt)))
+
+-- of the first ones the first
+pub take_short : {X : Type 0} (xs : List X) (n m : ℕ) → n ≤ m → take n (take m xs) ≡ take n xs
+take_short [] zero zero l = refl
+take_short [] zero (suc m) l = refl
+take_short [] (suc n) zero l = refl
+take_short [] (suc n) (suc m) l = refl
+take_short (x ∷ xs) zero zero l = refl
+take_short (x ∷ xs) zero (suc m) l = refl
+take_short (x ∷ xs) (suc n) zero l = absurd (omega (arith, l))
+take_short (x ∷ xs) (suc n) (suc m) l = ap (λ ys. x ∷ ys) (take_short xs n m (omega (arith, l)))
+
+-- more of the first slots have all that fewer have
+pub contains_within : (ss : List ℕ) (m n x : ℕ) → m ≤ n → contains_number (take m ss) x ≡ true → contains_number (take n ss) x ≡ true
+contains_within [] zero zero x l h = h
+contains_within [] zero (suc n) x l h = h
+contains_within [] (suc m) zero x l h = h
+contains_within [] (suc m) (suc n) x l h = h
+contains_within (t ∷ ts) zero n x l h = absurd (cc (h))
+contains_within (t ∷ ts) (suc m) zero x l h = absurd (omega (arith, l))
+contains_within (t ∷ ts) (suc m) (suc n) x l h = go (t == x) h (contains_within ts m n x (omega (arith, l)))
+  where
+    go : (b : Bool) → (b || contains_number (take m ts) x) ≡ true → (contains_number (take m ts) x ≡ true → contains_number (take n ts) x ≡ true) → (b || contains_number (take n ts) x) ≡ true
+    go true h f = refl
+    go false h f = f h
+
+-- a slot that isn't among the first ones may get another index
+pub alike_set : (b : Bounds) (u v : List ℕ) (fresh left slot index : ℕ) (accesses : Accesses) → Alike b u v fresh accesses → left ≤ fresh → contains_number (take left accesses.order) slot ≡ false → (slot ≤ length b.parameters → left ≡ 0) → Alike b u (slice_set v slot index) left accesses
+alike_set b u v fresh left slot index accesses a few none root = (
+  λ some s l. let apart : s ≡ slot → ⊥ = λ e. omega (arith, some, root (omega (arith, l, e))) in a.0 (omega (arith, some, few)) s l ∙ sym (get_or-set_other v slot s index 0 apart),
+  λ s h.
+      let apart : s ≡ slot → ⊥ = λ e. let here = subst (λ (x : ℕ). contains_number (take left accesses.order) x ≡ true) e h in cc (here, none) in
+      a.1 s (contains_within accesses.order left fresh s few h) ∙ sym (get_or-set_other v slot s index 0 apart),
+)
+
+-- an item that is there, whatever stands for others
+pub get_or_any : {X : Type 0} (xs : List X) (k : ℕ) (d e : X) → k < length xs → get_or xs k d ≡ get_or xs k e
+get_or_any [] k d e h = absurd (omega (arith, h))
+get_or_any (x ∷ xs) zero d e h = refl
+get_or_any (x ∷ xs) (suc k) d e h = get_or_any xs k d e (omega (arith, h))
+
+-- one more place
+pub read_more : (ps : List SlotPlace) (q p : SlotPlace) → is_read p (ps ++ q ∷ []) ≡ true → (is_read p ps ≡ true) ⊎ (q ≡ p)
+read_more [] q p h = go (is_same_place q p) refl h
+  where
+    go : (b : Bool) → is_same_place q p ≡ b → (b || false) ≡ true → (false ≡ true) ⊎ (q ≡ p)
+    go true e h = inr (same_places q p e)
+    go false e h = absurd (cc (h))
+read_more (r ∷ rs) q p h = go (is_same_place r p) h (read_more rs q p)
+  where
+    go : (b : Bool) → (b || is_read p (rs ++ q ∷ [])) ≡ true → (is_read p (rs ++ q ∷ []) ≡ true → (is_read p rs ≡ true) ⊎ (q ≡ p)) → ((b || is_read p rs) ≡ true) ⊎ (q ≡ p)
+    go true h f = inl refl
+    go false h f = f h
