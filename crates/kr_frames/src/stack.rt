@@ -1,7 +1,5 @@
 // The frames that wait, the innermost one on top.
-ghost use Rattle.std.specs.Prelude.{◌≡◌, ◌==◌, ◌∷◌, ◌++◌, [], drop, length, map, take, OnOk, MatchOption};
-ghost use Rattle.kr_mean.specs.Steps.{plain_local};
-ghost use Rattle.kr_world.specs.Shown.{local_of};
+ghost use Rattle.std.specs.Prelude.{◌≡◌, ◌==◌, ◌∷◌, [], drop, length, take, OnOk, MatchOption};
 ghost use Rattle.kr_frames.specs.Copies.{GoOnAlike};
 ghost use Rattle.kr_frames.specs.Frame as frames;
 ghost use Rattle.kr_frames.specs.Kept.{HasNoList, IsOnTop, frame_of, locals_from, locals_on, values_from, values_on};
@@ -82,28 +80,6 @@ fn cut(frame: &Waiting, values: &mut Vec<Value>, locals: &mut Vec<Local>)
         Waiting::Made(_) => {}
         Waiting::Store(_, _) => {}
     }
-}
-
-/// A value as a local.
-#[inline(always)]
-fn plain(value: Value) -> Local
-    ensures { local_of result ≡ plain_local value }
-{
-    Local {
-        value,
-        parameter: None,
-    }
-}
-
-/// Values come as locals in place of these, in the room that is there.
-fn fill(locals: &mut Vec<Local>, values: &[Value]) -> Result<(), NoMemory>
-    ensures { OnOk result (map local_of locals.new.items ≡ map plain_local values.now) }
-{
-    locals.clear();
-    for value in values {
-        locals.push(plain(*value))?;
-    }
-    Ok(())
 }
 
 impl Stack {
@@ -317,109 +293,6 @@ impl Stack {
         let start = self.locals.len();
         self.locals.extend_from_slice(locals)?;
         self.top = lay(&mut self.frames, self.top, Waiting::Back(this, start))?;
-        Ok(())
-    }
-
-    /// The values that the topmost frame has.
-    #[tactic(auto, using(crate::proofs::Stacks::values_there))]
-    pub fn top_values(&self) -> &[Value]
-        ensures { result.now ≡ values_on self.now }
-    {
-        let count = self.values.len();
-        if self.top == 0 {
-            return behind(self.values.as_slice(), count);
-        }
-        let start = values_start(&self.frames[self.top - 1], count);
-        behind(self.values.as_slice(), start)
-    }
-
-    /// In place of the topmost frame arguments are awaited, behind the values that it has and one more.
-    #[tactic(auto, using(crate::proofs::Stacks::values_there))]
-    pub fn push_argument(&mut self, goal: Goal, nodes: Nodes, given: Value) -> Result<(), NoMemory>
-        ensures { OnOk result (self.new ≡ frames.Arguments goal nodes (values_on self.old ++ given ∷ []) ∷ drop 1 self.old) }
-    {
-        if self.top == 0 {
-            return self.push_arguments(goal, nodes, &[given]);
-        }
-        let top = self.top - 1;
-        let count = self.values.len();
-        let start = values_start(&self.frames[top], count).min(count);
-        let place = locals_start(&self.frames[top], self.locals.len());
-        self.locals.truncate(place);
-        self.values.push(given)?;
-        self.frames[top] = Waiting::Arguments(goal, nodes, start);
-        Ok(())
-    }
-
-    /// In place of the topmost frame arguments of a superclass's constructor are awaited, behind the values that it has and one
-    /// more.
-    #[tactic(auto, using(crate::proofs::Stacks::values_there))]
-    pub fn push_up_argument(&mut self, up: Up, nodes: Nodes, given: Value) -> Result<(), NoMemory>
-        ensures { OnOk result (self.new ≡ frames.UpArguments up nodes (values_on self.old ++ given ∷ []) ∷ drop 1 self.old) }
-    {
-        if self.top == 0 {
-            return self.push_up_arguments(up, nodes, &[given]);
-        }
-        let top = self.top - 1;
-        let count = self.values.len();
-        let start = values_start(&self.frames[top], count).min(count);
-        let place = locals_start(&self.frames[top], self.locals.len());
-        self.locals.truncate(place);
-        self.values.push(given)?;
-        self.frames[top] = Waiting::UpArguments(up, nodes, start);
-        Ok(())
-    }
-
-    /// In place of the topmost frame the caller of a method's body waits; the values that the frame had come as locals in place of
-    /// those of the caller.
-    #[tactic(auto, using(crate::proofs::Stacks::values_there))]
-    pub fn enter_body(
-        &mut self,
-        is_void: bool,
-        this: Value,
-        locals: &mut Vec<Local>,
-    ) -> Result<(), NoMemory>
-        ensures waits { OnOk result (self.new ≡ frames.Leave is_void this locals.old.items ∷ drop 1 self.old) }
-        ensures locals { OnOk result (map local_of locals.new.items ≡ map plain_local (values_on self.old)) }
-    {
-        if self.top == 0 {
-            self.push_leave(is_void, this, locals.as_slice())?;
-            locals.clear();
-            return Ok(());
-        }
-        let top = self.top - 1;
-        let start = values_start(&self.frames[top], self.values.len());
-        let place = locals_start(&self.frames[top], self.locals.len());
-        self.locals.truncate(place);
-        let saved = self.locals.len();
-        self.locals.extend_from_slice(locals.as_slice())?;
-        fill(locals, behind(self.values.as_slice(), start))?;
-        self.values.truncate(start);
-        self.frames[top] = Waiting::Leave(is_void, this, saved);
-        Ok(())
-    }
-
-    /// In place of the topmost frame what is done before waits, where something is done on a new object; the values that the frame
-    /// had come as locals in place of those from before.
-    #[tactic(auto, using(crate::proofs::Stacks::values_there))]
-    pub fn enter_new(&mut self, this: Value, locals: &mut Vec<Local>) -> Result<(), NoMemory>
-        ensures waits { OnOk result (self.new ≡ frames.Back this locals.old.items ∷ drop 1 self.old) }
-        ensures locals { OnOk result (map local_of locals.new.items ≡ map plain_local (values_on self.old)) }
-    {
-        if self.top == 0 {
-            self.push_back(this, locals.as_slice())?;
-            locals.clear();
-            return Ok(());
-        }
-        let top = self.top - 1;
-        let start = values_start(&self.frames[top], self.values.len());
-        let place = locals_start(&self.frames[top], self.locals.len());
-        self.locals.truncate(place);
-        let saved = self.locals.len();
-        self.locals.extend_from_slice(locals.as_slice())?;
-        fill(locals, behind(self.values.as_slice(), start))?;
-        self.values.truncate(start);
-        self.frames[top] = Waiting::Back(this, saved);
         Ok(())
     }
 }

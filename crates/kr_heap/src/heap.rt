@@ -29,17 +29,6 @@ impl Model for Heap {
     ghost view = { λ h. map shown h.objects.items };
 }
 
-/// The same objects once more.
-fn copy_all(alloc: Global, objects: &Vec<Object>) -> Result<Vec<Object>, NoMemory>
-    ensures { IfOk result (λ copies. map shown copies.items ≡ map shown objects.now.items) }
-{
-    let mut copies = Vec::new(alloc);
-    for object in objects {
-        copies.push(object.copy(alloc)?)?;
-    }
-    Ok(copies)
-}
-
 /// The first objects become those at their numbers among others.
 fn copy_into(objects: &mut Vec<Object>, others: &[Object]) -> Result<(), NoMemory>
     requires { length objects.old.items ≤ length others.now }
@@ -84,15 +73,6 @@ impl Heap {
         Heap {
             objects: Vec::new(alloc),
         }
-    }
-
-    /// The same objects once more.
-    pub fn copy(&self, alloc: Global) -> Result<Heap, NoMemory>
-        ensures { IfOk result (λ heap. heap ≡ self.now) }
-    {
-        Ok(Heap {
-            objects: copy_all(alloc, &self.objects)?,
-        })
     }
 
     /// Others' objects in place of these, in the room that is there.

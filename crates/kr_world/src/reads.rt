@@ -1,5 +1,5 @@
 // The places that a run has read.
-ghost use Rattle.std.specs.Prelude.{◌≡◌, ◌≤◌, [], drop, length, map, take, OnOk, OnErr, IfOk};
+ghost use Rattle.std.specs.Prelude.{◌≡◌, ◌≤◌, [], drop, length, map, take, OnOk, OnErr};
 ghost use Rattle.kr_mean.specs.Runs.{is_same_place, is_same_spot};
 ghost use Rattle.kr_mean.specs.Places.{At};
 ghost use Rattle.kr_world.specs.Noting.{is_read, with_read};
@@ -154,17 +154,6 @@ impl Reads {
             from: 0,
             top: 0,
         }
-    }
-
-    /// The same places once more.
-    pub fn copy(&self, alloc: Global) -> Result<Reads, NoMemory>
-        ensures { IfOk result (λ reads. reads ≡ self.now) }
-    {
-        Ok(Reads {
-            places: self.places.as_slice().to_vec(alloc)?,
-            from: self.from,
-            top: self.top,
-        })
     }
 
     /// Others' places in place of these, in the room that is there.

@@ -1,5 +1,5 @@
 // What a run changes.
-ghost use Rattle.std.specs.Prelude.{◌≡◌, IfOk, OnOk};
+ghost use Rattle.std.specs.Prelude.{◌≡◌, OnOk};
 ghost use Rattle.kr_world.specs.Pauses.{IsPaused};
 
 use crate::Reads;
@@ -65,23 +65,6 @@ fn refill<T: Copy + Drop>(items: &mut Vec<T>, others: &[T]) -> Result<(), NoMemo
 }
 
 impl World {
-    /// The world once more, but for the candidates: none are there.
-    pub fn pause(&self, alloc: Global) -> Result<World, NoMemory>
-        ensures { IfOk result (λ world. IsPaused self.now world) }
-    {
-        Ok(World {
-            this: self.this,
-            locals: self.locals.as_slice().to_vec(alloc)?,
-            result: self.result,
-            olds: self.olds.as_slice().to_vec(alloc)?,
-            candidates: Heap::new(alloc),
-            made: self.made.copy(alloc)?,
-            is_frozen: self.is_frozen,
-            fuel: self.fuel,
-            reads: self.reads.copy(alloc)?,
-        })
-    }
-
     /// Another world's state in place of this one's, in the room that is there; the candidates stay.
     pub fn copy_from(&mut self, alloc: Global, other: &World) -> Result<(), NoMemory>
         ensures copied { OnOk result (IsPaused other.now self.new) }
