@@ -1,16 +1,16 @@
 -- The heap of a vector whose slot has another index.
-use Rattle.std.proofs.Common.{◌≡◌, ℕ, zero, suc, ◌+◌, ◌++◌, ◌<◌, ◌≤◌, ◌⊎◌, inl, inr, Bool, true, false, List, [], ◌∷◌, length, get_or, Option, Some, None, refl, sym, ap, ◌∙◌, subst, arith, append_assoc}
+use Rattle.std.proofs.Common.{◌≡◌, ℕ, zero, suc, ◌+◌, ◌++◌, ◌<◌, ◌≤◌, ◌⊎◌, inl, inr, Bool, true, false, List, [], ◌∷◌, length, get_or, Some, None, refl, sym, ap, ◌∙◌, subst, arith, append_assoc}
 use Rattle.std.specs.Prelude.{map, filter, take, slice_set}
 use Rattle.std.specs.List.{range_with_len}
 use Rattle.std.proofs.lemmas.List.{ext_get_or, get_or-set_same, get_or-set_other, length-set}
-use Rattle.std.proofs.lemmas.Bool.{eq-eqb, cases_eq}
+use Rattle.std.proofs.lemmas.Bool.{cases_eq}
 use Rattle.kr_value.specs.Heaps.{Heap, HeapObject, object_in, no_object}
 use Rattle.kr_value.specs.declared.object.Class.{Class}
 use Rattle.kr_value.specs.declared.object.Class.TheVariants.{Object, Array, Set, List as ListClass}
 use Rattle.kr_value.specs.declared.value.Value.{Value}
 use Rattle.kr_heap.specs.Objects.{with_value, with_values}
-use Rattle.kr_mean.specs.Problem.{Problem, DomainObject, all_objects, choices_at, Slot, domain_at, heap_number, slot_at, slots, upto}
-use Rattle.kr_mean.specs.Heaps.{first_value, heap_object, heap_of, is_owner, is_same_object, length_in, slots_owned, slots_there, value_at, values_there}
+use Rattle.kr_mean.specs.Problem.{Problem, DomainObject, choices_at, Slot, domain_at, heap_number, slot_at, slots, upto}
+use Rattle.kr_mean.specs.Heaps.{heap_object, heap_of, is_owner, length_in, slots_owned, slots_there, value_at, values_there}
 use Rattle.kr_mean.specs.Space.{IsVector, no_choice, space_of}
 use Rattle.kr_mean.specs.WellFormed.{IsWellFormed}
 use Rattle.kr_pruning.proofs.Numbering as numbering

@@ -1,5 +1,5 @@
 -- The problem of one cell is well formed, and its vectors are vectors.
-use Rattle.std.proofs.Common.{◌≡◌, ℕ, zero, suc, ◌+◌, ◌<◌, ◌≤◌, ◌^◌, List, [], ◌∷◌, length, get_or, refl, arith}
+use Rattle.std.proofs.Common.{ℕ, zero, suc, ◌<◌, ◌^◌, [], ◌∷◌, length, refl, arith}
 use Rattle.kr_mean.specs.Problem.{slots}
 use Rattle.kr_mean.specs.Space.{IsVector, space_of}
 use Rattle.kr_mean.specs.WellFormed.{IsWellFormed}

@@ -83,20 +83,6 @@ none_before (s ∷ ss) (suc n) x h = go (bool_cases (s == x)) (none_before ss n 
     go (inl i) r = absurd (h 0 (omega arith) (eqb-true s x i))
     go (inr i) r = ap (λ (b : Bool). b || contains_number (take n ss) x) i ∙ r
 
--- more of the first have all that fewer have
-pub contains_within : (ss : List ℕ) (m n x : ℕ) → m ≤ n → contains_number (take m ss) x ≡ true → contains_number (take n ss) x ≡ true
-contains_within [] zero zero x l h = h
-contains_within [] zero (suc n) x l h = h
-contains_within [] (suc m) zero x l h = h
-contains_within [] (suc m) (suc n) x l h = h
-contains_within (t ∷ ts) zero n x l h = absurd (cc (h))
-contains_within (t ∷ ts) (suc m) zero x l h = absurd (omega (arith, l))
-contains_within (t ∷ ts) (suc m) (suc n) x l h = go (t == x) h (contains_within ts m n x (omega (arith, l)))
-  where
-    go : (b : Bool) → (b || contains_number (take m ts) x) ≡ true → (contains_number (take m ts) x ≡ true → contains_number (take n ts) x ≡ true) → (b || contains_number (take n ts) x) ≡ true
-    go true h f = refl
-    go false h f = f h
-
 -- ---- slots behind others
 
 behind : (order ss : List ℕ) → (more : List ℕ) × (with_slots order ss ≡ order ++ more)

@@ -10,7 +10,6 @@ use Rattle.kr_mean.specs.Heaps.{distinct}
 use Rattle.kr_mean.specs.Places.{SlotPlace, This, Parameter, At}
 use Rattle.kr_mean.specs.Runs.{contains_number, is_same_number, is_same_place, is_same_spot}
 use Rattle.kr_pruning.proofs.Membership.{Has, bool_cases}
-use Rattle.kr_pruning.proofs.Numbers.{has_number}
 use Rattle.kr_pruning.proofs.Reached.{has_flat}
 use Rattle.kr_pruning.proofs.SlotForks.{added, distinct_append}
 use Rattle.kr_world.specs.Noting.{is_read, with_read, noted_once}

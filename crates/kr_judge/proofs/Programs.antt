@@ -5,8 +5,6 @@ use Rattle.kr_mean.specs.Heaps.{heap_of, met_within, objects_at, root_slots, slo
 use Rattle.kr_mean.specs.Problem.{DomainObject, all_objects}
 use Rattle.kr_mean.specs.Program.{Program}
 use Rattle.kr_mean.specs.Runs.{start}
-use Rattle.kr_mean.specs.Space.{IsVector, space_of}
-use Rattle.kr_mean.specs.WellFormed.{IsWellFormed}
 use Rattle.kr_problem.specs.Bounds.{Bounds, bare, problem_with}
 
 module _ (program : Program) (b : Bounds) where

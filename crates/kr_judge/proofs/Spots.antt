@@ -1,17 +1,16 @@
 -- The slots of places, of places that no candidate has none.
-use Rattle.std.proofs.Common.{◌≡◌, ℕ, zero, suc, ◌+◌, ◌<◌, ◌≤◌, ◌⊎◌, inl, inr, Bool, true, false, List, [], ◌∷◌, length, get_or, refl, sym, ap, ◌∙◌, arith, subst}
+use Rattle.std.proofs.Common.{◌≡◌, ℕ, zero, suc, ◌+◌, ◌<◌, ◌≤◌, Bool, true, false, List, [], ◌∷◌, length, get_or, refl, sym, ap, ◌∙◌, arith}
 use Rattle.std.specs.Prelude.{filter, ◌==◌, ◌&&◌}
 use Rattle.std.specs.List.{range_with_len}
 use Rattle.std.proofs.lemmas.Bool.{eqb-true}
 use Rattle.kr_value.specs.declared.object.Class.{Class}
 use Rattle.kr_value.specs.declared.object.Class.TheVariants.{Object, Array, Set, List as ListClass}
 use Rattle.kr_value.specs.declared.object.Spot.{Spot}
-use Rattle.kr_mean.specs.Places.{SlotPlace, This, Parameter, At}
+use Rattle.kr_mean.specs.Places.{SlotPlace, Parameter, At}
 use Rattle.kr_mean.specs.Problem.{Problem, ClassDomain, DomainObject, Slot, no_objects, objects_before, heap_number, domain_at, slots, slot_at}
 use Rattle.kr_mean.specs.Runs.{slots_for, is_same_place, is_same_spot}
 use Rattle.kr_mean.specs.WellFormed.{IsWellFormed}
 use Rattle.kr_problem.specs.Layouts.{first_slot}
-use Rattle.kr_pruning.proofs.Membership.{bool_cases}
 use Rattle.kr_pruning.proofs.Numbering as numbering
 use Rattle.kr_pruning.proofs.Numbering.{object, count_at, width_at, parameters, parameter_slot, object_slot, SlotCase, is_this, is_parameter, is_spot, slot_case}
 use Rattle.kr_pruning.proofs.Places.{kind, class_at, spot_slots, spot_none}

@@ -1,5 +1,5 @@
 -- A class of one field, worked by hand.
-use Rattle.std.specs.Prelude.{ℕ, pos, List, [], ◌∷◌, codes}
+use Rattle.std.specs.Prelude.{ℕ, pos, [], ◌∷◌, codes}
 use Rattle.kr_value.specs.declared.value.Value.TheVariants.{Int}
 use Rattle.kr_value.specs.declared.object.Class.TheVariants.{Object}
 use Rattle.kr_value.specs.declared.object.Spot.TheVariants.{Field}

@@ -18,6 +18,7 @@ use crate::run::Judgement;
 use kr_base::NoMemory;
 use kr_build::Walk;
 use kr_problem::Layout;
+use kr_value::Spot;
 use kr_vector::Vector;
 use kr_world::{Reads, SlotPlace};
 use std::alloc::Global;
@@ -87,6 +88,39 @@ fn add_places(
     Ok(())
 }
 
+#[inline(always)]
+fn is_same(a: SlotPlace, b: SlotPlace) -> bool
+    ensures { result ≡ true → a ≡ b }
+{
+    match (a, b) {
+        (SlotPlace::This, SlotPlace::This) => true,
+        (SlotPlace::Parameter(i), SlotPlace::Parameter(j)) => i == j,
+        (SlotPlace::At(o, Spot::Field(f)), SlotPlace::At(p, Spot::Field(g))) => o == p && f == g,
+        (SlotPlace::At(o, Spot::Length), SlotPlace::At(p, Spot::Length)) => o == p,
+        (SlotPlace::At(o, Spot::Element(i)), SlotPlace::At(p, Spot::Element(j))) => {
+            o == p && i == j
+        }
+        _ => false,
+    }
+}
+
+/// How many places are the same from the start.
+#[inline(always)]
+fn common(places: &[Access], reads: &[SlotPlace]) -> usize
+    ensures few { result ≤ length places.now }
+    ensures read { result ≤ length reads.now }
+    ensures same { map place_in (take result places.now) ≡ map place_of (take result reads.now) }
+{
+    let mut count = 0;
+    'places: while count < places.len() && count < reads.len() {
+        if !is_same(places[count].place, reads[count]) {
+            return count;
+        }
+        count += 1;
+    }
+    count
+}
+
 /// A number that is at most both others; else 0.
 #[inline(always)]
 fn within(number: usize, a: usize, b: usize) -> usize
@@ -94,7 +128,23 @@ fn within(number: usize, a: usize, b: usize) -> usize
     ensures second { result ≤ b }
     ensures is { (result ≡ number) ⊎ (result ≡ 0) }
 {
-    if number <= a && number <= b { number } else { 0 }
+    if number <= a && number <= b {
+        number
+    } else {
+        0
+    }
+}
+
+/// How many places are the same from the start, where so many are; only those behind them are looked at.
+#[inline(always)]
+fn alike(places: &[Access], reads: &[SlotPlace], shared: usize) -> usize
+    ensures few { result ≤ length places.now }
+    ensures read { result ≤ length reads.now }
+    ensures same { take shared (map place_in places.now) ≡ take shared (map place_of reads.now) → map place_in (take result places.now) ≡ map place_of (take result reads.now) }
+{
+    let from = within(shared, places.len(), reads.len());
+    let more = common(&places[from..], &reads[from..]);
+    from + more
 }
 
 /// The places become those of a run, so many of which are there from the start, and the order that of their slots.
@@ -112,7 +162,7 @@ fn follow(
     ensures order { OnOk result (take shared (map place_in places.old.items) ≡ take shared (map place_of reads.now) → order.new ≡ with_slots [] (flat_map (slots_for (bare layout.now)) (map place_of reads.now))) }
     ensures read { OnOk result (take shared (map place_in places.old.items) ≡ take shared (map place_of reads.now) → map place_in places.new.items ≡ map place_of reads.now) }
 {
-    let count = within(shared, places.len(), reads.len());
+    let count = alike(places.as_slice(), reads, shared);
     go_back(order, places, count);
     add_places(order, places, layout, &reads[count..])?;
     Ok(())

@@ -19,7 +19,7 @@ pub struct Order {
 impl Model for Order {
     ghost use Rattle.std.specs.Prelude.{List, ℕ};
     ghost use Rattle.kr_mean.specs.Runs.{contains_number};
-ghost use Rattle.kr_judge.specs.Orders.{AreMarked, EachOnce};
+    ghost use Rattle.kr_judge.specs.Orders.{AreMarked, EachOnce};
 
     ghost Value = { List ℕ };
 

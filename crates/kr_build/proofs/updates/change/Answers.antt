@@ -1,4 +1,4 @@
-use Rattle.std.proofs.Common.{◌≡◌, List, ℕ, ap, sym, subst, refl, ◌∙◌}
+use Rattle.std.proofs.Common.{List, ℕ, ap, sym, subst, ◌∙◌}
 use Rattle.kr_iso.specs.Objects.{shown}
 use Rattle.kr_mean.specs.Space.{IsVector, space_of}
 use Rattle.kr_problem.specs.Bounds.{bare}

@@ -1,11 +1,10 @@
-use Rattle.std.proofs.Common.{◌≡◌, ◌+◌, ◌<◌, ℕ, List, [], ap, sym, subst, length, ◌∙◌}
+use Rattle.std.proofs.Common.{◌<◌, ℕ, List, ap, sym, subst, length, ◌∙◌}
 use Rattle.std.specs.Prelude.{map}
 use Rattle.kr_heap.specs.Objects.{with_values}
 use Rattle.kr_iso.specs.Objects.{object_of}
-use Rattle.kr_value.specs.Heaps.{Heap}
 use Rattle.kr_value.specs.declared.object.Class.{Class}
 use Rattle.kr_mean.specs.Heaps.{heap_object, slots_in, value_at, values_there}
-use Rattle.kr_mean.specs.Problem.{heap_number, slots}
+use Rattle.kr_mean.specs.Problem.{slots}
 use Rattle.kr_problem.specs.Bounds.{bare}
 use Rattle.kr_build.proofs.Changed.{with_anew}
 use Rattle.kr_build.proofs.updates.rebuild.Goals as goal

@@ -1,13 +1,12 @@
-use Rattle.std.proofs.Common.{◌≡◌, ◌+◌, ◌<◌, ◌≤◌, ◌-◌, length, ap, arith, sym, subst, ◌∙◌, ℕ, get_or}
+use Rattle.std.proofs.Common.{◌≡◌, ◌+◌, ◌<◌, ◌-◌, length, ap, arith, sym, subst, ◌∙◌, ℕ, get_or}
 use Rattle.kr_heap.specs.Objects.{with_value, with_values}
 use Rattle.kr_iso.specs.Objects.{object_of}
 use Rattle.kr_value.specs.Heaps.{Heap}
 use Rattle.kr_value.specs.declared.value.Value.{Value}
-use Rattle.kr_mean.specs.Heaps.{heap_object, heap_of, value_at}
+use Rattle.kr_mean.specs.Heaps.{heap_object, value_at}
 use Rattle.kr_mean.specs.Problem.{choices_at, heap_number}
 use Rattle.kr_mean.specs.Space.{no_choice}
 use Rattle.kr_problem.specs.Bounds.{bare}
-use Rattle.kr_problem.specs.Layouts.{first_slot}
 use Rattle.kr_pruning.proofs.Numbering as numbering
 use Rattle.kr_pruning.proofs.Numbering.{width_at}
 use Rattle.kr_build.proofs.Changed.{field_set, heap_with, owner_in, stands_in}

@@ -1,7 +1,6 @@
-use Rattle.std.proofs.Common.{◌≡◌, ◌++◌, ap, ◌∙◌, length, List}
+use Rattle.std.proofs.Common.{◌++◌, ap, ◌∙◌, length, List}
 use Rattle.std.specs.Prelude.{map}
 use Rattle.std.proofs.lemmas.List.{append-nil}
-use Rattle.kr_mean.specs.Problem.{all_objects}
 use Rattle.kr_value.specs.Heaps.{HeapObject}
 use Rattle.kr_problem.specs.Bounds.{bare}
 use Rattle.kr_world.specs.Shown.{old_of}

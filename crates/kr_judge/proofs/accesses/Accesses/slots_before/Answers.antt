@@ -1,4 +1,4 @@
-use Rattle.std.proofs.Common.{◌≡◌, ◌<◌, ℕ, List, true, get_or, length, rules, subst, take}
+use Rattle.std.proofs.Common.{◌≡◌, ◌<◌, true, get_or, length, rules, subst, take}
 use Rattle.kr_mean.specs.Runs.{contains_number}
 use Rattle.kr_judge.specs.declared.accesses.Access.{Access}
 use Rattle.kr_judge.proofs.Follows.{all_come_before, come_before, take_front}
