@@ -6,7 +6,7 @@ ghost use Rattle.kr_frames.specs.Copies.{GoOnAlike};
 ghost use Rattle.kr_frames.specs.Frame as frames;
 ghost use Rattle.kr_frames.specs.Kept.{HasNoList, IsOnTop, frame_of, locals_from, locals_on, values_from, values_on};
 
-use crate::room::{behind, lay, replace, replace_front};
+use crate::room::{behind, extend, lay, replace, replace_front};
 use crate::{Goal, Up, Waiting};
 use kr_base::NoMemory;
 use kr_code::Nodes;
@@ -240,7 +240,7 @@ impl Stack {
         ensures { OnOk result (self.new ≡ frames.Arguments goal nodes found.now ∷ self.old) }
     {
         let start = self.values.len();
-        self.values.extend_from_slice(found)?;
+        extend(&mut self.values, found)?;
         self.top = lay(
             &mut self.frames,
             self.top,
@@ -260,7 +260,7 @@ impl Stack {
         ensures { OnOk result (self.new ≡ frames.UpArguments up nodes found.now ∷ self.old) }
     {
         let start = self.values.len();
-        self.values.extend_from_slice(found)?;
+        extend(&mut self.values, found)?;
         self.top = lay(
             &mut self.frames,
             self.top,
@@ -280,7 +280,7 @@ impl Stack {
         ensures { OnOk result (self.new ≡ frames.Construct line object arguments.now ∷ self.old) }
     {
         let start = self.values.len();
-        self.values.extend_from_slice(arguments)?;
+        extend(&mut self.values, arguments)?;
         self.top = lay(
             &mut self.frames,
             self.top,
@@ -300,7 +300,7 @@ impl Stack {
         ensures { OnOk result (self.new ≡ frames.Leave is_void this locals.now ∷ self.old) }
     {
         let start = self.locals.len();
-        self.locals.extend_from_slice(locals)?;
+        extend(&mut self.locals, locals)?;
         self.top = lay(
             &mut self.frames,
             self.top,
@@ -315,7 +315,7 @@ impl Stack {
         ensures { OnOk result (self.new ≡ frames.Back this locals.now ∷ self.old) }
     {
         let start = self.locals.len();
-        self.locals.extend_from_slice(locals)?;
+        extend(&mut self.locals, locals)?;
         self.top = lay(&mut self.frames, self.top, Waiting::Back(this, start))?;
         Ok(())
     }
@@ -392,7 +392,7 @@ impl Stack {
         let place = locals_start(&self.frames[top], self.locals.len());
         self.locals.truncate(place);
         let saved = self.locals.len();
-        self.locals.extend_from_slice(locals.as_slice())?;
+        extend(&mut self.locals, locals.as_slice())?;
         fill(locals, behind(self.values.as_slice(), start))?;
         self.values.truncate(start);
         self.frames[top] = Waiting::Leave(is_void, this, saved);
@@ -416,7 +416,7 @@ impl Stack {
         let place = locals_start(&self.frames[top], self.locals.len());
         self.locals.truncate(place);
         let saved = self.locals.len();
-        self.locals.extend_from_slice(locals.as_slice())?;
+        extend(&mut self.locals, locals.as_slice())?;
         fill(locals, behind(self.values.as_slice(), start))?;
         self.values.truncate(start);
         self.frames[top] = Waiting::Back(this, saved);
