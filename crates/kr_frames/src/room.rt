@@ -60,13 +60,25 @@ pub(crate) fn replace_front(frames: &mut Vec<Waiting>, others: &[Waiting]) -> Re
     Ok(())
 }
 
+/// Others behind those that are there.
+#[inline(always)]
+pub(crate) fn extend<T: Copy>(items: &mut Vec<T>, others: &[T]) -> Result<(), NoMemory>
+    ensures { OnOk result (items.new.items ≡ items.old.items ++ others.now) }
+{
+    if others.is_empty() {
+        return Ok(());
+    }
+    items.extend_from_slice(others)?;
+    Ok(())
+}
+
 /// Others in place of all.
+#[inline(always)]
 pub(crate) fn replace<T: Copy + Drop>(items: &mut Vec<T>, others: &[T]) -> Result<(), NoMemory>
     ensures { OnOk result (items.new.items ≡ others.now) }
 {
     items.clear();
-    items.extend_from_slice(others)?;
-    Ok(())
+    extend(items, others)
 }
 
 /// Those from a place on.

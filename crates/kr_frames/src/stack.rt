@@ -4,7 +4,7 @@ ghost use Rattle.kr_frames.specs.Copies.{GoOnAlike};
 ghost use Rattle.kr_frames.specs.Frame as frames;
 ghost use Rattle.kr_frames.specs.Kept.{HasNoList, IsOnTop, frame_of, locals_from, locals_on, values_from, values_on};
 
-use crate::room::{behind, lay, replace, replace_front};
+use crate::room::{behind, extend, lay, replace, replace_front};
 use crate::{Goal, Up, Waiting};
 use kr_base::NoMemory;
 use kr_code::Nodes;
@@ -216,7 +216,7 @@ impl Stack {
         ensures { OnOk result (self.new ≡ frames.Arguments goal nodes found.now ∷ self.old) }
     {
         let start = self.values.len();
-        self.values.extend_from_slice(found)?;
+        extend(&mut self.values, found)?;
         self.top = lay(
             &mut self.frames,
             self.top,
@@ -236,7 +236,7 @@ impl Stack {
         ensures { OnOk result (self.new ≡ frames.UpArguments up nodes found.now ∷ self.old) }
     {
         let start = self.values.len();
-        self.values.extend_from_slice(found)?;
+        extend(&mut self.values, found)?;
         self.top = lay(
             &mut self.frames,
             self.top,
@@ -256,7 +256,7 @@ impl Stack {
         ensures { OnOk result (self.new ≡ frames.Construct line object arguments.now ∷ self.old) }
     {
         let start = self.values.len();
-        self.values.extend_from_slice(arguments)?;
+        extend(&mut self.values, arguments)?;
         self.top = lay(
             &mut self.frames,
             self.top,
@@ -276,7 +276,7 @@ impl Stack {
         ensures { OnOk result (self.new ≡ frames.Leave is_void this locals.now ∷ self.old) }
     {
         let start = self.locals.len();
-        self.locals.extend_from_slice(locals)?;
+        extend(&mut self.locals, locals)?;
         self.top = lay(
             &mut self.frames,
             self.top,
@@ -291,7 +291,7 @@ impl Stack {
         ensures { OnOk result (self.new ≡ frames.Back this locals.now ∷ self.old) }
     {
         let start = self.locals.len();
-        self.locals.extend_from_slice(locals)?;
+        extend(&mut self.locals, locals)?;
         self.top = lay(&mut self.frames, self.top, Waiting::Back(this, start))?;
         Ok(())
     }
