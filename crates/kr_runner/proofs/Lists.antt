@@ -1,5 +1,5 @@
 -- The first of a list, where it has room behind them.
-use Rattle.std.proofs.Common.{◌≡◌, ℕ, zero, suc, ◌+◌, ◌-◌, ◌<◌, ◌≤◌, List, [], ◌∷◌, ◌++◌, length, get_or, refl, ap, arith, sym, subst, ◌∙◌}
+use Rattle.std.proofs.Common.{◌≡◌, ℕ, zero, suc, ◌+◌, ◌-◌, ◌<◌, ◌≤◌, List, [], ◌∷◌, ◌++◌, length, get_or, refl, ap, arith, subst}
 use Rattle.std.specs.Prelude.{take, slice_set}
 
 take_put : {X : Type 0} (xs : List X) (k : ℕ) (x : X) → k < length xs → take (suc k) (slice_set xs k x) ≡ take k xs ++ x ∷ []

@@ -1,6 +1,6 @@
 -- Going on: steps, conditions, checkpoints.
 use Rattle.std.proofs.Common.{◌≡◌, ℕ, zero, suc, ◌+◌, ◌<◌, ◌≤◌, Bool, true, false, List, [], ◌∷◌, ◌++◌, length, drop, Result, Ok, Err, Some, None, refl, sym, ap, ◌∙◌, subst, arith}
-use Rattle.std.specs.Prelude.{◌⊎◌, if◌then◌else◌, map, take, Option, slice_get}
+use Rattle.std.specs.Prelude.{if◌then◌else◌, map, take, Option, slice_get}
 use Rattle.std.proofs.Common.{inl, inr, append_assoc}
 use Rattle.std.proofs.Math.Seq.{take-append_seam}
 use Rattle.std.proofs.Common.{get_or}
@@ -15,7 +15,7 @@ use Rattle.kr_mean.specs.Places.{SlotPlace, This}
 use Rattle.kr_mean.specs.Problem.{Problem, choices_at}
 use Rattle.kr_mean.specs.Runs.{parameter_values, parameters_from, slots_for, start, where_true}
 use Rattle.kr_mean.specs.Space.{IsVector, no_choice, space_of}
-use Rattle.kr_mean.specs.Steps.{Stop, State, Outcome, Run, go_on, bind, give, stop, Stuck, Local, Old}
+use Rattle.kr_mean.specs.Steps.{Stop, State, Outcome, Run, go_on, bind, stop, Stuck, Local, Old}
 use Rattle.kr_mean.specs.WellFormed.{IsWellFormed}
 use Rattle.kr_code.specs.declared.code.Code.{Code}
 use Rattle.kr_code.specs.Doing.{Doing, IsMeaning}
@@ -27,8 +27,8 @@ use Rattle.kr_world.specs.declared.world.End.TheVariants as ends
 use Rattle.kr_world.specs.declared.world.Halt.TheVariants.{Ended, Memory, Written}
 use Rattle.kr_world.specs.declared.world.Halt.{Halt}
 use Rattle.kr_world.specs.Noting.{is_read, noting, noted_once, with_read}
-use Rattle.kr_world.specs.Shown.{stop_of, local_of, old_of}
-use Rattle.kr_world.specs.Worlds.{Others, Allows, AreLike, StandFor, state_at, state_of, candidates_of}
+use Rattle.kr_world.specs.Shown.{local_of, old_of}
+use Rattle.kr_world.specs.Worlds.{Allows, StandFor, state_at, state_of}
 use Rattle.kr_frames.specs.Copies.{GoOnAlike}
 use Rattle.kr_frames.specs.Frame.{Frame}
 use Rattle.kr_frames.specs.declared.task.Task.{Task}
@@ -41,7 +41,7 @@ use Rattle.kr_run.specs.declared.steps.Step.{Step}
 use Rattle.kr_run.specs.declared.steps.Step.TheVariants as steps
 use Rattle.kr_judge.specs.Follows.{Follow, place_in}
 use Rattle.kr_judge.specs.declared.accesses.Accesses.{Accesses}
-use Rattle.kr_judge.specs.Judged.{hold_at, MeansAs, HoldsAs, IsEnded}
+use Rattle.kr_judge.specs.Judged.{hold_at, HoldsAs, IsEnded}
 use Rattle.kr_judge.specs.Runs.{IsJudged}
 use Rattle.kr_judge.proofs.Ends.{ran}
 use Rattle.kr_judge.specs.declared.predicate.Predicate.{Predicate}

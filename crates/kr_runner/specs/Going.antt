@@ -28,7 +28,7 @@ use Rattle.kr_judge.specs.declared.run.Judgement.{Judgement}
 use Rattle.kr_runner.specs.declared.check.Check.{Check}
 use Rattle.kr_runner.specs.declared.checks.Start.{Start}
 use Rattle.kr_runner.specs.declared.going.Went.{Went}
-use Rattle.kr_runner.specs.Kept.{AreReads, AreShared, GoesOn, Gave, IsClosed, Kept}
+use Rattle.kr_runner.specs.Kept.{AreReads, AreShared, Gave, IsClosed, Kept}
 
 -- a condition has given a value, or the run has ended
 abbrev pub Gives : Bounds → Predicate → List ℕ → ℕ → Result Value Halt → World → Type 0

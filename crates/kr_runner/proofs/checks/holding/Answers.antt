@@ -1,4 +1,4 @@
-use Rattle.std.proofs.Common.{◌≡◌, ◌-◌, ℕ, true, take, get_or, subst, sym}
+use Rattle.std.proofs.Common.{◌≡◌, ℕ, true, take, subst, sym}
 use Rattle.std.specs.Prelude.{map}
 use Rattle.kr_world.specs.Noting.{is_read}
 use Rattle.kr_judge.specs.Follows.{place_in}

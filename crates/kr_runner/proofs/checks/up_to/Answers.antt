@@ -1,5 +1,4 @@
-use Rattle.std.proofs.Common.{◌≤◌, ◌-◌, ◌+◌, ◌<◌, ℕ, length, subst, arith, get_or}
-use Rattle.kr_runner.specs.declared.check.Check.{Check}
+use Rattle.std.proofs.Common.{◌≤◌, ℕ, subst}
 use Rattle.kr_runner.proofs.Held.{few_all, none_read}
 use Rattle.kr_runner.proofs.checks.up_to.Goals as goal
 

@@ -1,4 +1,4 @@
-use Rattle.std.proofs.Common.{[], ◌∷◌, ◌∙◌, ℕ, List, ap, subst}
+use Rattle.std.proofs.Common.{[], ◌∷◌, List, subst}
 use Rattle.std.specs.Prelude.{map}
 use Rattle.kr_mean.specs.Code.{Node}
 use Rattle.kr_mean.specs.Places.{This}

@@ -1,5 +1,4 @@
 use Rattle.std.proofs.Common.{◌≡◌, ◌++◌, ◌∷◌, [], List, ℕ, inl, inr, length, take, ap, arith, subst, sym, ◌∙◌}
-use Rattle.std.specs.Prelude.{map}
 use Rattle.std.specs.List.{All}
 use Rattle.std.proofs.lemmas.List.{length-map, take_all}
 use Rattle.kr_mean.specs.Places.{SlotPlace}

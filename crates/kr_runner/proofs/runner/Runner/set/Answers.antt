@@ -1,4 +1,4 @@
-use Rattle.std.proofs.Common.{◌≡◌, List, ℕ, subst, sym}
+use Rattle.std.proofs.Common.{List, ℕ, subst, sym}
 use Rattle.kr_runner.specs.Going.{Alike}
 use Rattle.kr_runner.proofs.Held.{alike_set}
 use Rattle.kr_runner.proofs.runner.Runner.set.Goals as goal
