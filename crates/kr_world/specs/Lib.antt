@@ -4,5 +4,4 @@ pub mod Worlds
 pub mod Actions
 pub mod Ends
 pub mod Collecting
-pub mod Pauses
 pub mod Ranks

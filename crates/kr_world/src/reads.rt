@@ -156,20 +156,6 @@ impl Reads {
         }
     }
 
-    /// Others' places in place of these, in the room that is there.
-    pub fn copy_from(&mut self, others: &Reads) -> Result<(), NoMemory>
-        ensures { OnOk result (self.new ≡ others.now) }
-    {
-        self.from = 0;
-        if refill(&mut self.places, others.places.as_slice()).is_err() {
-            self.places.clear();
-            return Err(NoMemory);
-        }
-        self.from = others.from;
-        self.top = others.top;
-        Ok(())
-    }
-
     /// A place that is read now.
     #[inline(always)]
     pub fn note(&mut self, place: SlotPlace) -> Result<(), NoMemory>

@@ -1,13 +1,9 @@
 // What a run changes.
-ghost use Rattle.std.specs.Prelude.{◌≡◌, OnOk};
-ghost use Rattle.kr_world.specs.Pauses.{IsPaused};
-
 use crate::Reads;
-use kr_base::{NoMemory, Place};
+use kr_base::Place;
 use kr_heap::Heap;
 use kr_mean::Kind;
 use kr_value::Value;
-use std::alloc::Global;
 
 /// How a run ends early: it is stuck where code has no meaning.
 #[derive(Clone, Copy, Debug)]
@@ -52,32 +48,4 @@ pub struct World {
     pub is_frozen: bool,
     pub fuel: u64,
     pub reads: Reads,
-}
-
-/// Others in place of these, in the room that is there.
-#[inline(always)]
-fn refill<T: Copy + Drop>(items: &mut Vec<T>, others: &[T]) -> Result<(), NoMemory>
-    ensures { OnOk result (items.new.items ≡ others.now) }
-{
-    items.clear();
-    items.extend_from_slice(others)?;
-    Ok(())
-}
-
-impl World {
-    /// Another world's state in place of this one's, in the room that is there; the candidates stay.
-    pub fn copy_from(&mut self, alloc: Global, other: &World) -> Result<(), NoMemory>
-        ensures copied { OnOk result (IsPaused other.now self.new) }
-        ensures candidates { self.new.candidates ≡ self.old.candidates }
-        ensures frozen { self.new.is_frozen ≡ self.old.is_frozen }
-    {
-        self.this = other.this;
-        self.result = other.result;
-        self.fuel = other.fuel;
-        refill(&mut self.locals, other.locals.as_slice())?;
-        refill(&mut self.olds, other.olds.as_slice())?;
-        self.made.copy_from(alloc, &other.made)?;
-        self.reads.copy_from(&other.reads)?;
-        Ok(())
-    }
 }
