@@ -3,7 +3,7 @@ use Rattle.std.proofs.Common.{◌≡◌, ℕ, zero, suc, ◌+◌, ◌++◌, ◌<
 use Rattle.std.specs.Prelude.{map, filter, take, slice_set}
 use Rattle.std.specs.List.{range_with_len}
 use Rattle.std.proofs.lemmas.List.{ext_get_or, get_or-set_same, get_or-set_other, length-set}
-use Rattle.std.proofs.lemmas.Bool.{cases_eq}
+use Rattle.std.proofs.lemmas.Bool.{cases_eq, cases_lt}
 use Rattle.kr_value.specs.Heaps.{Heap, HeapObject, object_in, no_object}
 use Rattle.kr_value.specs.declared.object.Class.{Class}
 use Rattle.kr_value.specs.declared.object.Class.TheVariants.{Object, Array, Set, List as ListClass}
@@ -15,6 +15,7 @@ use Rattle.kr_mean.specs.Space.{IsVector, no_choice, space_of}
 use Rattle.kr_mean.specs.WellFormed.{IsWellFormed}
 use Rattle.kr_pruning.proofs.Numbering as numbering
 use Rattle.kr_pruning.proofs.Numbering.{width_at, object, number_of_object, object_at_number, count_at, parameter_slot, object_slot, SlotCase, is_this, is_parameter, is_spot, slot_case}
+use Rattle.kr_build.specs.Renewed.{IsSameBut}
 use Rattle.kr_build.proofs.Rows.{InDomain}
 use Rattle.kr_pruning.proofs.Places.{heap_class, heap_get, heap_long, heap_values, same_objects}
 
@@ -218,6 +219,23 @@ front_more u v n h f s l = go (cases_eq s n)
     go : (s ≡ n) ⊎ (s ≡ n → ⊥) → get_or (slice_set u n (get_or v n 0)) s 0 ≡ get_or v s 0
     go (inl q) = subst (λ (x : ℕ). get_or (slice_set u n (get_or v n 0)) x 0 ≡ get_or v x 0) (sym q) (get_or-set_same u n (get_or v n 0) 0 h)
     go (inr q) = get_or-set_other u n s (get_or v n 0) 0 q ∙ f s (omega (arith, l, q))
+
+-- one more index of another vector, from one slot to another
+pub within_more : (u v : List ℕ) (n high : ℕ) → n < length u → IsSameBut u v n high → IsSameBut (slice_set u n (get_or v n 0)) v (n + 1) high
+within_more u v n high h f = λ s l. go s l (cases_eq s n)
+  where
+    go : (s : ℕ) → (s < n + 1) ⊎ (high ≤ s) → (s ≡ n) ⊎ (s ≡ n → ⊥) → get_or (slice_set u n (get_or v n 0)) s 0 ≡ get_or v s 0
+    go s l (inl q) = subst (λ (x : ℕ). get_or (slice_set u n (get_or v n 0)) x 0 ≡ get_or v x 0) (sym q) (get_or-set_same u n (get_or v n 0) 0 h)
+    go s (inl l) (inr q) = get_or-set_other u n s (get_or v n 0) 0 q ∙ f s (inl (omega (arith, l, q)))
+    go s (inr l) (inr q) = get_or-set_other u n s (get_or v n 0) 0 q ∙ f s (inr l)
+
+-- where all slots between are the same all are
+pub all_within : (u v : List ℕ) (n high : ℕ) → length u ≡ length v → high ≤ n → IsSameBut u v n high → u ≡ v
+all_within u v n high long le f = ext_get_or 0 u v long (λ s l. go s (cases_lt s n))
+  where
+    go : (s : ℕ) → (s < n) ⊎ (n ≤ s) → get_or u s 0 ≡ get_or v s 0
+    go s (inl l) = f s (inl l)
+    go s (inr l) = f s (inr (omega (arith, l, le)))
 
 -- ---- values of one object
 

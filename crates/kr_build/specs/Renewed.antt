@@ -1,5 +1,6 @@
--- A heap that is a vector's but for one slot.
-use Rattle.std.specs.Prelude.{◌≡◌, ℕ, List, slice_set}
+-- A heap that is a vector's but for one slot, and vectors that are the same but for some slots.
+use Rattle.std.specs.Prelude.{◌≡◌, ◌⊎◌, ◌<◌, ◌≤◌, ℕ, List, slice_set}
+use Rattle.std.proofs.Common.{get_or}
 use Rattle.kr_value.specs.Heaps.{Heap}
 use Rattle.kr_mean.specs.Heaps.{heap_of}
 use Rattle.kr_mean.specs.Problem.{Problem}
@@ -10,3 +11,7 @@ pub record IsBut (problem : Problem) (slot : ℕ) (vector : List ℕ) (heap : He
   pub index : ℕ
   pub changed : vector ≡ slice_set old slot index
   pub heap_is : heap ≡ heap_of problem old
+
+-- two vectors have the same indices, but at slots from one to another
+abbrev pub IsSameBut : List ℕ → List ℕ → ℕ → ℕ → Type 0
+IsSameBut u v low high = (s : ℕ) → (s < low) ⊎ (high ≤ s) → get_or u s 0 ≡ get_or v s 0

@@ -12,5 +12,5 @@ mod walk;
 pub use heap::build;
 pub use marks::{is_marked, mark};
 pub use objects::{Stretch, slots_of};
-pub use updates::update;
+pub use updates::update_within;
 pub use walk::Walk;

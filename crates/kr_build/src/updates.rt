@@ -9,7 +9,7 @@ ghost use Rattle.kr_mean.specs.Space.{IsVector, space_of};
 ghost use Rattle.kr_mean.specs.WellFormed.{IsWellFormed};
 ghost use Rattle.kr_problem.specs.Bounds.{bare};
 ghost use Rattle.kr_value.specs.Heaps.{object_in};
-ghost use Rattle.kr_build.specs.Renewed.{IsBut};
+ghost use Rattle.kr_build.specs.Renewed.{IsBut, IsSameBut};
 
 use crate::heap::kept;
 use crate::objects::{Stretch, slots_of};
@@ -144,24 +144,28 @@ fn take_on(
     change(heap, vector, layout, slot, index)
 }
 
-/// Brings the heap that one candidate spells to another candidate: only objects whose slots changed are built anew, in the
-/// room that is there.
-pub fn update(
+/// Brings the heap that one candidate spells to another candidate, which has the same indices but at slots from one to another:
+/// only objects whose slots changed are changed, in the room that is there.
+pub fn update_within(
     heap: &mut Heap,
     built: &mut Vector,
     layout: &Layout,
     vector: &Vector,
+    low: u32,
+    high: u32,
 ) -> Result<(), NoMemory>
     requires well { IsWellFormed (bare layout.now) }
     requires built { IsVector (space_of (bare layout.now)) built.old }
     requires vector { IsVector (space_of (bare layout.now)) vector.now }
     requires small { length (slots (bare layout.now)) < 2 ^ 31 }
     requires heap { heap.old ≡ heap_of (bare layout.now) built.old }
+    requires same { IsSameBut built.old vector.now low high }
+    requires high { high ≤ length (slots (bare layout.now)) }
     ensures built { OnOk result (built.new ≡ vector.now) }
     ensures heap { OnOk result (heap.new ≡ heap_of (bare layout.now) vector.now) }
     ensures long { length built.new ≡ length built.old }
 {
-    'each: for slot in 0..layout.slots() {
+    'each: for slot in low..high {
         let index = vector.get(Slot(slot));
         take_on(heap, built, layout, slot, index)?;
     }

@@ -11,6 +11,7 @@ use Rattle.kr_world.specs.Noting.{is_read}
 use Rattle.kr_judge.specs.Follows.{place_in}
 use Rattle.kr_judge.specs.declared.accesses.Accesses.{Accesses}
 use Rattle.kr_judge.proofs.Orders.{same_places}
+use Rattle.kr_build.specs.Renewed.{IsSameBut}
 use Rattle.kr_runner.specs.Ascending.{Ascend, HadRead}
 use Rattle.kr_runner.specs.Going.{Alike, IsHeld}
 use Rattle.kr_runner.specs.declared.check.Check.{Check}
@@ -128,3 +129,11 @@ read_more (r ∷ rs) q p h = go (is_same_place r p) h (read_more rs q p)
     go : (b : Bool) → (b || is_read p (rs ++ q ∷ [])) ≡ true → (is_read p (rs ++ q ∷ []) ≡ true → (is_read p rs ≡ true) ⊎ (q ≡ p)) → ((b || is_read p rs) ≡ true) ⊎ (q ≡ p)
     go true h f = inl refl
     go false h f = f h
+
+-- another index at a slot, which is among those between
+pub same_set : (u v : List ℕ) (low high low' high' slot index : ℕ) → IsSameBut u v low high → low' ≤ low → low' ≤ slot → high ≤ high' → slot < high' → IsSameBut u (slice_set v slot index) low' high'
+same_set u v low high low' high' slot index f a b c d = λ s l. go s l
+  where
+    go : (s : ℕ) → (s < low') ⊎ (high' ≤ s) → get_or u s 0 ≡ get_or (slice_set v slot index) s 0
+    go s (inl l) = f s (inl (omega (arith, l, a))) ∙ sym (get_or-set_other v slot s index 0 (λ e. omega (arith, e, l, b)))
+    go s (inr l) = f s (inr (omega (arith, l, c))) ∙ sym (get_or-set_other v slot s index 0 (λ e. omega (arith, e, l, d)))

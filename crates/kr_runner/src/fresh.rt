@@ -1,14 +1,15 @@
 // The candidates' heap, which stays from run to run.
-ghost use Rattle.std.specs.Prelude.{◌≡◌, ◌<◌, ◌^◌, OnOk, length, true};
+ghost use Rattle.std.specs.Prelude.{◌≡◌, ◌<◌, ◌≤◌, ◌^◌, OnOk, length, true};
 ghost use Rattle.kr_mean.specs.Heaps.{heap_of};
 ghost use Rattle.kr_mean.specs.Problem.{slots};
 ghost use Rattle.kr_mean.specs.Space.{IsVector, space_of};
 ghost use Rattle.kr_mean.specs.WellFormed.{IsWellFormed};
 ghost use Rattle.kr_problem.specs.Bounds.{bare};
+ghost use Rattle.kr_build.specs.Renewed.{IsSameBut};
 ghost use Rattle.kr_runner.specs.Going.{IsHeapOf};
 
 use kr_base::NoMemory;
-use kr_build::{build, update};
+use kr_build::{build, update_within};
 use kr_heap::Heap;
 use kr_problem::Layout;
 use kr_vector::{Slot, Vector};
@@ -26,13 +27,16 @@ fn copy(copy: &mut Vector, layout: &Layout, vector: &Vector)
     }
 }
 
-/// Makes a heap the candidate's: from the one whose heap it is, if it is known, else from nothing.
+/// Makes a heap the candidate's: from the one whose heap it is, if it is known, else from nothing. The known one has the same
+/// indices but at slots from one to another.
 pub(crate) fn refresh(
     alloc: Global,
     layout: &Layout,
     vector: &Vector,
     is_known: bool,
     known: &mut Vector,
+    low: u32,
+    high: u32,
     heap: &mut Heap,
 ) -> Result<(), NoMemory>
     requires well { IsWellFormed (bare layout.now) }
@@ -40,12 +44,14 @@ pub(crate) fn refresh(
     requires small { length (slots (bare layout.now)) < 2 ^ 31 }
     requires long { length known.old ≡ length (slots (bare layout.now)) }
     requires known { is_known ≡ true → IsHeapOf layout.now known.old heap.old }
+    requires same { is_known ≡ true → IsSameBut known.old vector.now low high }
+    requires high { high ≤ length (slots (bare layout.now)) }
     ensures built { OnOk result (known.new ≡ vector.now) }
     ensures heap { OnOk result (heap.new ≡ heap_of (bare layout.now) vector.now) }
     ensures long { length known.new ≡ length known.old }
 {
     if is_known {
-        update(heap, known, layout, vector)?;
+        update_within(heap, known, layout, vector, low, high)?;
         return Ok(());
     }
     copy(known, layout, vector);

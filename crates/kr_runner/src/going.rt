@@ -1,5 +1,5 @@
 // A run that goes on from where it stands, with a checkpoint before each first read.
-ghost use Rattle.std.specs.Prelude.{◌≡◌, ◌<◌, ◌^◌, ◌∷◌, [], ℕ, List, IfOk, IfSome, Some, false, length, slice_get, take, true};
+ghost use Rattle.std.specs.Prelude.{◌≡◌, ◌<◌, ◌≤◌, ◌^◌, ◌∷◌, [], ℕ, List, IfOk, IfSome, Some, false, length, slice_get, take, true};
 ghost use Rattle.std.specs.List.{All};
 ghost use Rattle.kr_code.specs.Resolved.{Numbering};
 ghost use Rattle.kr_mean.specs.Heaps.{heap_of};
@@ -13,6 +13,7 @@ ghost use Rattle.kr_problem.specs.Bounds.{bare, problem_with};
 ghost use Rattle.kr_judge.specs.Follows.{Follow};
 ghost use Rattle.kr_judge.specs.Judged.{HoldsAs, hold_at};
 ghost use Rattle.kr_judge.specs.Predicates.{IsPredicateOf};
+ghost use Rattle.kr_build.specs.Renewed.{IsSameBut};
 ghost use Rattle.kr_runner.specs.Going.{Alike, Gives, HasGone, IsHeld, IsLast, IsRunTo, Stays};
 ghost use Rattle.kr_runner.specs.Kept.{AreShared, GoesOn, Kept, Shares};
 
@@ -214,7 +215,7 @@ pub(crate) struct Went {
 /// The run of a candidate, with checkpoints of the last run, in a world and on a stack whose room is used: how it ends, and
 /// the places that the world then has read; none where the candidate has no conditions, or would have been written. If the
 /// known vector is known, it is the one of the last run, the world has its heap, and the accesses are that run's; the
-/// candidate has its indices at so many of their first slots.
+/// candidate has its indices at so many of their first slots, and at all but those from one to another.
 pub(crate) fn run(
     alloc: Global,
     layout: &Layout,
@@ -222,6 +223,8 @@ pub(crate) fn run(
     vector: &Vector,
     is_known: bool,
     known: &mut Vector,
+    low: u32,
+    high: u32,
     fresh: usize,
     accesses: &Accesses,
     checks: &mut Checks,
@@ -234,6 +237,8 @@ pub(crate) fn run(
     requires long { length known.old ≡ length (slots (bare layout.now)) }
     requires follow { Follow (slots_for (bare layout.now)) accesses.now }
     requires last { is_known ≡ true → IsLast layout.now predicate.now known.old checks.old world.old accesses.now }
+    requires same { is_known ≡ true → IsSameBut known.old vector.now low high }
+    requires high { high ≤ length (slots (bare layout.now)) }
     requires alike { is_known ≡ true → Alike layout.now known.old vector.now fresh accesses.now }
     ensures runs { IfOk result (λ found. IfSome found (λ went. (program : Program) (n : Numbering) → IsPredicateOf (problem_with program layout.now) predicate.now n → IsRunTo (problem_with program layout.now) vector.now went.end world.new.reads)) }
     ensures went { IfOk result (λ found. IfSome found (λ went. HasGone layout.now predicate.now vector.now went known.new checks.new world.new accesses.now)) }
@@ -249,6 +254,8 @@ pub(crate) fn run(
         vector,
         is_known,
         known,
+        low,
+        high,
         &mut world.candidates,
     )?;
     world.is_frozen = true;

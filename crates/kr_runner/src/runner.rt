@@ -39,13 +39,17 @@ pub struct Runner<'s> {
     is_known: bool,
     // at so many of the first slots of its order the candidate has its indices
     fresh: usize,
+    // and at all slots but those from one to another
+    low: u32,
+    high: u32,
     world: World,
     stack: Stack,
     accesses: Accesses,
 }
 
 impl<'s> Model for Runner<'s> {
-    ghost use Rattle.std.specs.Prelude.{◌≡◌, length, true};
+    ghost use Rattle.std.specs.Prelude.{◌≡◌, ◌≤◌, length, true};
+    ghost use Rattle.kr_build.specs.Renewed.{IsSameBut};
     ghost use Rattle.kr_mean.specs.Problem.{slots};
     ghost use Rattle.kr_mean.specs.Runs.{slots_for};
     ghost use Rattle.kr_problem.specs.Bounds.{bare};
@@ -58,7 +62,8 @@ impl<'s> Model for Runner<'s> {
     ghost view = { λ r. record { bounds = r.layout.now; predicate = r.predicate.now; vector = r.vector; order = r.accesses.order } };
 
     ghost invariant = { λ r. Follow (slots_for (bare r.layout.now)) r.accesses × (length r.known ≡ length (slots (bare r.layout.now)))
-        × (r.is_known ≡ true → IsLast r.layout.now r.predicate.now r.known r.checks r.world r.accesses × Alike r.layout.now r.known r.vector r.fresh r.accesses) };
+        × (length r.vector ≡ length (slots (bare r.layout.now))) × (r.high ≤ length (slots (bare r.layout.now)))
+        × (r.is_known ≡ true → IsLast r.layout.now r.predicate.now r.known r.checks r.world r.accesses × Alike r.layout.now r.known r.vector r.fresh r.accesses × IsSameBut r.known r.vector r.low r.high) };
 }
 
 /// How many of the first slots, of so many, come before one; none where it's a root.
@@ -72,6 +77,25 @@ fn first_without(layout: &Layout, accesses: &Accesses, fresh: usize, slot: u32) 
         0
     } else {
         accesses.order.first_without(fresh, slot)
+    }
+}
+
+/// The number behind a slot's, or a greater one.
+#[inline(always)]
+fn behind(layout: &Layout, high: u32, slot: u32) -> u32
+    requires slot { slot < length (slots (bare layout.now)) }
+    requires high { high ≤ length (slots (bare layout.now)) }
+    ensures most { high ≤ result }
+    ensures behind { slot < result }
+    ensures few { result ≤ length (slots (bare layout.now)) }
+{
+    let count = layout.slots();
+    if slot < high {
+        high
+    } else if slot < count {
+        slot + 1
+    } else {
+        count
     }
 }
 
@@ -97,6 +121,8 @@ impl<'s> Runner<'s> {
             known,
             is_known: false,
             fresh: 0,
+            low: u32::MAX,
+            high: 0,
             world: blank_world(alloc),
             stack: Stack::new(alloc),
             accesses: Accesses::new(alloc),
@@ -124,6 +150,8 @@ impl<'s> Runner<'s> {
         ensures { self.new ≡ record self.old { vector = slice_set self.old.vector slot index } }
     {
         self.fresh = first_without(self.layout, &self.accesses, self.fresh, slot);
+        self.low = self.low.min(slot);
+        self.high = behind(self.layout, self.high, slot);
         self.vector.set(Slot(slot), index);
     }
 
@@ -145,6 +173,8 @@ impl<'s> Runner<'s> {
             &self.vector,
             is_known,
             &mut self.known,
+            self.low,
+            self.high,
             self.fresh,
             &self.accesses,
             &mut self.checks,
@@ -161,6 +191,8 @@ impl<'s> Runner<'s> {
                 )?;
                 self.is_known = true;
                 self.fresh = self.accesses.order.len();
+                self.low = u32::MAX;
+                self.high = 0;
                 Ok(went.end)
             }
             None => {

@@ -1,4 +1,4 @@
-use Rattle.std.proofs.Common.{◌≡◌, ℕ, List, length, ap, ◌∙◌}
+use Rattle.std.proofs.Common.{◌≡◌, ℕ, List, length, ap, arith, ◌∙◌}
 use Rattle.std.proofs.lemmas.List.{length-replicate}
 use Rattle.kr_mean.specs.Runs.{slots_for}
 use Rattle.kr_problem.specs.Bounds.{bare}
@@ -6,5 +6,6 @@ use Rattle.kr_runner.proofs.runner.Runner.new.Goals as goal
 
 pub invariant_of-result : goal.invariant_of-result
 invariant_of-result c =
-    let long : length c.in_ok-known.known ≡ c.slots-2.result = ap (λ (xs : List ℕ). length xs) c.in_ok-known.ensures ∙ length-replicate c.slots-2.result 0 in
-    (c.new-3.ensures.follow (slots_for (bare c.args.layout.now)), long ∙ c.slots-2.ensures, λ e. absurd (cc (e)))
+    let known : length c.in_ok-known.known ≡ c.slots-2.result = ap (λ (xs : List ℕ). length xs) c.in_ok-known.ensures ∙ length-replicate c.slots-2.result 0 in
+    let vector : length c.in_ok-vector.vector ≡ c.slots.result = ap (λ (xs : List ℕ). length xs) c.in_ok-vector.ensures ∙ length-replicate c.slots.result 0 in
+    (c.new-3.ensures.follow (slots_for (bare c.args.layout.now)), known ∙ c.slots-2.ensures, vector ∙ c.slots.ensures, omega arith, λ e. absurd (cc (e)))
