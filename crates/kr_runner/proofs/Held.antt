@@ -1,9 +1,8 @@
 -- Checkpoints that are held, and places of which lengths were read.
-use Rattle.std.proofs.Common.{◌≡◌, ◌⊎◌, inl, inr, ℕ, zero, suc, ◌+◌, ◌-◌, ◌<◌, ◌≤◌, Bool, true, false, List, [], ◌∷◌, ◌++◌, length, get_or, take, refl, sym, ap, ◌∙◌, subst, arith}
+use Rattle.std.proofs.Common.{◌≡◌, ◌⊎◌, inl, inr, ℕ, zero, suc, ◌-◌, ◌<◌, ◌≤◌, Bool, true, false, List, [], ◌∷◌, ◌++◌, length, get_or, take, refl, sym, ap, ◌∙◌, subst, arith}
 use Rattle.std.specs.Prelude.{map, slice_set, ◌==◌, ◌||◌}
 use Rattle.std.specs.List.{All}
-use Rattle.std.proofs.lemmas.List.{get_or-append-add, get_or-set_other, get_or-take, get_or_append_left, length-append, length-take}
-use Rattle.std.proofs.lemmas.Bool.{cases_lt}
+use Rattle.std.proofs.lemmas.List.{get_or-set_other, get_or-take, length-take}
 use Rattle.kr_mean.specs.Places.{SlotPlace}
 use Rattle.kr_mean.specs.Runs.{contains_number, is_same_place}
 use Rattle.kr_problem.specs.Bounds.{Bounds}
@@ -55,39 +54,6 @@ none_read xs places = none_of (HadRead places) xs
 pub none_held : (xs : List Check) (fresh : ℕ) (accesses : Accesses) → All (IsHeld accesses fresh) (take 0 xs)
 none_held xs fresh accesses = none_of (IsHeld accesses fresh) xs
 
-pub ascend_take : (xs : List Check) (n : ℕ) → Ascend xs → Ascend (take n xs)
-ascend_take xs n a = λ i j other l lt.
-    let inside : j < n = omega (arith, lt, length-take n xs) in
-    let long : j < length xs = omega (arith, lt, length-take n xs) in
-    let first : (get_or (take n xs) i other).count ≡ (get_or xs i other).count = ap (λ (x : Check). x.count) (get_or-take n xs i other (omega (arith, l, inside))) in
-    let second : (get_or (take n xs) j other).count ≡ (get_or xs j other).count = ap (λ (x : Check). x.count) (get_or-take n xs j other inside) in
-    omega (arith, first, second, a i j other l long)
-
-pub ascend_add : (xs : List Check) (x : Check) → Ascend xs → All (HadRead x.count) xs → Ascend (xs ++ x ∷ [])
-ascend_add xs x a few = λ i j other l lt. go i j other l (cases_lt j (length xs)) (cases_lt i (length xs)) (omega (arith, lt, length-append xs (x ∷ [])))
-  where
-    old : (i : ℕ) (other : Check) → i < length xs → (get_or (xs ++ x ∷ []) i other).count ≡ (get_or xs i other).count
-    old i other l = ap (λ (y : Check). y.count) (get_or_append_left xs (x ∷ []) other i l)
-
-    new : (i : ℕ) (other : Check) → i ≡ length xs + 0 → (get_or (xs ++ x ∷ []) i other).count ≡ x.count
-    new i other e = ap (λ (k : ℕ). (get_or (xs ++ x ∷ []) k other).count) e ∙ ap (λ (y : Check). y.count) (get_or-append-add xs (x ∷ []) 0 other)
-
-    go : (i j : ℕ) (other : Check) → i ≤ j → (j < length xs) ⊎ (length xs ≤ j) → (i < length xs) ⊎ (length xs ≤ i) → j < length xs + 1 → (get_or (xs ++ x ∷ []) i other).count ≤ (get_or (xs ++ x ∷ []) j other).count
-    go i j other l (inl b) c lt = omega (arith, old i other (omega (arith, l, b)), old j other b, a i j other l b)
-    go i j other l (inr b) (inl c) lt = omega (arith, old i other c, new j other (omega (arith, b, lt)), few i other c)
-    go i j other l (inr b) (inr c) lt = omega (arith, new i other (omega (arith, c, l, lt)), new j other (omega (arith, b, lt)))
-
--- of the first ones the first
-pub take_short : {X : Type 0} (xs : List X) (n m : ℕ) → n ≤ m → take n (take m xs) ≡ take n xs
-take_short [] zero zero l = refl
-take_short [] zero (suc m) l = refl
-take_short [] (suc n) zero l = refl
-take_short [] (suc n) (suc m) l = refl
-take_short (x ∷ xs) zero zero l = refl
-take_short (x ∷ xs) zero (suc m) l = refl
-take_short (x ∷ xs) (suc n) zero l = absurd (omega (arith, l))
-take_short (x ∷ xs) (suc n) (suc m) l = ap (λ ys. x ∷ ys) (take_short xs n m (omega (arith, l)))
-
 -- more of the first slots have all that fewer have
 pub contains_within : (ss : List ℕ) (m n x : ℕ) → m ≤ n → contains_number (take m ss) x ≡ true → contains_number (take n ss) x ≡ true
 contains_within [] zero zero x l h = h
@@ -110,12 +76,6 @@ alike_set b u v fresh left slot index accesses a few none root = (
       let apart : s ≡ slot → ⊥ = λ e. let here = subst (λ (x : ℕ). contains_number (take left accesses.order) x ≡ true) e h in cc (here, none) in
       a.1 s (contains_within accesses.order left fresh s few h) ∙ sym (get_or-set_other v slot s index 0 apart),
 )
-
--- an item that is there, whatever stands for others
-pub get_or_any : {X : Type 0} (xs : List X) (k : ℕ) (d e : X) → k < length xs → get_or xs k d ≡ get_or xs k e
-get_or_any [] k d e h = absurd (omega (arith, h))
-get_or_any (x ∷ xs) zero d e h = refl
-get_or_any (x ∷ xs) (suc k) d e h = get_or_any xs k d e (omega (arith, h))
 
 -- one more place
 pub read_more : (ps : List SlotPlace) (q p : SlotPlace) → is_read p (ps ++ q ∷ []) ≡ true → (is_read p ps ≡ true) ⊎ (q ≡ p)

@@ -11,13 +11,6 @@ take_put (y ∷ ys) (suc k) x h = ap (λ zs. y ∷ zs) (take_put ys k x (omega (
 pub one_more : {X : Type 0} (xs : List X) (k : ℕ) (x : X) → k < length xs → take (k + 1) (slice_set xs k x) ≡ take k xs ++ x ∷ []
 one_more xs k x h = let n : suc k ≡ k + 1 = omega arith in subst (λ m. take m (slice_set xs k x) ≡ take k xs ++ x ∷ []) n (take_put xs k x h)
 
--- what is behind may change
-pub front_stays : {X : Type 0} (xs : List X) (k : ℕ) (x : X) → take k (slice_set xs k x) ≡ take k xs
-front_stays [] zero x = refl
-front_stays [] (suc k) x = refl
-front_stays (y ∷ ys) zero x = refl
-front_stays (y ∷ ys) (suc k) x = ap (λ zs. y ∷ zs) (front_stays ys k x)
-
 take_last : {X : Type 0} (xs : List X) (k : ℕ) (d : X) → k < length xs → take (suc k) xs ≡ take k xs ++ get_or xs k d ∷ []
 take_last [] k d h = absurd (omega (arith, h))
 take_last (y ∷ ys) zero d h = refl

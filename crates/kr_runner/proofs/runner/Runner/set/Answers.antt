@@ -1,4 +1,4 @@
-use Rattle.std.proofs.Common.{◌≡◌, ◌≤◌, List, ℕ, length, rules, ap, subst, sym, ◌∙◌}
+use Rattle.std.proofs.Common.{◌≤◌, List, ℕ, length, rules, ap, subst, sym, ◌∙◌}
 use Rattle.std.proofs.lemmas.List.{length-set}
 use Rattle.kr_build.specs.Renewed.{IsSameBut}
 use Rattle.kr_runner.specs.Going.{Alike}
