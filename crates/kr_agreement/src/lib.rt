@@ -1,6 +1,10 @@
-//! The search held against the plain listing, over problems that are read from sources: tests alone.
+//! The search held against the plain listing, and each layer below it, over problems that are read from sources: tests alone.
 #![tactic(auto)]
 
+#[cfg(test)]
+mod counting;
+#[cfg(test)]
+mod layers;
 #[cfg(test)]
 mod listing;
 #[cfg(test)]
@@ -8,8 +12,6 @@ mod pieces;
 #[cfg(test)]
 mod random;
 #[cfg(test)]
-mod reading;
-#[cfg(test)]
-mod sources;
+mod renamings;
 #[cfg(test)]
 mod worked;

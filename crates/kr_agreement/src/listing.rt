@@ -1,12 +1,10 @@
 // A problem's entries, found by the search and by the plain listing.
-ghost use Rattle.std.specs.Prelude.{◌≡◌, ◌<◌};
+ghost use Rattle.std.specs.Prelude.{◌≡◌, ◌<◌, replicate};
 
-use crate::reading::read;
-use crate::sources::Pair;
-use kr_base::{Bound, Cut, Entry, Mark, Span};
+use kr_base::{Bound, Cut, Entry, Mark, NoMemory, Span};
 use kr_candidates::Candidates;
 use kr_plain::list_plain;
-use kr_step::{Ending, Next, Search};
+use kr_step::{Ending, Next, Runner, Search};
 use kr_steps::Steps;
 use kr_subject::Prepared;
 use std::alloc::Global;
@@ -60,6 +58,31 @@ fn above(alloc: Global, after: &[u32]) -> Result<Span, Fail> {
     })
 }
 
+/// The entries of the plain listing. The runner begins with the first candidate.
+fn plain_list<R: Runner, L: Ledger>(
+    alloc: Global,
+    runner: &mut R,
+    span: &Span,
+    runs: &mut Steps<L>,
+) -> Result<Vec<Entry<()>>, NoMemory>
+    requires { R.vector runner.old ≡ replicate (R.space runner.old).slots 0 }
+{
+    list_plain(alloc, runner, span, runs)
+}
+
+/// The same, each by its key and its mark.
+fn plain_entries<R: Runner, L: Ledger>(
+    alloc: Global,
+    runner: &mut R,
+    span: &Span,
+    runs: &mut Steps<L>,
+) -> Result<String, Fail>
+    requires { R.vector runner.old ≡ replicate (R.space runner.old).slots 0 }
+{
+    let entries = plain_list(alloc, runner, span, runs)?;
+    text_of(alloc, entries.as_slice())
+}
+
 /// The keys of the plain listing above a cut, each with its mark.
 fn plain_text<L: Ledger>(
     alloc: Global,
@@ -74,14 +97,13 @@ fn plain_text<L: Ledger>(
     let span = above(alloc, after)?;
     let mut runs = Steps::<L>::start(blank);
     let mut candidates = Candidates::new(alloc, prepared)?;
-    let entries = list_plain(alloc, &mut candidates, &span, &mut runs)?;
-    text_of(alloc, entries.as_slice())
+    plain_entries(alloc, &mut candidates, &span, &mut runs)
 }
 
 /// What a search finds from now on, up to the first spent entry.
-fn found_text<L: Ledger>(
+fn found_text<R: Runner + Drop, L: Ledger>(
     alloc: Global,
-    search: &mut Search<Candidates<'_, Prepared>>,
+    search: &mut Search<R>,
     runs: &mut Steps<L>,
 ) -> Result<String, Fail> {
     let mut text = String::new(alloc);
@@ -99,7 +121,20 @@ fn found_text<L: Ledger>(
     Ok(text)
 }
 
-/// The same of the search.
+/// The same of a search that begins above a cut. The runner begins with the first candidate.
+fn searched_entries<R: Runner + Drop, L: Ledger>(
+    alloc: Global,
+    runner: R,
+    after: &[u32],
+    runs: &mut Steps<L>,
+) -> Result<String, Fail>
+    requires { R.vector runner ≡ replicate (R.space runner).slots 0 }
+{
+    let mut search = Search::seek(alloc, runner, after, runs)?;
+    found_text(alloc, &mut search, runs)
+}
+
+/// The same of a problem.
 fn searched_text<L: Ledger>(
     alloc: Global,
     blank: Blank,
@@ -112,28 +147,27 @@ fn searched_text<L: Ledger>(
 {
     let mut runs = Steps::<L>::start(blank);
     let candidates = Candidates::new(alloc, prepared)?;
-    let mut search = Search::seek(alloc, candidates, after, &mut runs)?;
-    found_text(alloc, &mut search, &mut runs)
+    searched_entries(alloc, candidates, after, &mut runs)
 }
 
 /// The entries above a cut, by trying every candidate.
-pub(crate) fn plain_of(alloc: Global, prepared: Prepared, after: &[u32]) -> Result<String, Fail> {
-    plain_text::<Brand>(alloc, Blank::new(1), &prepared, after)
+pub(crate) fn plain_of(alloc: Global, prepared: &Prepared, after: &[u32]) -> Result<String, Fail> {
+    plain_text::<Brand>(alloc, Blank::new(1), prepared, after)
 }
 
 /// The entries above a cut, by the search.
 pub(crate) fn searched_of(
     alloc: Global,
-    prepared: Prepared,
+    prepared: &Prepared,
     after: &[u32],
 ) -> Result<String, Fail> {
-    searched_text::<Brand>(alloc, Blank::new(1), &prepared, after)
+    searched_text::<Brand>(alloc, Blank::new(1), prepared, after)
 }
 
 /// The entries of the plain listing, where the search finds the same.
-pub(crate) fn agreed(alloc: Global, pair: &Pair) -> Result<String, Fail> {
-    let plain = plain_of(alloc, read(alloc, pair.source, pair.fin)?, &[])?;
-    let searched = searched_of(alloc, read(alloc, pair.source, pair.fin)?, &[])?;
+pub(crate) fn agreed(alloc: Global, prepared: &Prepared) -> Result<String, Fail> {
+    let plain = plain_of(alloc, prepared, &[])?;
+    let searched = searched_of(alloc, prepared, &[])?;
     if plain.as_str() != searched.as_str() {
         return Ok(String::new(alloc));
     }

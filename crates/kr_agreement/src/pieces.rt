@@ -1,32 +1,7 @@
 // Small problems made at random: a source and a finitization, put together of pieces. The same seed makes the same ones.
-ghost use Rattle.std.specs.Prelude.{◌<◌};
-
+use kr_samples::Random;
 use std::alloc::Global;
 use std::test::Fail;
-
-/// Numbers of a linear congruential generator.
-#[derive(Drop)]
-pub(crate) struct Random {
-    state: u64,
-}
-
-impl Random {
-    pub(crate) fn new(seed: u64) -> Random {
-        Random { state: seed }
-    }
-
-    /// The next number below a bound.
-    pub(crate) fn below(&mut self, bound: u32) -> u32
-        requires { 0 < bound }
-        ensures { result < bound }
-    {
-        self.state = self
-            .state
-            .wrapping_mul(6364136223846793005)
-            .wrapping_add(1442695040888963407);
-        ((self.state >> 33) % u64::from(bound)) as u32
-    }
-}
 
 /// The classes of a problem.
 #[derive(Clone, Copy)]

@@ -2,8 +2,9 @@
 ghost use Rattle.std.specs.Prelude.{◌≡◌, ◌<◌};
 
 use crate::listing::{plain_of, searched_of};
-use crate::pieces::{Piece, Random, Shape, piece_of};
-use crate::reading::read;
+use crate::pieces::{Piece, Shape, piece_of};
+use kr_samples::{Random, read};
+use kr_subject::Prepared;
 use std::alloc::Global;
 use std::process::Abort;
 use std::test::Fail;
@@ -36,23 +37,57 @@ fn cut_of(alloc: Global, random: &mut Random) -> Result<Vec<u32>, Fail> {
 }
 
 /// Whether both listings above a cut are the same; adds the signs of its entries.
-fn agree(alloc: Global, piece: &Piece, after: &[u32], signs: &mut String) -> Result<bool, Fail> {
-    let source = piece.source.as_str();
-    let fin = piece.fin.as_str();
-    let plain = plain_of(alloc, read(alloc, source, fin)?, after)?;
-    let searched = searched_of(alloc, read(alloc, source, fin)?, after)?;
+fn agree(
+    alloc: Global,
+    prepared: &Prepared,
+    after: &[u32],
+    signs: &mut String,
+) -> Result<bool, Fail> {
+    let plain = plain_of(alloc, prepared, after)?;
+    let searched = searched_of(alloc, prepared, after)?;
     signs.push_str(plain.as_str())?;
     Ok(plain.as_str() == searched.as_str())
 }
 
-fn is_problem(alloc: Global, piece: &Piece) -> bool {
+/// Compares the listings of a problem, whole and above a cut.
+fn compare(
+    rt: &impl Abort,
+    alloc: Global,
+    piece: &Piece,
+    prepared: &Prepared,
+    cut: &[u32],
+    signs: &mut String,
+) -> Result<(), Fail> {
+    let source = piece.source.as_str();
+    let fin = piece.fin.as_str();
+    let whole = agree(alloc, prepared, &[], signs)?;
+    assert!(rt; whole, "{} {}", source, fin);
+    let part = agree(alloc, prepared, cut, signs)?;
+    assert!(rt; part, "above {:?}: {} {}", cut, source, fin);
+    Ok(())
+}
+
+/// Compares a piece that is read, where it is a problem.
+fn try_read(
+    rt: &impl Abort,
+    alloc: Global,
+    piece: &Piece,
+    cut: &[u32],
+    tally: &mut Tally,
+) -> Result<(), Fail> {
     match read(alloc, piece.source.as_str(), piece.fin.as_str()) {
-        Err(_) => false,
-        Ok(_) => true,
+        Err(_) => {
+            tally.refused = tally.refused.saturating_add(1);
+            Ok(())
+        }
+        Ok(prepared) => {
+            tally.compared = tally.compared.saturating_add(1);
+            compare(rt, alloc, piece, &prepared, cut, &mut tally.signs)
+        }
     }
 }
 
-/// Compares one piece, where it is a problem.
+/// Compares the next piece of a shape.
 fn try_piece(
     rt: &impl Abort,
     alloc: Global,
@@ -62,22 +97,27 @@ fn try_piece(
 ) -> Result<(), Fail> {
     let piece = piece_of(alloc, random, shape)?;
     let cut = cut_of(alloc, random)?;
-    if !is_problem(alloc, &piece) {
-        tally.refused = tally.refused.saturating_add(1);
-        return Ok(());
+    try_read(rt, alloc, &piece, cut.as_slice(), tally)
+}
+
+/// Compares the next piece of each shape.
+fn try_shapes(
+    rt: &impl Abort,
+    alloc: Global,
+    random: &mut Random,
+    tally: &mut Tally,
+) -> Result<(), Fail> {
+    for shape in [Shape::Plain, Shape::Nodes, Shape::Bases, Shape::Array] {
+        try_piece(rt, alloc, random, shape, tally)?;
     }
-    let whole = agree(alloc, &piece, &[], &mut tally.signs)?;
-    assert!(rt; whole, "{} {}", piece.source.as_str(), piece.fin.as_str());
-    let part = agree(alloc, &piece, cut.as_slice(), &mut tally.signs)?;
-    assert!(rt;
-        part,
-        "above {:?}: {} {}",
-        cut.as_slice(),
-        piece.source.as_str(),
-        piece.fin.as_str()
-    );
-    tally.compared = tally.compared.saturating_add(1);
     Ok(())
+}
+
+/// Whether there are entries of each kind.
+fn tells_enough(rt: &impl Abort, signs: &str) {
+    assert!(rt; count_of(signs, b'+') >= 100);
+    assert!(rt; count_of(signs, b'-') >= 100);
+    assert!(rt; count_of(signs, b'?') >= 5);
 }
 
 #[test]
@@ -90,14 +130,9 @@ fn random_problems(rt: HostRuntime) -> Result<(), Fail> {
         signs: String::new(alloc),
     };
     for _ in 0..20 {
-        for shape in [Shape::Plain, Shape::Nodes, Shape::Bases, Shape::Array] {
-            try_piece(&rt, alloc, &mut random, shape, &mut tally)?;
-        }
+        try_shapes(&rt, alloc, &mut random, &mut tally)?;
     }
     assert_eq!(rt; (tally.compared, tally.refused), (63, 17));
-    let signs = tally.signs.as_str();
-    assert!(rt; count_of(signs, b'+') >= 100);
-    assert!(rt; count_of(signs, b'-') >= 100);
-    assert!(rt; count_of(signs, b'?') >= 5);
+    tells_enough(&rt, tally.signs.as_str());
     Ok(())
 }

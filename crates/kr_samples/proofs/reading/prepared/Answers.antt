@@ -2,7 +2,7 @@ use Rattle.std.proofs.Common.{subst}
 use Rattle.kr_candidates.specs.Subjects.{IsRunBy}
 use Rattle.kr_posed.specs.declared.problem.Problem.{Problem}
 use Rattle.kr_posed.specs.Posed.{posed}
-use Rattle.kr_agreement.proofs.reading.prepared.Goals as goal
+use Rattle.kr_samples.proofs.reading.prepared.Goals as goal
 
 pub new-requires-clause-run : goal.new-requires-clause-run
 new-requires-clause-run c = subst (λ (p : Problem). IsRunBy (posed p) c.in_ok-predicate.predicate) c.problem.ensures.same c.in_ok-predicate.ensures

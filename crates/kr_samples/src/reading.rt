@@ -128,13 +128,30 @@ fn prepared(alloc: Global, accepted: Accepted) -> Result<Prepared, NoMemory>
     Prepared::new(alloc, accepted, predicate)
 }
 
-/// The problem of a source and a finitization, with its predicate's code.
-pub(crate) fn read(alloc: Global, source: &str, fin: &str) -> Result<Prepared, NoMemory> {
+fn program_in(alloc: Global, source: &str) -> Result<Program, NoMemory>
+    ensures program { IfOk result IsProgram }
+    ensures shaped { IfOk result AreShaped }
+{
     let tokens = tokens_of(alloc, source)?;
     let tree = tree_of(alloc, &tokens)?;
-    let program = program_of(alloc, tree)?;
+    program_of(alloc, tree)
+}
+
+fn problem_in(alloc: Global, source: &str, fin: &str) -> Result<Problem, NoMemory>
+    ensures posed { IfOk result IsPosed }
+    ensures well_formed { IfOk result (λ problem. IsWellFormed (posed problem)) }
+    ensures few { IfOk result (λ problem. length (slots (posed problem)) ≤ 4096) }
+    ensures mode { IfOk result (λ problem. (posed problem).mode ≡ Listing) }
+    ensures shaped { IfOk result (λ problem. AreShaped problem.program) }
+{
     let document = document_of(alloc, fin)?;
-    let problem = problem_of(alloc, program, &document)?;
+    let program = program_in(alloc, source)?;
+    problem_of(alloc, program, &document)
+}
+
+/// The problem of a source and a finitization, with its predicate's code.
+pub fn read(alloc: Global, source: &str, fin: &str) -> Result<Prepared, NoMemory> {
+    let problem = problem_in(alloc, source, fin)?;
     let accepted = accepted(alloc, problem)?;
     prepared(alloc, accepted)
 }

@@ -1,0 +1,41 @@
+# What the scripts share that refuse a test each of its allocations in turn. Who sources it has a folder `work`. A malloc, which is
+# loaded before that of the C library, refuses the allocation whose number is REFUSED, and writes into the file MADE how many
+# there were.
+cat >"$work/refusing.c" <<'SOURCE'
+#include <stdio.h>
+#include <stdlib.h>
+extern void *__libc_malloc(size_t size);
+extern void *__libc_realloc(void *old, size_t size);
+static long refused = -1, made = 0;
+static int is_refused(void) {
+    if (refused < 0) {
+        const char *number = getenv("REFUSED");
+        refused = number ? atol(number) : 0;
+    }
+    made += 1;
+    return made == refused;
+}
+void *malloc(size_t size) { return is_refused() ? NULL : __libc_malloc(size); }
+void *realloc(void *old, size_t size) { return is_refused() ? NULL : __libc_realloc(old, size); }
+__attribute__((destructor)) static void tell(void) {
+    long all = made;
+    const char *place = getenv("MADE");
+    FILE *out = place ? fopen(place, "w") : NULL;
+    if (out) {
+        fprintf(out, "%ld\n", all);
+        fclose(out);
+    }
+}
+SOURCE
+cc -O1 -shared -fPIC -o "$work/refusing.so" "$work/refusing.c" || exit 1
+
+# One run of a test of a built file of tests, whose allocation of that number is refused: its status. What it writes goes to a file.
+refuse() {
+    MADE=$work/made REFUSED=$3 LD_PRELOAD=$work/refusing.so "$1" "$2" >"$work/out" 2>&1
+    echo $?
+}
+
+# Whether the test ended since it was refused memory in lines of its own.
+is_own_want() {
+    grep -q 'AllocError\|AllocFailed\|NoMemory\|no memory' "$work/out"
+}
