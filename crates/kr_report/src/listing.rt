@@ -73,6 +73,7 @@ fn put_rows<R: Runner + Drop, S: Structures, K: Sink, L: Ledger>(
     let mut rows = Rows {
         last: Cut::empty(alloc),
         line: Line::new(alloc),
+        room: structures.room(alloc),
     };
     let mut valid: u32 = 0;
     let mut tried: u64 = 0;

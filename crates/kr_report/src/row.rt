@@ -12,6 +12,7 @@ ghost use Rattle.kr_report.specs.Puts.{PutsRow, PutsRows, CountsOf, key_after};
 ghost use Rattle.kr_text.specs.Lines.{line_bytes};
 
 use crate::Structures;
+use crate::pieces::{add_bytes, add_key};
 use kr_base::{Cut, Failed, NoMemory, Sink, put_all};
 use kr_scan::{Ending, Runner, Scan};
 use kr_text::Line;
@@ -47,11 +48,12 @@ impl From<NoMemory> for Halt {
     }
 }
 
-/// The key of the last row, and room for its line.
+/// The key of the last row, and room for its line and its structure.
 #[derive(Drop)]
-pub(crate) struct Rows {
+pub(crate) struct Rows<T: Drop> {
     pub(crate) last: Cut,
     pub(crate) line: Line,
+    pub(crate) room: T,
 }
 
 /// Makes a cut the one of these numbers. Without memory it is whatever came to stand in it.
@@ -65,29 +67,10 @@ fn copy_key(alloc: Global, cut: &mut Cut, key: &[u32]) -> Result<(), NoMemory>
     Ok(())
 }
 
-/// Adds a key to a line.
-fn add_key(line: &mut Line, key: &Cut) -> Result<(), NoMemory>
-    ensures { OnOk result (line_bytes line.new ≡ line_bytes line.old ++ cut_text key.now) }
-{
-    match key.write(line) {
-        Ok(()) => Ok(()),
-        Err(Failed) => Err(NoMemory),
-    }
-}
-
-/// Adds bytes to a line.
-fn add_bytes(line: &mut Line, bytes: &[u8]) -> Result<(), NoMemory>
-    ensures { OnOk result (line_bytes line.new ≡ line_bytes line.old ++ bytes.now) }
-{
-    match put_all(line, bytes) {
-        Ok(()) => Ok(()),
-        Err(Failed) => Err(NoMemory),
-    }
-}
-
 /// Adds a key and the structure of the candidate that stands to a line, and ends it.
 fn add_row<S: Structures, R: Runner>(
     structures: &S,
+    room: &mut S::Room,
     key: &Cut,
     candidate: &R,
     line: &mut Line,
@@ -97,7 +80,7 @@ fn add_row<S: Structures, R: Runner>(
 {
     add_key(line, key)?;
     add_bytes(line, b" ")?;
-    structures.add_structure(candidate, line)?;
+    structures.add_structure(room, candidate, line)?;
     add_bytes(line, b"\n")?;
     Ok(())
 }
@@ -106,7 +89,7 @@ fn add_row<S: Structures, R: Runner>(
 fn make_line<S: Structures, R: Runner>(
     structures: &S,
     candidate: &R,
-    rows: &mut Rows,
+    rows: &mut Rows<S::Room>,
 ) -> Result<(), NoMemory>
     requires { IsVector (space_of (S.problem structures.now)) (R.vector candidate.now) }
     ensures line { OnOk result (line_bytes rows.new.line ≡
@@ -114,14 +97,20 @@ fn make_line<S: Structures, R: Runner>(
     ensures last { rows.new.last ≡ rows.old.last }
 {
     rows.line.clear();
-    add_row(structures, &rows.last, candidate, &mut rows.line)
+    add_row(
+        structures,
+        &mut rows.room,
+        &rows.last,
+        candidate,
+        &mut rows.line,
+    )
 }
 
 /// Puts the row of the candidate that stands, by one put.
 fn put_row<S: Structures, R: Runner, K: Sink>(
     structures: &S,
     candidate: &R,
-    rows: &mut Rows,
+    rows: &mut Rows<S::Room>,
     out: &mut K,
 ) -> Result<(), Halt>
     requires mode { (S.problem structures.now).mode ≡ List }
@@ -145,7 +134,7 @@ pub(crate) fn put_entry<S: Structures, R: Runner + Drop, K: Sink>(
     ending: Ending,
     structures: &S,
     scan: &Scan<R>,
-    rows: &mut Rows,
+    rows: &mut Rows<S::Room>,
     out: &mut K,
 ) -> Result<u32, Halt>
     requires mode { (S.problem structures.now).mode ≡ List }

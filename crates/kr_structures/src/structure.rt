@@ -15,7 +15,7 @@ ghost use Rattle.kr_structures.specs.Written.{met, numbers_at, object_written, p
 
 use crate::names::Names;
 use crate::parts::{add_between, add_field, add_object};
-use crate::values::{add, chosen_at};
+use crate::values::{add, object_at};
 use kr_base::NoMemory;
 use kr_build::Walk;
 use kr_iso::Object;
@@ -39,7 +39,7 @@ fn name_at(named: &mut Order, layout: &Layout, vector: &Vector, slot: u32) -> Re
     requires slot { slot < length (slots (bare layout.now)) }
     ensures { OnOk result (named.new ≡ with_slots named.old (numbers_at (bare layout.now) vector.now slot)) }
 {
-    match chosen_at(layout, vector, slot).object {
+    match object_at(layout, vector, slot) {
         None => Ok(()),
         Some(object) => named.add(layout.heap_number(object)),
     }

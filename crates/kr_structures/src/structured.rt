@@ -40,11 +40,21 @@ fn vector_of<R: Runner>(alloc: Global, slots: u32, candidate: &R) -> Result<Vect
 impl<N: Names> Structures for Structured<N> {
     ghost problem = { λ s. N.problem s.subject };
 
-    fn add_structure<R: Runner>(&self, candidate: &R, line: &mut Line) -> Result<(), NoMemory> {
+    type Room = Room;
+
+    fn room(&self, alloc: Global) -> Room {
+        Room::new(alloc)
+    }
+
+    fn add_structure<R: Runner>(
+        &self,
+        room: &mut Room,
+        candidate: &R,
+        line: &mut Line,
+    ) -> Result<(), NoMemory> {
         self.subject.laws();
         let layout = self.subject.layout();
         let vector = vector_of(self.alloc, layout.slots(), candidate)?;
-        let mut room = Room::new(self.alloc);
         room.add_structure(&self.subject, layout, &vector, line)?;
         Ok(())
     }

@@ -1,39 +1,42 @@
 // Values, as structures have them.
-ghost use Rattle.std.specs.Prelude.{◌≡◌, ◌<◌, ◌++◌, OnOk, decimal, length};
+ghost use Rattle.std.specs.Prelude.{◌≡◌, ◌<◌, ◌++◌, OnOk, codes, decimal, length};
 ghost use Rattle.std.specs.Fmt.{signed_decimal};
-ghost use Rattle.kr_iso.specs.Objects.{object_of};
+ghost use Rattle.kr_iso.specs.Objects.{object_of, shown};
 ghost use Rattle.kr_mean.specs.Heaps.{choice_at, value_at};
 ghost use Rattle.kr_mean.specs.Problem.{Problem, domain_at, slots};
 ghost use Rattle.kr_mean.specs.Space.{IsVector, space_of};
 ghost use Rattle.kr_mean.specs.WellFormed.{IsPlain, IsWellFormed};
 ghost use Rattle.kr_problem.specs.Bounds.{bare};
-ghost use Rattle.kr_problem.specs.Stretches.{chosen};
 ghost use Rattle.kr_report.specs.Texts.{object_name, value_text};
 ghost use Rattle.kr_text.specs.Lines.{line_bytes};
 
 use itoa::Buffer;
-use kr_base::{Failed, NoMemory, put_all};
+use kr_base::NoMemory;
 use kr_iso::Object;
-use kr_problem::{Chosen, Layout};
+use kr_problem::Layout;
+use kr_report::{add_bytes, add_number};
 use kr_text::Line;
 use kr_value::Value;
 use kr_vector::{Slot, Vector};
 
 /// Adds bytes to a line.
+#[inline(always)]
 pub(crate) fn add(line: &mut Line, piece: &[u8]) -> Result<(), NoMemory>
     ensures { OnOk result (line_bytes line.new ≡ line_bytes line.old ++ piece.now) }
 {
-    match put_all(line, piece) {
-        Ok(()) => Ok(()),
-        Err(Failed) => Err(NoMemory),
-    }
+    add_bytes(line, piece)
 }
 
-fn add_number(line: &mut Line, number: u32) -> Result<(), NoMemory>
-    ensures { OnOk result (line_bytes line.new ≡ line_bytes line.old ++ decimal number) }
+/// Adds `#k`.
+#[inline(always)]
+fn add_rank(line: &mut Line, number: u32) -> Result<(), NoMemory>
+    ensures { OnOk result (line_bytes line.new ≡ line_bytes line.old ++ (codes "#" ++ decimal number)) }
 {
-    let mut buffer = Buffer::new();
-    add(line, buffer.format(number).as_bytes())
+    if number < 10 {
+        return add(line, [b'#', b'0' + number as u8].as_slice());
+    }
+    add(line, b"#")?;
+    add_number(line, number)
 }
 
 fn add_integer(line: &mut Line, number: i32) -> Result<(), NoMemory>
@@ -54,8 +57,7 @@ pub(crate) fn add_object_name(
     ensures { OnOk result (line_bytes line.new ≡ line_bytes line.old ++ object_name (bare layout.now) (object_of object)) }
 {
     add(line, layout.name(object.domain))?;
-    add(line, b"#")?;
-    add_number(line, object.number)
+    add_rank(line, object.number)
 }
 
 /// Adds a value that is no object.
@@ -71,13 +73,24 @@ fn add_plain(line: &mut Line, value: Value) -> Result<(), NoMemory>
     }
 }
 
-/// What a candidate chooses at a slot.
-pub(crate) fn chosen_at(layout: &Layout, vector: &Vector, slot: u32) -> Chosen
+/// The object that a candidate has at a slot, if it is one.
+#[inline(always)]
+pub(crate) fn object_at(layout: &Layout, vector: &Vector, slot: u32) -> Option<Object>
     requires vector { IsVector (space_of (bare layout.now)) vector.now }
     requires slot { slot < length (slots (bare layout.now)) }
-    ensures { chosen result ≡ choice_at (bare layout.now) vector.now slot }
+    ensures { shown result ≡ (choice_at (bare layout.now) vector.now slot).object }
 {
-    layout.choice(slot, vector.get(Slot(slot)))
+    layout.object(slot, vector.get(Slot(slot)))
+}
+
+/// The value that a candidate has at a slot.
+#[inline(always)]
+fn chosen_value(layout: &Layout, vector: &Vector, slot: u32) -> Value
+    requires vector { IsVector (space_of (bare layout.now)) vector.now }
+    requires slot { slot < length (slots (bare layout.now)) }
+    ensures { result ≡ value_at (bare layout.now) vector.now slot }
+{
+    layout.value(slot, vector.get(Slot(slot)))
 }
 
 /// Adds the value that a candidate has at a slot.
@@ -92,14 +105,13 @@ pub(crate) fn add_value(
     requires slot { slot < length (slots (bare layout.now)) }
     ensures { OnOk result (line_bytes line.new ≡ line_bytes line.old ++ value_text (bare layout.now) (value_at (bare layout.now) vector.now slot)) }
 {
-    let found = chosen_at(layout, vector, slot);
-    match found.object {
+    match object_at(layout, vector, slot) {
         Some(object) => {
             add_object_name(line, layout, object)?;
             Ok(())
         }
         None => {
-            add_plain(line, found.value)?;
+            add_plain(line, chosen_value(layout, vector, slot))?;
             Ok(())
         }
     }

@@ -3,15 +3,15 @@ use Rattle.kr_mean.specs.Problem.{choices_at}
 use Rattle.kr_mean.specs.Space.{no_choice}
 use Rattle.kr_problem.specs.Bounds.{bare}
 use Rattle.kr_build.proofs.Rows.{in_vector}
-use Rattle.kr_structures.proofs.values.chosen_at.Goals as goal
+use Rattle.kr_structures.proofs.values.chosen_value.Goals as goal
 
 pub get-requires : goal.get-requires
 get-requires c = (in_vector (bare c.args.layout.now) c.args.vector.now c.args.slot c.requires.vector c.requires.slot).slot
 
-pub choice-requires-clause-index : goal.choice-requires-clause-index
-choice-requires-clause-index c =
+pub value-requires-clause-index : goal.value-requires-clause-index
+value-requires-clause-index c =
     subst (λ (i : ℕ). i < length (choices_at (bare c.args.layout.now) c.args.slot)) (sym c.get.ensures)
     (in_vector (bare c.args.layout.now) c.args.vector.now c.args.slot c.requires.vector c.requires.slot).index
 
 pub returns : goal.returns
-returns c = c.choice.ensures ∙ ap (λ (i : ℕ). get_or (choices_at (bare c.args.layout.now) c.args.slot) i no_choice) c.get.ensures
+returns c = c.value.ensures ∙ ap (λ (i : ℕ). (get_or (choices_at (bare c.args.layout.now) c.args.slot) i no_choice).value) c.get.ensures
