@@ -259,11 +259,18 @@ fn judge_all(
 pub(crate) fn judge_problem(
     rt: &impl Abort,
     alloc: Global,
-    random: &mut Random,
     prepared: &Prepared,
     count: u32,
 ) -> Result<(), Fail> {
     assert_eq!(rt; count_of(layout_of(prepared)), count);
     let mut numbers = numbers_of(alloc, count)?;
-    judge_all(rt, alloc, random, prepared, numbers.as_mut_slice(), count)
+    let mut random = Random::new(2009);
+    judge_all(
+        rt,
+        alloc,
+        &mut random,
+        prepared,
+        numbers.as_mut_slice(),
+        count,
+    )
 }
