@@ -14,6 +14,7 @@ trap 'rm -rf "$work"' EXIT
 tests=out/kr_board_tests
 
 rt test >"$work/built" 2>&1 || { cat "$work/built"; exit 1; }
+[ -x "$tests" ] || { echo "no tests at $tests"; exit 1; }
 . ../../bench/refusing.sh
 
 for name in $("$tests" --list | sed -n 's/: test$//p'); do

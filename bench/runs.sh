@@ -15,6 +15,7 @@ trap 'rm -rf "$work"' EXIT
 tests=$PWD/out/kr_agreement_runs_tests
 
 rt test >"$work/built" 2>&1 || { cat "$work/built"; exit 1; }
+[ -x "$tests" ] || { echo "no tests at $tests"; exit 1; }
 . ../../bench/refusing.sh
 
 for name in $("$tests" --list | sed -n 's/: test$//p' | grep '::refused_'); do
