@@ -9,6 +9,7 @@ mod set;
 
 pub use laws::set_law;
 pub use list::ListObj;
+pub use search::has_member;
 pub use set::SetObj;
 
 #[cfg(test)]

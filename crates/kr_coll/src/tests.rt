@@ -22,6 +22,9 @@ fn sets(rt: HostRuntime) -> Result<(), Fail> {
     assert!(rt; SetObj::of(&mut members).is_empty());
     assert!(rt; add_to(&mut members, Value::Ref(3))?);
     assert_eq!(rt; members.as_slice().len(), 1);
+    assert!(rt; has_member(members.as_slice(), Value::Ref(3)));
+    assert!(rt; !has_member(members.as_slice(), Value::Ref(4)));
+    assert!(rt; !has_member(members.as_slice(), Value::Null));
     let mut set = SetObj::of(&mut members);
     assert!(rt; set.add(Value::Null)?);
     assert!(rt; !set.add(Value::Ref(3))?);

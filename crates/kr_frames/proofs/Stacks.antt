@@ -1,7 +1,7 @@
 -- How a stack keeps its frames.
-use Rattle.std.proofs.Common.{◌≡◌, ℕ, ◌+◌, ◌-◌, ◌<◌, ◌≤◌, suc, List, [], ◌∷◌, ◌++◌, length, take, drop, get_or, refl, sym, ap, ◌∙◌, arith}
+use Rattle.std.proofs.Common.{◌≡◌, ℕ, ◌+◌, ◌-◌, ◌<◌, ◌≤◌, zero, suc, List, [], ◌∷◌, ◌++◌, length, take, drop, get_or, refl, sym, ap, subst, ◌∙◌, arith}
 use Rattle.std.specs.Prelude.{Bool, reverse}
-use Rattle.std.proofs.lemmas.List.{length-reverse, length-take-le, reverse-append, take_all, take_at, take_more}
+use Rattle.std.proofs.lemmas.List.{get_or_default, length-reverse, length-take-le, reverse-append, take_all, take_at, take_more}
 use Rattle.kr_value.specs.declared.value.Value.{Value}
 use Rattle.kr_code.specs.declared.expression.Nodes.{Nodes}
 use Rattle.kr_world.specs.declared.world.Local.{Local}
@@ -55,6 +55,24 @@ is_on_top ws n w vs ls some below is = record {
   rest = unpacked (reverse (take (n - 1) ws)) (take (values_from w (length vs)) vs) (take (locals_from w (length ls)) ls);
   is = ap (λ (us : List Waiting). unpacked us vs ls) (top_first ws n w some below is);
 }
+
+-- below so many there is none
+pub none_there : (ws : List Waiting) (n k : ℕ) (vs : List Value) (ls : List Local) → n ≤ length ws → n ≤ k → length (unpacked (reverse (take n ws)) vs ls) ≤ k
+none_there ws n k vs ls below le = subst (λ (m : ℕ). m ≤ k) (how_many ws n vs ls below) le
+
+-- the frame below so many
+pub frame_there : (ws : List Waiting) (n k : ℕ) (w : Waiting) (vs : List Value) (ls : List Local) → k < n → n ≤ length ws → w ≡ get_or ws (n - 1 - k) w → IsOnTop w (drop k (unpacked (reverse (take n ws)) vs ls))
+frame_there ws n zero w vs ls lt below is =
+    let same : n - 1 - 0 ≡ n - 1 = omega arith in
+    is_on_top ws n w vs ls lt below (is ∙ ap (λ (i : ℕ). get_or ws i w) same)
+frame_there ws n (suc k) w vs ls lt below is =
+    let v : Waiting = get_or ws (n - 1) w in
+    let some : 0 < n = omega (arith, lt) in
+    let in_them : n - 1 < length ws = omega (arith, some, below) in
+    let first = top_first ws n v some below (get_or_default ws (n - 1) w v in_them) in
+    let same : n - 1 - suc k ≡ n - 1 - 1 - k = omega arith in
+    let under = frame_there ws (n - 1) k w (take (values_from v (length vs)) vs) (take (locals_from v (length ls)) ls) (omega (arith, lt)) (omega (arith, below)) (is ∙ ap (λ (i : ℕ). get_or ws i w) same) in
+    subst (λ (us : List Waiting). IsOnTop w (drop (suc k) (unpacked us vs ls))) (sym first) under
 
 -- ---- what the topmost frame has
 

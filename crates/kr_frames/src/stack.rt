@@ -1,5 +1,5 @@
 // The frames that wait, the innermost one on top.
-ghost use Rattle.std.specs.Prelude.{◌≡◌, ◌==◌, ◌∷◌, [], drop, length, take, OnOk, MatchOption};
+ghost use Rattle.std.specs.Prelude.{◌≡◌, ◌==◌, ◌≤◌, ◌∷◌, [], drop, length, take, OnOk, MatchOption};
 ghost use Rattle.kr_frames.specs.Copies.{GoOnAlike};
 ghost use Rattle.kr_frames.specs.Frame as frames;
 ghost use Rattle.kr_frames.specs.Kept.{HasNoList, IsOnTop, frame_of, locals_from, locals_on, values_from, values_on};
@@ -143,6 +143,18 @@ impl Stack {
             return None;
         }
         Some(&self.frames[self.top - 1])
+    }
+
+    /// The frame below so many, if there is one.
+    #[tactic(auto, using(crate::proofs::Stacks::frame_there, crate::proofs::Stacks::none_there))]
+    #[inline(always)]
+    pub fn frame_at(&self, depth: usize) -> Option<&Waiting>
+        ensures { MatchOption result (length self.now ≤ depth) (λ frame. IsOnTop frame.now (drop depth self.now)) }
+    {
+        if depth < self.top {
+            return Some(&self.frames[self.top - 1 - depth]);
+        }
+        None
     }
 
     /// The topmost frame goes, if there is one.

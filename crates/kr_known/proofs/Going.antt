@@ -1,9 +1,10 @@
 -- How what one run gives goes on in another.
-use Rattle.std.proofs.Common.{◌≡◌, ℕ, suc, ◌-◌, ◌<◌, List, [], ◌∷◌, ◌++◌, Some, None, Ok, refl, sym, ap, subst, arith, ◌∙◌}
+use Rattle.std.proofs.Common.{◌≡◌, ℕ, suc, ◌-◌, ◌<◌, List, [], ◌∷◌, ◌++◌, Some, None, Ok, Err, refl, sym, ap, subst, arith, ◌∙◌}
 use Rattle.std.specs.Prelude.{Option, Result, IfSome, take, drop}
+use Rattle.std.proofs.lemmas.List.{append-nil}
 use Rattle.kr_value.specs.declared.value.Value.{Value}
 use Rattle.kr_mean.specs.Places.{SlotPlace}
-use Rattle.kr_mean.specs.Steps.{Stop, State, Outcome, Run, after_reads, go_on, bind, get_this, tick, tick_at}
+use Rattle.kr_mean.specs.Steps.{Stop, State, Outcome, Run, after_reads, go_on, bind, give, get_this, tick, tick_at}
 use Rattle.kr_code.specs.declared.code.Code.{Code}
 use Rattle.kr_code.specs.declared.expression.Nodes.{Nodes}
 use Rattle.kr_code.specs.declared.expression.Expression.{Expression}
@@ -48,6 +49,30 @@ no_values code w n (Some k) m is e h = λ x a d i. ap (λ (js : List ℕ). notin
 
 pub none_listed : (code : Code) (ns : Nodes) → ns.count ≡ 0 → listed code ns ≡ []
 none_listed code ns e = ap (λ (n : ℕ). take n (drop ns.first code.links.items)) e
+
+-- what goes on alike
+behind : {A B : Type 0} (r : Result A Stop) (t : State) (ps : List SlotPlace) (f g : A → Run B) → ((a : A) (s : State) → f a s ≡ g a s) → go_on r t ps f ≡ go_on r t ps g
+behind {A} {B} (Ok a) t ps f g same = ap (λ (q : Outcome B). after_reads ps q) (same a t)
+behind (Err e) t ps f g same = refl
+
+-- the only argument
+one_value : {B : Type 0} (d : Doing) (i : ℕ) (f : List Value → Run B) (s : State) → bind (values_at d (i ∷ [])) f s ≡ bind (d.value i) (λ v. f (v ∷ [])) s
+unfolding bind
+one_value {B} d i f s = go (d.value i s).said
+  where
+    go : (r : Result Value Stop) → (let o = go_on r (d.value i s).after (d.value i s).reads (λ v. give (v ∷ [])) in go_on o.said o.after o.reads f) ≡ go_on r (d.value i s).after (d.value i s).reads (λ v. f (v ∷ []))
+    go (Ok v) = ap (λ (ps : List SlotPlace). after_reads ps (f (v ∷ []) (d.value i s).after)) (append-nil (d.value i s).reads)
+    go (Err e) = refl
+
+-- something is called with the only argument
+pub only_value : (code : Code) (w : World) (n : ℕ) (r : Option Known) (m : Doing → Run Value) (f : Value → List Value → Run Value) (is : List ℕ) (i : ℕ) → is ≡ i ∷ [] → IfSome r (λ k. Knows code w n k (λ d. bind (m d) (λ o. bind (d.value i) (λ v. f o (v ∷ []))))) → IfSome r (λ k. Knows code w n k (λ d. bind (m d) (λ o. bind (values_at d is) (f o))))
+unfolding bind
+only_value code w n None m f is i e h = tt
+only_value code w n (Some k) m f is i e h = λ x a d j.
+    let s = fuelled w n x in
+    ap (λ (js : List ℕ). noting w.reads (bind (m d) (λ o. bind (values_at d js) (f o)) s)) e
+    ∙ ap (λ (q : Outcome Value). noting w.reads q) (behind (m d s).said (m d s).after (m d s).reads (λ o. bind (values_at d (i ∷ [])) (f o)) (λ o. bind (d.value i) (λ v. f o (v ∷ []))) (λ o. one_value d i (f o)))
+    ∙ h x a d j
 
 -- an expression by its kind
 pub as_kind : (code : Code) (w : World) (n : ℕ) (r : Option Known) (e e' : Expression) → e ≡ e' → IfSome r (λ k. Knows code w n k (λ d. value_of code d e')) → IfSome r (λ k. Knows code w n k (λ d. value_of code d e))

@@ -1,6 +1,7 @@
 // Expressions, one level above another: no code is nested too deep, since what is deeper isn't known.
-ghost use Rattle.std.specs.Prelude.{◌≡◌, IfSome, MatchOption, false, true};
+ghost use Rattle.std.specs.Prelude.{◌≡◌, [], ◌∷◌, IfSome, MatchOption, false, true};
 ghost use Rattle.kr_code.specs.declared.expression.Expression.TheVariants.{Stuck as NoExpression};
+ghost use Rattle.kr_code.specs.declared.statement.Statement.TheVariants.{Stuck as NoStatement};
 ghost use Rattle.kr_value.specs.declared.value.Value.TheVariants.{Bool as Truth};
 ghost use Rattle.kr_mean.specs.Steps.{Run, bind, collect as collect_step, element as element_step, get_this, give, read_local, say};
 ghost use Rattle.kr_mean.specs.Meaning.{choose};
@@ -9,14 +10,14 @@ ghost use Rattle.kr_code.specs.declared.code.Code.{Code};
 ghost use Rattle.kr_code.specs.Collections.{name_of};
 ghost use Rattle.kr_code.specs.Doing.{value_of, values_at};
 ghost use Rattle.kr_code.specs.Steps.{load_named};
-ghost use Rattle.kr_code.specs.Tables.{expression_of, listed, node_at};
+ghost use Rattle.kr_code.specs.Tables.{expression_of, listed, node_at, statement_of};
 ghost use Rattle.kr_world.specs.declared.world.World.{World};
 ghost use Rattle.kr_known.specs.Knowing.{Knows, Shows};
 
 use crate::Known;
-use crate::places::{asked, element, field, local};
+use crate::places::{asked, asked_with, element, field, local};
 use kr_ast::{BinaryOperator, UnaryOperator};
-use kr_code::{Code, CollectionCall, Expression, Node, Nodes};
+use kr_code::{Code, CollectionCall, Expression, Node, Nodes, Statement};
 use kr_value::Value;
 use kr_world::{World, alone, binary};
 
@@ -49,6 +50,17 @@ pub fn expression_at(code: &Code, node: u32) -> Option<&Expression>
 {
     match code.nodes.get(node as usize) {
         Some(Node::Expression(expression)) => Some(expression),
+        _ => None,
+    }
+}
+
+/// The statement that is a node, if it is one.
+#[inline(always)]
+pub fn statement_at(code: &Code, node: u32) -> Option<&Statement>
+    ensures { MatchOption result (statement_of (node_at code.now node) ≡ NoStatement) (λ t. t.now ≡ statement_of (node_at code.now node)) }
+{
+    match code.nodes.get(node as usize) {
+        Some(Node::Statement(statement)) => Some(statement),
         _ => None,
     }
 }
@@ -228,6 +240,54 @@ fn call_of<L: Look>(
     }
 }
 
+/// The only one of some nodes.
+#[inline(always)]
+fn only(code: &Code, nodes: Nodes) -> Option<u32>
+    ensures { IfSome result (λ i. listed code.now nodes ≡ i ∷ []) }
+{
+    if nodes.count != 1 {
+        return None;
+    }
+    code.links.get(nodes.first as usize).copied()
+}
+
+/// Whether a call with an argument may change nothing.
+#[inline(always)]
+fn may_ask(call: CollectionCall) -> bool {
+    match call {
+        CollectionCall::Contains => true,
+        CollectionCall::Add => true,
+        _ => false,
+    }
+}
+
+/// A call with an argument on a collection. What changes the collection isn't known; most such calls are told by their names.
+#[inline(never)]
+fn call_with<L: Look>(
+    code: &Code,
+    world: &World,
+    object: u32,
+    call: CollectionCall,
+    argument: u32,
+    fuel: u64,
+) -> Option<Known>
+    ensures { IfSome result (λ k. Knows code.now world.now fuel k (λ d. bind (d.value object) (λ o. bind (d.value argument) (λ v. collect_step (name_of call) o (v ∷ []))))) }
+{
+    if !may_ask(call) {
+        return None;
+    }
+    match L::look(code, world, object, fuel) {
+        None => None,
+        Some(found) => match L::look(code, world, argument, found.fuel) {
+            None => None,
+            Some(given) => known_with(
+                asked_with(world, call, found.value, given.value),
+                given.fuel,
+            ),
+        },
+    }
+}
+
 /// An expression that isn't the simplest, after its unit.
 #[inline(never)]
 fn parts_in<L: Look>(
@@ -260,7 +320,10 @@ fn parts_in<L: Look>(
             if arguments.count == 0 {
                 call_of::<L>(code, world, *object, *call, *arguments, fuel)
             } else {
-                None
+                match only(code, *arguments) {
+                    None => None,
+                    Some(argument) => call_with::<L>(code, world, *object, *call, argument, fuel),
+                }
             }
         }
         Expression::Same(operand) => L::look(code, world, *operand, fuel),
@@ -288,7 +351,6 @@ fn value_in<L: Look>(
             fuel,
         }),
         Expression::Local(number) => local_of(code, world, *number, fuel),
-        Expression::CallCollection { arguments, .. } if arguments.count != 0 => None,
         _ => match parts_in::<L>(code, world, expression, fuel) {
             None => None,
             Some(known) => Some(Known {

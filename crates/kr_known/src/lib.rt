@@ -7,5 +7,6 @@ mod known;
 mod levels;
 mod places;
 
-pub use known::{Known, at_once};
-pub use levels::expression_at;
+pub use known::{Known, at_once, look_at};
+pub use levels::{expression_at, statement_at};
+pub use places::field;

@@ -1,17 +1,19 @@
 // Locals, fields and elements whose values are known.
-ghost use Rattle.std.specs.Prelude.{◌≡◌, ◌+◌, ◌<◌, [], true, IfSome, length, option_map, slice_get};
+ghost use Rattle.std.specs.Prelude.{◌≡◌, ◌+◌, ◌<◌, [], true, IfSome, length, option_map, slice_get, ◌∷◌};
 ghost use Rattle.kr_value.specs.declared.value.Value.TheVariants.{Int, Ref as Reference};
 ghost use Rattle.kr_value.specs.Heaps.{object_in};
 ghost use Rattle.kr_code.specs.Steps.{load_named};
 ghost use Rattle.kr_mean.specs.Steps.{bind, collect as collect_step, element as element_step, load as load_step, place_reads, read_local};
 ghost use Rattle.kr_mean.specs.Places.{Parameter};
-ghost use Rattle.kr_mean.specs.Collections.{is_collection};
+ghost use Rattle.kr_mean.specs.Collections.{called_with, gives, is_collection};
+ghost use Rattle.kr_value.specs.declared.object.Class.TheVariants.{List as ListClass, Set as SetClass};
 ghost use Rattle.kr_world.specs.Noting.{noted_once};
 ghost use Rattle.kr_code.specs.Collections.{name_of};
 ghost use Rattle.kr_world.specs.Worlds.{IsArray, is_fixed};
 ghost use Rattle.kr_known.specs.Knowing.{Shows};
 
 use kr_code::{Code, CollectionCall};
+use kr_coll::has_member;
 use kr_value::{Class, Obj, Spot, Value};
 use kr_world::{Local, SlotPlace, World, class_of, index_below, made_number, size_value};
 
@@ -87,7 +89,7 @@ fn loaded(world: &World, object: Obj, spot: Spot) -> Option<Value>
 /// The field of a name, or an array's length.
 #[inline(always)]
 #[tactic(auto, unfolding(kr_mean::specs::Steps::bind))]
-pub(crate) fn field(code: &Code, world: &World, name: u32, object: Value) -> Option<Value>
+pub fn field(code: &Code, world: &World, name: u32, object: Value) -> Option<Value>
     ensures { IfSome result (λ v. Shows world.now v (load_named code.now name object)) }
 {
     match object {
@@ -197,6 +199,77 @@ pub(crate) fn asked(world: &World, call: CollectionCall, object: Value) -> Optio
         Value::Ref(number) => match made_number(world, number) {
             None => None,
             Some(made) => asked_made(world, call, number, made),
+        },
+        _ => None,
+    }
+}
+
+/// Whether a set has a member, or what adding again a member that it has gives.
+#[inline(always)]
+fn set_asked(members: &[Value], call: CollectionCall, member: Value) -> Option<Value>
+    ensures { IfSome result (λ v. called_with SetClass (name_of call) member members.now ≡ gives v members.now) }
+{
+    match call {
+        CollectionCall::Contains => Some(Value::Bool(has_member(members, member))),
+        CollectionCall::Add => {
+            if has_member(members, member) {
+                Some(Value::Bool(false))
+            } else {
+                None
+            }
+        }
+        _ => None,
+    }
+}
+
+/// Whether a list has a member.
+#[inline(always)]
+fn list_asked(members: &[Value], call: CollectionCall, argument: Value) -> Option<Value>
+    ensures { IfSome result (λ v. called_with ListClass (name_of call) argument members.now ≡ gives v members.now) }
+{
+    match call {
+        CollectionCall::Contains => Some(Value::Bool(has_member(members, argument))),
+        _ => None,
+    }
+}
+
+/// A call with an argument on what the run has made, where it changes nothing.
+#[inline(always)]
+fn asked_made_with(
+    world: &World,
+    call: CollectionCall,
+    object: Obj,
+    number: u32,
+    argument: Value,
+) -> Option<Value>
+    requires { object ≡ length world.now.candidates + number }
+    ensures { IfSome result (λ v. Shows world.now v (collect_step (name_of call) (Reference object) (argument ∷ []))) }
+{
+    if (number as usize) >= world.made.len() {
+        return None;
+    }
+    match world.made.class_of(number) {
+        Class::Set => set_asked(world.made.members(number), call, argument),
+        Class::List => list_asked(world.made.members(number), call, argument),
+        Class::Object(_) => None,
+        Class::Array(_) => None,
+    }
+}
+
+/// Such a call on a collection.
+#[inline(always)]
+pub(crate) fn asked_with(
+    world: &World,
+    call: CollectionCall,
+    object: Value,
+    argument: Value,
+) -> Option<Value>
+    ensures { IfSome result (λ v. Shows world.now v (collect_step (name_of call) object (argument ∷ []))) }
+{
+    match object {
+        Value::Ref(number) => match made_number(world, number) {
+            None => None,
+            Some(made) => asked_made_with(world, call, number, made, argument),
         },
         _ => None,
     }

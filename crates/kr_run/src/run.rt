@@ -4,13 +4,12 @@ ghost use Rattle.kr_value.specs.declared.value.Value.{Value as Argument};
 ghost use Rattle.kr_frames.specs.Frame.{Frame};
 ghost use Rattle.kr_frames.specs.Frame as frames;
 ghost use Rattle.kr_frames.specs.Kept.{IsOnTop};
-ghost use Rattle.kr_code.specs.declared.statement.Statement.TheVariants.{Stuck as NoStatement, Declare as Declarations};
+ghost use Rattle.kr_code.specs.declared.statement.Statement.TheVariants.{Declare as Declarations};
 ghost use Rattle.kr_run.specs.Statements.{IsTicked};
 ghost use Rattle.kr_run.specs.Leaving.{IsLeaving};
 ghost use Rattle.kr_frames.specs.declared.task.Task.TheVariants as tasks;
 ghost use Rattle.kr_code.specs.Doing.{statement_done, flow_of as statement_flow};
 ghost use Rattle.kr_code.specs.Steps.{store_initial as store_step};
-ghost use Rattle.kr_code.specs.Tables.{node_at, statement_of};
 ghost use Rattle.kr_frames.specs.declared.frame.Change.TheVariants as changes;
 ghost use Rattle.kr_frames.specs.Frames.{resumed, out_value, out_flow, out_unit, flow_of, altered, restored, cut_to};
 ghost use Rattle.kr_mean.specs.Meaning.{returned, completed};
@@ -27,9 +26,9 @@ use crate::arguments::{
 use crate::create::{construct, initialise, stop_unit, take_unit};
 use crate::steps::Step;
 use kr_ast::{BinaryOperator, StepOperator};
-use kr_code::{Code, Node, Nodes, Statement};
+use kr_code::{Code, Nodes, Statement};
 use kr_frames::{Change, Flow, Stack, Task, ValueFrame, Waiting, WriteFrame};
-use kr_known::at_once;
+use kr_known::{at_once, statement_at};
 use kr_mean::Kind;
 use kr_moves::{
     all, declare, enter_node, enter_statement, feed, repeat, take_flow, take_test, take_value,
@@ -118,17 +117,6 @@ fn execute_statement(
     match declarators(statement) {
         Some(nodes) => declare(code, world, stack, nodes, task),
         None => tick_statement(alloc, code, world, stack, statement, task),
-    }
-}
-
-/// The statement that is a node, if it is one.
-#[inline(always)]
-fn statement_at(code: &Code, node: u32) -> Option<&Statement>
-    ensures { MatchOption result (statement_of (node_at code.now node) ≡ NoStatement) (λ t. t.now ≡ statement_of (node_at code.now node)) }
-{
-    match code.nodes.get(node as usize) {
-        Some(Node::Statement(statement)) => Some(statement),
-        _ => None,
     }
 }
 

@@ -1,19 +1,23 @@
 -- Checkpoints that are held, and places of which lengths were read.
-use Rattle.std.proofs.Common.{◌≡◌, ◌⊎◌, inl, inr, ℕ, zero, suc, ◌-◌, ◌<◌, ◌≤◌, Bool, true, false, List, [], ◌∷◌, ◌++◌, length, get_or, take, refl, sym, ap, ◌∙◌, subst, arith}
-use Rattle.std.specs.Prelude.{map, slice_set, ◌==◌, ◌||◌}
+use Rattle.std.proofs.Common.{◌≡◌, ◌⊎◌, inl, inr, ℕ, zero, suc, ◌+◌, ◌-◌, ◌<◌, ◌≤◌, Bool, true, false, List, [], ◌∷◌, ◌++◌, length, get_or, take, refl, sym, ap, ◌∙◌, subst, arith}
+use Rattle.std.specs.Prelude.{IfSome, None, Option, Some, map, slice_set, ◌==◌, ◌||◌}
 use Rattle.std.specs.List.{All}
-use Rattle.std.proofs.lemmas.List.{get_or-set_other, get_or-take, length-take}
+use Rattle.std.proofs.lemmas.List.{get_or-append-add, get_or-set_other, get_or-take, length-append, length-take}
 use Rattle.kr_mean.specs.Places.{SlotPlace}
 use Rattle.kr_mean.specs.Runs.{contains_number, is_same_place}
+use Rattle.kr_code.specs.declared.code.Code.{Code}
 use Rattle.kr_problem.specs.Bounds.{Bounds}
+use Rattle.kr_world.specs.declared.world.World.{World}
 use Rattle.kr_world.specs.Noting.{is_read}
 use Rattle.kr_judge.specs.Follows.{place_in}
 use Rattle.kr_judge.specs.declared.accesses.Accesses.{Accesses}
 use Rattle.kr_judge.proofs.Orders.{same_places}
 use Rattle.kr_build.specs.Renewed.{IsSameBut}
 use Rattle.kr_runner.specs.Ascending.{Ascend, HadRead}
-use Rattle.kr_runner.specs.Going.{Alike, IsHeld}
+use Rattle.kr_runner.specs.Going.{Alike, IsHeld, IsLastOf}
+use Rattle.kr_runner.specs.Foretelling.{IsForeseen}
 use Rattle.kr_runner.specs.declared.check.Check.{Check}
+use Rattle.kr_runner.specs.declared.check.Foreseen.{Foreseen}
 
 -- more of the first have all that fewer have
 read_within : (ps : List SlotPlace) (m n : ℕ) (p : SlotPlace) → m ≤ n → is_read p (take m ps) ≡ true → is_read p (take n ps) ≡ true
@@ -43,6 +47,23 @@ few_all xs n places ascend few last = λ k d lt.
     let below = ascend k (n - 1) d (omega (arith, inside)) (omega (arith, inside, few)) in
     let is : (get_or (take n xs) k d).count ≡ (get_or xs k d).count = ap (λ (x : Check). x.count) (get_or-take n xs k d inside) in
     omega (arith, is, below, last d (omega (arith, inside)))
+
+most_read : (before : List Check) (x : Check) → Ascend (before ++ x ∷ []) → All (HadRead x.count) (before ++ x ∷ [])
+most_read before x ascend = λ k d lt.
+    let long = length-append before (x ∷ []) in
+    let last = length before + 0 in
+    let few : k ≤ last = omega (arith, lt, long) in
+    let there : last < length (before ++ x ∷ []) = omega (arith, long) in
+    subst (λ (c : Check). (get_or (before ++ x ∷ []) k d).count ≤ c.count) (get_or-append-add before (x ∷ []) 0 d) (ascend k last d few there)
+
+-- the last one had read the most
+pub last_most : (checks : List Check) (x : Check) → Ascend checks → IsLastOf x checks → All (HadRead x.count) checks
+last_most checks x ascend l = subst (All (HadRead x.count)) (sym l.1) (most_read l.0 x (subst Ascend l.1 ascend))
+
+-- what is foreseen from one is foreseen from the last, where it is that
+pub foreseen_last : (checks : List Check) (code : Code) (before after : World) (x : Check) (found : Option Foreseen) → IsLastOf x checks → IfSome found (λ f. IsForeseen code x before after f) → IfSome found (λ f. (c : Check) × IsLastOf c checks × IsForeseen code c before after f)
+foreseen_last checks code before after x None last h = tt
+foreseen_last checks code before after x (Some f) last h = (x, last, h)
 
 none_of : (P : Check → Type 0) (xs : List Check) → All P (take 0 xs)
 none_of P [] = λ k d lt. absurd (omega (arith, lt))

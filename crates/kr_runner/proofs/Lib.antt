@@ -3,3 +3,4 @@ mod Steps
 mod Lists
 mod Held
 mod Meanings
+mod Told

@@ -55,11 +55,11 @@ use Rattle.kr_runner.proofs.Shapes.{AgreeOn, stand_self, stand_slots, stand_then
 
 -- ---- outcomes that go on
 
-noted_by : {B : Type 0} → Result Value Stop → State → List SlotPlace → (Value → Run B) → Outcome B
+unfoldable pub noted_by : {B : Type 0} → Result Value Stop → State → List SlotPlace → (Value → Run B) → Outcome B
 noted_by (Ok v) s reads f = record { said = (f v s).said; after = (f v s).after; reads = noted_once reads (f v s).reads }
 noted_by (Err e) s reads f = record { said = Err e; after = s; reads = reads }
 
-noting_continued : (seen : List SlotPlace) (o : Outcome Value) (f : Value → Run Bool) → noting seen (continued o f) ≡ noted_by o.said o.after (noted_once seen o.reads) f
+pub noting_continued : (seen : List SlotPlace) (o : Outcome Value) (f : Value → Run Bool) → noting seen (continued o f) ≡ noted_by o.said o.after (noted_once seen o.reads) f
 unfolding noted_by
 noting_continued seen o f = go o.said
   where
@@ -155,6 +155,14 @@ noted_more seen (p ∷ ps) = go (is_read p seen) refl (noted_more (with_read see
 pub front_seen : (seen ps : List SlotPlace) → take (length seen) (noted_once seen ps) ≡ seen
 front_seen seen ps = let r = noted_more seen ps in ap (λ (l : List SlotPlace). take (length seen) l) r.1 ∙ take-append_seam seen r.0
 
+-- ---- conditions
+
+pub drop_past : (xs : List ℕ) (k : ℕ) → slice_get xs k ≡ None → drop k xs ≡ []
+drop_past [] zero e = refl
+drop_past [] (suc k) e = refl
+drop_past (y ∷ ys) zero e = absurd (cc (e))
+drop_past (y ∷ ys) (suc k) e = drop_past ys k e
+
 -- ---- steps
 
 module _ (b : Bounds) (p : Predicate) (v : List ℕ) where
@@ -227,12 +235,6 @@ module _ (b : Bounds) (p : Predicate) (v : List ℕ) where
       → noting (This ∷ []) (hold_at d p.conditions.items (start (bare b) v)) ≡ noting w.reads (where_true given (hold_at d (behind p condition)) (state_of w))
   all_so condition given w i g d m = g.is v i (stand_self w.reads (heap_of (bare b) v)) d m ∙ at_own (Ok true) w given d (behind p condition) g.same
 
-  drop_past : (xs : List ℕ) (k : ℕ) → slice_get xs k ≡ None → drop k xs ≡ []
-  drop_past [] zero e = refl
-  drop_past [] (suc k) e = refl
-  drop_past (y ∷ ys) zero e = absurd (cc (e))
-  drop_past (y ∷ ys) (suc k) e = drop_past ys k e
-
   -- all hold
   pub all_hold : (condition : ℕ) (w : World) → IsVector (space_of (bare b)) v → Gave b p v condition (Truth true) w → slice_get p.conditions.items (condition + 1) ≡ None → HoldsAs p.code (Ok true) w (This ∷ []) (λ d. hold_at d p.conditions.items (start (bare b) v))
   all_hold condition w i g e = λ d m. all_so condition (Truth true) w i g d m ∙ ap (λ (is : List ℕ). noting w.reads (hold_at d is (state_of w))) (drop_past p.conditions.items (condition + 1) e)
@@ -257,7 +259,7 @@ module _ (b : Bounds) (p : Predicate) (v : List ℕ) where
   resumed_alike : (code : Code) (d : Doing) (fs gs : List Frame) (action : Action) (s : State) → GoOnAlike fs gs → resumed code d fs (tasks.Act action) s ≡ resumed code d gs (tasks.Act action) s
   resumed_alike code d fs gs action s a = a.value code d _
 
-  awake : (w q : World) (h f : Heap) → HasStateOf w q → w.candidates ≡ h → length f ≡ length h → state_at w (Some f) ≡ state_of (woken q f)
+  pub awake : (w q : World) (h f : Heap) → HasStateOf w q → w.candidates ≡ h → length f ≡ length h → state_at w (Some f) ≡ state_of (woken q f)
   awake w q h f s same long =
       ap (λ (t : Value). mk t (map local_of w.locals.items) w.result (map old_of w.olds.items) w.made w.fuel (length w.candidates)) (sym s.this)
       ∙ (ap (λ (ls : List _). mk q.this (map local_of ls) w.result (map old_of w.olds.items) w.made w.fuel (length w.candidates)) (sym s.locals)

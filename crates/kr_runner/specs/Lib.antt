@@ -3,3 +3,4 @@ pub mod Seen
 pub mod Going
 pub mod Ascending
 pub mod States
+pub mod Foretelling

@@ -1,11 +1,15 @@
 // Where a run stood.
-ghost use Rattle.std.specs.Prelude.{◌≡◌, OnOk};
+ghost use Rattle.std.specs.Prelude.{◌≡◌, IfOk, IfSome, OnOk, take};
+ghost use Rattle.kr_onward.specs.Ahead.{Grows};
+ghost use Rattle.kr_runner.specs.Foretelling.{IsForeseen};
 ghost use Rattle.kr_runner.specs.Going.{IsCopyOf};
 ghost use Rattle.kr_runner.specs.States.{HasStateOf};
 
 use kr_base::NoMemory;
+use kr_code::Code;
 use kr_frames::Stack;
-use kr_heap::Heap;
+use kr_heap::{Heap, refill};
+use kr_onward::ahead;
 use kr_value::Value;
 use kr_world::{Action, Reads, World};
 use std::alloc::Global;
@@ -21,17 +25,29 @@ pub struct Check {
     pub count: usize,
 }
 
-/// Others in place of these, in the room that is there.
+/// What a run gives that goes on from a checkpoint: in which condition, and how many places it had read at the checkpoint.
+#[derive(Clone, Copy)]
+pub(crate) struct Foreseen {
+    pub condition: usize,
+    pub value: Value,
+    pub count: usize,
+}
+
+/// A world's state in place of another's but for what was made, in the room that is there; the candidates stay, and what was
+/// read.
 #[inline(always)]
-fn refill<T: Copy + Drop>(items: &mut Vec<T>, others: &[T]) -> Result<(), NoMemory>
-    ensures { OnOk result (items.new.items ≡ others.now) }
+fn resume_but_made(world: &mut World, other: &World) -> Result<(), NoMemory>
+    ensures copied { OnOk result (HasStateOf other.now (record world.new { made = other.now.made })) }
+    ensures made { world.new.made ≡ world.old.made }
+    ensures candidates { world.new.candidates ≡ world.old.candidates }
+    ensures frozen { world.new.is_frozen ≡ world.old.is_frozen }
+    ensures reads { world.new.reads ≡ world.old.reads }
 {
-    if others.is_empty() {
-        items.truncate(0);
-        return Ok(());
-    }
-    items.clear();
-    items.extend_from_slice(others)?;
+    world.this = other.this;
+    world.result = other.result;
+    world.fuel = other.fuel;
+    refill(&mut world.locals, other.locals.as_slice())?;
+    refill(&mut world.olds, other.olds.as_slice())?;
     Ok(())
 }
 
@@ -42,11 +58,7 @@ pub(crate) fn resume(alloc: Global, world: &mut World, other: &World) -> Result<
     ensures frozen { world.new.is_frozen ≡ world.old.is_frozen }
     ensures reads { world.new.reads ≡ world.old.reads }
 {
-    world.this = other.this;
-    world.result = other.result;
-    world.fuel = other.fuel;
-    refill(&mut world.locals, other.locals.as_slice())?;
-    refill(&mut world.olds, other.olds.as_slice())?;
+    resume_but_made(world, other)?;
     world.made.copy_from(alloc, &other.made)?;
     Ok(())
 }
@@ -80,6 +92,34 @@ impl Check {
         resume(alloc, &mut self.world, world)?;
         self.count = world.reads.as_slice().len();
         Ok(())
+    }
+
+    /// What a run gives that goes on from here, where that is known at once. What was made is lent to the world, and given
+    /// back: nothing of it is copied.
+    #[inline(always)]
+    pub(crate) fn foresee(
+        &mut self,
+        code: &Code,
+        world: &mut World,
+    ) -> Result<Option<Foreseen>, NoMemory>
+        ensures same { self.new ≡ self.old }
+        ensures candidates { world.new.candidates ≡ world.old.candidates }
+        ensures reads { OnOk result (Grows (take self.old.count world.old.reads) world.new.reads) }
+        ensures foreseen { IfOk result (λ found. IfSome found (λ f. IsForeseen code.now self.old world.old world.new f)) }
+    {
+        world.reads.truncate(self.count);
+        resume_but_made(world, &self.world)?;
+        std::mem::swap(&mut world.made, &mut self.world.made);
+        let found = ahead(code, world, &self.stack, self.action);
+        std::mem::swap(&mut world.made, &mut self.world.made);
+        match found {
+            None => Ok(None),
+            Some(value) => Ok(Some(Foreseen {
+                condition: self.condition,
+                value,
+                count: self.count,
+            })),
+        }
     }
 }
 

@@ -8,10 +8,12 @@ ghost use Rattle.kr_world.specs.Noting.{is_read};
 ghost use Rattle.kr_world.specs.Shown.{place_of};
 ghost use Rattle.kr_runner.specs.Kept.{IsClosed};
 ghost use Rattle.kr_runner.specs.Ascending.{Ascend, HadRead};
-ghost use Rattle.kr_runner.specs.Going.{Adds, IsCheckOf, IsCopyOf, IsHeld, Wakes};
+ghost use Rattle.kr_runner.specs.Foretelling.{IsForeseen, ReadOn};
+ghost use Rattle.kr_runner.specs.Going.{Adds, IsCheckOf, IsCopyOf, IsHeld, IsLastOf, Wakes};
 
-use crate::check::{Check, resume};
+use crate::check::{Check, Foreseen, resume};
 use kr_base::NoMemory;
+use kr_code::Code;
 use kr_frames::{Stack, Task};
 use kr_judge::Accesses;
 use kr_value::Spot;
@@ -216,6 +218,25 @@ impl Checks {
     {
         let count = holding(&*self, accesses, fresh);
         self.truncate(count);
+    }
+
+    /// What a run gives that goes on from the last one, if there is one, where that is known at once.
+    #[inline(always)]
+    pub(crate) fn foresee(
+        &mut self,
+        code: &Code,
+        world: &mut World,
+    ) -> Result<Option<Foreseen>, NoMemory>
+        ensures same { self.new ≡ self.old }
+        ensures candidates { world.new.candidates ≡ world.old.candidates }
+        ensures reads { OnOk result (ReadOn self.old world.old.reads world.new.reads) }
+        ensures foreseen { IfOk result (λ found. IfSome found (λ f. (check : Check) × IsLastOf check self.old × IsForeseen code.now check world.old world.new f)) }
+    {
+        if self.count == 0 {
+            return Ok(None);
+        }
+        let found = self.items[self.count - 1].foresee(code, world)?;
+        Ok(found)
     }
 
     /// Goes on from the last one, if there is one.

@@ -1,5 +1,5 @@
 // A run that goes on from where it stands, with a checkpoint before each first read.
-ghost use Rattle.std.specs.Prelude.{◌≡◌, ◌<◌, ◌≤◌, ◌^◌, ◌∷◌, [], ℕ, List, IfOk, IfSome, Some, false, length, slice_get, take, true};
+ghost use Rattle.std.specs.Prelude.{◌≡◌, ◌<◌, ◌≤◌, ◌^◌, ◌∷◌, [], ℕ, List, IfOk, IfSome, OnOk, Some, false, length, slice_get, take, true};
 ghost use Rattle.std.specs.List.{All};
 ghost use Rattle.kr_code.specs.Resolved.{Numbering};
 ghost use Rattle.kr_mean.specs.Heaps.{heap_of};
@@ -14,6 +14,7 @@ ghost use Rattle.kr_judge.specs.Follows.{Follow};
 ghost use Rattle.kr_judge.specs.Judged.{HoldsAs, hold_at};
 ghost use Rattle.kr_judge.specs.Predicates.{IsPredicateOf};
 ghost use Rattle.kr_build.specs.Renewed.{IsSameBut};
+ghost use Rattle.kr_runner.specs.Foretelling.{Decides, IsForetold, ReadOn};
 ghost use Rattle.kr_runner.specs.Going.{Alike, Gives, HasGone, IsHeld, IsLast, IsRunTo, Stays};
 ghost use Rattle.kr_runner.specs.Kept.{AreShared, GoesOn, Kept, Shares};
 
@@ -212,6 +213,54 @@ pub(crate) struct Went {
     pub shared: usize,
 }
 
+/// How a run ends whose condition gives a value, where that says it.
+#[inline(always)]
+fn decided(predicate: &Predicate, condition: usize, value: Value) -> Option<Judgement>
+    ensures { IfSome result (λ end. Decides predicate.now condition value end) }
+{
+    match value {
+        Value::Bool(truth) => {
+            if !truth {
+                return Some(Judgement::False);
+            }
+            let Some(following) = condition.checked_add(1) else {
+                return None;
+            };
+            match condition_at(predicate, following) {
+                None => Some(Judgement::True),
+                Some(_) => None,
+            }
+        }
+        Value::Int(_) => None,
+        Value::Null => None,
+        Value::Ref(_) => None,
+    }
+}
+
+/// How a run ends that goes on from the last checkpoint, where that is known at once: then neither the checkpoint's stack nor
+/// what it has made is copied.
+fn foretell(
+    predicate: &Predicate,
+    checks: &mut Checks,
+    world: &mut World,
+) -> Result<Option<Went>, NoMemory>
+    ensures same { checks.new ≡ checks.old }
+    ensures candidates { world.new.candidates ≡ world.old.candidates }
+    ensures reads { OnOk result (ReadOn checks.old world.old.reads world.new.reads) }
+    ensures foretold { IfOk result (λ found. IfSome found (λ went. IsForetold predicate.now checks.old world.old world.new went)) }
+{
+    match checks.foresee(&predicate.code, world)? {
+        None => Ok(None),
+        Some(foreseen) => match decided(predicate, foreseen.condition, foreseen.value) {
+            None => Ok(None),
+            Some(end) => Ok(Some(Went {
+                end,
+                shared: foreseen.count,
+            })),
+        },
+    }
+}
+
 /// The run of a candidate, with checkpoints of the last run, in a world and on a stack whose room is used: how it ends, and
 /// the places that the world then has read; none where the candidate has no conditions, or would have been written. If the
 /// known vector is known, it is the one of the last run, the world has its heap, and the accesses are that run's; the
@@ -258,6 +307,10 @@ pub(crate) fn run(
         high,
         &mut world.candidates,
     )?;
+    match foretell(predicate, checks, world)? {
+        Some(went) => return Ok(Some(went)),
+        None => {}
+    }
     world.is_frozen = true;
     let start = stand(alloc, layout, vector, predicate, checks, world, stack, node)?;
     let shared = start.count;

@@ -1,5 +1,6 @@
 //! A candidate that is run again and again while its slots change: a run goes on from before the first place that changed.
-//! What each run answers is what the program means.
+//! Where it is known at once how it goes on, what it has made and the frames that wait stay where they are. What each run
+//! answers is what the program means.
 #![tactic(auto)]
 
 mod check;

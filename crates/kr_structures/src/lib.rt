@@ -12,4 +12,4 @@ mod values;
 pub use laws::written_law;
 pub use names::Names;
 pub use structure::Room;
-pub use structured::Structured;
+pub use structured::{Kept, Structured};

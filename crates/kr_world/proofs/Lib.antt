@@ -1,5 +1,6 @@
 pub mod Candidates
 pub mod Calls
+pub mod Growing
 mod Members
 pub mod Locals
 mod Ranked

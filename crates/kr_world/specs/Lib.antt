@@ -5,3 +5,4 @@ pub mod Actions
 pub mod Ends
 pub mod Collecting
 pub mod Ranks
+pub mod Reading

@@ -12,7 +12,9 @@ mod world;
 
 pub use action::{Action, Cell, act};
 pub use collections::{collect, size_value};
-pub use memory::{class_of, index_below, made_number, new_object, store_initial};
+pub use memory::{
+    class_of, element, index_below, load_named, made_number, new_object, store_initial,
+};
 pub use names::{assign, declare, tick};
 pub use operators::{alone, binary, operated, operated_alone};
 pub use reads::{Reads, SlotPlace};

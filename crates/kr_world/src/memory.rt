@@ -7,6 +7,7 @@ ghost use Rattle.kr_mean.specs.Steps.{bind, give, element as element_step, index
 ghost use Rattle.kr_code.specs.Tables.{values_in};
 ghost use Rattle.kr_code.specs.Steps.{load_named as load_named_step, store_field as store_step, store_initial as store_initial_step, store_item as store_item_step, cast_to, instance_of};
 ghost use Rattle.kr_code.specs.Doing.{array_of, new_array as new_array_step};
+ghost use Rattle.kr_world.specs.Reading.{OnlyReads};
 ghost use Rattle.kr_world.specs.Worlds.{state_at, Agrees, Allows, is_fixed, candidates_of, Others, IsKept, IsArray};
 
 use crate::{End, Halt, SlotPlace, World};
@@ -57,7 +58,8 @@ fn load_made(world: &World, object: u32, number: u32, spot: Spot) -> Result<Valu
 fn load_candidate(world: &mut World, object: u32, spot: Spot) -> Result<Value, Halt>
     requires candidate { object < length world.old.candidates }
     requires fixed { is_fixed spot ≡ true }
-    ensures { Agrees result world.new world.old (λ x. load_step (Reference object) spot (state_at world.old x)) }
+    ensures agrees { Agrees result world.new world.old (λ x. load_step (Reference object) spot (state_at world.old x)) }
+    ensures only { OnlyReads world.old world.new }
 {
     let Some(value) = world.candidates.read(object, spot) else {
         return Err(Halt::Ended(End::Stuck));
@@ -72,7 +74,8 @@ fn load_candidate(world: &mut World, object: u32, spot: Spot) -> Result<Value, H
 #[inline(always)]
 fn load(world: &mut World, object: u32, spot: Spot) -> Result<Value, Halt>
     requires { is_fixed spot ≡ true }
-    ensures { Agrees result world.new world.old (λ x. load_step (Reference object) spot (state_at world.old x)) }
+    ensures agrees { Agrees result world.new world.old (λ x. load_step (Reference object) spot (state_at world.old x)) }
+    ensures only { OnlyReads world.old world.new }
 {
     match made_number(world, object) {
         None => load_candidate(world, object, spot),
@@ -83,7 +86,8 @@ fn load(world: &mut World, object: u32, spot: Spot) -> Result<Value, Halt>
 /// The field of a name, or an array's length.
 #[tactic(auto, unfolding(kr_mean::specs::Steps::bind))]
 pub fn load_named(code: &Code, world: &mut World, name: u32, object: Value) -> Result<Value, Halt>
-    ensures { Agrees result world.new world.old (λ x. load_named_step code.now name object (state_at world.old x)) }
+    ensures agrees { Agrees result world.new world.old (λ x. load_named_step code.now name object (state_at world.old x)) }
+    ensures only { OnlyReads world.old world.new }
 {
     match object {
         Value::Ref(number) => match class_of(world, number) {
@@ -141,7 +145,8 @@ fn element_made(world: &World, object: u32, number: u32, index: i32) -> Result<V
 fn element_candidate(world: &mut World, object: u32, index: i32) -> Result<Value, Halt>
     requires candidate { object < length world.old.candidates }
     requires array { IsArray (object_in world.old.candidates object).class }
-    ensures { Agrees result world.new world.old (λ x. element_step (Reference object) (Int index) (state_at world.old x)) }
+    ensures agrees { Agrees result world.new world.old (λ x. element_step (Reference object) (Int index) (state_at world.old x)) }
+    ensures only { OnlyReads world.old world.new }
 {
     if world
         .reads
@@ -170,7 +175,8 @@ fn element_candidate(world: &mut World, object: u32, index: i32) -> Result<Value
 
 /// An element of an array.
 pub fn element(world: &mut World, array: Value, index: Value) -> Result<Value, Halt>
-    ensures { Agrees result world.new world.old (λ x. element_step array index (state_at world.old x)) }
+    ensures agrees { Agrees result world.new world.old (λ x. element_step array index (state_at world.old x)) }
+    ensures only { OnlyReads world.old world.new }
 {
     match (array, index) {
         (Value::Ref(object), Value::Int(at)) => match class_of(world, object) {

@@ -1,9 +1,9 @@
 // The places that a run has read.
-ghost use Rattle.std.specs.Prelude.{◌≡◌, ◌≤◌, [], drop, length, map, take, OnOk, OnErr};
+ghost use Rattle.std.specs.Prelude.{◌≡◌, ◌≤◌, [], ◌∷◌, ◌++◌, map, take, OnOk, OnErr};
 ghost use Rattle.kr_mean.specs.Runs.{is_same_place, is_same_spot};
 ghost use Rattle.kr_mean.specs.Places.{At};
 ghost use Rattle.kr_world.specs.Noting.{is_read, with_read};
-ghost use Rattle.kr_world.specs.Ranks.{IsTop, rank_of};
+ghost use Rattle.kr_world.specs.Ranks.{AreTops, IsTop, begun, is_of, last_top, object_of, rank_in, rank_of};
 ghost use Rattle.kr_world.specs.Shown.{place_of};
 
 use kr_base::NoMemory;
@@ -24,28 +24,29 @@ pub enum SlotPlace {
 #[derive(Debug, Drop)]
 pub struct Reads {
     places: Vec<SlotPlace>,
-    // from this position on no place ranks above `top`: one that does can only stand before it
-    from: usize,
-    top: u64,
+    // at each position the greatest rank of the places up to it: one that ranks higher can only stand behind it
+    tops: Vec<u64>,
+    // the first object that was read: its places rank below all others. It is mostly `this`, which may be numbered behind all
+    // that a run reads after it
+    first: Option<Obj>,
 }
 
 impl Model for Reads {
-    ghost use Rattle.std.specs.Prelude.{List, map, drop, length, ◌≤◌};
+    ghost use Rattle.std.specs.Prelude.{List, map};
     ghost use Rattle.kr_mean.specs.Places.{SlotPlace as Place};
+    ghost use Rattle.kr_world.specs.Ranks.{AreTops};
     ghost use Rattle.kr_world.specs.Shown.{place_of};
 
     ghost Value = { List Place };
 
     ghost view = { λ r. map place_of r.places.items };
 
-    ghost use Rattle.kr_world.specs.Ranks.{IsTop};
-
-    ghost invariant = { λ r. (r.from ≤ length r.places.items) × IsTop r.top (map place_of (drop r.from r.places.items)) };
+    ghost invariant = { λ r. AreTops r.first r.tops.items (map place_of r.places.items) };
 }
 
 /// Where a place stands among all: by its object, and then by its field or element.
 #[inline(always)]
-fn rank(place: SlotPlace) -> u64
+fn number(place: SlotPlace) -> u64
     ensures { result ≡ rank_of (place_of place) }
 {
     match place {
@@ -56,6 +57,57 @@ fn rank(place: SlotPlace) -> u64
     }
 }
 
+/// Whether a place is of an object.
+#[inline(always)]
+fn is_of(place: SlotPlace, object: Obj) -> bool
+    ensures { result ≡ is_of object (place_of place) }
+{
+    match place {
+        SlotPlace::At(o, _) => o == object,
+        _ => false,
+    }
+}
+
+/// The same, where the places of one object stand below all others.
+#[inline(always)]
+fn rank(place: SlotPlace, first: Option<Obj>) -> u64
+    ensures { result ≡ rank_in first (place_of place) }
+{
+    match first {
+        None => number(place),
+        Some(object) => {
+            if is_of(place, object) {
+                0
+            } else {
+                number(place)
+            }
+        }
+    }
+}
+
+/// The object of a place.
+#[inline(always)]
+fn object_of(place: SlotPlace) -> Option<Obj>
+    ensures { result ≡ object_of (place_of place) }
+{
+    match place {
+        SlotPlace::At(object, _) => Some(object),
+        _ => None,
+    }
+}
+
+/// The first object that is read: the one that was, or else that of a place.
+#[inline(always)]
+fn begun(first: Option<Obj>, place: SlotPlace) -> Option<Obj>
+    ensures { result ≡ begun first (place_of place) }
+{
+    match first {
+        None => object_of(place),
+        Some(object) => Some(object),
+    }
+}
+
+/// Whether two spots are one.
 #[inline(always)]
 fn is_same_spot(a: Spot, b: Spot) -> bool
     ensures { result ≡ is_same_spot a b }
@@ -68,6 +120,7 @@ fn is_same_spot(a: Spot, b: Spot) -> bool
     }
 }
 
+/// Whether two places are one.
 #[inline(always)]
 fn is_same(a: SlotPlace, b: SlotPlace) -> bool
     ensures { result ≡ is_same_place (place_of a) (place_of b) }
@@ -80,6 +133,7 @@ fn is_same(a: SlotPlace, b: SlotPlace) -> bool
     }
 }
 
+/// Whether a place is a spot of an object.
 #[inline(always)]
 fn is_at(place: &SlotPlace, object: Obj, spot: Spot) -> bool
     ensures { result ≡ is_same_place (place_of place.now) (At object spot) }
@@ -120,6 +174,7 @@ fn contains_any(places: &[SlotPlace], place: SlotPlace) -> bool
     false
 }
 
+/// Whether a place stands among places.
 #[inline(always)]
 fn contains(places: &[SlotPlace], place: SlotPlace) -> bool
     ensures { result ≡ is_read (place_of place) (map place_of places.now) }
@@ -130,18 +185,59 @@ fn contains(places: &[SlotPlace], place: SlotPlace) -> bool
     }
 }
 
-/// Whether a place stands among places of which none from a position on ranks above `top`.
+/// The last of the tops, which no place exceeds.
 #[inline(always)]
-fn is_among(places: &[SlotPlace], from: usize, top: u64, place: SlotPlace, rank: u64) -> bool
-    requires from { from ≤ length places.now }
-    requires top { IsTop top (map place_of (drop from places.now)) }
-    requires rank { rank ≡ rank_of (place_of place) }
+fn last_top(tops: &[u64]) -> u64
+    ensures { result ≡ last_top tops.now }
+{
+    let count = tops.len();
+    if count == 0 {
+        return 0;
+    }
+    tops[count - 1]
+}
+
+/// Whether a place of a rank stands among places, by the top of all.
+#[inline(always)]
+fn is_among(places: &[SlotPlace], first: Option<Obj>, top: u64, place: SlotPlace, rank: u64) -> bool
+    requires top { IsTop first top (map place_of places.now) }
+    requires rank { rank ≡ rank_in first (place_of place) }
     ensures { result ≡ is_read (place_of place) (map place_of places.now) }
 {
     if top < rank {
-        return contains(&places[..from], place);
+        return false;
     }
     contains(places, place)
+}
+
+/// One more place with its top, or neither.
+#[inline(always)]
+fn append_both(
+    places: &mut Vec<SlotPlace>,
+    tops: &mut Vec<u64>,
+    place: SlotPlace,
+    top: u64,
+) -> Result<(), NoMemory>
+    ensures added { OnOk result (places.new.items ≡ places.old.items ++ place ∷ []) }
+    ensures topped { OnOk result (tops.new.items ≡ tops.old.items ++ top ∷ []) }
+    ensures unchanged { OnErr result (places.new.items ≡ places.old.items) }
+    ensures untopped { OnErr result (tops.new.items ≡ tops.old.items) }
+{
+    append(tops, top)?;
+    if append(places, place).is_err() {
+        let _ = tops.pop();
+        return Err(NoMemory);
+    }
+    Ok(())
+}
+
+/// The greater of two ranks.
+#[inline(always)]
+fn greater(a: u64, b: u64) -> u64
+    ensures first { a ≤ result }
+    ensures second { b ≤ result }
+{
+    if a < b { b } else { a }
 }
 
 impl Reads {
@@ -151,8 +247,8 @@ impl Reads {
     {
         Reads {
             places: Vec::new(alloc),
-            from: 0,
-            top: 0,
+            tops: Vec::new(alloc),
+            first: None,
         }
     }
 
@@ -162,19 +258,14 @@ impl Reads {
         ensures noted { OnOk result (self.new ≡ with_read self.old (place_of place)) }
         ensures unchanged { OnErr result (self.new ≡ self.old) }
     {
-        let rank = rank(place);
-        if is_among(self.places.as_slice(), self.from, self.top, place, rank) {
+        let first = begun(self.first, place);
+        self.first = first;
+        let rank = rank(place, first);
+        let top = last_top(self.tops.as_slice());
+        if is_among(self.places.as_slice(), first, top, place, rank) {
             return Ok(());
         }
-        let count = self.places.len();
-        append(&mut self.places, place)?;
-        if rank <= self.top {
-            self.from = count;
-            self.top = rank;
-            return Ok(());
-        }
-        self.top = rank;
-        Ok(())
+        append_both(&mut self.places, &mut self.tops, place, greater(top, rank))
     }
 
     /// Whether a place was read.
@@ -182,12 +273,13 @@ impl Reads {
     pub fn contains(&self, place: SlotPlace) -> bool
         ensures { result ≡ is_read (place_of place) self.now }
     {
+        let top = last_top(self.tops.as_slice());
         is_among(
             self.places.as_slice(),
-            self.from,
-            self.top,
+            self.first,
+            top,
             place,
-            rank(place),
+            rank(place, self.first),
         )
     }
 
@@ -196,16 +288,19 @@ impl Reads {
         ensures { self.new ≡ take count self.old }
     {
         self.places.truncate(count);
-        self.from = self.places.len();
+        self.tops.truncate(count);
     }
 
+    /// Nothing was read, and the room stays.
     pub fn clear(&mut self)
         ensures { self.new ≡ [] }
     {
         self.places.clear();
-        self.from = 0;
+        self.tops.clear();
+        self.first = None;
     }
 
+    /// The places, in the order of their first reads.
     #[inline(always)]
     pub fn as_slice(&self) -> &[SlotPlace]
         ensures { map place_of result.now ≡ self.now }

@@ -1,0 +1,4 @@
+pub mod Alike
+pub mod Goes
+pub mod Leading
+pub mod Lefts
