@@ -16,6 +16,3 @@ pub use top::run;
 
 /// The longest file that is taken, in bytes.
 const MAX_FILE_BYTES: usize = 1 << 20;
-
-#[cfg(test)]
-mod tests;

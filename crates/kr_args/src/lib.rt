@@ -9,6 +9,3 @@ mod values;
 
 pub use asking::command;
 pub use laws::worked_words;
-
-#[cfg(test)]
-mod tests;

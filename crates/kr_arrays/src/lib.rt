@@ -5,8 +5,6 @@ mod collected;
 mod inside;
 mod list;
 mod named;
-#[cfg(test)]
-mod tests;
 mod walk;
 
 pub use inside::add_arrays_in;

@@ -11,6 +11,3 @@ pub use board::{Board, Closed, GivenUp, Refused, Reported, Taken};
 pub use kr_core::{Event, Lease, Segment};
 pub use laws::{board_law, part_law};
 pub use parts::is_possible;
-
-#[cfg(test)]
-mod tests;

@@ -8,8 +8,6 @@ mod constructors;
 mod fields;
 mod lines;
 mod methods;
-#[cfg(test)]
-mod tests;
 mod values;
 
 pub use bodies::{Bodies, bodies_of};

@@ -1,5 +1,4 @@
 pub mod Meetings
 pub mod Walking
 pub mod Rows
-pub mod Examples
 pub mod Changed

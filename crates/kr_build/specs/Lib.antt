@@ -1,4 +1,3 @@
 pub mod Visits
 pub mod Extents
-pub mod Examples
 pub mod Renewed

@@ -4,8 +4,6 @@
 mod heap;
 mod marks;
 mod objects;
-#[cfg(test)]
-mod tests;
 mod updates;
 mod walk;
 

@@ -12,8 +12,6 @@ mod overridden;
 mod overriding;
 mod places;
 mod refusal;
-#[cfg(test)]
-mod tests;
 
 pub use class_table::{ClassTable, classes};
 pub use hierarchy::{Hierarchy, hierarchy_of};

@@ -7,7 +7,5 @@ mod code;
 mod predicate;
 mod required;
 mod root;
-#[cfg(test)]
-mod tests;
 
 pub use predicate::predicate_of;

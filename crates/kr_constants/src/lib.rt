@@ -8,8 +8,6 @@ mod known;
 mod names;
 mod note;
 mod order;
-#[cfg(test)]
-mod tests;
 mod values;
 
 pub use known::Values;

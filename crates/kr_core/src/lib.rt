@@ -19,6 +19,3 @@ pub use laws::{
 };
 pub use machine::{Core, CoreRefusal};
 pub use segment::Segment;
-
-#[cfg(test)]
-mod tests;

@@ -5,8 +5,6 @@
 mod executed;
 mod laws;
 mod run;
-#[cfg(test)]
-mod tests;
 
 pub use executed::{Ending, Executed, Method};
 pub use laws::spent_law;

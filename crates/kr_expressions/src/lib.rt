@@ -15,8 +15,6 @@ mod names;
 mod note_list;
 mod operators;
 mod parts;
-#[cfg(test)]
-mod tests;
 
 pub use accesses::{class_before, field_note};
 pub use calls::{call_note, method_call_note, super_call_note};

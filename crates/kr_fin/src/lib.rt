@@ -9,8 +9,6 @@ mod list;
 mod reading;
 mod refusal;
 mod shapes;
-#[cfg(test)]
-mod tests;
 mod text;
 
 pub use document::{ArrayBound, Count, Domain, FinDoc, Item, NamedDomain};

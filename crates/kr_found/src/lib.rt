@@ -2,7 +2,5 @@
 #![tactic(auto)]
 
 mod found;
-#[cfg(test)]
-mod tests;
 
 pub use found::{Found, count_nodes};

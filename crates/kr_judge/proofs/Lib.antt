@@ -1,5 +1,4 @@
 pub mod Ends
-mod Examples
 pub mod Holding
 pub mod Orders
 mod Follows

@@ -6,4 +6,3 @@ pub mod Columns
 pub mod Places
 pub mod Predicates
 pub mod Runs
-pub mod Examples

@@ -10,8 +10,6 @@ mod places;
 mod predicate;
 mod run;
 mod start;
-#[cfg(test)]
-mod tests;
 
 pub use accesses::{Access, Accesses};
 pub use conditions::hold_all;

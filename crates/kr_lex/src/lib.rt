@@ -13,8 +13,6 @@ mod piece;
 mod progress;
 mod refusal;
 mod table;
-#[cfg(test)]
-mod tests;
 mod token;
 mod words;
 
@@ -23,4 +21,4 @@ pub use laws::{one_list_law, unbroken_law};
 pub use lexer::lex;
 pub use refusal::{LexRefusal, LexRule};
 pub use table::spelling;
-pub use token::Tokens;
+pub use token::{Token, Tokens};

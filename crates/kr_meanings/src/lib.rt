@@ -7,8 +7,6 @@ mod least;
 mod meaning;
 mod names;
 mod peeling;
-#[cfg(test)]
-mod tests;
 mod unknown;
 mod wrapping;
 mod written;

@@ -9,8 +9,6 @@ mod lists;
 mod members;
 mod methods;
 mod nodes;
-#[cfg(test)]
-mod tests;
 
 pub use lists::list_nodes;
 pub use members::member_nodes;

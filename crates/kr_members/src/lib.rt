@@ -9,8 +9,6 @@ mod meant;
 mod members;
 mod methods;
 mod queries;
-#[cfg(test)]
-mod tests;
 
 pub use fields::Field;
 pub use lists::add_found;

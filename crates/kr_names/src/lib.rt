@@ -6,8 +6,6 @@ mod class_names;
 mod headings;
 mod lists;
 mod names;
-#[cfg(test)]
-mod tests;
 
 pub use class_names::{Heads, superclasses};
 pub use headings::{Heading, NodeAt, tree_of};

@@ -7,10 +7,6 @@ mod laws;
 mod parser;
 mod refusal;
 mod stack;
-#[cfg(test)]
-mod tests;
-#[cfg(test)]
-mod tree_tests;
 
 pub use laws::one_refusal_law;
 pub use parser::parse;

@@ -12,6 +12,3 @@ mod renaming;
 pub use least::is_least;
 pub use plain::list_plain;
 pub use renaming::{Perm, is_renaming, rename};
-
-#[cfg(test)]
-mod tests;

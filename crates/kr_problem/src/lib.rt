@@ -9,8 +9,6 @@ mod layout;
 mod shape;
 mod stretch;
 mod tables;
-#[cfg(test)]
-mod tests;
 mod values;
 
 pub use classes::{ClassDomain, Spotted};

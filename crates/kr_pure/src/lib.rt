@@ -8,8 +8,6 @@ mod known;
 mod nodes;
 mod runs;
 mod targets;
-#[cfg(test)]
-mod tests;
 mod touch;
 mod writes;
 

@@ -7,8 +7,6 @@ mod entries;
 mod members;
 mod purity;
 mod roots;
-#[cfg(test)]
-mod tests;
 mod walk;
 
 pub use purity::{PureRefusal, pure};

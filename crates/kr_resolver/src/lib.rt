@@ -20,8 +20,6 @@ mod plain;
 mod site;
 mod statements;
 mod targets;
-#[cfg(test)]
-mod tests;
 mod types;
 mod writes;
 

@@ -3,7 +3,5 @@
 
 mod read;
 mod roster;
-#[cfg(test)]
-mod tests;
 
 pub use roster::Roster;

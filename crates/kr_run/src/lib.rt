@@ -10,6 +10,3 @@ mod steps;
 
 pub use run::{advance, evaluate, step};
 pub use steps::Step;
-
-#[cfg(test)]
-mod tests;

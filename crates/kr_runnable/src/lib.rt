@@ -4,8 +4,6 @@
 
 mod created;
 mod runnable;
-#[cfg(test)]
-mod tests;
 
 pub use created::created_classes;
 pub use runnable::{overrider, overriders, runnable_methods};

@@ -10,8 +10,6 @@ mod laws;
 mod lookup;
 mod scopes;
 mod tasks;
-#[cfg(test)]
-mod tests;
 mod within;
 
 pub use laws::{judged_law, local_law};

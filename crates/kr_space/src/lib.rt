@@ -18,12 +18,8 @@ mod parameters;
 mod places;
 mod pool;
 mod posing;
-#[cfg(test)]
-mod problem_tests;
 mod sizes;
 mod slots;
-#[cfg(test)]
-mod tests;
 mod undefined;
 mod whole;
 

@@ -7,8 +7,6 @@ mod declarators;
 mod parts;
 mod plain;
 mod results;
-#[cfg(test)]
-mod tests;
 mod types;
 mod writes;
 

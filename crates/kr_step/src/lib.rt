@@ -13,6 +13,3 @@ pub use laws::first_law;
 pub use runner::{Ending, Runner};
 pub use search::Search;
 pub use stage::Next;
-
-#[cfg(test)]
-mod tests;

@@ -14,6 +14,3 @@ pub use list::ListSurvey;
 pub use part::{Listing, Part};
 pub use rows::{RowList, Rows};
 pub use survey::Survey;
-
-#[cfg(test)]
-mod tests;

@@ -7,7 +7,5 @@ mod instances;
 mod positions;
 mod spots;
 mod tables;
-#[cfg(test)]
-mod tests;
 
 pub use tables::Tables;

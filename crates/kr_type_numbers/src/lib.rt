@@ -4,8 +4,6 @@
 mod form;
 mod numbers;
 mod spellings;
-#[cfg(test)]
-mod tests;
 mod types;
 
 pub use form::TypeForm;

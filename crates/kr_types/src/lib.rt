@@ -20,8 +20,6 @@ mod program;
 mod refusal;
 mod results;
 mod site;
-#[cfg(test)]
-mod tests;
 mod types;
 mod writes;
 

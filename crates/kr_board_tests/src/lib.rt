@@ -1,0 +1,9 @@
+//! Tests of the board: the machine under it, what is scanned for it, and reports in every order.
+#![tactic(auto)]
+
+#[cfg(test)]
+mod board;
+#[cfg(test)]
+mod core;
+#[cfg(test)]
+mod survey;

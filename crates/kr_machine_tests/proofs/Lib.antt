@@ -1,0 +1,2 @@
+mod TwoNodes
+mod OneCell

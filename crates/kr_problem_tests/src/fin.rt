@@ -1,0 +1,300 @@
+// Finitizations that are read, and ones that are refused, each by its first broken rule and the item.
+
+use kr_fin::{
+    FinRefusal, Item, Listed, MAX_FIN_BYTES, NamedDomain, is_too_long, item_law, least_law,
+    read_fin,
+};
+use std::alloc::Global;
+use std::test::Fail;
+
+// `CODE ITEM` of the refusal, or `read`.
+fn answer(alloc: Global, bytes: &[u8]) -> Result<String, Fail> {
+    match read_fin(alloc, bytes) {
+        Ok(_) => Ok(String::from_str(alloc, "read")?),
+        Err(FinRefusal::NoMemory) => Ok(String::from_str(alloc, "no memory")?),
+        Err(FinRefusal::Broken(fault)) => {
+            let code = fault.rule.code();
+            let item = fault.item.as_str();
+            Ok(format!(in alloc; "{code} {item}")?)
+        }
+    }
+}
+
+// The items, parted by spaces.
+fn put_domain(out: &mut String, domain: &Listed<Item>) -> Result<(), Fail> {
+    for item in domain.as_slice() {
+        match item {
+            Item::Number(number) => write!(out, " {number}")?,
+            Item::Range(from, to) => write!(out, " {from}..{to}")?,
+            Item::Truth(truth) => write!(out, " {truth}")?,
+            Item::Name(name) => write!(out, " {}", name.as_str())?,
+        }
+    }
+    Ok(())
+}
+
+fn put_domains(out: &mut String, domains: &Listed<NamedDomain>) -> Result<(), Fail> {
+    for named in domains.as_slice() {
+        write!(out, "; {}", named.key.as_str())?;
+        put_domain(out, &named.domain)?;
+    }
+    Ok(())
+}
+
+// The document in one line.
+fn line(alloc: Global, bytes: &[u8]) -> Result<String, Fail> {
+    let mut out = String::new(alloc);
+    match read_fin(alloc, bytes) {
+        Ok(document) => {
+            write!(out, "{} {}", document.root.as_str(), document.fuel)?;
+            for count in document.objects.as_slice() {
+                write!(out, "; {} {}", count.name.as_str(), count.count)?;
+            }
+            for bound in document.arrays.as_slice() {
+                write!(out, "; {} {}", bound.name.as_str(), bound.count)?;
+                put_domain(&mut out, &bound.lengths)?;
+            }
+            put_domains(&mut out, &document.fields)?;
+            put_domains(&mut out, &document.params)?;
+        }
+        Err(_) => write!(out, "refused")?,
+    }
+    Ok(out)
+}
+
+#[test]
+fn reads(rt: HostRuntime) -> Result<(), Fail> {
+    for (text, wanted) in [
+        (
+            "root = \"Cell\"\nfuel = 1000\n[objects]\nCell = 1\n[fields]\n\"Cell.v\" = [{ from = 0, to = 2 }]\n",
+            "Cell 1000; Cell 1; Cell.v 0..2",
+        ),
+        (
+            "root = 'S'\nfuel = 1_000_000_000\n[objects]\nS = 1\n[arrays]\n'int[]' = { count = 1, lengths = [0, { from = 1, to = 2 }] }\n[fields]\n'S.a' = ['null', 'int[]']\n'int[].*' = [0, 1]\n[params]\n'put.x' = [{ from = -1, to = 1 }]\n",
+            "S 1000000000; S 1; int[] 1 0 1..2; S.a null int[]; int[].* 0 1; put.x -1..1",
+        ),
+        ("fuel = 1\nroot = 'R'", "R 1"),
+        (
+            "root = ''\nfuel = 0x10\nfields.'A.b' = []\nobjects = {}",
+            " 16; A.b",
+        ),
+        (
+            "root='R'\nfuel=7\nobjects={R=0,A=64}\narrays.X={lengths=[],count=0}",
+            "R 7; A 64; R 0; X 0",
+        ),
+        (
+            "root='R'\nfuel=7\n[fields]\n'R.f'=[true, 'R', false, 'A', 'R', 5, -2147483648, 2147483647, {to=3,from=9}]",
+            "R 7; R.f true R false A R 5 -2147483648 2147483647 9..3",
+        ),
+        (
+            "root='R'\nfuel=7\n[[fields.'R.f']]\nfrom=1\nto=2\n[[fields.'R.f']]\nto=4\nfrom=3",
+            "R 7; R.f 1..2 3..4",
+        ),
+    ] {
+        let found = line(rt.alloc(), text.as_bytes())?;
+        assert_eq!(rt; found.as_str(), wanted, "{text}");
+    }
+    Ok(())
+}
+
+#[test]
+fn refuses(rt: HostRuntime) -> Result<(), Fail> {
+    for (text, wanted) in [
+        // No TOML.
+        ("", "F5 fuel"),
+        ("=", "F1 toml"),
+        ("root = 'R'\nroot = 'R'\nfuel = 1", "F1 toml"),
+        ("fuel = 9223372036854775808\nroot = 'R'", "F1 toml"),
+        // Unknown keys.
+        ("zed = 1\nalpha = 2", "F2 alpha"),
+        ("root = 'R'\nfuel = 1\nversion = 2", "F2 version"),
+        (
+            "root = 'R'\nfuel = 1\n'arrays-1' = 1\n[arrays]\nX = { count = 1, lengths = [], more = 1 }",
+            "F2 arrays-1",
+        ),
+        (
+            "root = 'R'\nfuel = 1\narrayt = 1\n[arrays]\nX = { count = 1, lengths = [], more = 1 }",
+            "F2 arrays.X",
+        ),
+        (
+            "root = 'R'\nfuel = 1\n[arrays]\nX = { count = 1, lengths = [{ from = 1, to = 2, by = 1 }] }",
+            "F2 arrays.X",
+        ),
+        (
+            "root = 1\nfuel = 1\n[fields]\n'A.b' = [{ from = 1, to = 2, by = 1 }]",
+            "F2 fields.A.b",
+        ),
+        (
+            "root = 'R'\nfuel = 1\n[params]\nbare = [{ a = 1 }]",
+            "F2 params.bare",
+        ),
+        // Values of the wrong kind.
+        ("root = 1\nfuel = 0", "F3 root"),
+        ("root = 'R'\nfuel = 1.0", "F3 fuel"),
+        ("root.x = 1\nfuel = '1'", "F3 fuel"),
+        ("root = ['R']\nfuel = 1", "F3 root"),
+        ("root = 'R'\nfuel = 1979-05-27", "F3 fuel"),
+        (
+            "root = 'R'\nfuel = 1\nobjects = 1\narrays = []",
+            "F3 arrays",
+        ),
+        ("root = 'R'\nfuel = 1\nobjects = 1", "F3 objects"),
+        (
+            "root = 'R'\nfuel = 1\nfields = 'A'\nparams = 1",
+            "F3 fields",
+        ),
+        (
+            "root = 'R'\nfuel = 1\n[objects]\nR = '1'\nA = true",
+            "F3 objects.A",
+        ),
+        ("root = 'R'\nfuel = 1\n[objects]\nA.B = 1", "F3 objects.A"),
+        ("root = 'R'\nfuel = 1\n[arrays]\nX = 1", "F3 arrays.X"),
+        (
+            "root = 'R'\nfuel = 1\n[arrays]\nX = { count = 1, lengths = [true] }",
+            "F3 arrays.X",
+        ),
+        (
+            "root = 'R'\nfuel = 1\n[arrays]\nX = { count = 1, lengths = ['null'] }",
+            "F3 arrays.X",
+        ),
+        (
+            "root = 'R'\nfuel = 1\n[arrays]\nX = { count = 1, lengths = 1 }",
+            "F3 arrays.X",
+        ),
+        ("root = 'R'\nfuel = 1\n[fields]\nRv = [1]", "F3 fields.Rv"),
+        ("root = 'R'\nfuel = 1\n[fields]\nR.w = [1]", "F3 fields.R"),
+        ("root = 'R'\nfuel = 1\n[fields]\n'R.' = [1]", "F3 fields.R."),
+        ("root = 'R'\nfuel = 1\n[fields]\n'.w' = [1]", "F3 fields..w"),
+        (
+            "root = 'R'\nfuel = 1\n[fields]\n'R.w.x' = [1]",
+            "F3 fields.R.w.x",
+        ),
+        ("root = 'R'\nfuel = 1\n[fields]\n'' = [1]", "F3 fields."),
+        ("root = 'R'\nfuel = 1\n[fields]\n'R.w' = 1", "F3 fields.R.w"),
+        (
+            "root = 'R'\nfuel = 1\n[fields]\n'R.w' = { from = 1, to = 2 }",
+            "F3 fields.R.w",
+        ),
+        (
+            "root = 'R'\nfuel = 1\n[fields]\n'R.w' = [1.0]",
+            "F3 fields.R.w",
+        ),
+        (
+            "root = 'R'\nfuel = 1\n[fields]\n'R.w' = [[1]]",
+            "F3 fields.R.w",
+        ),
+        (
+            "root = 'R'\nfuel = 1\n[params]\n'm.x' = [1979-05-27]",
+            "F3 params.m.x",
+        ),
+        (
+            "root = 'R'\nfuel = 0\n[fields]\n'R.w' = [{ from = true, to = 2 }]",
+            "F3 fields.R.w",
+        ),
+        // Numbers out of their limits.
+        ("root = 'R'\nfuel = 0", "F4 fuel"),
+        ("fuel = 0", "F4 fuel"),
+        ("root = 'R'\nfuel = -1", "F4 fuel"),
+        ("root = 'R'\nfuel = 1000000001", "F4 fuel"),
+        ("root = 'R'\nfuel = 1\n[objects]\nR = 65", "F4 objects.R"),
+        ("root = 'R'\nfuel = 1\n[objects]\nR = -1", "F4 objects.R"),
+        (
+            "root = 'R'\nfuel = 1\n[arrays]\nX = { count = 65, lengths = [] }",
+            "F4 arrays.X",
+        ),
+        (
+            "root = 'R'\nfuel = 1\n[arrays]\nX = { count = 1, lengths = [65] }",
+            "F4 arrays.X",
+        ),
+        (
+            "root = 'R'\nfuel = 1\n[arrays]\nX = { count = 1, lengths = [{ from = 65, to = 0 }] }",
+            "F4 arrays.X",
+        ),
+        (
+            "root = 'R'\nfuel = 1\n[arrays]\nX = { count = 1, lengths = [{ from = 0, to = 65 }] }",
+            "F4 arrays.X",
+        ),
+        (
+            "root = 'R'\nfuel = 1\n[fields]\n'R.v' = [2147483648]",
+            "F4 fields.R.v",
+        ),
+        (
+            "root = 'R'\nfuel = 1\n[fields]\n'R.v' = [-2147483649]",
+            "F4 fields.R.v",
+        ),
+        (
+            "root = 'R'\nfuel = 1\n[params]\n'm.x' = [{ from = 0, to = 9223372036854775807 }]",
+            "F4 params.m.x",
+        ),
+        (
+            "root = 'R'\nfuel = 1\n[params]\n'm.x' = [{ from = 2147483648, to = 0 }]",
+            "F4 params.m.x",
+        ),
+        // Missing keys.
+        ("fuel = 1", "F5 root"),
+        ("root = 'R'", "F5 fuel"),
+        (
+            "root = 'R'\nfuel = 1\n[arrays]\nX = { count = 1 }",
+            "F5 arrays.X",
+        ),
+        (
+            "root = 'R'\nfuel = 1\n[arrays]\nX = { lengths = [1] }",
+            "F5 arrays.X",
+        ),
+        (
+            "root = 'R'\nfuel = 1\n[arrays]\nX = { count = 1, lengths = [{}] }",
+            "F5 arrays.X",
+        ),
+        (
+            "root = 'R'\nfuel = 1\n[fields]\n'R.v' = [{ from = 1 }]",
+            "F5 fields.R.v",
+        ),
+        ("fuel = 1\n[fields]\n'R.v' = [{ to = 1 }]", "F5 fields.R.v"),
+        (
+            "root = 'R'\nfuel = 1\n[fields]\n'R.v' = [{ to = 1 }]\n'A.v' = [{ to = 1 }]\n[arrays]\nX = {}",
+            "F5 arrays.X",
+        ),
+    ] {
+        let found = answer(rt.alloc(), text.as_bytes())?;
+        assert_eq!(rt; found.as_str(), wanted, "{text}");
+    }
+    let found = answer(rt.alloc(), b"root = 'R\xff'\nfuel = 1".as_slice())?;
+    assert_eq!(rt; found.as_str(), "F1 toml");
+    Ok(())
+}
+
+// The text so often, between the two others.
+fn many(alloc: Global, before: &str, text: &str, times: u32, after: &str) -> Result<String, Fail> {
+    let mut all = String::from_str(alloc, before)?;
+    for _ in 0..times {
+        all.push_str(text)?;
+    }
+    all.push_str(after)?;
+    Ok(all)
+}
+
+#[test]
+fn hostile(rt: HostRuntime) -> Result<(), Fail> {
+    let alloc = rt.alloc();
+    let head = "root = 'R'\nfuel = 1\n[fields]\n'R.v' = [";
+    let nested = many(alloc, head, "[", 10_000, "")?;
+    let deep = many(alloc, nested.as_str(), "]", 10_000, "]")?;
+    assert_eq!(rt; answer(alloc, deep.as_bytes())?.as_str(), "F1 toml");
+    let long = many(alloc, head, "0,", 65_537, "]")?;
+    assert_eq!(rt; answer(alloc, long.as_bytes())?.as_str(), "read");
+    let comment = many(alloc, "root = 'R'\nfuel = 1\n", "#", 1_048_556, "")?;
+    assert_eq!(rt; comment.len(), MAX_FIN_BYTES);
+    assert!(rt; !is_too_long(comment.as_bytes()));
+    assert_eq!(rt; answer(alloc, comment.as_bytes())?.as_str(), "read");
+    let longer = many(alloc, comment.as_str(), "#", 1, "")?;
+    assert!(rt; is_too_long(longer.as_bytes()));
+    assert_eq!(rt; answer(alloc, longer.as_bytes())?.as_str(), "F6 size");
+    Ok(())
+}
+
+#[test]
+fn laws(_rt: HostRuntime) -> Result<(), Fail> {
+    least_law();
+    item_law();
+    Ok(())
+}

@@ -1,0 +1,231 @@
+// The problem of `class A { int v; }` and `class B extends A { boolean repOk() { return true; } }`, worked by hand.
+ghost use Rattle.std.specs.Prelude.{◌≡◌, IfOk, length};
+ghost use Rattle.kr_types.specs.Programs.{IsProgram};
+ghost use Rattle.kr_domains.specs.Limits.{IsWithinLimits};
+
+use kr_ast::{Forest, Node, Primitive, Tree};
+use kr_base::{NoMemory, Place};
+use kr_classes::classes;
+use kr_fin::{FinDoc, FinRefusal, read_fin};
+use kr_mean::Mode;
+use kr_posed::Problem;
+use kr_problem::{Layout, SlotPlace};
+use kr_space::problem;
+use kr_types::{Program, check};
+use kr_value::{Class, Spot};
+use std::alloc::Global;
+use std::test::Fail;
+
+fn column(col: u32) -> Place {
+    Place {
+        file: 0,
+        line: 1,
+        col,
+    }
+}
+
+// `class A { int v; }`
+fn first(alloc: Global) -> Result<Tree, NoMemory>
+    ensures { IfOk result (λ tree. length tree.entries ≡ 12) }
+{
+    let mut forest = Forest::new(alloc);
+    let name = forest.add_name(b"A")?;
+    let field = forest.add_name(b"v")?;
+    let rest = forest.put(column(1), Node::Nil)?;
+    let no_member = forest.put(column(1), Node::Nil)?;
+    let no_declarator = forest.put(column(1), Node::Nil)?;
+    let initial = forest.put(column(15), Node::Nil)?;
+    let declarator = forest.put(
+        column(15),
+        Node::Declarator {
+            name: field,
+            initial,
+        },
+    )?;
+    let declarators = forest.put(
+        column(1),
+        Node::Cons {
+            first: declarator,
+            rest: no_declarator,
+        },
+    )?;
+    let declared = forest.put(
+        column(11),
+        Node::PrimitiveType {
+            primitive: Primitive::Int,
+        },
+    )?;
+    let member = forest.put(
+        column(11),
+        Node::Field {
+            is_static: false,
+            is_final: false,
+            declared,
+            declarators,
+        },
+    )?;
+    let members = forest.put(
+        column(1),
+        Node::Cons {
+            first: member,
+            rest: no_member,
+        },
+    )?;
+    let extended = forest.put(column(1), Node::Nil)?;
+    let first = forest.put(
+        column(7),
+        Node::Class {
+            name,
+            extended,
+            members,
+        },
+    )?;
+    forest.put(column(1), Node::Cons { first, rest })?;
+    Ok(forest.finish())
+}
+
+// `class B extends A { boolean repOk() { return true; } }`
+fn second(alloc: Global) -> Result<Tree, NoMemory>
+    ensures { IfOk result (λ tree. length tree.entries ≡ 15) }
+{
+    let mut forest = Forest::new(alloc);
+    let name = forest.add_name(b"B")?;
+    let above = forest.add_name(b"A")?;
+    let predicate = forest.add_name(b"repOk")?;
+    let rest = forest.put(column(1), Node::Nil)?;
+    let no_member = forest.put(column(1), Node::Nil)?;
+    let no_statement = forest.put(column(1), Node::Nil)?;
+    let value = forest.put(column(45), Node::Truth { value: true })?;
+    let returned = forest.put(column(38), Node::Return { value })?;
+    let body = forest.put(
+        column(1),
+        Node::Cons {
+            first: returned,
+            rest: no_statement,
+        },
+    )?;
+    let contracts = forest.put(column(1), Node::Nil)?;
+    let parameters = forest.put(column(1), Node::Nil)?;
+    let result = forest.put(
+        column(21),
+        Node::PrimitiveType {
+            primitive: Primitive::Boolean,
+        },
+    )?;
+    let signature = forest.put(
+        column(29),
+        Node::Signature {
+            result,
+            parameters,
+            contracts,
+        },
+    )?;
+    let method = forest.put(
+        column(29),
+        Node::Method {
+            is_static: false,
+            name: predicate,
+            signature,
+            body,
+        },
+    )?;
+    let members = forest.put(
+        column(1),
+        Node::Cons {
+            first: method,
+            rest: no_member,
+        },
+    )?;
+    let extended = forest.put(column(17), Node::NamedType { name: above })?;
+    let first = forest.put(
+        column(7),
+        Node::Class {
+            name,
+            extended,
+            members,
+        },
+    )?;
+    forest.put(column(1), Node::Cons { first, rest })?;
+    Ok(forest.finish())
+}
+
+const FIN: &str =
+    "root='B'\nfuel=100\n[objects]\nA=1\nB=2\n[arrays]\n'A[]'={count=1,lengths=[{from=0,to=2}]}\n[fields]\n'A.v'=[{from=0,to=3}]\n'A[].*'=['null','A','B']";
+
+// A document.
+fn document_of(alloc: Global, text: &str) -> Result<FinDoc, FinRefusal>
+    ensures { IfOk result (λ document. IsWithinLimits document) }
+{
+    read_fin(alloc, text.as_bytes())
+}
+
+// The two classes as a program.
+fn program(alloc: Global) -> Result<Program, Fail>
+    ensures { IfOk result (λ program. IsProgram program) }
+{
+    let mut trees = Vec::new(alloc);
+    trees.push(first(alloc)?)?;
+    trees.push(second(alloc)?)?;
+    let Ok(table) = classes(alloc, &trees) else {
+        return Err(Fail::new("a class rule is broken"));
+    };
+    match check(alloc, trees, table) {
+        Err(_) => Err(Fail::new("a typing rule is broken")),
+        Ok(program) => Ok(program),
+    }
+}
+
+// What stands at a slot, and how many values its domain has, if there is one.
+fn slot_at(layout: &Layout, slot: u32) -> Option<(SlotPlace, u32)> {
+    if slot < Layout::slots(layout) {
+        Some((layout.place(slot), Layout::size(layout, slot)))
+    } else {
+        None
+    }
+}
+
+// What there is of a class domain, if it is there.
+fn domain_at(layout: &Layout, domain: u32) -> Option<(&[u8], Class, u32, usize)> {
+    if (domain as usize) < layout.domains() {
+        Some((
+            layout.name(domain),
+            layout.class(domain),
+            layout.count(domain),
+            layout.width(domain),
+        ))
+    } else {
+        None
+    }
+}
+
+// The problem of the two classes with a document.
+fn posed(alloc: Global, text: &str) -> Result<Problem, Fail> {
+    let program = program(alloc)?;
+    let Ok(document) = document_of(alloc, text) else {
+        return Err(Fail::new("no document"));
+    };
+    match problem(alloc, program, &document, Mode::List) {
+        Err(_) => Err(Fail::new("no problem")),
+        Ok(found) => Ok(found),
+    }
+}
+
+#[test]
+fn two_classes_and_an_array(rt: HostRuntime) -> Result<(), Fail> {
+    let found = posed(rt.alloc(), FIN)?;
+    let layout = &found.layout;
+    assert_eq!(rt; found.arrays.len(), 1);
+    assert_eq!(rt; layout.root(), 1);
+    assert_eq!(rt; layout.fuel(), 100);
+    assert_eq!(rt; layout.parameters(), 0);
+    assert!(rt; domain_at(layout, 0) == Some((b"A".as_slice(), Class::Object(0), 1, 1)));
+    assert!(rt; domain_at(layout, 1) == Some((b"B".as_slice(), Class::Object(1), 2, 1)));
+    assert!(rt; domain_at(layout, 2) == Some((b"A[]".as_slice(), Class::Array(0), 1, 3)));
+    assert!(rt; slot_at(layout, 0) == Some((SlotPlace::This, 2)));
+    assert!(rt; slot_at(layout, 1) == Some((SlotPlace::At(0, Spot::Field(0)), 4)));
+    assert!(rt; slot_at(layout, 3) == Some((SlotPlace::At(2, Spot::Field(0)), 4)));
+    assert!(rt; slot_at(layout, 4) == Some((SlotPlace::At(3, Spot::Length), 3)));
+    assert!(rt; slot_at(layout, 6) == Some((SlotPlace::At(3, Spot::Element(1)), 4)));
+    assert!(rt; slot_at(layout, 7).is_none());
+    Ok(())
+}
