@@ -4,6 +4,6 @@
 #[cfg(test)]
 mod board;
 #[cfg(test)]
-mod core;
+mod machine;
 #[cfg(test)]
 mod survey;
