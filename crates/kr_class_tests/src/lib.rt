@@ -1,4 +1,4 @@
-//! Tests of the class table and of typing, layer by layer: trees made by hand, and what each layer says of them.
+//! Tests of the class table and of typing, layer by layer: small sources, and what each layer says of their trees.
 #![tactic(auto)]
 
 #[cfg(test)]

@@ -15,6 +15,8 @@ mod meanings;
 #[cfg(test)]
 mod member_nodes;
 #[cfg(test)]
+mod places;
+#[cfg(test)]
 mod problem;
 #[cfg(test)]
 mod pure;

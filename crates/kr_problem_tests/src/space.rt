@@ -2,45 +2,17 @@
 ghost use Rattle.std.specs.Prelude.{IfOk};
 ghost use Rattle.kr_domains.specs.Limits.{IsWithinLimits};
 
-use kr_ast::{Forest, Node, Tree};
-use kr_base::{NoMemory, Place};
 use kr_domains::{ItemName, SpaceRefusal};
 use kr_fin::{FinDoc, FinRefusal, read_fin};
 use kr_fitting::Classes;
 use kr_mean::Mode;
 use kr_members::Members;
 use kr_names::Heads;
+use kr_sources::tree_of;
 use kr_space::judge_space;
 use kr_type_numbers::{NodeTypes, Types};
 use std::alloc::Global;
 use std::test::Fail;
-
-fn column(col: u32) -> Place {
-    Place {
-        file: 0,
-        line: 1,
-        col,
-    }
-}
-
-// `class NAME { }`
-fn plain_class(alloc: Global, name: &[u8]) -> Result<Tree, NoMemory> {
-    let mut forest = Forest::new(alloc);
-    let name = forest.add_name(name)?;
-    let rest = forest.put(column(1), Node::Nil)?;
-    let members = forest.put(column(1), Node::Nil)?;
-    let extended = forest.put(column(1), Node::Nil)?;
-    let first = forest.put(
-        column(7),
-        Node::Class {
-            name,
-            extended,
-            members,
-        },
-    )?;
-    forest.put(column(1), Node::Cons { first, rest })?;
-    Ok(forest.finish())
-}
 
 // A document.
 fn document_of(alloc: Global, text: &str) -> Result<FinDoc, FinRefusal>
@@ -52,7 +24,7 @@ fn document_of(alloc: Global, text: &str) -> Result<FinDoc, FinRefusal>
 // The code of the least rule that is broken, and the item.
 fn judged(alloc: Global, text: &str) -> Result<(&'static str, ItemName), Fail> {
     let mut trees = Vec::new(alloc);
-    trees.push(plain_class(alloc, b"N")?)?;
+    trees.push(tree_of(alloc, 0, "class N { }")?)?;
     let heads = Heads::read(alloc, &trees)?;
     let members = Members::read(alloc, &trees, &heads)?;
     let mut types = Types::new(alloc)?;

@@ -3,151 +3,17 @@ ghost use Rattle.std.specs.Prelude.{◌≡◌, IfOk, length};
 ghost use Rattle.kr_types.specs.Programs.{IsProgram};
 ghost use Rattle.kr_domains.specs.Limits.{IsWithinLimits};
 
-use kr_ast::{Forest, Node, Primitive, Tree};
-use kr_base::{NoMemory, Place};
 use kr_classes::classes;
 use kr_fin::{FinDoc, FinRefusal, read_fin};
 use kr_mean::Mode;
 use kr_posed::Problem;
 use kr_problem::{Layout, SlotPlace};
+use kr_sources::tree_of;
 use kr_space::problem;
 use kr_types::{Program, check};
 use kr_value::{Class, Spot};
 use std::alloc::Global;
 use std::test::Fail;
-
-fn column(col: u32) -> Place {
-    Place {
-        file: 0,
-        line: 1,
-        col,
-    }
-}
-
-// `class A { int v; }`
-fn first(alloc: Global) -> Result<Tree, NoMemory>
-    ensures { IfOk result (λ tree. length tree.entries ≡ 12) }
-{
-    let mut forest = Forest::new(alloc);
-    let name = forest.add_name(b"A")?;
-    let field = forest.add_name(b"v")?;
-    let rest = forest.put(column(1), Node::Nil)?;
-    let no_member = forest.put(column(1), Node::Nil)?;
-    let no_declarator = forest.put(column(1), Node::Nil)?;
-    let initial = forest.put(column(15), Node::Nil)?;
-    let declarator = forest.put(
-        column(15),
-        Node::Declarator {
-            name: field,
-            initial,
-        },
-    )?;
-    let declarators = forest.put(
-        column(1),
-        Node::Cons {
-            first: declarator,
-            rest: no_declarator,
-        },
-    )?;
-    let declared = forest.put(
-        column(11),
-        Node::PrimitiveType {
-            primitive: Primitive::Int,
-        },
-    )?;
-    let member = forest.put(
-        column(11),
-        Node::Field {
-            is_static: false,
-            is_final: false,
-            declared,
-            declarators,
-        },
-    )?;
-    let members = forest.put(
-        column(1),
-        Node::Cons {
-            first: member,
-            rest: no_member,
-        },
-    )?;
-    let extended = forest.put(column(1), Node::Nil)?;
-    let first = forest.put(
-        column(7),
-        Node::Class {
-            name,
-            extended,
-            members,
-        },
-    )?;
-    forest.put(column(1), Node::Cons { first, rest })?;
-    Ok(forest.finish())
-}
-
-// `class B extends A { boolean repOk() { return true; } }`
-fn second(alloc: Global) -> Result<Tree, NoMemory>
-    ensures { IfOk result (λ tree. length tree.entries ≡ 15) }
-{
-    let mut forest = Forest::new(alloc);
-    let name = forest.add_name(b"B")?;
-    let above = forest.add_name(b"A")?;
-    let predicate = forest.add_name(b"repOk")?;
-    let rest = forest.put(column(1), Node::Nil)?;
-    let no_member = forest.put(column(1), Node::Nil)?;
-    let no_statement = forest.put(column(1), Node::Nil)?;
-    let value = forest.put(column(45), Node::Truth { value: true })?;
-    let returned = forest.put(column(38), Node::Return { value })?;
-    let body = forest.put(
-        column(1),
-        Node::Cons {
-            first: returned,
-            rest: no_statement,
-        },
-    )?;
-    let contracts = forest.put(column(1), Node::Nil)?;
-    let parameters = forest.put(column(1), Node::Nil)?;
-    let result = forest.put(
-        column(21),
-        Node::PrimitiveType {
-            primitive: Primitive::Boolean,
-        },
-    )?;
-    let signature = forest.put(
-        column(29),
-        Node::Signature {
-            result,
-            parameters,
-            contracts,
-        },
-    )?;
-    let method = forest.put(
-        column(29),
-        Node::Method {
-            is_static: false,
-            name: predicate,
-            signature,
-            body,
-        },
-    )?;
-    let members = forest.put(
-        column(1),
-        Node::Cons {
-            first: method,
-            rest: no_member,
-        },
-    )?;
-    let extended = forest.put(column(17), Node::NamedType { name: above })?;
-    let first = forest.put(
-        column(7),
-        Node::Class {
-            name,
-            extended,
-            members,
-        },
-    )?;
-    forest.put(column(1), Node::Cons { first, rest })?;
-    Ok(forest.finish())
-}
 
 const FIN: &str =
     "root='B'\nfuel=100\n[objects]\nA=1\nB=2\n[arrays]\n'A[]'={count=1,lengths=[{from=0,to=2}]}\n[fields]\n'A.v'=[{from=0,to=3}]\n'A[].*'=['null','A','B']";
@@ -164,8 +30,12 @@ fn program(alloc: Global) -> Result<Program, Fail>
     ensures { IfOk result (λ program. IsProgram program) }
 {
     let mut trees = Vec::new(alloc);
-    trees.push(first(alloc)?)?;
-    trees.push(second(alloc)?)?;
+    trees.push(tree_of(alloc, 0, "class A { int v; }")?)?;
+    trees.push(tree_of(
+        alloc,
+        1,
+        "class B extends A { boolean repOk() { return true; } }",
+    )?)?;
     let Ok(table) = classes(alloc, &trees) else {
         return Err(Fail::new("a class rule is broken"));
     };

@@ -4,127 +4,15 @@ ghost use Rattle.kr_type_numbers.specs.Listed.{AreApart};
 ghost use Rattle.kr_type_numbers.specs.Types.{count};
 ghost use Rattle.kr_code.specs.Tables.{row_items};
 
-use kr_ast::{Forest, Node, Primitive, Tree};
-use kr_base::{NoMemory, Place};
+use kr_ast::Tree;
+use kr_base::NoMemory;
 use kr_members::Members;
 use kr_names::Heads;
 use kr_roster::Roster;
+use kr_sources::tree_of;
 use kr_tables::Tables;
 use kr_type_numbers::{TypeForm, Types};
 use std::alloc::Global;
-
-fn column(col: u32) -> Place {
-    Place {
-        file: 0,
-        line: 1,
-        col,
-    }
-}
-
-/// `class NAME extends ABOVE { int FIELD; }`
-fn field_class(alloc: Global, name: &[u8], above: &[u8], field: &[u8]) -> Result<Tree, NoMemory> {
-    let mut forest = Forest::new(alloc);
-    let name = forest.add_name(name)?;
-    let above = forest.add_name(above)?;
-    let field = forest.add_name(field)?;
-    let rest = forest.put(column(1), Node::Nil)?;
-    let no_member = forest.put(column(1), Node::Nil)?;
-    let no_declarator = forest.put(column(1), Node::Nil)?;
-    let initial = forest.put(column(1), Node::Nil)?;
-    let declarator = forest.put(
-        column(30),
-        Node::Declarator {
-            name: field,
-            initial,
-        },
-    )?;
-    let declarators = forest.put(
-        column(1),
-        Node::Cons {
-            first: declarator,
-            rest: no_declarator,
-        },
-    )?;
-    let primitive = Primitive::Int;
-    let declared = forest.put(column(26), Node::PrimitiveType { primitive })?;
-    let member = forest.put(
-        column(26),
-        Node::Field {
-            is_static: false,
-            is_final: false,
-            declared,
-            declarators,
-        },
-    )?;
-    let members = forest.put(
-        column(1),
-        Node::Cons {
-            first: member,
-            rest: no_member,
-        },
-    )?;
-    let extended = forest.put(column(17), Node::NamedType { name: above })?;
-    let first = forest.put(
-        column(7),
-        Node::Class {
-            name,
-            extended,
-            members,
-        },
-    )?;
-    forest.put(column(1), Node::Cons { first, rest })?;
-    Ok(forest.finish())
-}
-
-/// `class NAME extends ABOVE { int METHOD() { } }`
-fn method_class(alloc: Global, name: &[u8], above: &[u8], method: &[u8]) -> Result<Tree, NoMemory> {
-    let mut forest = Forest::new(alloc);
-    let name = forest.add_name(name)?;
-    let above = forest.add_name(above)?;
-    let own = forest.add_name(method)?;
-    let rest = forest.put(column(1), Node::Nil)?;
-    let no_member = forest.put(column(1), Node::Nil)?;
-    let body = forest.put(column(1), Node::Nil)?;
-    let contracts = forest.put(column(1), Node::Nil)?;
-    let parameters = forest.put(column(1), Node::Nil)?;
-    let primitive = Primitive::Int;
-    let result = forest.put(column(11), Node::PrimitiveType { primitive })?;
-    let signature = forest.put(
-        column(15),
-        Node::Signature {
-            result,
-            parameters,
-            contracts,
-        },
-    )?;
-    let method = forest.put(
-        column(15),
-        Node::Method {
-            is_static: false,
-            name: own,
-            signature,
-            body,
-        },
-    )?;
-    let members = forest.put(
-        column(1),
-        Node::Cons {
-            first: method,
-            rest: no_member,
-        },
-    )?;
-    let extended = forest.put(column(17), Node::NamedType { name: above })?;
-    let first = forest.put(
-        column(7),
-        Node::Class {
-            name,
-            extended,
-            members,
-        },
-    )?;
-    forest.put(column(1), Node::Cons { first, rest })?;
-    Ok(forest.finish())
-}
 
 /// Whether a table has this row.
 fn has_row(rows: &Vec<Vec<Option<u32>>>, at: usize, row: &[Option<u32>]) -> bool {
@@ -168,8 +56,8 @@ fn files_with_fields(alloc: Global) -> Result<Vec<Tree>, NoMemory>
     ensures { IfOk result (λ trees. length trees.items ≡ 2) }
 {
     let mut trees = Vec::new(alloc);
-    trees.push(field_class(alloc, b"Above", b"Object", b"first")?)?;
-    trees.push(field_class(alloc, b"Below", b"Above", b"second")?)?;
+    trees.push(tree_of(alloc, 0, "class Above extends Object { int first; }")?)?;
+    trees.push(tree_of(alloc, 1, "class Below extends Above { int second; }")?)?;
     Ok(trees)
 }
 
@@ -178,8 +66,8 @@ fn files_with_methods(alloc: Global) -> Result<Vec<Tree>, NoMemory>
     ensures { IfOk result (λ trees. length trees.items ≡ 2) }
 {
     let mut trees = Vec::new(alloc);
-    trees.push(method_class(alloc, b"Above", b"Object", b"run")?)?;
-    trees.push(method_class(alloc, b"Below", b"Above", b"run")?)?;
+    trees.push(tree_of(alloc, 0, "class Above extends Object { int run() { } }")?)?;
+    trees.push(tree_of(alloc, 1, "class Below extends Above { int run() { } }")?)?;
     Ok(trees)
 }
 
