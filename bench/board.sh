@@ -8,16 +8,16 @@
 # script stops with status 1 at the first run in which a board was not as before, or that ends otherwise. It proves
 # nothing. `rt test` builds the tests; a malloc of its own, which is loaded before the C library's, refuses.
 set -u
-cd "$(dirname "$0")/../crates/kr_board" || exit 1
+cd "$(dirname "$0")/../crates/kr_board_tests" || exit 1
 work=$(mktemp -d) || exit 1
 trap 'rm -rf "$work"' EXIT
-tests=out/kr_board_tests
+tests=out/kr_board_tests_tests
 
 rt test >"$work/built" 2>&1 || { cat "$work/built"; exit 1; }
 [ -x "$tests" ] || { echo "no tests at $tests"; exit 1; }
 . ../../bench/refusing.sh
 
-for name in $("$tests" --list | sed -n 's/: test$//p'); do
+for name in $("$tests" --list | sed -n "s/^\(board::.*\): test$/\1/p"); do
     [ "$(refuse "$tests" "$name" 0)" = 0 ] || { cat "$work/out"; exit 1; }
     all=$(cat "$work/made")
     again=0

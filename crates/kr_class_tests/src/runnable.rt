@@ -9,7 +9,7 @@ use kr_type_numbers::{TypeForm, Types};
 use std::alloc::Global;
 
 #[test]
-fn a_class_of_one_method(rt: HostRuntime) -> Result<(), NoMemory> {
+fn a_call_of_the_method(rt: HostRuntime) -> Result<(), NoMemory> {
     let alloc = rt.alloc();
     let mut trees = Vec::new(alloc);
     trees.push(tree_of(alloc, 0, "class A { int m() { } }")?)?;
@@ -18,6 +18,16 @@ fn a_class_of_one_method(rt: HostRuntime) -> Result<(), NoMemory> {
     let meant = members.method_named(0, b"m");
     let found = runnable_methods(alloc, &trees, &members, meant)?;
     assert_eq!(rt; found.len(), 1);
+    Ok(())
+}
+
+#[test]
+fn a_creation_of_the_class(rt: HostRuntime) -> Result<(), NoMemory> {
+    let alloc = rt.alloc();
+    let mut trees = Vec::new(alloc);
+    trees.push(tree_of(alloc, 0, "class A { int m() { } }")?)?;
+    let heads = Heads::read(alloc, &trees)?;
+    let members = Members::read(alloc, &trees, &heads)?;
     let mut types = Types::new(alloc)?;
     let own = types.number(TypeForm::Class(0))?;
     let classes = created_classes(alloc, &types, &members, own)?;
