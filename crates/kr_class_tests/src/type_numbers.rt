@@ -5,15 +5,14 @@ use kr_names::Heads;
 use kr_sources::tree_of;
 use kr_type_numbers::{NodeTypes, TypeForm, Types};
 
-/// How many nodes of the first file name the type of a number.
-fn naming(numbers: &NodeTypes, number: u32) -> u32 {
-    let mut count = 0;
+/// Whether a node of the first file names the type of a number.
+fn is_named(numbers: &NodeTypes, number: u32) -> bool {
     for node in 0..16 {
         if numbers.number(0, node) == number {
-            count += 1;
+            return true;
         }
     }
-    count
+    false
 }
 
 #[test]
@@ -28,8 +27,8 @@ fn equal_types_have_one_number(rt: HostRuntime) -> Result<(), NoMemory> {
     let element = types.int();
     let array = types.number(TypeForm::Array(element))?;
     assert_eq!(rt; types.len(), 6);
-    assert_eq!(rt; naming(&numbers, element), 1);
-    assert_eq!(rt; naming(&numbers, array), 1);
+    assert!(rt; is_named(&numbers, element));
+    assert!(rt; is_named(&numbers, array));
     Ok(())
 }
 

@@ -19,16 +19,16 @@ fn a_creation(rt: HostRuntime) -> Result<(), NoMemory> {
     let program = program_of(alloc, "class A { A a = new A(); }")?;
     let tree = tree_of(&program.trees, 0);
     assert_eq!(rt; tree.nodes(), 14);
-    let mut found = 0;
+    let mut found = false;
     for node in 0..tree.nodes() {
         if tree.entry(node).place == column(17) {
             assert!(rt; touch_of(&program, 0, node) == Touch::Objects(0));
             let runs = runs_of(alloc, &program, 0, node)?;
             assert_eq!(rt; runs.methods.len(), 0);
             assert_eq!(rt; runs.classes.len(), 1);
-            found += 1;
+            found = true;
         }
     }
-    assert_eq!(rt; found, 1);
+    assert!(rt; found);
     Ok(())
 }
