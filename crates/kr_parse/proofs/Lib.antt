@@ -1,5 +1,4 @@
 mod Ahead
-mod Named
 mod OneRefusal
 mod Standing
 mod States
