@@ -1,8 +1,9 @@
 // What names mean where there are no classes, and documents with names that nothing has.
+ghost use Rattle.kr_names.specs.Shown.{AreHeads};
 
 use kr_ast::Tree;
 use kr_domains::ItemName;
-use kr_fin::read_fin;
+use kr_fin::{FinDoc, read_fin};
 use kr_meanings::{Least, Meaning, array_type, meaning_of, note_names, type_number};
 use kr_names::Heads;
 use kr_type_numbers::Types;
@@ -50,22 +51,32 @@ fn names(rt: HostRuntime) -> Result<(), Fail> {
     Ok(())
 }
 
-// The item of the first name that nothing has, or none.
+// The item of the first name of a document that nothing has, or none.
+fn item_of(
+    alloc: Global,
+    trees: &[Tree],
+    heads: &Heads,
+    document: &FinDoc,
+) -> Result<ItemName, Fail>
+    requires { AreHeads trees.now heads.now }
+{
+    let mut types = Types::new(alloc)?;
+    let mut least = Least::new(alloc);
+    note_names(&mut least, &mut types, trees, heads, document)?;
+    match least.into_fault() {
+        Some(fault) => Ok(fault.item),
+        None => Ok(ItemName::of(alloc, b"none".as_slice())?),
+    }
+}
+
+// The same of a text, without classes.
 fn unknown_item(alloc: Global, text: &str) -> Result<ItemName, Fail> {
+    let Ok(document) = read_fin(alloc, text.as_bytes()) else {
+        return Err(Fail::new("no document"));
+    };
     let trees: Vec<Tree> = Vec::new(alloc);
     let heads = Heads::read(alloc, trees.as_slice())?;
-    let mut types = Types::new(alloc)?;
-    match read_fin(alloc, text.as_bytes()) {
-        Ok(document) => {
-            let mut least = Least::new(alloc);
-            note_names(&mut least, &mut types, trees.as_slice(), &heads, &document)?;
-            match least.into_fault() {
-                Some(fault) => Ok(fault.item),
-                None => Ok(ItemName::of(alloc, b"none".as_slice())?),
-            }
-        }
-        Err(_) => Err(Fail::new("no document")),
-    }
+    item_of(alloc, trees.as_slice(), &heads, &document)
 }
 
 #[test]

@@ -1,7 +1,10 @@
 // The least rule that small documents break beside a class without members.
-ghost use Rattle.std.specs.Prelude.{IfOk};
+ghost use Rattle.std.specs.Prelude.{◌<◌, IfOk, length};
 ghost use Rattle.kr_domains.specs.Limits.{IsWithinLimits};
+ghost use Rattle.kr_members.specs.Kept.{AreMembers};
+ghost use Rattle.kr_names.specs.Shown.{AreHeads};
 
+use kr_ast::Tree;
 use kr_domains::{ItemName, SpaceRefusal};
 use kr_fin::{FinDoc, FinRefusal, read_fin};
 use kr_fitting::Classes;
@@ -21,27 +24,43 @@ fn document_of(alloc: Global, text: &str) -> Result<FinDoc, FinRefusal>
     read_fin(alloc, text.as_bytes())
 }
 
-// The code of the least rule that is broken, and the item.
+// The code of the least rule that a document breaks beside these files, and the item.
+fn judged_beside(
+    alloc: Global,
+    trees: &[Tree],
+    heads: &Heads,
+    members: &Members,
+    document: &FinDoc,
+) -> Result<(&'static str, ItemName), Fail>
+    requires few { length trees.now < 65 }
+    requires heads { AreHeads trees.now heads.now }
+    requires members { AreMembers trees.now members.now }
+    requires limits { IsWithinLimits document.now }
+{
+    let mut types = Types::new(alloc)?;
+    let numbers = NodeTypes::read(alloc, trees, heads, &mut types)?;
+    let classes = Classes {
+        trees,
+        heads,
+        members,
+        numbers: &numbers,
+    };
+    match judge_space(alloc, &classes, &mut types, document, &Mode::List) {
+        Err(SpaceRefusal::Broken(fault)) => Ok((fault.rule.code(), fault.item)),
+        _ => Err(Fail::new("nothing is broken")),
+    }
+}
+
+// The same beside a class without members.
 fn judged(alloc: Global, text: &str) -> Result<(&'static str, ItemName), Fail> {
+    let Ok(document) = document_of(alloc, text) else {
+        return Err(Fail::new("no document"));
+    };
     let mut trees = Vec::new(alloc);
     trees.push(tree_of(alloc, 0, "class N { }")?)?;
     let heads = Heads::read(alloc, &trees)?;
     let members = Members::read(alloc, &trees, &heads)?;
-    let mut types = Types::new(alloc)?;
-    let numbers = NodeTypes::read(alloc, &trees, &heads, &mut types)?;
-    let classes = Classes {
-        trees: &trees,
-        heads: &heads,
-        members: &members,
-        numbers: &numbers,
-    };
-    let Ok(document) = document_of(alloc, text) else {
-        return Err(Fail::new("no document"));
-    };
-    match judge_space(alloc, &classes, &mut types, &document, &Mode::List) {
-        Err(SpaceRefusal::Broken(fault)) => Ok((fault.rule.code(), fault.item)),
-        _ => Err(Fail::new("nothing is broken")),
-    }
+    judged_beside(alloc, &trees, &heads, &members, &document)
 }
 
 #[test]
