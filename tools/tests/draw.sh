@@ -1,6 +1,6 @@
 #!/usr/bin/env bash
 # Tests of tools/draw: rows of every kind, one row of many, and what is no row. Where Graphviz is there, it reads them.
-. "$(dirname "$(readlink -f "$0")")/common.sh"
+. "$(dirname "$(readlink -f "$0")")/common.bash"
 
 # A row's graph has to have exactly these lines between its first three and its last one: draw NAME ROW LINE..
 draw() {

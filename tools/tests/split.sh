@@ -1,6 +1,6 @@
 #!/usr/bin/env bash
 # Tests of tools/split: parts of listings of examples/, and of a listing that is too long to be tried whole.
-. "$(dirname "$(readlink -f "$0")")/common.sh"
+. "$(dirname "$(readlink -f "$0")")/common.bash"
 
 # The words of each part, tried one behind another: the rows are the whole listing's, and no part is heavier than twice the
 # mean: parts NAME PARTS FIN SOURCE..
@@ -25,47 +25,9 @@ parts() {
     count $? "$name: the largest of $number parts has $most of $sum"
 }
 
-# ---- a program that lists numbers of five digits, of which each digit lets the next go so far as itself; it is slow above
-# so many candidates
+# ---- a program without a class
 
-cat >numbers <<'MOCK'
-#!/usr/bin/env bash
-[ "$1" = list ] || { echo "ok classes 1 slots 6"; exit; }
-shift
-exec awk -v words="$*" -v slow="${SLOW:-1000000}" '
-    # Below 0 where a key stands before a cut, above 0 behind it; 0 too where the cut goes on behind the key.
-    function compare(key, cut, a, b, n, m, at) {
-        n = split(key, a, "."); m = split(cut, b, ".")
-        for (at = 1; at <= n && at <= m; at++) if (a[at] + 0 != b[at] + 0) return a[at] - b[at]
-        return n > m
-    }
-    function below(key, digit, sum, depth, next_digit) {
-        if (from != "" && compare(key, from) < 0 || to != "" && compare(key, to) > 0) return
-        if (depth < 5) {
-            for (next_digit = 0; next_digit <= digit; next_digit++) below(key "." next_digit, next_digit, sum + next_digit, depth + 1)
-            return
-        }
-        if (from != "" && compare(key, from) <= 0) return
-        if (++tried > slow) system("sleep 20")
-        if (sum % 7 != 0) return
-        if (valid == limit) { print "more " last; exit }
-        print key " N#0{}"
-        last = key
-        valid++
-    }
-    BEGIN {
-        limit = -1
-        count = split(words, word, " ")
-        for (at = 1; at <= count && word[at] != "--"; at += 2) {
-            if (word[at] == "--from") from = word[at + 1]
-            if (word[at] == "--to") to = word[at + 1]
-            if (word[at] == "--limit") limit = word[at + 1]
-        }
-        below("0", 6, 0, 0)
-        print "valid " valid + 0 " tried " tried + 0
-    }'
-MOCK
-chmod +x numbers
+make_numbers
 program=$KORAT
 export KORAT=$work/numbers
 parts "numbers" 1 fin.toml A.java
