@@ -1,7 +1,7 @@
 import java.util.HashSet;
 import java.util.LinkedList;
 
-// A directed graph without cycles: each vertex has at most two edges, and all are reached from the first one.
+// A directed graph without cycles: all its vertices are reached from the first one.
 class Graph {
     static class Vertex {
         Edge edges;

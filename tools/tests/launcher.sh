@@ -46,6 +46,8 @@ made=checkout/crates/korat/out/korat
 synopsis=$("$top/korat" 2>&1 >/dev/null)
 [ "$(grep -c 'korat \(list\|check\|demo\) ' <<<"$synopsis")" = 3 ] && [ "$(wc -l <<<"$synopsis")" = 3 ]
 count $? "the synopsis: $synopsis"
+[ "$(sed 's/^usage: //; s/^ *//' <<<"$synopsis")" = "$(sed -n 's/^    \(korat .*\)/\1/p' "$top/docs/COMMAND_LINE.md")" ]
+count $? "the synopsis isn't that of docs/COMMAND_LINE.md"
 
 # No command: with and without a program the launcher writes what the program would, and the synopsis: no_command WORD..
 no_command() {
