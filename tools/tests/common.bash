@@ -37,14 +37,14 @@ refuse() {
     count $? "$2: more than a line, or rows: $(cat out err)"
 }
 
-# Makes a program `numbers` that lists without a class: numbers of five digits, none higher than the one before it, from 6 down;
-# they are valid where seven divides their sum. It sleeps at the first candidate behind SLOW.
+# Makes a program `numbers` that lists without a class: numbers of DIGITS digits (five), none higher than the one before it,
+# from 6 down; they are valid where DIVISOR (seven) divides their sum. It sleeps at each candidate behind SLOW.
 make_numbers() {
     cat >numbers <<'MOCK'
 #!/usr/bin/env bash
-[ "$1" = list ] || { echo "ok classes 1 slots 6"; exit; }
+[ "$1" = list ] || { echo "ok classes 1 slots $((${DIGITS:-5} + 1))"; exit; }
 shift
-exec awk -v words="$*" -v slow="${SLOW:-1000000}" '
+exec awk -v words="$*" -v slow="${SLOW:-1000000}" -v digits="${DIGITS:-5}" -v divisor="${DIVISOR:-7}" '
     # Below 0 where a key stands before a cut, above 0 behind it; 0 too where the cut goes on behind the key.
     function compare(key, cut, a, b, n, m, at) {
         n = split(key, a, "."); m = split(cut, b, ".")
@@ -53,13 +53,13 @@ exec awk -v words="$*" -v slow="${SLOW:-1000000}" '
     }
     function below(key, digit, sum, depth, next_digit) {
         if (from != "" && compare(key, from) < 0 || to != "" && compare(key, to) > 0) return
-        if (depth < 5) {
+        if (depth < digits) {
             for (next_digit = 0; next_digit <= digit; next_digit++) below(key "." next_digit, next_digit, sum + next_digit, depth + 1)
             return
         }
         if (from != "" && compare(key, from) <= 0) return
         if (++tried > slow) system("sleep 20")
-        if (sum % 7 != 0) return
+        if (sum % divisor != 0) return
         if (valid == limit) { print "more " last; exit }
         print key " N#0{}"
         last = key

@@ -11,6 +11,17 @@ run 0 "a whole listing" "$tools/watch" fin.toml A.java
 cmp -s rows out && grep -qx 'watch: the end, behind [0-9]* rows of this call' err
 count $? "a whole listing: $(cat err)"
 
+# A listing of more rows than a first step has, which is told of.
+export DIGITS=7 DIVISOR=1
+./numbers list -- fin.toml A.java | sed '$d' >many
+run 0 "a listing in steps" "$tools/watch" fin.toml A.java
+cmp -s many out && [ "$(wc -l <many)" -gt 1000 ]
+count $? "a listing in steps: other rows"
+key=$(sed -n '1000s/ .*//p' many)
+grep -qE "^watch: 1000 rows, [0-9]+ a second, at $key, about [0-9]+ %$" err && [ "$(wc -l <err)" = 2 ]
+count $? "a listing in steps: $(cat err)"
+unset DIGITS DIVISOR
+
 # A part of it.
 key=$(sed -n '20s/ .*//p' rows)
 run 0 "from a key" "$tools/watch" --from "$key" fin.toml A.java
