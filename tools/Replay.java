@@ -117,7 +117,7 @@ public final class Replay {
                 out.print(new Tests(model, order.call).text(listing.rows));
                 return 0;
             }
-            judge = new Judge(model, sources.steps(), bounds.fuel);
+            judge = new Judge(model, bounds.fuel);
             Comparison comparison = new Comparison(model, judge, out);
             if (order.all && !listing.whole) {
                 throw new Fault("standard input is no whole listing, which --all needs: it ends with '" + listing.end + "'");
@@ -912,8 +912,10 @@ public final class Replay {
 
     /** The classes, fields and values that names, keys and values of rows stand for. */
     private static final class Model {
+        private static final int STEPS_OF_A_CONSTRUCTOR = 1_000_000;
         private final Sources sources;
         private final Finitization bounds;
+        private final IntConsumer steps;
         private final Class<?> root;
         private final Map<String, Class<?>> classes = new HashMap<>();
         private final Map<String, Map<String, Field>> fields = new HashMap<>();
@@ -922,6 +924,7 @@ public final class Replay {
         Model(Sources sources, Finitization bounds) throws Fault {
             this.sources = sources;
             this.bounds = bounds;
+            this.steps = sources.steps();
             this.root = type(bounds.root);
         }
 
@@ -1067,6 +1070,7 @@ public final class Replay {
             if (Modifier.isAbstract(type.getModifiers()) || type.isEnum()) {
                 throw new Fault(type.getSimpleName() + " has no objects of its own");
             }
+            steps.accept(STEPS_OF_A_CONSTRUCTOR);
             try {
                 Constructor<?> plain = type.getDeclaredConstructor();
                 plain.setAccessible(true);
@@ -1082,7 +1086,7 @@ public final class Replay {
                 Method maker = factory.getMethod("newConstructorForSerialization", Class.class, Constructor.class);
                 Object known = factory.getMethod("getReflectionFactory").invoke(null);
                 return ((Constructor<?>) maker.invoke(known, type, Object.class.getDeclaredConstructor())).newInstance();
-            } catch (ReflectiveOperationException broken) {
+            } catch (ReflectiveOperationException | LinkageError broken) {
                 throw new Fault("no object of " + type.getSimpleName() + " can be made: " + broken);
             }
         }
@@ -1096,6 +1100,14 @@ public final class Replay {
                 }
             }
             return null;
+        }
+
+        /** Makes the root the outer object of an inner one. */
+        void join(Object object, Object root) throws Fault {
+            Field outer = outer(object.getClass());
+            if (outer != null) {
+                set(outer, object, root);
+            }
         }
 
         Method predicate() throws Fault {
@@ -1142,10 +1154,7 @@ public final class Replay {
                 for (Map.Entry<String, Object> slot : entry.getValue().entrySet()) {
                     fill(entry.getKey(), holder, slot.getKey(), slot.getValue(), objects);
                 }
-                Field outer = model.outer(holder.getClass());
-                if (outer != null) {
-                    model.set(outer, holder, root);
-                }
+                model.join(holder, root);
             }
             return root;
         }
@@ -1180,8 +1189,8 @@ public final class Replay {
         private volatile boolean running;
         private volatile Object now = "";
 
-        Judge(Model model, IntConsumer steps, long fuel) throws Fault {
-            this.steps = steps;
+        Judge(Model model, long fuel) throws Fault {
+            this.steps = model.steps;
             this.most = (int) Math.min(STEPS_FOR_FUEL * fuel, Integer.MAX_VALUE);
             try {
                 MethodHandle found = MethodHandles.lookup().unreflect(model.predicate());
@@ -1415,10 +1424,7 @@ public final class Replay {
             Cell root = roots.get(0).get(0);
             for (List<List<Cell>> pool : pools.values()) {
                 for (Cell cell : pool.stream().flatMap(List::stream).toList()) {
-                    Field outer = model.outer(cell.real.getClass());
-                    if (outer != null) {
-                        model.set(outer, cell.real, root.real);
-                    }
+                    model.join(cell.real, root.real);
                 }
             }
             used.get(bounds.root).add(root);
@@ -1628,6 +1634,10 @@ public final class Replay {
                     Object value = slot.getValue();
                     String told = value instanceof Name ? variables.get(value) : told(entry.getKey(), slot.getKey(), value);
                     filled.append("        " + setting(entry.getKey(), variable, slot.getKey(), told) + ";\n");
+                }
+                Field outer = entry.getKey().isArray() ? null : model.outer(model.type(entry.getKey().type));
+                if (outer != null) {
+                    filled.append("        " + setting(entry.getKey(), variable, outer.getName(), "object0") + ";\n");
                 }
             }
             String root = "(" + model.root.getCanonicalName() + ") object0";
