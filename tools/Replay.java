@@ -926,16 +926,17 @@ public final class Replay {
             this.bounds = bounds;
             this.steps = sources.steps();
             this.root = type(bounds.root);
+            if (root == Object.class) {
+                throw new Fault("the sources have no class " + bounds.root);
+            }
         }
 
-        /** The class of this name. A class that the sources don't have stands for `Object` where it is named so. */
+        /** The class of this name; one that the sources don't have, as of elements of any kind, stands for `Object`. */
         Class<?> type(String name) throws Fault {
             Class<?> type = classes.get(name);
             if (type == null) {
-                type = name.equals("Object") ? Object.class : sources.named(name);
-                if (type == null) {
-                    throw new Fault("the sources have no class " + name);
-                }
+                type = sources.named(name);
+                type = type == null ? Object.class : type;
                 classes.put(name, type);
             }
             return type;
@@ -953,7 +954,7 @@ public final class Replay {
         }
 
         private void collect(Class<?> type, Map<String, Field> found) throws Fault {
-            if (type == null || type == Object.class) {
+            if (type == null || type.getClassLoader() != sources) {
                 return;
             }
             collect(type.getSuperclass(), found);
@@ -1395,7 +1396,10 @@ public final class Replay {
         private List<Choice> choices(Class<?> wanted, List<Item> domain, String place) throws Fault {
             List<Choice> choices = new ArrayList<>();
             for (Item item : domain) {
-                if (item.name != null && !item.name.equals("null")) {
+                Integer constant = item.name == null ? null : constant(wanted, item.name);
+                if (constant != null) {
+                    choices.add(new Choice(constant, model.converted(wanted, constant, place), null));
+                } else if (item.name != null && !item.name.equals("null")) {
                     choices.add(objects(wanted, item.name, place));
                 } else if (item.name != null || item.truth != null) {
                     choices.add(new Choice(item.truth, model.converted(wanted, item.truth, place), null));
@@ -1405,6 +1409,16 @@ public final class Replay {
                 }
             }
             return choices;
+        }
+
+        /** The number of a constant of an enumeration, by its name. */
+        private static Integer constant(Class<?> wanted, String name) {
+            for (Object constant : wanted.isEnum() ? wanted.getEnumConstants() : new Object[0]) {
+                if (((Enum<?>) constant).name().equals(name)) {
+                    return ((Enum<?>) constant).ordinal();
+                }
+            }
+            return null;
         }
 
         private Choice objects(Class<?> wanted, String type, String place) throws Fault {
