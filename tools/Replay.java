@@ -2,19 +2,27 @@
 // its `repOk`, and prints `agree N` or the rows that differ. With --all it enumerates the structures within the bounds as
 // well, and names those that are missing or too many; with --junit it writes a test for each row instead.
 //
-//     ./korat list fin.toml A.java | java tools/Replay.java [--all [--most N]] [--junit CALL] fin.toml A.java..
+//     ./korat list fin.toml A.java | java tools/Replay.java [--all [--plain] [--most N]] [--junit CALL] fin.toml A.java..
 
+import com.sun.source.tree.AssignmentTree;
 import com.sun.source.tree.BlockTree;
+import com.sun.source.tree.ClassTree;
 import com.sun.source.tree.CompilationUnitTree;
+import com.sun.source.tree.CompoundAssignmentTree;
 import com.sun.source.tree.DoWhileLoopTree;
 import com.sun.source.tree.EnhancedForLoopTree;
 import com.sun.source.tree.ForLoopTree;
+import com.sun.source.tree.IdentifierTree;
+import com.sun.source.tree.MemberSelectTree;
 import com.sun.source.tree.MethodTree;
 import com.sun.source.tree.StatementTree;
+import com.sun.source.tree.Tree;
+import com.sun.source.tree.UnaryTree;
 import com.sun.source.tree.WhileLoopTree;
 import com.sun.source.util.JavacTask;
 import com.sun.source.util.SourcePositions;
-import com.sun.source.util.TreeScanner;
+import com.sun.source.util.TreePath;
+import com.sun.source.util.TreePathScanner;
 import com.sun.source.util.Trees;
 import java.io.BufferedReader;
 import java.io.ByteArrayOutputStream;
@@ -42,6 +50,7 @@ import java.util.Arrays;
 import java.util.Collections;
 import java.util.HashMap;
 import java.util.HashSet;
+import java.util.IdentityHashMap;
 import java.util.LinkedHashMap;
 import java.util.LinkedHashSet;
 import java.util.List;
@@ -49,9 +58,15 @@ import java.util.Locale;
 import java.util.Map;
 import java.util.Set;
 import java.util.TreeMap;
+import java.util.function.Consumer;
 import java.util.function.IntConsumer;
+import java.util.function.ObjIntConsumer;
 import java.util.regex.Matcher;
 import java.util.regex.Pattern;
+import javax.lang.model.element.Element;
+import javax.lang.model.element.ElementKind;
+import javax.lang.model.element.TypeElement;
+import javax.lang.model.util.Types;
 import javax.tools.Diagnostic;
 import javax.tools.DiagnosticCollector;
 import javax.tools.FileObject;
@@ -64,7 +79,7 @@ import javax.tools.ToolProvider;
 
 public final class Replay {
     private static final String USAGE =
-            "usage: java tools/Replay.java [--all [--most N]] [--junit CALL] FIN SOURCE..";
+            "usage: java tools/Replay.java [--all [--plain] [--most N]] [--junit CALL] FIN SOURCE..";
     private static final int STACK_BYTES = 1 << 28;
     private static final int SECONDS_OF_A_RUN = 20;
 
@@ -124,7 +139,7 @@ public final class Replay {
             }
             comparison.rows(listing.rows);
             if (order.all) {
-                new Space(model, bounds, order.most, comparison).run();
+                new Space(model, bounds, order, comparison).run();
                 comparison.surplus();
             }
             return comparison.end();
@@ -160,6 +175,7 @@ public final class Replay {
     /** The words of a call. */
     private static final class Order {
         private boolean all;
+        private boolean plain;
         private long most = 20_000_000;
         private String call;
         private Path finitization;
@@ -170,6 +186,7 @@ public final class Replay {
             for (int i = 0; i < words.length; i++) {
                 switch (words[i]) {
                     case "--all" -> order.all = true;
+                    case "--plain" -> order.plain = true;
                     case "--most" -> order.most = number(value(words, ++i));
                     case "--junit" -> order.call = value(words, ++i);
                     default -> order.file(words[i]);
@@ -673,58 +690,76 @@ public final class Replay {
 
     // ---- the sources
 
-    /** The classes of the sources, compiled in memory with a counted step in each loop and method. */
+    /** The classes of the sources, compiled in memory; loops and methods count their steps, and reads of fields are noted. */
     private static final class Sources extends ClassLoader {
         private static final String STEPS = "replayed.Steps";
         private static final String STEPS_SOURCE = """
                 package replayed;
-                public final class Steps implements java.util.function.IntConsumer {
+                import java.util.function.*;
+                public final class Steps implements IntConsumer, Consumer<ObjIntConsumer<Object>> {
                     private static int left;
+                    private static ObjIntConsumer<Object> reader;
                     public static final class Spent extends Error { }
                     public static void step() { if (--left < 0) throw new Spent(); }
+                    public static <T> T read(T object, int field) {
+                        if (reader != null) reader.accept(object, field);
+                        return object;
+                    }
                     public void accept(int steps) { left = steps; }
+                    public void accept(ObjIntConsumer<Object> next) { reader = next; }
                 }
                 """;
         private final List<JavaFileObject> texts;
         private final Map<String, byte[]> compiled;
         private final List<Class<?>> classes = new ArrayList<>();
+        /** The fields whose reads are noted, as `class.field`, by their numbers; none where reads aren't noted. */
+        private final List<String> noted;
+        private final Object steps;
 
-        private Sources(List<JavaFileObject> texts) throws Fault {
+        private Sources(List<JavaFileObject> texts, List<String> noted) throws Fault {
             super(Replay.class.getClassLoader());
             this.texts = texts;
+            this.noted = noted;
             this.compiled = compile(texts);
             setDefaultAssertionStatus(true);
+            try {
+                for (String name : new TreeMap<>(compiled).keySet()) {
+                    classes.add(loadClass(name));
+                }
+                steps = loadClass(STEPS).getConstructor().newInstance();
+            } catch (ReflectiveOperationException | LinkageError broken) {
+                throw new Fault("a class can't be loaded: " + broken.getMessage());
+            }
         }
 
         static Sources compiled(List<Path> files) throws Fault {
-            List<JavaFileObject> guarded = new ArrayList<>();
+            Map<String, String> texts = new LinkedHashMap<>();
             for (Path file : files) {
-                guarded.add(new Text(file.toString(), new Guarding(file.toString(), textOf(file)).text()));
+                texts.put(file.toString(), textOf(file));
             }
-            guarded.add(new Text("replayed/Steps.java", STEPS_SOURCE));
-            Sources sources = new Sources(guarded);
+            Rewriting rewriting = new Rewriting(texts);
             try {
-                for (String name : new TreeMap<>(sources.compiled).keySet()) {
-                    sources.classes.add(sources.loadClass(name));
-                }
-            } catch (ClassNotFoundException | LinkageError broken) {
-                throw new Fault("a class can't be loaded: " + broken.getMessage());
+                return new Sources(rewriting.rewritten(true), rewriting.noted);
+            } catch (Fault unnoted) {
+                return new Sources(rewriting.rewritten(false), List.of());
             }
-            return sources;
         }
 
         static Map<String, byte[]> compile(List<JavaFileObject> texts) throws Fault {
             JavaCompiler compiler = compiler();
             DiagnosticCollector<JavaFileObject> messages = new DiagnosticCollector<>();
             Memory memory = new Memory(compiler.getStandardFileManager(messages, Locale.ROOT, StandardCharsets.UTF_8));
-            List<String> options = List.of("-proc:none", "-nowarn", "-Xlint:none", "-classpath", System.getProperty("java.class.path"));
-            boolean good = compiler.getTask(null, memory, messages, options, null, texts).call();
+            boolean good = compiler.getTask(null, memory, messages, options(), null, texts).call();
             if (!good) {
                 throw firstError(messages);
             }
             Map<String, byte[]> compiled = new HashMap<>();
             memory.written.forEach((name, bytes) -> compiled.put(name, bytes.toByteArray()));
             return compiled;
+        }
+
+        static List<String> options() {
+            return List.of("-proc:none", "-nowarn", "-Xlint:none", "-classpath", System.getProperty("java.class.path"));
         }
 
         static JavaCompiler compiler() throws Fault {
@@ -755,12 +790,14 @@ public final class Replay {
         }
 
         /** Gives a run so many steps. */
-        IntConsumer steps() throws Fault {
-            try {
-                return (IntConsumer) loadClass(STEPS).getConstructor().newInstance();
-            } catch (ReflectiveOperationException never) {
-                throw new Fault("the counter of steps can't be made: " + never);
-            }
+        void steps(int most) {
+            ((IntConsumer) steps).accept(most);
+        }
+
+        /** Hands the reads of fields to a reader from now on. */
+        @SuppressWarnings("unchecked")
+        void reads(ObjIntConsumer<Object> reader) {
+            ((Consumer<ObjIntConsumer<Object>>) steps).accept(reader);
         }
 
         /** The class that has this simple name, or `Outer.Inner`; none where no class has it. */
@@ -825,51 +862,99 @@ public final class Replay {
         }
     }
 
-    /** Puts a counted step into each loop and method of a source, without a change of its lines. */
-    private static final class Guarding extends TreeScanner<Void, Void> {
+    /**
+     * Puts a counted step into each loop and method of the sources, and a note at each read of a field, without a change of
+     * their lines. A note hands the object on: `a.f` becomes `replayed.Steps.read(a, 7).f`.
+     */
+    private static final class Rewriting {
         private static final String STEP = " " + Sources.STEPS + ".step(); ";
-        private final String name;
-        private final String source;
-        private final TreeMap<Integer, String> added = new TreeMap<>();
-        private SourcePositions places;
-        private CompilationUnitTree unit;
+        private static final String READ = Sources.STEPS + ".read(";
+        private final Map<String, String> sources;
+        private final List<CompilationUnitTree> units = new ArrayList<>();
+        private final List<String> noted = new ArrayList<>();
+        private final Trees trees;
+        private final JavacTask task;
 
-        Guarding(String name, String source) {
-            this.name = name;
-            this.source = source;
-        }
-
-        String text() throws Fault {
+        Rewriting(Map<String, String> sources) throws Fault {
+            this.sources = sources;
             DiagnosticCollector<JavaFileObject> messages = new DiagnosticCollector<>();
-            JavacTask task = (JavacTask) Sources.compiler()
-                    .getTask(null, null, messages, List.of("-proc:none"), null, List.of(new Text(name, source)));
-            places = Trees.instance(task).getSourcePositions();
+            List<Text> texts = new ArrayList<>();
+            sources.forEach((name, source) -> texts.add(new Text(name, source)));
+            task = (JavacTask) Sources.compiler().getTask(null, null, messages, Sources.options(), null, texts);
+            trees = Trees.instance(task);
             try {
-                for (CompilationUnitTree parsed : task.parse()) {
-                    unit = parsed;
-                    scan(parsed, null);
-                }
+                task.parse().forEach(units::add);
+                task.analyze();
             } catch (IOException fault) {
-                throw new Fault(name + ": " + fault.getMessage());
+                throw new Fault("the sources can't be read: " + fault.getMessage());
             }
             if (messages.getDiagnostics().stream().anyMatch(message -> message.getKind() == Diagnostic.Kind.ERROR)) {
                 throw Sources.firstError(messages);
             }
-            StringBuilder text = new StringBuilder(source);
-            added.descendingMap().forEach(text::insert);
-            return text.toString();
+        }
+
+        List<JavaFileObject> rewritten(boolean noting) throws Fault {
+            List<JavaFileObject> texts = new ArrayList<>();
+            for (CompilationUnitTree unit : units) {
+                Insertions insertions = new Insertions(this, unit, noting);
+                insertions.scan(unit, null);
+                if (insertions.unnoted) {
+                    throw new Fault("a read that can't be noted");
+                }
+                String name = unit.getSourceFile().getName();
+                StringBuilder text = new StringBuilder(sources.get(name));
+                insertions.added.descendingMap().forEach(text::insert);
+                texts.add(new Text(name, text.toString()));
+            }
+            texts.add(new Text("replayed/Steps.java", Sources.STEPS_SOURCE));
+            return texts;
+        }
+
+        /** The number of an instance field that the sources declare, or -1. */
+        int number(Element element) {
+            boolean field = element != null && element.getKind() == ElementKind.FIELD && trees.getTree(element) != null;
+            if (!field || element.getModifiers().contains(javax.lang.model.element.Modifier.STATIC)) {
+                return -1;
+            }
+            String name = task.getElements().getBinaryName((TypeElement) element.getEnclosingElement()) + "." + element.getSimpleName();
+            if (!noted.contains(name)) {
+                noted.add(name);
+            }
+            return noted.indexOf(name);
+        }
+
+        boolean inherits(TypeElement below, Element above) {
+            Types types = task.getTypes();
+            return types.isSubtype(types.erasure(below.asType()), types.erasure(above.asType()));
+        }
+    }
+
+    /** What is put into one source, by its places. */
+    private static final class Insertions extends TreePathScanner<Void, Void> {
+        private final Rewriting whole;
+        private final CompilationUnitTree unit;
+        private final SourcePositions places;
+        private final boolean noting;
+        private final TreeMap<Integer, String> added = new TreeMap<>();
+        private boolean unnoted;
+
+        Insertions(Rewriting whole, CompilationUnitTree unit, boolean noting) {
+            this.whole = whole;
+            this.unit = unit;
+            this.noting = noting;
+            this.places = whole.trees.getSourcePositions();
         }
 
         private void add(long place, String text) {
-            added.merge((int) place, text, (first, second) -> first + second);
+            added.merge((int) place, text, String::concat);
         }
 
         private void guard(StatementTree body) {
             long start = places.getStartPosition(unit, body);
             if (body instanceof BlockTree) {
-                add(start + 1, STEP);
+                add(start + 1, Rewriting.STEP);
             } else {
-                add(start, "{" + STEP);
+                add(start, "{" + Rewriting.STEP);
                 add(places.getEndPosition(unit, body), " }");
             }
         }
@@ -906,6 +991,53 @@ public final class Replay {
             guard(loop.getStatement());
             return super.visitEnhancedForLoop(loop, none);
         }
+
+        @Override
+        public Void visitMemberSelect(MemberSelectTree select, Void none) {
+            int number = noting && !isTarget(select) ? whole.number(whole.trees.getElement(getCurrentPath())) : -1;
+            if (number >= 0) {
+                unnoted |= select.getExpression().toString().equals("super");
+                add(places.getStartPosition(unit, select.getExpression()), Rewriting.READ);
+                add(places.getEndPosition(unit, select.getExpression()), ", " + number + ")");
+            }
+            return super.visitMemberSelect(select, none);
+        }
+
+        @Override
+        public Void visitIdentifier(IdentifierTree name, Void none) {
+            Element element = whole.trees.getElement(getCurrentPath());
+            int number = noting && !isTarget(name) ? whole.number(element) : -1;
+            if (number >= 0) {
+                add(places.getStartPosition(unit, name), Rewriting.READ + holder(element.getEnclosingElement()) + ", " + number + ").");
+            }
+            return super.visitIdentifier(name, none);
+        }
+
+        /** The object that a field named alone belongs to: `this`, or an outer object. */
+        private String holder(Element declaring) {
+            String holder = "this";
+            for (TreePath path = getCurrentPath(); path != null; path = path.getParentPath()) {
+                if (path.getLeaf() instanceof ClassTree tree) {
+                    if (whole.inherits((TypeElement) whole.trees.getElement(path), declaring)) {
+                        return holder.equals("this") ? holder : tree.getSimpleName() + ".this";
+                    }
+                    holder = "";
+                }
+            }
+            unnoted = true;
+            return "this";
+        }
+
+        /** Whether this is what an assignment writes, which is no read that a candidate's field could have. */
+        private boolean isTarget(Tree tree) {
+            Tree parent = getCurrentPath().getParentPath().getLeaf();
+            return parent instanceof AssignmentTree assignment && assignment.getVariable() == tree
+                    || parent instanceof CompoundAssignmentTree compound && compound.getVariable() == tree
+                    || parent instanceof UnaryTree step && !UNCHANGING.contains(step.getKind());
+        }
+
+        private static final Set<Tree.Kind> UNCHANGING =
+                Set.of(Tree.Kind.UNARY_MINUS, Tree.Kind.UNARY_PLUS, Tree.Kind.BITWISE_COMPLEMENT, Tree.Kind.LOGICAL_COMPLEMENT);
     }
 
     // ---- what rows name, in the classes
@@ -915,7 +1047,6 @@ public final class Replay {
         private static final int STEPS_OF_A_CONSTRUCTOR = 1_000_000;
         private final Sources sources;
         private final Finitization bounds;
-        private final IntConsumer steps;
         private final Class<?> root;
         private final Map<String, Class<?>> classes = new HashMap<>();
         private final Map<String, Map<String, Field>> fields = new HashMap<>();
@@ -924,7 +1055,6 @@ public final class Replay {
         Model(Sources sources, Finitization bounds) throws Fault {
             this.sources = sources;
             this.bounds = bounds;
-            this.steps = sources.steps();
             this.root = type(bounds.root);
             if (root == Object.class) {
                 throw new Fault("the sources have no class " + bounds.root);
@@ -1071,7 +1201,7 @@ public final class Replay {
             if (Modifier.isAbstract(type.getModifiers()) || type.isEnum()) {
                 throw new Fault(type.getSimpleName() + " has no objects of its own");
             }
-            steps.accept(STEPS_OF_A_CONSTRUCTOR);
+            sources.steps(STEPS_OF_A_CONSTRUCTOR);
             try {
                 Constructor<?> plain = type.getDeclaredConstructor();
                 plain.setAccessible(true);
@@ -1183,7 +1313,7 @@ public final class Replay {
     /** Runs the predicate. A run that throws is false; one that takes too many steps has an answer of its own. */
     private static final class Judge {
         private static final int STEPS_FOR_FUEL = 10;
-        private final IntConsumer steps;
+        private final Sources sources;
         private final int most;
         private final MethodHandle predicate;
         private volatile long runs;
@@ -1191,7 +1321,7 @@ public final class Replay {
         private volatile Object now = "";
 
         Judge(Model model, long fuel) throws Fault {
-            this.steps = model.steps;
+            this.sources = model.sources;
             this.most = (int) Math.min(STEPS_FOR_FUEL * fuel, Integer.MAX_VALUE);
             try {
                 MethodHandle found = MethodHandles.lookup().unreflect(model.predicate());
@@ -1206,7 +1336,7 @@ public final class Replay {
             now = subject;
             runs++;
             running = true;
-            steps.accept(most);
+            sources.steps(most);
             try {
                 return (boolean) predicate.invokeExact(root) ? null : "repOk is false";
             } catch (Throwable thrown) {
@@ -1228,6 +1358,7 @@ public final class Replay {
         private final Judge judge;
         private final PrintStream out;
         private final Map<String, Row> unmet = new LinkedHashMap<>();
+        private final Set<String> found = new HashSet<>();
         private int agreed;
         private int differing;
 
@@ -1263,9 +1394,10 @@ public final class Replay {
         /** A structure within the bounds, with what the predicate says of it. */
         void candidate(Object root, Space space) throws Fault {
             String why = judge.why(root, space);
+            space.decideReachable(why == null);
             if (why == null) {
                 String text = space.structure().canonical(model);
-                if (unmet.remove(text) == null) {
+                if (found.add(text) && unmet.remove(text) == null) {
                     differs("missing " + text);
                 }
             } else if (why.endsWith("steps")) {
@@ -1292,8 +1424,11 @@ public final class Replay {
     /** A value of a slot's domain: one of its own, or any object of a type. */
     private record Choice(Object told, Object real, String type) {}
 
-    /** A place of an object that has a value: a field, or an element where there is none. */
-    private record Slot(String key, Field field, List<Choice> choices) {}
+    /** A place of an object that has a value: a field, with the number of its reads, or an element, which has neither. */
+    private record Slot(String key, Field field, int number, List<Choice> choices) {}
+
+    /** A value that a slot may have now: as it is told, the real one, and the object that it brings in where it is a new one. */
+    private record Value(Object told, Object real, Cell fresh) {}
 
     /** An object of the candidates, and what its slots hold now. */
     private static final class Cell {
@@ -1301,35 +1436,59 @@ public final class Replay {
         private final Object real;
         private final List<Slot> slots;
         private final Object[] told;
+        private final Cell[] held;
+        private final boolean[] decided;
 
         Cell(Name name, Object real, List<Slot> slots) {
             this.name = name;
             this.real = real;
             this.slots = slots;
             this.told = new Object[slots.size()];
+            this.held = new Cell[slots.size()];
+            this.decided = new boolean[slots.size()];
+        }
+    }
+
+    /** A slot whose value was chosen, and the values that it may have with those chosen before. */
+    private static final class Decision {
+        private final Cell cell;
+        private final int slot;
+        private final List<Value> values;
+        private int index;
+
+        Decision(Cell cell, int slot, List<Value> values) {
+            this.cell = cell;
+            this.slot = slot;
+            this.values = values;
         }
     }
 
     /**
-     * Enumerates the structures within the bounds, one of each class of isomorphic ones: the slots of the reachable objects are
-     * filled in the order in which these are met, and of the objects not met yet the first alone is a choice.
+     * Enumerates the structures within the bounds, at least one of each class of isomorphic ones. The predicate runs; the slots
+     * that it reads are decided in this order, and of the objects not in use yet the first alone is a choice. Then the last
+     * decision is changed. What it doesn't read can't change its answer, so it is varied only where that is true. An array that
+     * is met counts as read whole. Where reads aren't noted, or on demand, each reachable slot counts as read.
      */
-    private static final class Space {
+    private static final class Space implements ObjIntConsumer<Object> {
         private final Model model;
         private final Finitization bounds;
         private final long most;
+        private final boolean plain;
         private final Comparison comparison;
         private final Map<Field, List<Item>> domains = new HashMap<>();
         /** For each type and number the objects that may have it: one of a class, of an array type one for each length. */
         private final Map<String, List<List<Cell>>> pools = new HashMap<>();
         private final Map<String, List<Cell>> used = new HashMap<>();
-        private final List<Cell> met = new ArrayList<>();
+        private final Map<Object, Cell> cells = new IdentityHashMap<>();
+        private final List<Decision> trail = new ArrayList<>();
+        private Cell root;
         private long tried;
 
-        Space(Model model, Finitization bounds, long most, Comparison comparison) throws Fault {
+        Space(Model model, Finitization bounds, Order order, Comparison comparison) throws Fault {
             this.model = model;
             this.bounds = bounds;
-            this.most = most;
+            this.most = order.most;
+            this.plain = order.plain || model.sources.noted.isEmpty();
             this.comparison = comparison;
             resolveFields();
             makeObjects();
@@ -1372,25 +1531,26 @@ public final class Replay {
                 List<Item> domain = domains.get(field);
                 if (domain != null) {
                     String place = field.getDeclaringClass().getSimpleName() + "." + field.getName();
-                    slots.add(new Slot(field.getName(), field, choices(field.getType(), domain, place)));
+                    int number = model.sources.noted.indexOf(field.getDeclaringClass().getName() + "." + field.getName());
+                    slots.add(new Slot(field.getName(), field, number, choices(field.getType(), domain, place)));
                 }
             }
-            return new Cell(name, model.made(name.type), slots);
+            return cell(name, model.made(name.type), slots);
         }
 
         private List<Cell> arrayCells(Name name, List<Integer> lengths) throws Fault {
             Class<?> component = model.component(name.type);
             String key = name.type + ".*";
             List<Choice> choices = choices(component, bounds.fields.getOrDefault(key, List.of()), key);
-            List<Cell> cells = new ArrayList<>();
+            List<Cell> variants = new ArrayList<>();
             for (int length : lengths) {
                 List<Slot> slots = new ArrayList<>();
                 for (int index = 0; index < length; index++) {
-                    slots.add(new Slot(String.valueOf(index), null, choices));
+                    slots.add(new Slot(String.valueOf(index), null, -1, choices));
                 }
-                cells.add(new Cell(name, Array.newInstance(component, length), slots));
+                variants.add(cell(name, Array.newInstance(component, length), slots));
             }
-            return cells;
+            return variants;
         }
 
         private List<Choice> choices(Class<?> wanted, List<Item> domain, String place) throws Fault {
@@ -1429,82 +1589,163 @@ public final class Replay {
             return new Choice(null, null, type);
         }
 
+        private Cell cell(Name name, Object real, List<Slot> slots) {
+            Cell cell = new Cell(name, real, slots);
+            cells.put(real, cell);
+            return cell;
+        }
+
         /** Hands each structure to the comparison. */
         void run() throws Fault {
             List<List<Cell>> roots = pools.getOrDefault(bounds.root, List.of());
             if (roots.isEmpty()) {
                 return;
             }
-            Cell root = roots.get(0).get(0);
-            for (List<List<Cell>> pool : pools.values()) {
-                for (Cell cell : pool.stream().flatMap(List::stream).toList()) {
-                    model.join(cell.real, root.real);
-                }
-            }
+            root = roots.get(0).get(0);
             used.get(bounds.root).add(root);
-            met.add(root);
-            fill(0, 0);
+            for (Cell cell : cells.values()) {
+                model.join(cell.real, root.real);
+            }
+            model.sources.reads(this);
+            do {
+                tried++;
+                if (tried > most) {
+                    throw new Fault("more than " + most + " structures within these bounds: give smaller ones, or a larger --most");
+                }
+                fillUndecided();
+                comparison.candidate(root.real, this);
+            } while (advanced());
         }
 
-        /** Fills the slots of the objects met, from this one of this object on. */
-        private void fill(int index, int slot) throws Fault {
-            if (index == met.size()) {
-                candidate();
-            } else if (slot == met.get(index).slots.size()) {
-                fill(index + 1, 0);
-            } else {
-                for (Choice choice : met.get(index).slots.get(slot).choices) {
-                    if (choice.type != null) {
-                        fillWithObjects(index, slot, choice.type);
-                    } else {
-                        put(index, slot, choice.told, choice.real);
+        /** Gives each slot that isn't decided the first of its values, which is the same object whatever is in use. */
+        private void fillUndecided() throws Fault {
+            for (Cell cell : cells.values()) {
+                for (int slot = 0; slot < cell.told.length; slot++) {
+                    if (!cell.decided[slot]) {
+                        put(cell, slot, values(cell.slots.get(slot)).get(0));
                     }
                 }
             }
         }
 
-        private void fillWithObjects(int index, int slot, String type) throws Fault {
-            List<Cell> known = used.getOrDefault(type, List.of());
-            int count = known.size();
-            for (int number = 0; number < count; number++) {
-                put(index, slot, known.get(number).name, known.get(number).real);
+        /** The values that a slot may have now. */
+        private List<Value> values(Slot slot) throws Fault {
+            List<Value> values = new ArrayList<>();
+            for (Choice choice : slot.choices) {
+                if (choice.type == null) {
+                    values.add(new Value(choice.told, choice.real, null));
+                    continue;
+                }
+                List<Cell> known = used.getOrDefault(choice.type, List.of());
+                List<List<Cell>> pool = pools.getOrDefault(choice.type, List.of());
+                for (Cell cell : known) {
+                    values.add(new Value(cell.name, cell.real, null));
+                }
+                for (Cell cell : known.size() < pool.size() ? pool.get(known.size()) : List.<Cell>of()) {
+                    values.add(new Value(cell.name, cell.real, cell));
+                }
             }
-            List<List<Cell>> pool = pools.getOrDefault(type, List.of());
-            for (Cell fresh : count < pool.size() ? pool.get(count) : List.<Cell>of()) {
-                known.add(fresh);
-                met.add(fresh);
-                put(index, slot, fresh.name, fresh.real);
-                met.remove(met.size() - 1);
-                known.remove(count);
+            if (values.isEmpty()) {
+                throw new Fault("a slot without values: " + slot.key);
             }
+            return values;
         }
 
-        /** Gives a slot this value, and fills those behind it. */
-        private void put(int index, int slot, Object told, Object real) throws Fault {
-            Cell cell = met.get(index);
-            cell.told[slot] = told;
+        private void put(Cell cell, int slot, Value value) throws Fault {
+            cell.told[slot] = value.told;
+            cell.held[slot] = value.told instanceof Name ? cells.get(value.real) : null;
             Field field = cell.slots.get(slot).field;
             if (field != null) {
-                model.set(field, cell.real, real);
-            } else if (cell.real instanceof Object[] array) {
-                array[slot] = real;
+                model.set(field, cell.real, value.real);
             } else {
-                Array.set(cell.real, slot, real);
+                Array.set(cell.real, slot, value.real);
             }
-            fill(index, slot + 1);
         }
 
-        private void candidate() throws Fault {
-            tried++;
-            if (tried > most) {
-                throw new Fault("more than " + most + " structures within these bounds: give smaller ones, or a larger --most");
+        /** A read of a field by a run. */
+        @Override
+        public void accept(Object object, int number) {
+            Cell cell = cells.get(object);
+            for (int slot = 0; cell != null && slot < cell.slots.size(); slot++) {
+                if (cell.slots.get(slot).number == number) {
+                    decide(cell, slot);
+                }
             }
-            comparison.candidate(met.get(0).real, this);
+        }
+
+        /** Decides a slot for what it holds, which is its first value, and the elements of an array that it holds. */
+        private void decide(Cell cell, int slot) {
+            if (!cell.decided[slot]) {
+                try {
+                    use(new Decision(cell, slot, values(cell.slots.get(slot))));
+                } catch (Fault never) {
+                    throw new IllegalStateException(never);
+                }
+            }
+            Cell held = cell.held[slot];
+            for (int index = 0; held != null && held.name.isArray() && index < held.slots.size(); index++) {
+                if (!held.decided[index] || held.held[index] != null) {
+                    decide(held, index);
+                }
+            }
+        }
+
+        private void use(Decision decision) {
+            trail.add(decision);
+            decision.cell.decided[decision.slot] = true;
+            Cell fresh = decision.values.get(decision.index).fresh;
+            if (fresh != null) {
+                used.get(fresh.name.type).add(fresh);
+            }
+        }
+
+        /** Takes the last decision that has a further value to that; false where none has one. */
+        private boolean advanced() throws Fault {
+            while (!trail.isEmpty()) {
+                Decision last = trail.remove(trail.size() - 1);
+                last.cell.decided[last.slot] = false;
+                Cell fresh = last.values.get(last.index).fresh;
+                if (fresh != null) {
+                    used.get(fresh.name.type).remove(fresh);
+                }
+                last.index++;
+                if (last.index < last.values.size()) {
+                    put(last.cell, last.slot, last.values.get(last.index));
+                    use(last);
+                    return true;
+                }
+            }
+            return false;
+        }
+
+        /** The reachable objects as they are met. */
+        private Set<Cell> reachable(boolean deciding) {
+            Set<Cell> met = new LinkedHashSet<>(Set.of(root));
+            ArrayDeque<Cell> waiting = new ArrayDeque<>(met);
+            while (!waiting.isEmpty()) {
+                Cell cell = waiting.remove();
+                for (int slot = 0; slot < cell.told.length; slot++) {
+                    if (deciding) {
+                        decide(cell, slot);
+                    }
+                    if (cell.held[slot] != null && met.add(cell.held[slot])) {
+                        waiting.add(cell.held[slot]);
+                    }
+                }
+            }
+            return met;
+        }
+
+        /** Decides what is reachable, where the predicate holds or each slot counts as read. */
+        void decideReachable(boolean held) {
+            if (held || plain) {
+                reachable(true);
+            }
         }
 
         Structure structure() {
             Map<Name, Map<String, Object>> objects = new LinkedHashMap<>();
-            for (Cell cell : met) {
+            for (Cell cell : reachable(false)) {
                 Map<String, Object> slots = new LinkedHashMap<>();
                 for (int slot = 0; slot < cell.told.length; slot++) {
                     slots.put(cell.slots.get(slot).key, cell.told[slot]);
