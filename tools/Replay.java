@@ -132,14 +132,15 @@ public final class Replay {
                 out.print(new Tests(model, order.call).text(listing.rows));
                 return 0;
             }
-            judge = new Judge(model, bounds.fuel);
-            Comparison comparison = new Comparison(model, judge, out);
             if (order.all && !listing.whole) {
                 throw new Fault("standard input is no whole listing, which --all needs: it ends with '" + listing.end + "'");
             }
+            judge = new Judge(model, bounds.fuel);
+            Comparison comparison = new Comparison(model, judge, out);
+            Space space = order.all ? new Space(model, bounds, order, comparison) : null;
             comparison.rows(listing.rows);
             if (order.all) {
-                new Space(model, bounds, order, comparison).run();
+                space.run();
                 comparison.surplus();
             }
             return comparison.end();
