@@ -27,6 +27,7 @@ import com.sun.source.util.Trees;
 import java.io.BufferedReader;
 import java.io.ByteArrayOutputStream;
 import java.io.IOException;
+import java.io.InputStream;
 import java.io.InputStreamReader;
 import java.io.OutputStream;
 import java.io.PrintStream;
@@ -36,7 +37,6 @@ import java.lang.invoke.MethodType;
 import java.lang.reflect.Array;
 import java.lang.reflect.Constructor;
 import java.lang.reflect.Field;
-import java.lang.reflect.InvocationTargetException;
 import java.lang.reflect.Method;
 import java.lang.reflect.Modifier;
 import java.net.URI;
@@ -46,8 +46,6 @@ import java.nio.file.Files;
 import java.nio.file.Path;
 import java.util.ArrayDeque;
 import java.util.ArrayList;
-import java.util.Arrays;
-import java.util.Collections;
 import java.util.HashMap;
 import java.util.HashSet;
 import java.util.IdentityHashMap;
@@ -347,7 +345,7 @@ public final class Replay {
         }
     }
 
-    /** Reads the part of TOML that finitizations use: tables, in line too, arrays, integers, truth values and texts of one line. */
+    /** Reads the part of TOML that finitizations use: tables, in line too, arrays, integers, truth values, texts of one line. */
     private static final class Toml {
         private static final Pattern INTEGER = Pattern.compile("[+-]?[0-9][0-9_]*|0x[0-9A-Fa-f_]+|0o[0-7_]+|0b[01_]+");
         private final String name;
@@ -670,7 +668,7 @@ public final class Replay {
     private record Listing(List<Row> rows, String end, boolean whole) {
         private static final Pattern END = Pattern.compile("valid [0-9]+ tried [0-9]+|more [0-9.]+|spent [0-9.]+");
 
-        static Listing of(java.io.InputStream input) throws Fault, IOException {
+        static Listing of(InputStream input) throws Fault, IOException {
             List<Row> rows = new ArrayList<>();
             BufferedReader reader = new BufferedReader(new InputStreamReader(input, StandardCharsets.UTF_8));
             String end = reader.readLine();
@@ -774,8 +772,10 @@ public final class Replay {
         static Fault firstError(DiagnosticCollector<JavaFileObject> messages) {
             for (Diagnostic<? extends JavaFileObject> message : messages.getDiagnostics()) {
                 if (message.getKind() == Diagnostic.Kind.ERROR) {
-                    String file = message.getSource() == null ? "" : message.getSource().getName() + ":" + message.getLineNumber() + ": ";
-                    return new Fault(file + message.getMessage(Locale.ROOT).strip().replaceAll("\\s*\\n\\s*", ", ").replaceAll(" +", " "));
+                    JavaFileObject source = message.getSource();
+                    String place = source == null ? "" : source.getName() + ":" + message.getLineNumber() + ": ";
+                    String lines = message.getMessage(Locale.ROOT).strip();
+                    return new Fault(place + lines.replaceAll("\\s*\\n\\s*", ", ").replaceAll(" +", " "));
                 }
             }
             return new Fault("the sources aren't compiled");
@@ -917,7 +917,8 @@ public final class Replay {
             if (!field || element.getModifiers().contains(javax.lang.model.element.Modifier.STATIC)) {
                 return -1;
             }
-            String name = task.getElements().getBinaryName((TypeElement) element.getEnclosingElement()) + "." + element.getSimpleName();
+            TypeElement declaring = (TypeElement) element.getEnclosingElement();
+            String name = task.getElements().getBinaryName(declaring) + "." + element.getSimpleName();
             if (!noted.contains(name)) {
                 noted.add(name);
             }
@@ -932,6 +933,8 @@ public final class Replay {
 
     /** What is put into one source, by its places. */
     private static final class Insertions extends TreePathScanner<Void, Void> {
+        private static final Set<Tree.Kind> UNCHANGING =
+                Set.of(Tree.Kind.UNARY_MINUS, Tree.Kind.UNARY_PLUS, Tree.Kind.BITWISE_COMPLEMENT, Tree.Kind.LOGICAL_COMPLEMENT);
         private final Rewriting whole;
         private final CompilationUnitTree unit;
         private final SourcePositions places;
@@ -1009,7 +1012,8 @@ public final class Replay {
             Element element = whole.trees.getElement(getCurrentPath());
             int number = noting && !isTarget(name) ? whole.number(element) : -1;
             if (number >= 0) {
-                add(places.getStartPosition(unit, name), Rewriting.READ + holder(element.getEnclosingElement()) + ", " + number + ").");
+                String holder = holder(element.getEnclosingElement());
+                add(places.getStartPosition(unit, name), Rewriting.READ + holder + ", " + number + ").");
             }
             return super.visitIdentifier(name, none);
         }
@@ -1036,9 +1040,6 @@ public final class Replay {
                     || parent instanceof CompoundAssignmentTree compound && compound.getVariable() == tree
                     || parent instanceof UnaryTree step && !UNCHANGING.contains(step.getKind());
         }
-
-        private static final Set<Tree.Kind> UNCHANGING =
-                Set.of(Tree.Kind.UNARY_MINUS, Tree.Kind.UNARY_PLUS, Tree.Kind.BITWISE_COMPLEMENT, Tree.Kind.LOGICAL_COMPLEMENT);
     }
 
     // ---- what rows name, in the classes
@@ -1245,7 +1246,8 @@ public final class Replay {
         Method predicate() throws Fault {
             for (Class<?> type = root; type != null; type = type.getSuperclass()) {
                 for (Method method : type.getDeclaredMethods()) {
-                    if (method.getName().equals("repOk") && method.getParameterCount() == 0 && method.getReturnType() == boolean.class) {
+                    boolean named = method.getName().equals("repOk") && method.getParameterCount() == 0;
+                    if (named && method.getReturnType() == boolean.class) {
                         method.setAccessible(true);
                         return method;
                     }
@@ -1258,7 +1260,8 @@ public final class Replay {
             try {
                 field.set(holder, value);
             } catch (IllegalAccessException closed) {
-                throw new Fault(field.getDeclaringClass().getSimpleName() + "." + field.getName() + " can't be set: its class is a record");
+                String place = field.getDeclaringClass().getSimpleName() + "." + field.getName();
+                throw new Fault(place + " can't be set: its class is a record");
             }
         }
     }
@@ -1611,7 +1614,7 @@ public final class Replay {
             do {
                 tried++;
                 if (tried > most) {
-                    throw new Fault("more than " + most + " structures within these bounds: give smaller ones, or a larger --most");
+                    throw new Fault("more than " + most + " structures within these bounds: smaller ones, or a larger --most");
                 }
                 fillUndecided();
                 comparison.candidate(root.real, this);
