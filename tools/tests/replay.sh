@@ -286,7 +286,10 @@ public class Runner {
     }
 }
 END
-    (cd ../junit && javac -Werror -Xlint:all -proc:none -d built $(find . -name '*.java') && java -cp built Runner "$4$name") >../ran 2>&1
+    (
+        cd ../junit && javac -nowarn -proc:none -d built org/junit/jupiter/api/*.java Runner.java "$(basename "$3")" &&
+            javac -Werror -Xlint:all -proc:none -cp built -d built "$name.java" && java -cp built Runner "$4$name"
+    ) >../ran 2>&1
     [ "$(cat ../ran)" = "$5" ]
     count $? "the tests with $1 on $3: $(head -c 600 ../ran)"
 }
