@@ -1,6 +1,9 @@
 # Calls of the program by which `split` and `watch` look at a listing. The one that sources this file sets `files`, the
 # finitization and the sources, and has a function `fail STATUS WHY`.
 
+# Numbers have a point in every language.
+export LC_ALL=C
+
 korat=${KORAT:-$(cd "$(dirname "$(readlink -f "${BASH_SOURCE[0]}")")/.." && pwd)/korat}
 
 # No key has an index so high, so `P.i.$end` is a cut behind all keys that begin with `P.i`.
