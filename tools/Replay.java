@@ -78,7 +78,7 @@ import javax.tools.ToolProvider;
 public final class Replay {
     private static final String USAGE =
             "usage: java tools/Replay.java [--all [--plain] [--most N]] [--junit CALL] FIN SOURCE..";
-    private static final int STACK_BYTES = 1 << 28;
+    private static final int STACK_BYTES = 1 << 29;
     private static final int SECONDS_OF_A_RUN = 20;
 
     private Replay() {}
@@ -118,6 +118,8 @@ public final class Replay {
                 System.err.println("Replay: " + fault.getMessage());
             } catch (IOException fault) {
                 System.err.println("Replay: standard input: " + fault.getMessage());
+            } catch (OutOfMemoryError large) {
+                System.err.println("Replay: too little memory: give java more, as -Xmx4g, or smaller bounds");
             }
         }
 
@@ -173,9 +175,10 @@ public final class Replay {
 
     /** The words of a call. */
     private static final class Order {
+        private static final long MOST = 20_000_000;
         private boolean all;
         private boolean plain;
-        private long most = 20_000_000;
+        private long most = MOST;
         private String call;
         private Path finitization;
         private final List<Path> sources = new ArrayList<>();
@@ -196,6 +199,9 @@ public final class Replay {
             }
             if (order.all && order.call != null) {
                 throw new Fault("--all and --junit don't go together");
+            }
+            if (!order.all && (order.plain || order.most != MOST)) {
+                throw new Fault("--plain and --most go with --all");
             }
             return order;
         }
@@ -1317,6 +1323,7 @@ public final class Replay {
     /** Runs the predicate. A run that throws is false; one that takes too many steps has an answer of its own. */
     private static final class Judge {
         private static final int STEPS_FOR_FUEL = 10;
+        private static final int STEPS_AT_MOST = 1_000_000;
         private final Sources sources;
         private final int most;
         private final MethodHandle predicate;
@@ -1326,7 +1333,7 @@ public final class Replay {
 
         Judge(Model model, long fuel) throws Fault {
             this.sources = model.sources;
-            this.most = (int) Math.min(STEPS_FOR_FUEL * fuel, Integer.MAX_VALUE);
+            this.most = (int) Math.min(STEPS_FOR_FUEL * fuel, STEPS_AT_MOST);
             try {
                 MethodHandle found = MethodHandles.lookup().unreflect(model.predicate());
                 this.predicate = found.asType(MethodType.methodType(boolean.class, Object.class));
@@ -1610,24 +1617,28 @@ public final class Replay {
             for (Cell cell : cells.values()) {
                 model.join(cell.real, root.real);
             }
+            for (Cell cell : cells.values()) {
+                fillUndecided(cell, false);
+            }
             model.sources.reads(this);
             do {
                 tried++;
                 if (tried > most) {
                     throw new Fault("more than " + most + " structures within these bounds: smaller ones, or a larger --most");
                 }
-                fillUndecided();
+                for (Cell cell : cells.values()) {
+                    fillUndecided(cell, true);
+                }
                 comparison.candidate(root.real, this);
             } while (advanced());
         }
 
-        /** Gives each slot that isn't decided the first of its values, which is the same object whatever is in use. */
-        private void fillUndecided() throws Fault {
-            for (Cell cell : cells.values()) {
-                for (int slot = 0; slot < cell.told.length; slot++) {
-                    if (!cell.decided[slot]) {
-                        put(cell, slot, values(cell.slots.get(slot)).get(0));
-                    }
+        /** Gives the slots that aren't decided the first of their values. It changes alone where it is an array, of another length. */
+        private void fillUndecided(Cell cell, boolean arraysAlone) throws Fault {
+            for (int slot = 0; slot < cell.told.length; slot++) {
+                boolean array = cell.held[slot] != null && cell.held[slot].name.isArray();
+                if (!cell.decided[slot] && (array || !arraysAlone)) {
+                    put(cell, slot, values(cell.slots.get(slot)).get(0));
                 }
             }
         }
@@ -1718,6 +1729,7 @@ public final class Replay {
                     use(last);
                     return true;
                 }
+                put(last.cell, last.slot, last.values.get(0));
             }
             return false;
         }

@@ -116,6 +116,10 @@ differs 0.1 Cell#0{v=1}: repOk takes more than 1000 steps
 differs 0.2 Cell#0{v=2}: repOk takes more than 1000 steps
 differs 0.3 Cell#0{v=3}: repOk throws java.lang.AssertionError
 agree 1 differ 4' cell.toml Cell.java <listing
+sed -i 's/fuel = 100/fuel = 1000000000/' cell.toml
+rows 1 'differs 0.2 Cell#0{v=2}: repOk takes more than 1000000 steps
+agree 0 differ 1' cell.toml Cell.java <<<$'0.2 Cell#0{v=2}\nvalid 1 tried 1'
+sed -i 's/fuel = 1000000000/fuel = 100/' cell.toml
 printf '0.4 Cell#0{v=4}\nvalid 1 tried 5\n' >listing
 rows 1 'undecided Cell#0{v=1}: repOk takes more than 1000 steps
 undecided Cell#0{v=2}: repOk takes more than 1000 steps
@@ -311,6 +315,7 @@ refused 'usage: '
 refused 'no option: --al' --al fin.toml SortedList.java
 refused 'no value behind --junit' fin.toml SortedList.java --junit
 refused 'no number: 0' --most 0 fin.toml SortedList.java
+refused '--plain and --most go with --all' --plain fin.toml SortedList.java
 refused "don't go together" --all --junit 'x()' fin.toml SortedList.java
 refused "none.toml: can't be read" none.toml SortedList.java
 refused "none.java: can't be read" fin.toml none.java
