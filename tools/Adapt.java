@@ -15,6 +15,8 @@ import java.nio.file.Files;
 import java.nio.file.Path;
 import java.util.*;
 import java.util.function.Function;
+import java.util.regex.Matcher;
+import java.util.regex.Pattern;
 import java.util.stream.Collectors;
 import javax.lang.model.element.*;
 import javax.lang.model.type.*;
@@ -53,7 +55,7 @@ public final class Adapt {
             made.put(path, rewriter.source(program.sources.get(i)));
         }
         Path first = made.keySet().iterator().next();
-        made.put(first, made.get(first) + library.classes());
+        made.put(first, made.get(first) + library.classes(made.values()));
         made.put(words.folder().resolve(words.fin().getFileName()), new Bounds(kinds, reach, notes).adapted(fin));
         notes.print();
         if (notes.refused()) return 1;
@@ -410,7 +412,7 @@ final class Program {
 
     private void index() {
         for (Source source : sources) {
-            var words = java.util.regex.Pattern.compile("[\\p{L}_$][\\p{L}\\p{N}_$]*").matcher(source.text);
+            Matcher words = Pattern.compile("[\\p{L}_$][\\p{L}\\p{N}_$]*").matcher(source.text);
             while (words.find()) names.add(words.group());
         }
     }
@@ -708,6 +710,11 @@ final class Kinds {
         return fin.arrays().entrySet().stream().anyMatch(entry -> !Long.valueOf(0).equals(entry.getValue().get("count")) && arrayKind(entry.getKey()).equals(kind));
     }
 
+    /** Says what a parameter is that the sources declare as Object. */
+    void give(VariableElement parameter, String kind) {
+        if (kind(parameter.asType()).startsWith("?")) given.put(parameter, kind);
+    }
+
     // ---- type parameters
 
     private void bind(Element parameter, String kind) {
@@ -862,6 +869,13 @@ final class Kinds {
         return elements.containsKey(kind);
     }
 
+    /** A kind with the names of outer classes. */
+    String qualified(String kind) {
+        TypeElement type = program.classes.get(kind.replace("[]", ""));
+        boolean nested = type != null && Program.outermost(type) != type;
+        return nested ? Program.outermost(type).getSimpleName() + "." + kind : kind;
+    }
+
     boolean isList(String kind) {
         return kind.endsWith(">") || isAdded(kind) && kind.matches("(List|Set|SortedSet)Of.*");
     }
@@ -876,7 +890,7 @@ final class Kinds {
         if (given.containsKey(element)) return given.get(element);
         TypeMirror type = element instanceof ExecutableElement method ? method.getReturnType() : element.asType();
         String kind = kind(type);
-        if (flow.isScratch((Object) element)) return scratch(kind);
+        if (kind.endsWith("[]") && flow.isScratch((Object) element)) return scratch(kind);
         if (kind.startsWith("?") || kind.startsWith("IteratorOf")) return inferred(element, kind);
         return kind.equals("int") && !type.getKind().isPrimitive() && isNullable(element) ? BOX : kind;
     }
@@ -1135,6 +1149,7 @@ final class Reach {
         TypeElement type = program.classes.get(kind);
         ExecutableElement method = type == null ? null : program.method(type, name, 1);
         if (method == null || kept.contains(method)) return;
+        kinds.give(method.getParameters().get(0), kind);
         reach(method);
     }
 
@@ -1470,6 +1485,9 @@ final class Library {
             Map.entry("hashOf@", "static int $(# a) { return a == null ? 0 : a.hash(); }"),
             Map.entry("nonNull@", "static # $(# a) { return a == null && 1 / 0 == 0 ? null : a; }"));
 
+    /** A method of an added class, in a line. */
+    private static final Pattern METHOD = Pattern.compile("^ {4}(?:static )?[\\w$.\\[\\]]+ (\\w+)\\(.*\\{.*}$");
+
     private final Program program;
     private final Map<String, String> names = new HashMap<>();
     private final Map<String, String> methods = new LinkedHashMap<>();
@@ -1483,6 +1501,11 @@ final class Library {
         for (TypeElement type : program.classes.values()) {
             for (Element member : type.getEnclosedElements()) if (member instanceof ExecutableElement) taken.add(member.getSimpleName().toString());
         }
+    }
+
+    /** Names that added methods may not have. */
+    void take(Collection<String> names) {
+        taken.addAll(names);
     }
 
     /** How an added method is called. */
@@ -1526,7 +1549,7 @@ final class Library {
     }
 
     String methods() {
-        return methods.isEmpty() ? "" : " " + String.join("\n    ", methods.values()) + "\n";
+        return methods.isEmpty() ? "" : "    " + String.join("\n    ", methods.values()) + "\n";
     }
 
     /** Adds a class once, whose text is made only then. */
@@ -1536,8 +1559,30 @@ final class Library {
         classes.put(name, text.apply(name));
     }
 
-    String classes() {
-        return classes.isEmpty() ? "" : "\n" + String.join("\n", classes.values());
+    /** The added classes, with those of their methods that the sources come to use. */
+    String classes(Collection<String> sources) {
+        StringBuilder used = new StringBuilder(String.join("\n", sources));
+        Map<String, List<String>> kept = new TreeMap<>();
+        boolean more = true;
+        while (more) {
+            more = false;
+            for (Map.Entry<String, String> entry : classes.entrySet()) {
+                if (!Pattern.compile("\\b" + Pattern.quote(entry.getKey()) + "\\b").matcher(used).find()) continue;
+                List<String> lines = kept.computeIfAbsent(entry.getKey(), name -> new ArrayList<>());
+                List<String> next = entry.getValue().lines().filter(line -> isUsed(line, used)).toList();
+                more |= next.size() > lines.size();
+                lines.clear();
+                lines.addAll(next);
+            }
+            kept.values().forEach(lines -> used.append(String.join("\n", lines)));
+        }
+        return kept.values().stream().map(lines -> "\n" + String.join("\n", lines) + "\n").collect(Collectors.joining());
+    }
+
+    /** Whether a line of a class is no method or one whose name is called. */
+    private static boolean isUsed(String line, CharSequence text) {
+        Matcher method = METHOD.matcher(line);
+        return !method.find() || Pattern.compile("[^\\w$]" + method.group(1) + "\\((?![^()]*\\) \\{)").matcher(text).find();
     }
 
     String box() {
@@ -1549,13 +1594,12 @@ final class Library {
     void need(Kinds kinds, String kind, Function<String, String> equal) {
         String element = kinds.elementOf(kind);
         equality = equal.apply(element.split(" ")[0]);
-        if (kind.startsWith("MapOf") || kind.startsWith("PairOf")) map(kind, element.split(" ")[0], element.split(" ")[1]);
-        else if (kind.startsWith("ArrayOf")) array(kind, element);
-        else collection(kind, element);
+        if (kind.startsWith("MapOf") || kind.startsWith("PairOf")) map(kind, kinds.qualified(element.split(" ")[0]), kinds.qualified(element.split(" ")[1]));
+        else if (kind.startsWith("ArrayOf")) array(kind, kinds.qualified(element));
+        else collection(kind, Kinds.mangled(element), kinds.qualified(element));
     }
 
-    private void collection(String kind, String element) {
-        String of = Kinds.mangled(element);
+    private void collection(String kind, String of, String element) {
         boolean number = element.equals("int");
         String nullable = number ? box() : element;
         Map<String, String> words = Map.of("$L", "ListOf" + of, "$C", "CellOf" + of, "$X", element, "$P", nullable, "$E", equality.replaceAll("\\ba\\b", "item").replaceAll("\\bb\\b", "cell.item"),
@@ -1578,8 +1622,8 @@ final class Library {
     }
 
     private void array(String kind, String element) {
-        Map<String, String> words = Map.of("$N", kind, "$C", "SlotOf" + Kinds.mangled(element), "$X", element);
-        add("SlotOf" + Kinds.mangled(element), name -> Templates.fill(Templates.SLOT, words));
+        Map<String, String> words = Map.of("$N", kind, "$C", kind.replaceFirst("Array", "Slot"), "$X", element);
+        add(kind.replaceFirst("Array", "Slot"), name -> Templates.fill(Templates.SLOT, words));
         add(kind, name -> Templates.fill(Templates.ARRAY, words) + (element.startsWith("ArrayOf") ? Templates.fill(Templates.ROWS, words) : "") + "}\n");
     }
 }
@@ -1745,13 +1789,32 @@ final class MethodNames {
         this.program = program;
         this.reach = reach;
         this.notes = notes;
-        List<ExecutableElement> methods = reach.kept.stream().filter(ExecutableElement.class::isInstance).map(ExecutableElement.class::cast).filter(program::isOwn).toList();
+        List<ExecutableElement> methods = reach.kept.stream().filter(ExecutableElement.class::isInstance).map(ExecutableElement.class::cast).filter(program::isOwn)
+                .sorted(Comparator.comparingInt(this::rank).thenComparingInt(this::position)).toList();
         methods.forEach(this::name);
         methods.forEach(this::warnOfPrivate);
     }
 
     String of(ExecutableElement method) {
         return names.get(method);
+    }
+
+    Collection<String> all() {
+        return names.values();
+    }
+
+    /** The predicate and the method under test keep their names. */
+    private int rank(ExecutableElement method) {
+        return method.equals(reach.predicate) ? 0 : method.equals(reach.tested) ? 1 : 2;
+    }
+
+    private int position(ExecutableElement method) {
+        MethodTree tree = program.trees.getTree(method);
+        return tree == null ? 0 : program.start(tree);
+    }
+
+    private static String described(ExecutableElement method) {
+        return method.getSimpleName() + method.getParameters().stream().map(p -> p.asType().toString().replaceAll("<[^<>]*>|[\\w.]*\\.", "")).collect(Collectors.joining(", ", "(", ")"));
     }
 
     /** Whether a class has a constructor that becomes a method, since it has several. */
@@ -1772,7 +1835,7 @@ final class MethodNames {
         String name = wanted;
         for (int i = 2; isTaken(name, type); i++) name = wanted + i;
         names.put(method, name);
-        if (!constructor && !name.contentEquals(method.getSimpleName())) notes.changed(program.place(program.trees.getTree(method)), "the method " + method + " is named " + name);
+        if (!constructor && !name.contentEquals(method.getSimpleName())) notes.changed(program.place(program.trees.getTree(method)), "the method " + described(method) + " is named " + name);
     }
 
     private boolean overloaded(ExecutableElement method) {
@@ -1798,7 +1861,7 @@ final class MethodNames {
             TypeElement below = Program.classOf(other);
             if (other == method || below.equals(Program.classOf(method)) || !program.isBelow(below, Program.classOf(method))) continue;
             if (!other.getSimpleName().equals(method.getSimpleName()) || !program.types.isSubsignature((ExecutableType) other.asType(), (ExecutableType) method.asType())) continue;
-            notes.warn(program.place(program.trees.getTree(method)), "in korat " + other + " of " + below.getSimpleName() + " would override this private method: one of them is renamed");
+            notes.warn(program.place(program.trees.getTree(method)), "in korat " + described(other) + " of " + below.getSimpleName() + " would override this private method: one of them is renamed");
         }
     }
 }
@@ -1953,6 +2016,7 @@ final class Rewriter {
         this.library = library;
         this.notes = notes;
         names = new MethodNames(program, reach, notes);
+        library.take(names.all());
         if (reach.predicate != null) library.host = program.classes.get(kinds.fin.root());
         expressions = new Expressions(this, program, kinds, reach, library, notes, names);
         statements = new Statements(this, expressions, program, kinds, reach, library, notes);
@@ -2037,7 +2101,16 @@ final class Rewriter {
         if (kind.startsWith("?")) return refusedType(at, kind.substring(1));
         if (kinds.isAdded(kind.replace("[]", ""))) library.need(kinds, kind.replace("[]", ""), expressions::equality);
         if (kind.startsWith(Kinds.BOX)) library.box();
-        return kind;
+        return qualified(at, kind);
+    }
+
+    /** A nested class with its outer class's name where that is another one. */
+    private String qualified(Tree at, String kind) {
+        TypeElement around = program.classAround(at);
+        String name = kind.endsWith(">") ? kinds.elementOf(kind) : kind;
+        TypeElement type = program.classes.get(name.replace("[]", ""));
+        if (type == null || around != null && Program.outermost(around) == Program.outermost(type)) return kind;
+        return kind.replace(name, kinds.qualified(name));
     }
 
     private String refusedType(Tree at, String type) {
@@ -2150,7 +2223,7 @@ final class Rewriter {
         Program.Source source = program.source(tree);
         int open = open(source.text(), tree);
         String before = source.text().substring(program.start(tree), open);
-        String header = modifiers(tree.getModifiers(), inner ? "static" : "") + "class " + type.getSimpleName() + superclass(tree, type) + " {";
+        String header = modifiers(tree.getModifiers(), inner ? "static" : "").replace("private ", "") + "class " + type.getSimpleName() + superclass(tree, type) + " {";
         noteHeader(tree, type, inner);
         String body = members(source, open + 1, program.end(tree) - 1, tree.getMembers());
         String added = library.host == type ? "" : null;
@@ -2219,7 +2292,7 @@ final class Rewriter {
     }
 
     private String enumeration(ClassTree tree, TypeElement type, boolean inner) {
-        StringBuilder text = new StringBuilder(modifiers(tree.getModifiers(), inner ? "static" : "") + "class " + type.getSimpleName() + " {");
+        StringBuilder text = new StringBuilder(modifiers(tree.getModifiers(), inner ? "static" : "").replace("private ", "") + "class " + type.getSimpleName() + " {");
         int number = 0;
         for (Element member : type.getEnclosedElements()) {
             if (member.getKind() == ElementKind.ENUM_CONSTANT) text.append(" static final int ").append(member.getSimpleName()).append(" = ").append(number++).append(";");
@@ -2771,7 +2844,7 @@ final class Expressions extends SimpleTreeVisitor<String, Void> {
             case NULL_LITERAL: case BOOLEAN_LITERAL: return program.text(tree);
             case INT_LITERAL:
                 String text = program.text(tree);
-                boolean plain = text.matches("0|[1-9][0-9]*");
+                boolean plain = text.matches("0|-?\\s*[1-9][0-9]*");
                 if (!plain) notes.changed(program.place(tree), text + " became " + number(tree.getValue()));
                 return plain ? text : number(tree.getValue());
             case CHAR_LITERAL:

@@ -121,8 +121,8 @@ public class ChainedHashMap<K, V> {
             for (Entry<K, V> e = table[i]; e != null; e = e.next) {
                 if (++n > size) return false;
                 if (e.hash != hash(e.getKey()) || indexFor(e.hash, table.length) != i) return false;
-                // its key is no other's
-                for (Entry<K, V> f = e.next; f != null && f != e; f = f.next) {
+                // no entry before it has its key
+                for (Entry<K, V> f = table[i]; f != e; f = f.next) {
                     if (f.hash == e.hash && (f.key == e.key || f.key.equals(e.key))) return false;
                 }
             }
