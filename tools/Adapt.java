@@ -35,6 +35,9 @@ public final class Adapt {
         } catch (Fault fault) {
             System.err.println("Adapt: " + fault.getMessage());
             System.exit(fault.status);
+        } catch (RuntimeException e) {
+            System.err.println("Adapt: a fault of its own: " + e + " at " + e.getStackTrace()[0]);
+            System.exit(70);
         }
     }
 
@@ -54,6 +57,7 @@ public final class Adapt {
             Path path = words.folder().resolve(words.sources().get(i).getFileName());
             made.put(path, rewriter.source(program.sources.get(i)));
         }
+        made.replaceAll((path, text) -> text.replace(Library.PLACE, library.methods()));
         Path first = made.keySet().iterator().next();
         made.put(first, made.get(first) + library.classes(made.values()));
         made.put(words.folder().resolve(words.fin().getFileName()), new Bounds(kinds, reach, notes).adapted(fin));
@@ -1019,7 +1023,20 @@ final class Reach {
         fin.objects().keySet().stream().map(program.classes::get).filter(Objects::nonNull).forEach(this::keepClass);
         fin.fields().keySet().stream().map(kinds::field).filter(Objects::nonNull).forEach(this::keepField);
         reach(predicate);
-        if (method != null) reachTested(root, method);
+        close();
+        List<TypeElement> pureMade = List.copyOf(made);
+        List<Tree> pureWrites = List.copyOf(writes);
+        List<ExpressionTree> pureCreations = List.copyOf(creations);
+        if (method != null) {
+            reachTested(root, method);
+            close();
+        }
+        kinds.flow.settle(creations.stream().filter(creation -> isScratch(creation, pureCreations.contains(creation))).toList());
+        refuseImpure(pureMade, pureWrites);
+    }
+
+    /** Reaches what follows from what is reached. */
+    private void close() {
         int before;
         do {
             before = kept.size() + calls.size();
@@ -1027,8 +1044,6 @@ final class Reach {
             List.copyOf(calls).forEach(this::follow);
             List.copyOf(loops).forEach(this::follow);
         } while (kept.size() + calls.size() > before);
-        kinds.flow.settle(creations.stream().filter(this::isScratch).toList());
-        refuseImpure();
     }
 
     private void reachTested(TypeElement root, String name) {
@@ -1336,13 +1351,13 @@ final class Reach {
 
     // ---- arrays and objects of the predicate's own
 
-    /** Whether an array that the code makes can be no array of the subset's predicate. */
-    private boolean isScratch(ExpressionTree creation) {
-        if (creation instanceof MethodInvocationTree) return kinds.countsArray(kinds.kind(creationType(creation)));
+    /** Whether an array that the code makes can be none of the subset, or none that its predicate may make. */
+    private boolean isScratch(ExpressionTree creation, boolean pure) {
+        if (creation instanceof MethodInvocationTree) return pure && kinds.countsArray(kinds.kind(creationType(creation)));
         NewArrayTree array = (NewArrayTree) creation;
         String kind = kinds.kind(program.type(array));
         boolean nested = array.getDimensions().size() > 1 || kinds.elementOf(kind).endsWith("[]");
-        if (nested || kinds.countsArray(kind)) return true;
+        if (nested || pure && kinds.countsArray(kind)) return true;
         boolean isLong = array.getDimensions().size() == 1 && Numbers.of(program, array.getDimensions().get(0)) > 64
                 || array.getInitializers() != null && array.getInitializers().size() > 64;
         if (isLong) notes.warn(program.place(array), "an array longer than 64 traps in korat, and a trap counts as false: it becomes an object of an added class");
@@ -1354,14 +1369,14 @@ final class Reach {
         return program.isOwn(method) ? method.getParameters().get(method.getParameters().size() - 1).asType() : program.type(creation);
     }
 
-    private void refuseImpure() {
-        for (TypeElement type : made) {
+    private void refuseImpure(List<TypeElement> pureMade, List<Tree> pureWrites) {
+        for (TypeElement type : pureMade) {
             if (fin.counts(type.getSimpleName().toString())) {
                 notes.refuse(program.place(program.trees.getTree(type)), "the predicate makes objects of " + type.getSimpleName() + ", which the finitization counts",
                         "let repOk make objects of another class");
             }
         }
-        for (Tree target : writes) {
+        for (Tree target : pureWrites) {
             if (target instanceof ArrayAccessTree access && !kinds.flow.isScratch(access.getExpression()) && kinds.countsArray(kinds.of(access.getExpression()))) {
                 notes.refuse(program.place(target), "the predicate changes an array that the finitization counts", "let repOk leave the candidate as it is");
             }
@@ -1485,6 +1500,8 @@ final class Library {
             Map.entry("hashOf@", "static int $(# a) { return a == null ? 0 : a.hash(); }"),
             Map.entry("nonNull@", "static # $(# a) { return a == null && 1 / 0 == 0 ? null : a; }"));
 
+    /** Stands where the added methods will. */
+    static final String PLACE = "\0";
     /** A method of an added class, in a line. */
     private static final Pattern METHOD = Pattern.compile("^ {4}(?:static )?[\\w$.\\[\\]]+ (\\w+)\\(.*\\{.*}$");
 
@@ -1493,7 +1510,6 @@ final class Library {
     private final Map<String, String> methods = new LinkedHashMap<>();
     private final Map<String, String> classes = new TreeMap<>();
     private final Set<String> taken = new HashSet<>();
-    private String equality = "a == b";
     TypeElement host;
 
     Library(Program program) {
@@ -1593,13 +1609,13 @@ final class Library {
     /** The class of an added kind; `equal` says when `a` and `b` are equal. */
     void need(Kinds kinds, String kind, Function<String, String> equal) {
         String element = kinds.elementOf(kind);
-        equality = equal.apply(element.split(" ")[0]);
-        if (kind.startsWith("MapOf") || kind.startsWith("PairOf")) map(kind, kinds.qualified(element.split(" ")[0]), kinds.qualified(element.split(" ")[1]));
+        String equality = equal.apply(element.split(" ")[0]);
+        if (kind.startsWith("MapOf") || kind.startsWith("PairOf")) map(kind, kinds.qualified(element.split(" ")[0]), kinds.qualified(element.split(" ")[1]), equality);
         else if (kind.startsWith("ArrayOf")) array(kind, kinds.qualified(element));
-        else collection(kind, Kinds.mangled(element), kinds.qualified(element));
+        else collection(kind, Kinds.mangled(element), kinds.qualified(element), equality);
     }
 
-    private void collection(String kind, String of, String element) {
+    private void collection(String kind, String of, String element, String equality) {
         boolean number = element.equals("int");
         String nullable = number ? box() : element;
         Map<String, String> words = Map.of("$L", "ListOf" + of, "$C", "CellOf" + of, "$X", element, "$P", nullable, "$E", equality.replaceAll("\\ba\\b", "item").replaceAll("\\bb\\b", "cell.item"),
@@ -1613,7 +1629,7 @@ final class Library {
         if (kind.startsWith("DequeOf")) add(kind, name -> Templates.fill(Templates.DEQUE, words));
     }
 
-    private void map(String kind, String key, String value) {
+    private void map(String kind, String key, String value, String equality) {
         String of = kind.substring(kind.indexOf("Of") + 2);
         Map<String, String> words = Map.of("$N", "MapOf" + of, "$P", "PairOf" + of, "$K", key, "$V", value, "$R", value.equals("int") ? box() : value,
                 "$O", value.equals("int") ? "new BoxedInt(" : "(", "$E", equality.replaceAll("\\ba\\b", "pair.key").replaceAll("\\bb\\b", "key"));
@@ -2140,7 +2156,7 @@ final class Rewriter {
             at = program.end(tree);
         }
         text.append(members(source, at, source.text().length(), unit.getTypeDecls()));
-        return withImports(text.toString(), unit);
+        return withImports(text.toString(), unit).replaceAll("(?m)^[ \\t]+$", "");
     }
 
     /** Imports of the two collections, where they were others. */
@@ -2205,6 +2221,7 @@ final class Rewriter {
         if (!isKept(tree)) return null;
         TypeElement type = (TypeElement) program.element(tree);
         boolean inner = type.getEnclosingElement() instanceof TypeElement;
+        if (reach.kept.contains(type) && program.classes.get(type.getSimpleName().toString()) != type) refused(tree, "two classes are named " + type.getSimpleName(), "rename one of them");
         String text = tree.getKind() == Tree.Kind.ENUM ? enumeration(tree, type, inner) : classText(tree, type, inner);
         boolean deep = inner && type.getEnclosingElement().getEnclosingElement() instanceof TypeElement;
         if (deep) {
@@ -2226,9 +2243,8 @@ final class Rewriter {
         String header = modifiers(tree.getModifiers(), inner ? "static" : "").replace("private ", "") + "class " + type.getSimpleName() + superclass(tree, type) + " {";
         noteHeader(tree, type, inner);
         String body = members(source, open + 1, program.end(tree) - 1, tree.getMembers());
-        String added = library.host == type ? "" : null;
-        String end = Program.outermost(type) == type && library.host != null && Program.outermost(library.host) == type ? library.methods() : "";
-        return leading(header, before) + body + (added == null ? end : end) + "}";
+        boolean host = library.host != null && Program.outermost(library.host) == type;
+        return leading(tree, header, before) + body + (host ? Library.PLACE : "") + "}";
     }
 
     private void noteHeader(ClassTree tree, TypeElement type, boolean inner) {
@@ -2247,8 +2263,12 @@ final class Rewriter {
     }
 
     /** The header with as many lines in front as the old one had. */
-    private static String leading(String header, String before) {
-        return "\n".repeat((int) before.chars().filter(c -> c == '\n').count()) + header;
+    private String leading(Tree tree, String header, String before) {
+        long lines = before.chars().filter(c -> c == '\n').count();
+        String text = program.source(tree).text();
+        int line = text.lastIndexOf('\n', program.start(tree)) + 1;
+        String indent = text.substring(line, program.start(tree));
+        return lines == 0 ? header : "\n".repeat((int) lines) + (indent.isBlank() ? indent : "") + header;
     }
 
     /** Where the brace of a class's body stands. */
@@ -2345,6 +2365,7 @@ final class Rewriter {
         boolean isStatic = field.getModifiers().contains(Modifier.STATIC);
         String access = modifiers(tree.getModifiers(), constant ? "static" : "").replace("final ", "").strip();
         if (isStatic || constant) return constant(tree, field, kind, access, constant);
+        if (hidesAnother(field, type)) refused(tree, "the field `" + field + "` hides one of a superclass", "rename one of them");
         boolean counted = kinds.fin.objects().keySet().stream().anyMatch(name -> program.classes.containsKey(name) && kinds.fin.counts(name) && program.isBelow(program.classes.get(name), type));
         if (counted && (kinds.isList(kind) || kinds.isMap(kind))) {
             refused(tree, "the field `" + field + "` holds a collection, which no candidate has", "write an array or linked nodes in its place");
@@ -2354,6 +2375,13 @@ final class Rewriter {
         noteType(tree, field, kind);
         String start = (access.isEmpty() ? "" : access + " ") + type(tree, kind) + "\t" + field.getSimpleName();
         return reach.made.contains(type) && tree.getInitializer() != null ? start + " = " + expressions.value(tree.getInitializer(), kind) : start;
+    }
+
+    private boolean hidesAnother(VariableElement field, TypeElement type) {
+        for (TypeElement above = program.superclass(type); above != null; above = program.superclass(above)) {
+            if (above.getEnclosedElements().stream().anyMatch(e -> e.getKind() == ElementKind.FIELD && reach.kept.contains(e) && e.getSimpleName().equals(field.getSimpleName()))) return true;
+        }
+        return false;
     }
 
     void noteType(VariableTree tree, Element variable, String kind) {
@@ -2391,10 +2419,10 @@ final class Rewriter {
         String header = modifiers(tree.getModifiers(), "").replace(constructor ? "final " : "\0", "") + result + name + "(" + parameters + ")";
         if (overridesOwn(method)) header = "@Override " + header;
         if (asMethod) notes.changed(program.place(tree), "the constructor became the method " + name);
-        if (tree.getBody() == null) return leading(header, before) + " { " + statements.trap(method) + " }";
+        if (tree.getBody() == null) return leading(tree, header, before) + " { " + statements.trap(method) + " }";
         String body = of(tree.getBody());
         if (asMethod) body = body.substring(0, body.lastIndexOf('}')) + "return this; }";
-        return leading(header, before.stripTrailing()) + before.substring(before.stripTrailing().length()) + body;
+        return leading(tree, header, before.stripTrailing()) + before.substring(before.stripTrailing().length()) + body;
     }
 
     private boolean overridesOwn(ExecutableElement method) {
@@ -2472,17 +2500,17 @@ final class Statements extends SimpleTreeVisitor<String, Void> {
         String kind = kinds.of(over);
         if (over instanceof MethodInvocationTree call && kinds.target(call) == null && call.getMethodSelect() instanceof MemberSelectTree select && select.getExpression() != null) {
             String map = kinds.of(select.getExpression());
-            if (kinds.isMap(map)) return loopOverMap(tree, select, map);
+            if (kinds.isMap(map)) return withJumps(tree, loopOverMap(tree, select, map));
         }
-        if (over instanceof MethodInvocationTree call && isValues(call)) return loopOverEnum(tree, call);
+        if (over instanceof MethodInvocationTree call && isValues(call)) return withJumps(tree, loopOverEnum(tree, call));
         boolean array = kind.endsWith("[]") || kinds.isAdded(kind) && kind.startsWith("ArrayOf");
         TypeElement type = program.classes.get(kind);
         if (!array && !kinds.isList(kind) && (type == null || program.method(type, "iterator", 0) == null)) {
             return rewriter.refused(tree, "a `for` over a " + kind.replace("?", ""), "write a `for` with an index or a node");
         }
         notes.changed(program.place(tree), "`for` over " + (array ? "an array" : "a collection") + " became a loop");
-        if (array) return loopOverArray(tree, kind);
-        return kinds.isList(kind) ? loopOverList(tree, kind) : loopOverOwn(tree, type);
+        if (array) return withJumps(tree, loopOverArray(tree, kind));
+        return withJumps(tree, kinds.isList(kind) ? loopOverList(tree, kind) : loopOverOwn(tree, type));
     }
 
     private static boolean isValues(MethodInvocationTree call) {
