@@ -96,7 +96,8 @@ public final class Adapt {
                 else if (i + 1 == words.length || options.put(words[i], words[++i]) != null) throw new Fault(2, USAGE);
             }
             if (files.size() < 2 || !options.containsKey("-o")) throw new Fault(2, USAGE);
-            Words result = new Words(files.get(0), files.subList(1, files.size()), Path.of(options.get("-o")), options.get("--method"));
+            Words result = new Words(files.get(0), files.subList(1, files.size()), Path.of(options.get("-o")),
+                    options.get("--method"));
             result.refuseOverwriting();
             return result;
         }
@@ -222,7 +223,8 @@ final class Toml {
             String digits = word.replace("_", "").replaceFirst("^\\+", "");
             return digits.matches("0[ob].*")
                     ? Long.parseLong(digits.substring(2), digits.charAt(1) == 'o' ? 8 : 2)
-                    : Long.decode(digits.equals("0") || digits.startsWith("0x") ? digits : digits.replaceFirst("^(-?)0+$", "0"));
+                    : Long.decode(digits.equals("0")
+                            || digits.startsWith("0x") ? digits : digits.replaceFirst("^(-?)0+$", "0"));
         } catch (NumberFormatException e) {
             throw wrong();
         }
@@ -285,12 +287,14 @@ final class Toml {
     }
 
     private IllegalArgumentException wrong() {
-        return new IllegalArgumentException("line " + (1 + text.substring(0, Math.min(at, text.length())).lines().count() - (at > 0 ? 1 : 0)));
+        return new IllegalArgumentException("line "
+                + (1 + text.substring(0, Math.min(at, text.length())).lines().count() - (at > 0 ? 1 : 0)));
     }
 }
 
 /** A finitization as it is written. */
-record Finitization(String name, String text, String root, long fuel, Map<String, Long> objects, Map<String, Map<String, Object>> arrays,
+record Finitization(String name, String text, String root, long fuel, Map<String, Long> objects, Map<String, Map<String,
+        Object>> arrays,
         Map<String, List<Object>> fields, Map<String, List<Object>> params) {
 
     @SuppressWarnings("unchecked")
@@ -314,7 +318,8 @@ record Finitization(String name, String text, String root, long fuel, Map<String
 
     /** The names in a domain, without null. */
     static List<String> names(List<Object> domain) {
-        return domain.stream().filter(String.class::isInstance).map(String.class::cast).filter(name -> !name.equals("null")).toList();
+        return domain.stream().filter(String.class::isInstance).map(String.class::cast).filter(name -> !name.equals("null"))
+                .toList();
     }
 
     static boolean hasNull(List<Object> domain) {
@@ -378,7 +383,8 @@ final class Program {
             if (diagnostic.getKind() != Diagnostic.Kind.ERROR) continue;
             String file = diagnostic.getSource() == null ? "" : ((TextFile) diagnostic.getSource()).name + ":";
             String message = diagnostic.getMessage(Locale.ENGLISH).lines().findFirst().orElse("");
-            throw new Fault(1, file + diagnostic.getLineNumber() + ":" + diagnostic.getColumnNumber() + ": javac says: " + message);
+            throw new Fault(1, file + diagnostic.getLineNumber() + ":" + diagnostic.getColumnNumber() + ": javac says: "
+                    + message);
         }
     }
 
@@ -402,13 +408,15 @@ final class Program {
         new TreePathScanner<Void, Void>() {
             @Override
             public Void scan(Tree tree, Void nothing) {
-                if (tree != null) paths.put(tree, new TreePath(getCurrentPath() == null ? new TreePath(source.unit) : getCurrentPath(), tree));
+                if (tree != null) paths.put(tree,
+                        new TreePath(getCurrentPath() == null ? new TreePath(source.unit) : getCurrentPath(), tree));
                 return super.scan(tree, nothing);
             }
 
             @Override
             public Void visitClass(ClassTree tree, Void nothing) {
-                if (element(tree) instanceof TypeElement type && !tree.getSimpleName().isEmpty()) classes.putIfAbsent(type.getSimpleName().toString(), type);
+                if (element(tree) instanceof TypeElement type && !tree.getSimpleName().isEmpty())
+                        classes.putIfAbsent(type.getSimpleName().toString(), type);
                 return super.visitClass(tree, nothing);
             }
         }.scan(new TreePath(source.unit), null);
@@ -579,7 +587,8 @@ final class Flow {
     /** The variables that may hold the same arrays as a creation. */
     List<Element> sharing(ExpressionTree creation) {
         Object root = find(node(creation));
-        return above.keySet().stream().filter(Element.class::isInstance).map(Element.class::cast).filter(e -> find(e) == root).toList();
+        return above.keySet().stream().filter(Element.class::isInstance).map(Element.class::cast).filter(e -> find(e) == root)
+                .toList();
     }
 
     private Object node(ExpressionTree tree) {
@@ -626,12 +635,14 @@ final class Flow {
 /** The types of the subset that the types of the sources become, as they are written. A `?` begins one that there is not. */
 final class Kinds {
     static final String BOX = "BoxedInt";
-    private static final Set<String> LISTS = Set.of("Collection", "AbstractCollection", "Iterable", "List", "AbstractList", "ArrayList",
+    private static final Set<String> LISTS =
+            Set.of("Collection", "AbstractCollection", "Iterable", "List", "AbstractList", "ArrayList",
             "LinkedList", "Vector", "Stack", "Queue", "Deque", "ArrayDeque");
     private static final Set<String> SETS = Set.of("Set", "AbstractSet", "HashSet", "LinkedHashSet");
     private static final Set<String> SORTED = Set.of("SortedSet", "NavigableSet", "TreeSet");
     private static final Set<String> MAPS = Set.of("Map", "AbstractMap", "HashMap", "LinkedHashMap", "IdentityHashMap");
-    private static final Set<String> MAY_GIVE_NULL = Set.of("poll", "pollFirst", "pollLast", "peek", "peekFirst", "peekLast", "get", "put",
+    private static final Set<String> MAY_GIVE_NULL =
+            Set.of("poll", "pollFirst", "pollLast", "peek", "peekFirst", "peekLast", "get", "put",
             "remove", "putIfAbsent");
 
     final Program program;
@@ -673,7 +684,8 @@ final class Kinds {
         String kind = ofDomain(domain);
         if (kind.startsWith("?")) return;
         if (type.getKind() == TypeKind.TYPEVAR) bind(program.types.asElement(type), kind);
-        else if (type instanceof ArrayType array && array.getComponentType().getKind() == TypeKind.TYPEVAR && kind.endsWith("[]")) {
+        else if (type instanceof ArrayType array && array.getComponentType().getKind() == TypeKind.TYPEVAR
+                && kind.endsWith("[]")) {
             bind(program.types.asElement(array.getComponentType()), kind.substring(0, kind.length() - 2));
         } else if (kind(type).startsWith("?")) given.put(field, kind);
     }
@@ -711,7 +723,9 @@ final class Kinds {
     }
 
     boolean countsArray(String kind) {
-        return fin.arrays().entrySet().stream().anyMatch(entry -> !Long.valueOf(0).equals(entry.getValue().get("count")) && arrayKind(entry.getKey()).equals(kind));
+        return fin.arrays().entrySet().stream()
+                .anyMatch(entry -> !Long.valueOf(0).equals(entry.getValue().get("count"))
+                && arrayKind(entry.getKey()).equals(kind));
     }
 
     /** Says what a parameter is that the sources declare as Object. */
@@ -725,7 +739,8 @@ final class Kinds {
         Element root = root(parameter);
         String before = bound.putIfAbsent(root, kind);
         if (before != null && !before.equals(kind) && program.isOwn(parameter)) {
-            notes.refuse(program.place(program.trees.getTree(Program.classOf(parameter))), "`" + parameter + "` is both " + before + " and " + kind,
+            notes.refuse(program.place(program.trees.getTree(Program.classOf(parameter))),
+                    "`" + parameter + "` is both " + before + " and " + kind,
                     "write a class for each");
         }
     }
@@ -758,7 +773,8 @@ final class Kinds {
     }
 
     private void meet(Element parameter, TypeMirror argument) {
-        if (argument.getKind() == TypeKind.TYPEVAR && program.isOwn(program.types.asElement(argument))) join(parameter, program.types.asElement(argument));
+        if (argument.getKind() == TypeKind.TYPEVAR && program.isOwn(program.types.asElement(argument)))
+                join(parameter, program.types.asElement(argument));
         else if (argument.getKind() != TypeKind.TYPEVAR && !kind(argument).startsWith("?")) bind(parameter, kind(argument));
     }
 
@@ -770,7 +786,8 @@ final class Kinds {
             boolean array = type instanceof ArrayType && kind.endsWith("[]");
             if (array) type = ((ArrayType) type).getComponentType();
             Element parameter = type.getKind() == TypeKind.TYPEVAR ? program.types.asElement(type) : null;
-            if (parameter == null || parameter.getEnclosingElement() != method || kind.startsWith("?") || kind.equals("null")) continue;
+            if (parameter == null || parameter.getEnclosingElement() != method || kind.startsWith("?") || kind.equals("null"))
+                    continue;
             bind(parameter, array ? elementOf(kind) : kind);
         }
     }
@@ -790,7 +807,8 @@ final class Kinds {
             case TYPEVAR: return variable((TypeVariable) type);
             case WILDCARD:
                 WildcardType wild = (WildcardType) type;
-                return wild.getExtendsBound() != null ? kind(wild.getExtendsBound()) : wild.getSuperBound() != null ? kind(wild.getSuperBound()) : "?";
+                return wild.getExtendsBound() != null ? kind(wild.getExtendsBound()) : wild.getSuperBound() != null
+                        ? kind(wild.getSuperBound()) : "?";
             case INTERSECTION: return kind(((IntersectionType) type).getBounds().get(0));
             default: return "?" + type;
         }
@@ -813,14 +831,16 @@ final class Kinds {
             return element.getKind() == ElementKind.ENUM ? "int" : name;
         }
         String whole = element.getQualifiedName().toString();
-        if (Set.of("java.lang.Integer", "java.lang.Short", "java.lang.Byte", "java.lang.Character").contains(whole)) return "int";
+        if (Set.of("java.lang.Integer", "java.lang.Short", "java.lang.Byte", "java.lang.Character").contains(whole))
+                return "int";
         if (whole.equals("java.lang.Boolean")) return "boolean";
         List<String> arguments = type.getTypeArguments().stream().map(this::kind).toList();
         if (!whole.matches("java\\.(util|lang)\\..*") || arguments.isEmpty()) return "?" + name;
         Optional<String> missing = arguments.stream().filter(kind -> kind.startsWith("?")).findFirst();
         if (missing.isPresent() && !name.equals("Comparable")) return missing.get();
         if (LISTS.contains(name)) return list(arguments.get(0));
-        if (SETS.contains(name)) return isOwned(arguments.get(0)) ? added("SetOf", arguments.get(0)) : "HashSet<" + arguments.get(0) + ">";
+        if (SETS.contains(name))
+                return isOwned(arguments.get(0)) ? added("SetOf", arguments.get(0)) : "HashSet<" + arguments.get(0) + ">";
         if (SORTED.contains(name)) return added("SortedSetOf", arguments.get(0));
         if (name.equals("Iterator")) return added("IteratorOf", arguments.get(0));
         if (MAPS.contains(name)) return pair("Map", arguments);
@@ -850,7 +870,8 @@ final class Kinds {
 
     /** Whether collections of these members need a class of their own. */
     boolean isOwned(String element) {
-        return owned.contains(element) || element.equals("int") || element.equals("boolean") || element.contains("<") || hasEquals(element);
+        return owned.contains(element) || element.equals("int") || element.equals("boolean") || element.contains("<")
+                || hasEquals(element);
     }
 
     boolean own(String element) {
@@ -919,7 +940,8 @@ final class Kinds {
 
     /** Whether null may come into a variable or result whose other values are numbers. */
     private boolean isNullable(Element element) {
-        if (!(element instanceof ExecutableElement) && element.getKind() == ElementKind.FIELD && fin.counts(kind(Program.classOf(element).asType()))) return false;
+        if (!(element instanceof ExecutableElement) && element.getKind() == ElementKind.FIELD
+                && fin.counts(kind(Program.classOf(element).asType()))) return false;
         if (!asked.add(element)) return false;
         try {
             return flow.into(element).stream().anyMatch(this::mayBeNull);
@@ -937,7 +959,8 @@ final class Kinds {
         ExpressionTree bare = Program.bare(tree);
         if (bare instanceof AssignmentTree assignment) return of(assignment.getVariable());
         if (bare instanceof ArrayAccessTree access) return elementOf(of(access.getExpression()));
-        if (bare instanceof ConditionalExpressionTree choice) return either(of(choice.getTrueExpression()), of(choice.getFalseExpression()));
+        if (bare instanceof ConditionalExpressionTree choice)
+                return either(of(choice.getTrueExpression()), of(choice.getFalseExpression()));
         if (bare instanceof MethodInvocationTree call) return result(call);
         if (bare instanceof NewArrayTree && flow.isScratch(bare)) return scratch(kind(program.type(bare)));
         TypeMirror type = program.type(bare);
@@ -945,7 +968,8 @@ final class Kinds {
         if (bare instanceof TypeCastTree cast) return kind.startsWith("?") ? of(cast.getExpression()) : kind;
         boolean named = bare instanceof IdentifierTree || bare instanceof MemberSelectTree;
         Element element = named ? program.element(bare) : null;
-        if (element instanceof VariableElement variable && program.isOwn(element) && element.getKind() != ElementKind.ENUM_CONSTANT
+        if (element instanceof VariableElement variable && program.isOwn(element)
+                && element.getKind() != ElementKind.ENUM_CONSTANT
                 && !List.of("this", "super").contains(variable.getSimpleName().toString())) return of(element);
         return kind;
     }
@@ -954,7 +978,8 @@ final class Kinds {
         if (left.equals("null")) return right.equals("int") ? BOX : right;
         if (right.equals("null")) return left.equals("int") ? BOX : left;
         if (left.equals(BOX) || right.equals(BOX)) return BOX;
-        return program.classes.containsKey(left) && program.classes.containsKey(right) && program.isBelow(program.classes.get(left), program.classes.get(right)) ? right : left;
+        return program.classes.containsKey(left) && program.classes.containsKey(right)
+                && program.isBelow(program.classes.get(left), program.classes.get(right)) ? right : left;
     }
 
     ExpressionTree receiver(MethodInvocationTree call) {
@@ -978,13 +1003,15 @@ final class Kinds {
         ExecutableElement method = (ExecutableElement) program.element(call);
         String declared = method == null || program.type(call) == null ? "?" : kind(program.type(call));
         if (method == null || receiver == null) return declared;
-        if (Program.classOf(method).getQualifiedName().contentEquals("java.util.Objects") && method.getSimpleName().toString().startsWith("requireNonNull")) {
+        if (Program.classOf(method).getQualifiedName().contentEquals("java.util.Objects")
+                && method.getSimpleName().toString().startsWith("requireNonNull")) {
             return of(call.getArguments().get(0));
         }
         String kind = of(receiver);
         String name = method.getSimpleName().toString();
         if (isAdded(kind) && kind.startsWith("PairOf")) return elements.get(kind).split(" ")[name.equals("getKey") ? 0 : 1];
-        boolean nullable = declared.equals("int") && !method.getReturnType().getKind().isPrimitive() && MAY_GIVE_NULL.contains(name);
+        boolean nullable = declared.equals("int") && !method.getReturnType().getKind().isPrimitive()
+                && MAY_GIVE_NULL.contains(name);
         return nullable && (isMap(kind) || isList(kind) && !name.matches("get|remove|put.*")) ? BOX : declared;
     }
 }
@@ -1016,8 +1043,10 @@ final class Reach {
     void from(String method) {
         TypeElement root = program.classes.get(fin.root());
         predicate = root == null ? null : program.method(root, "repOk", 0);
-        if (root == null) notes.refuse(fin.name(), "the root " + fin.root() + " is no class of the sources", "name one of " + program.classes.keySet());
-        else if (predicate == null) notes.refuse(program.place(program.trees.getTree(root)), root.getSimpleName() + " has no `boolean repOk()`", "write one");
+        if (root == null) notes.refuse(fin.name(), "the root " + fin.root() + " is no class of the sources",
+                "name one of " + program.classes.keySet());
+        else if (predicate == null) notes.refuse(program.place(program.trees.getTree(root)),
+                root.getSimpleName() + " has no `boolean repOk()`", "write one");
         if (predicate == null) return;
         keepClass(root);
         fin.objects().keySet().stream().map(program.classes::get).filter(Objects::nonNull).forEach(this::keepClass);
@@ -1031,7 +1060,8 @@ final class Reach {
             reachTested(root, method);
             close();
         }
-        kinds.flow.settle(creations.stream().filter(creation -> isScratch(creation, pureCreations.contains(creation))).toList());
+        kinds.flow.settle(creations.stream().filter(creation -> isScratch(creation, pureCreations.contains(creation)))
+                .toList());
         refuseImpure(pureMade, pureWrites);
     }
 
@@ -1048,7 +1078,8 @@ final class Reach {
 
     private void reachTested(TypeElement root, String name) {
         for (Element member : program.elements.getAllMembers(root)) {
-            if (member instanceof ExecutableElement method && member.getSimpleName().contentEquals(name) && program.isOwn(member)) tested = method;
+            if (member instanceof ExecutableElement method && member.getSimpleName().contentEquals(name)
+                    && program.isOwn(member)) tested = method;
         }
         if (tested == null) {
             notes.refuse(fin.name(), fin.root() + " has no method " + name, "name one that it has");
@@ -1125,13 +1156,15 @@ final class Reach {
         for (TypeElement type : program.classes.values()) {
             if (!kept.contains(type)) continue;
             for (Element member : type.getEnclosedElements()) {
-                if (member instanceof ExecutableElement method && !kept.contains(member) && overridesKept(method)) reach(method);
+                if (member instanceof ExecutableElement method && !kept.contains(member) && overridesKept(method))
+                        reach(method);
             }
         }
     }
 
     private boolean overridesKept(ExecutableElement method) {
-        return kept.stream().anyMatch(e -> e instanceof ExecutableElement above && program.elements.overrides(method, above, Program.classOf(method)));
+        return kept.stream().anyMatch(e -> e instanceof ExecutableElement above
+                && program.elements.overrides(method, above, Program.classOf(method)));
     }
 
     // ---- calls of libraries that come back to the sources
@@ -1148,7 +1181,9 @@ final class Reach {
         ExpressionTree receiver = kinds.receiver(call);
         if (method == null || receiver == null) return;
         if (Program.classOf(method).getQualifiedName().contentEquals("java.util.Objects")) {
-            if (!call.getArguments().isEmpty()) reachMember(kinds.of(call.getArguments().get(0)), method.getSimpleName().contentEquals("equals") ? "equals" : "");
+            if (!call.getArguments().isEmpty())
+                    reachMember(kinds.of(call.getArguments().get(0)),
+                    method.getSimpleName().contentEquals("equals") ? "equals" : "");
             return;
         }
         String kind = kinds.of(receiver);
@@ -1198,13 +1233,16 @@ final class Reach {
     /** Whether a `try` says what the predicate says anyway: a run that ends by an exception counts as false. */
     boolean isIdleTry(TryTree tree) {
         boolean all = tree.getCatches().stream().allMatch(c -> c.getBlock().getStatements().size() == 1
-                && c.getBlock().getStatements().get(0) instanceof ReturnTree back && back.getExpression().getKind() == Tree.Kind.BOOLEAN_LITERAL
+                && c.getBlock().getStatements().get(0) instanceof ReturnTree back
+                        && back.getExpression().getKind() == Tree.Kind.BOOLEAN_LITERAL
                 && Boolean.FALSE.equals(((LiteralTree) back.getExpression()).getValue()));
-        return all && tree.getFinallyBlock() == null && tree.getResources().isEmpty() && predicate.equals(program.methodAround(tree)) && !predicateIsCalled;
+        return all && tree.getFinallyBlock() == null && tree.getResources().isEmpty()
+                && predicate.equals(program.methodAround(tree)) && !predicateIsCalled;
     }
 
     static boolean isPrint(ExpressionStatementTree tree) {
-        return tree.getExpression() instanceof MethodInvocationTree call && call.getMethodSelect().toString().matches("(java\\.lang\\.)?System\\.(out|err)\\.\\w+");
+        return tree.getExpression() instanceof MethodInvocationTree call
+                && call.getMethodSelect().toString().matches("(java\\.lang\\.)?System\\.(out|err)\\.\\w+");
     }
 
     private final TreeScanner<Void, Void> scanner = new TreeScanner<>() {
@@ -1260,7 +1298,8 @@ final class Reach {
         @Override
         public Void visitNewArray(NewArrayTree tree, Void nothing) {
             creations.add(tree);
-            if (tree.getInitializers() != null) tree.getInitializers().forEach(item -> kinds.flow.add(item, new Flow.ElementOf(tree)));
+            if (tree.getInitializers() != null)
+                    tree.getInitializers().forEach(item -> kinds.flow.add(item, new Flow.ElementOf(tree)));
             return super.visitNewArray(tree, nothing);
         }
 
@@ -1342,7 +1381,8 @@ final class Reach {
         if (element instanceof TypeElement type) keepClass(type);
         else if (element.getKind() == ElementKind.ENUM_CONSTANT) keepClass(Program.classOf(element));
         else if (element.getKind() == ElementKind.FIELD) keepField(element);
-        else if (element.getKind() == ElementKind.METHOD || element.getKind() == ElementKind.CONSTRUCTOR) reach((ExecutableElement) element);
+        else if (element.getKind() == ElementKind.METHOD
+                || element.getKind() == ElementKind.CONSTRUCTOR) reach((ExecutableElement) element);
     }
 
     private void write(ExpressionTree target) {
@@ -1360,36 +1400,45 @@ final class Reach {
         if (nested || pure && kinds.countsArray(kind)) return true;
         boolean isLong = array.getDimensions().size() == 1 && Numbers.of(program, array.getDimensions().get(0)) > 64
                 || array.getInitializers() != null && array.getInitializers().size() > 64;
-        if (isLong) notes.warn(program.place(array), "an array longer than 64 traps in korat, and a trap counts as false: it becomes an object of an added class");
+        if (isLong) notes.warn(program.place(array),
+                "an array longer than 64 traps in korat, and a trap counts as false: it becomes an object of an added class");
         return isLong;
     }
 
     private TypeMirror creationType(ExpressionTree creation) {
         ExecutableElement method = (ExecutableElement) program.element(creation);
-        return program.isOwn(method) ? method.getParameters().get(method.getParameters().size() - 1).asType() : program.type(creation);
+        return program.isOwn(method) ? method.getParameters().get(method.getParameters().size() - 1).asType()
+                : program.type(creation);
     }
 
     private void refuseImpure(List<TypeElement> pureMade, List<Tree> pureWrites) {
         for (TypeElement type : pureMade) {
             if (fin.counts(type.getSimpleName().toString())) {
-                notes.refuse(program.place(program.trees.getTree(type)), "the predicate makes objects of " + type.getSimpleName() + ", which the finitization counts",
+                notes.refuse(program.place(program.trees.getTree(type)),
+                        "the predicate makes objects of " + type.getSimpleName() + ", which the finitization counts",
                         "let repOk make objects of another class");
             }
         }
         for (Tree target : pureWrites) {
-            if (target instanceof ArrayAccessTree access && !kinds.flow.isScratch(access.getExpression()) && kinds.countsArray(kinds.of(access.getExpression()))) {
-                notes.refuse(program.place(target), "the predicate changes an array that the finitization counts", "let repOk leave the candidate as it is");
+            if (target instanceof ArrayAccessTree access && !kinds.flow.isScratch(access.getExpression())
+                    && kinds.countsArray(kinds.of(access.getExpression()))) {
+                notes.refuse(program.place(target), "the predicate changes an array that the finitization counts",
+                        "let repOk leave the candidate as it is");
             }
             Element field = target instanceof ArrayAccessTree ? null : program.element(target);
-            if (field != null && field.getKind() == ElementKind.FIELD && program.isOwn(field) && fin.counts(Program.classOf(field).getSimpleName().toString())) {
-                notes.refuse(program.place(target), "the predicate changes the field `" + field + "` of a candidate", "let repOk leave the candidate as it is");
+            if (field != null && field.getKind() == ElementKind.FIELD && program.isOwn(field)
+                    && fin.counts(Program.classOf(field).getSimpleName().toString())) {
+                notes.refuse(program.place(target), "the predicate changes the field `" + field + "` of a candidate",
+                        "let repOk leave the candidate as it is");
             }
         }
         for (ExpressionTree creation : creations) {
             if (!kinds.flow.isScratch(creation)) continue;
             for (Element element : kinds.flow.sharing(creation)) {
-                if (element.getKind() != ElementKind.FIELD || !fin.counts(Program.classOf(element).getSimpleName().toString())) continue;
-                notes.refuse(program.place(creation), "this array and the field `" + element + "` meet in one variable", "use a variable for each");
+                if (element.getKind() != ElementKind.FIELD || !fin.counts(Program.classOf(element).getSimpleName().toString()))
+                        continue;
+                notes.refuse(program.place(creation), "this array and the field `" + element + "` meet in one variable",
+                        "use a variable for each");
             }
         }
     }
@@ -1427,13 +1476,15 @@ final class Contracts {
         String text = program.source(tree).text().substring(0, program.start(tree));
         List<String> lines = new ArrayList<>(text.lines().toList());
         Collections.reverse(lines);
-        return lines.stream().takeWhile(line -> line.isBlank() || line.strip().startsWith("//")).filter(line -> line.contains("//@")).collect(Collectors.joining("\n"));
+        return lines.stream().takeWhile(line -> line.isBlank() || line.strip().startsWith("//"))
+                .filter(line -> line.contains("//@")).collect(Collectors.joining("\n"));
     }
 }
 
 /** What is known of the library's collections. */
 final class Collected {
-    private static final Set<String> MAKERS = Set.of("java.util.List.of", "java.util.Set.of", "java.util.Arrays.asList", "java.util.Collections.singleton",
+    private static final Set<String> MAKERS =
+            Set.of("java.util.List.of", "java.util.Set.of", "java.util.Arrays.asList", "java.util.Collections.singleton",
             "java.util.Collections.singletonList");
 
     private Collected() {}
@@ -1449,13 +1500,16 @@ final class Collected {
 
     /** Whether a method copies an array. */
     static boolean isCopy(ExecutableElement method) {
-        return qualified(method).matches("java\\.util\\.Arrays\\.copyOf(Range)?") || method.getSimpleName().contentEquals("clone");
+        return qualified(method).matches("java\\.util\\.Arrays\\.copyOf(Range)?")
+                || method.getSimpleName().contentEquals("clone");
     }
 
     /** Whether a creation needs more than the subset's collections have. */
     static boolean needsOwn(NewClassTree tree) {
-        String name = tree.getIdentifier() instanceof ParameterizedTypeTree type ? type.getType().toString() : tree.getIdentifier().toString();
-        return name.endsWith("ArrayDeque") || !tree.getArguments().isEmpty() && tree.getArguments().get(0).getKind() != Tree.Kind.INT_LITERAL;
+        String name = tree.getIdentifier() instanceof ParameterizedTypeTree type ? type.getType().toString()
+                : tree.getIdentifier().toString();
+        return name.endsWith("ArrayDeque") || !tree.getArguments().isEmpty()
+                && tree.getArguments().get(0).getKind() != Tree.Kind.INT_LITERAL;
     }
 
     /** Whether the subset's own collections have the method, maybe by another name. */
@@ -1515,7 +1569,8 @@ final class Library {
     Library(Program program) {
         this.program = program;
         for (TypeElement type : program.classes.values()) {
-            for (Element member : type.getEnclosedElements()) if (member instanceof ExecutableElement) taken.add(member.getSimpleName().toString());
+            for (Element member : type.getEnclosedElements()) if (member instanceof ExecutableElement)
+                    taken.add(member.getSimpleName().toString());
         }
     }
 
@@ -1528,7 +1583,9 @@ final class Library {
     String method(String key, String kind, String equal) {
         String of = kind.isEmpty() ? "" : Kinds.mangled(kind);
         String text = METHODS.get(key);
-        return add(key.replace("@", of), text.replace("@", of).replace("#", kind).replace("(=)", "(" + equal + ")").replace("return =;", "return " + equal + ";"));
+        return add(key.replace("@", of),
+                text.replace("@", of).replace("#", kind).replace("(=)", "(" + equal + ")").replace("return =;",
+                "return " + equal + ";"));
     }
 
     String method(String key) {
@@ -1554,14 +1611,18 @@ final class Library {
             parameters.add(kind + " item" + i);
             writes.append(" made[").append(i).append("] = item").append(i).append(";");
         }
-        return add("arrayOf" + length + Kinds.mangled(kind), "static " + kind + "[] $(" + String.join(", ", parameters) + ") { " + kind + "[] made = new " + kind
+        return add("arrayOf" + length + Kinds.mangled(kind),
+                "static " + kind + "[] $(" + String.join(", ", parameters) + ") { " + kind + "[] made = new " + kind
                 + "[" + length + "];" + writes + " return made; }");
     }
 
     /** A method that copies a part of an array into an object of an added class. */
     String copyTo(String array, String element) {
-        return add("copyTo" + array, "static " + array + " $(" + element + "[] from, int start, int end) { if (start < 0 || start > from.length || start > end) end = 1 / 0; "
-                + array + " made = new " + array + "(end - start); for (int i = start; i < end && i < from.length; i++) made.set(i - start, from[i]); return made; }");
+        return add("copyTo" + array,
+                "static " + array + " $(" + element
+                + "[] from, int start, int end) { if (start < 0 || start > from.length || start > end) end = 1 / 0; "
+                + array + " made = new " + array
+                        + "(end - start); for (int i = start; i < end && i < from.length; i++) made.set(i - start, from[i]); return made; }");
     }
 
     String methods() {
@@ -1602,7 +1663,8 @@ final class Library {
     }
 
     String box() {
-        add(Kinds.BOX, name -> "// An int, or null.\nclass BoxedInt {\n    int value;\n\n    BoxedInt(int value) { this.value = value; }\n}\n");
+        add(Kinds.BOX, name ->
+                "// An int, or null.\nclass BoxedInt {\n    int value;\n\n    BoxedInt(int value) { this.value = value; }\n}\n");
         return Kinds.BOX;
     }
 
@@ -1610,7 +1672,8 @@ final class Library {
     void need(Kinds kinds, String kind, Function<String, String> equal) {
         String element = kinds.elementOf(kind);
         String equality = equal.apply(element.split(" ")[0]);
-        if (kind.startsWith("MapOf") || kind.startsWith("PairOf")) map(kind, kinds.qualified(element.split(" ")[0]), kinds.qualified(element.split(" ")[1]), equality);
+        if (kind.startsWith("MapOf") || kind.startsWith("PairOf"))
+                map(kind, kinds.qualified(element.split(" ")[0]), kinds.qualified(element.split(" ")[1]), equality);
         else if (kind.startsWith("ArrayOf")) array(kind, kinds.qualified(element));
         else collection(kind, Kinds.mangled(element), kinds.qualified(element), equality);
     }
@@ -1618,9 +1681,12 @@ final class Library {
     private void collection(String kind, String of, String element, String equality) {
         boolean number = element.equals("int");
         String nullable = number ? box() : element;
-        Map<String, String> words = Map.of("$L", "ListOf" + of, "$C", "CellOf" + of, "$X", element, "$P", nullable, "$E", equality.replaceAll("\\ba\\b", "item").replaceAll("\\bb\\b", "cell.item"),
+        Map<String, String> words =
+                Map.of("$L", "ListOf" + of, "$C", "CellOf" + of, "$X", element, "$P", nullable, "$E",
+                equality.replaceAll("\\ba\\b", "item").replaceAll("\\bb\\b", "cell.item"),
                 "$O", number ? "new BoxedInt(" : "(", "$I", "IteratorOf" + of, "$N", kind,
-                "$D", number ? "after.item < item" : "after.item.compareTo(item) < 0", "$S", number ? "after.item == item" : "after.item.compareTo(item) == 0");
+                "$D", number ? "after.item < item" : "after.item.compareTo(item) < 0", "$S",
+                        number ? "after.item == item" : "after.item.compareTo(item) == 0");
         add("CellOf" + of, name -> Templates.fill(Templates.CELL, words));
         add("ListOf" + of, name -> Templates.fill(Templates.LIST, words));
         add("IteratorOf" + of, name -> Templates.fill(Templates.ITERATOR, words));
@@ -1631,16 +1697,21 @@ final class Library {
 
     private void map(String kind, String key, String value, String equality) {
         String of = kind.substring(kind.indexOf("Of") + 2);
-        Map<String, String> words = Map.of("$N", "MapOf" + of, "$P", "PairOf" + of, "$K", key, "$V", value, "$R", value.equals("int") ? box() : value,
-                "$O", value.equals("int") ? "new BoxedInt(" : "(", "$E", equality.replaceAll("\\ba\\b", "pair.key").replaceAll("\\bb\\b", "key"));
+        Map<String, String> words =
+                Map.of("$N", "MapOf" + of, "$P", "PairOf" + of, "$K", key, "$V", value, "$R",
+                value.equals("int") ? box() : value,
+                "$O", value.equals("int") ? "new BoxedInt(" : "(", "$E",
+                        equality.replaceAll("\\ba\\b", "pair.key").replaceAll("\\bb\\b", "key"));
         add("PairOf" + of, name -> Templates.fill(Templates.PAIR, words));
-        add("MapOf" + of, name -> Templates.fill(Templates.MAP, words) + (value.equals("int") ? Templates.fill(Templates.SUM, words) : "") + "}\n");
+        add("MapOf" + of, name -> Templates.fill(Templates.MAP, words)
+                + (value.equals("int") ? Templates.fill(Templates.SUM, words) : "") + "}\n");
     }
 
     private void array(String kind, String element) {
         Map<String, String> words = Map.of("$N", kind, "$C", kind.replaceFirst("Array", "Slot"), "$X", element);
         add(kind.replaceFirst("Array", "Slot"), name -> Templates.fill(Templates.SLOT, words));
-        add(kind, name -> Templates.fill(Templates.ARRAY, words) + (element.startsWith("ArrayOf") ? Templates.fill(Templates.ROWS, words) : "") + "}\n");
+        add(kind, name -> Templates.fill(Templates.ARRAY, words)
+                + (element.startsWith("ArrayOf") ? Templates.fill(Templates.ROWS, words) : "") + "}\n");
     }
 }
 
@@ -1668,24 +1739,34 @@ final class Templates {
                 $C first;
                 int size;
 
-                $C cell(int index) { $C cell = index < 0 ? null : first; for (int i = 0; i < index; i++) cell = cell.next; return cell; }
-                boolean add($X item) { if (size == 0) first = new $C(item, null); else cell(size - 1).next = new $C(item, null); size++; return true; }
+                $C cell(int index) { $C cell = index < 0 ? null
+                        : first; for (int i = 0; i < index; i++) cell = cell.next; return cell; }
+                boolean add($X item) { if (size == 0) first = new $C(item, null); else cell(size - 1).next =
+                        new $C(item, null); size++; return true; }
                 void addFirst($X item) { first = new $C(item, first); size++; }
-                void insert(int index, $X item) { if (index == 0) addFirst(item); else { $C before = cell(index - 1); before.next = new $C(item, before.next); size++; } }
-                boolean addAll($L items) { boolean changed = false; for ($C cell = items.first; cell != null; cell = cell.next) if (add(cell.item)) changed = true; return changed; }
+                void insert(int index,
+                        $X item) { if (index == 0) addFirst(item); else { $C before = cell(index - 1); before.next =
+                        new $C(item, before.next); size++; } }
+                boolean addAll($L items) { boolean changed =
+                        false; for ($C cell = items.first; cell != null; cell = cell.next) if (add(cell.item)) changed =
+                        true; return changed; }
                 int size() { return size; }
                 boolean isEmpty() { return size == 0; }
-                int indexOf($X item) { int index = 0; for ($C cell = first; cell != null; cell = cell.next) { if ($E) return index; index++; } return -1; }
+                int indexOf($X item) { int index =
+                        0; for ($C cell = first; cell != null; cell = cell.next) { if ($E) return index; index++; } return -1; }
                 boolean contains($X item) { return indexOf(item) >= 0; }
-                boolean containsAll($L items) { for ($C cell = items.first; cell != null; cell = cell.next) if (!contains(cell.item)) return false; return true; }
+                boolean containsAll($L items) { for ($C cell = items.first; cell != null; cell =
+                        cell.next) if (!contains(cell.item)) return false; return true; }
                 $X get(int index) { return cell(index).item; }
                 $X set(int index, $X item) { $C cell = cell(index); $X before = cell.item; cell.item = item; return before; }
                 $X getFirst() { return first.item; }
                 $X getLast() { return cell(size - 1).item; }
                 $X removeFirst() { $X item = first.item; first = first.next; size--; return item; }
-                $X removeAt(int index) { if (index == 0) return removeFirst(); $C before = cell(index - 1); $X item = before.next.item; before.next = before.next.next; size--; return item; }
+                $X removeAt(int index) { if (index == 0) return removeFirst(); $C before = cell(index - 1); $X item =
+                        before.next.item; before.next = before.next.next; size--; return item; }
                 $X removeLast() { return removeAt(size - 1); }
-                boolean remove($X item) { int index = indexOf(item); if (index < 0) return false; removeAt(index); return true; }
+                boolean remove($X item) { int index =
+                        indexOf(item); if (index < 0) return false; removeAt(index); return true; }
                 $P peekFirst() { return size == 0 ? null : $Ofirst.item); }
                 $P peekLast() { return size == 0 ? null : $OgetLast()); }
                 $P pollFirst() { return size == 0 ? null : $OremoveFirst()); }
@@ -1726,8 +1807,13 @@ final class Templates {
     static final String SORTED = """
             // A set in ascending order.
             class $N extends $L {
-                boolean add($X item) { int index = 0; for ($C after = first; after != null && $D; after = after.next) index++; if (contains(item)) return false; insert(index, item); return true; }
-                int indexOf($X item) { int index = 0; for ($C after = first; after != null; after = after.next) { if ($S) return index; index++; } return -1; }
+                boolean add($X item) { int index =
+                        0; for ($C after = first; after != null
+                        && $D; after = after.next) index++; if (contains(item)) return false; insert(index,
+                        item); return true; }
+                int indexOf($X item) { int index =
+                        0; for ($C after = first; after != null; after =
+                        after.next) { if ($S) return index; index++; } return -1; }
                 $N with($X item) { add(item); return this; }
                 $N withAll($L items) { addAll(items); return this; }
             }
@@ -1755,9 +1841,12 @@ final class Templates {
                 $R get($K key) { $P pair = find(key); return pair == null ? null : $Opair.value); }
                 $V getOrDefault($K key, $V other) { $P pair = find(key); return pair == null ? other : pair.value; }
                 boolean containsKey($K key) { return find(key) != null; }
-                $R put($K key, $V value) { $P pair = find(key); if (pair != null) return $Opair.setValue(value)); first = new $P(key, value, first); size++; return null; }
+                $R put($K key, $V value) { $P pair = find(key); if (pair != null) return $Opair.setValue(value)); first =
+                        new $P(key, value, first); size++; return null; }
                 $R putIfAbsent($K key, $V value) { $R before = get(key); if (before == null) put(key, value); return before; }
-                $R remove($K key) { $P gone = find(key); if (gone == null) return null; if (gone == first) first = first.next; for ($P pair = first; pair != null; pair = pair.next) if (pair.next == gone) pair.next = gone.next; size--; return $Ogone.value); }
+                $R remove($K key) { $P gone = find(key); if (gone == null) return null; if (gone == first) first =
+                        first.next; for ($P pair = first; pair != null; pair = pair.next) if (pair.next == gone) pair.next =
+                        gone.next; size--; return $Ogone.value); }
                 int size() { return size; }
                 boolean isEmpty() { return size == 0; }
                 void clear() { first = null; size = 0; }
@@ -1789,13 +1878,17 @@ final class Templates {
                 void fill($X item) { for (int i = 0; i < length; i++) set(i, item); }
             """;
     static final String ROWS = """
-                static $N rows(int length, int width) { $N rows = new $N(length); for (int i = 0; i < length; i++) rows.set(i, new $X(width)); return rows; }
+                static $N rows(int length,
+                        int width) { $N rows =
+                        new $N(length); for (int i = 0; i < length; i++) rows.set(i, new $X(width)); return rows; }
             """;
 }
 
 /** The names of kept methods and of constructors that become methods. */
 final class MethodNames {
-    private static final Map<String, String> RESERVED = Map.of("equals", "isEqualTo", "hashCode", "hash", "toString", "text", "clone", "copy", "finalize", "end", "getClass", "type");
+    private static final Map<String,
+            String> RESERVED = Map.of("equals", "isEqualTo", "hashCode", "hash", "toString", "text", "clone", "copy",
+            "finalize", "end", "getClass", "type");
     private final Program program;
     private final Reach reach;
     private final Notes notes;
@@ -1805,7 +1898,8 @@ final class MethodNames {
         this.program = program;
         this.reach = reach;
         this.notes = notes;
-        List<ExecutableElement> methods = reach.kept.stream().filter(ExecutableElement.class::isInstance).map(ExecutableElement.class::cast).filter(program::isOwn)
+        List<ExecutableElement> methods = reach.kept.stream().filter(ExecutableElement.class::isInstance)
+                .map(ExecutableElement.class::cast).filter(program::isOwn)
                 .sorted(Comparator.comparingInt(this::rank).thenComparingInt(this::position)).toList();
         methods.forEach(this::name);
         methods.forEach(this::warnOfPrivate);
@@ -1830,12 +1924,16 @@ final class MethodNames {
     }
 
     private static String described(ExecutableElement method) {
-        return method.getSimpleName() + method.getParameters().stream().map(p -> p.asType().toString().replaceAll("<[^<>]*>|[\\w.]*\\.", "")).collect(Collectors.joining(", ", "(", ")"));
+        return method.getSimpleName() + method.getParameters().stream()
+                .map(p -> p.asType().toString().replaceAll("<[^<>]*>|[\\w.]*\\.", ""))
+                .collect(Collectors.joining(", ", "(", ")"));
     }
 
     /** Whether a class has a constructor that becomes a method, since it has several. */
     boolean hasSeveral(TypeElement type) {
-        return type.getEnclosedElements().stream().filter(e -> e.getKind() == ElementKind.CONSTRUCTOR && reach.kept.contains(e) && program.trees.getTree(e) != null).count() > 1;
+        return type.getEnclosedElements().stream()
+                .filter(e -> e.getKind() == ElementKind.CONSTRUCTOR && reach.kept.contains(e)
+                && program.trees.getTree(e) != null).count() > 1;
     }
 
     private void name(ExecutableElement method) {
@@ -1846,16 +1944,22 @@ final class MethodNames {
         }
         TypeElement type = Program.classOf(method);
         boolean constructor = method.getKind() == ElementKind.CONSTRUCTOR;
-        String plain = constructor ? "init" + type.getSimpleName() : RESERVED.getOrDefault(method.getSimpleName().toString(), method.getSimpleName().toString());
-        String wanted = isTaken(plain, type) && method.getModifiers().contains(Modifier.PRIVATE) && !overloaded(method) ? plain + "Of" + type.getSimpleName() : plain;
+        String plain = constructor ? "init" + type.getSimpleName()
+                : RESERVED.getOrDefault(method.getSimpleName().toString(), method.getSimpleName().toString());
+        String wanted = isTaken(plain, type) && method.getModifiers().contains(Modifier.PRIVATE)
+                && !overloaded(method) ? plain + "Of" + type.getSimpleName() : plain;
         String name = wanted;
         for (int i = 2; isTaken(name, type); i++) name = wanted + i;
         names.put(method, name);
-        if (!constructor && !name.contentEquals(method.getSimpleName())) notes.changed(program.place(program.trees.getTree(method)), "the method " + described(method) + " is named " + name);
+        if (!constructor && !name.contentEquals(method.getSimpleName()))
+                notes.changed(program.place(program.trees.getTree(method)),
+                "the method " + described(method) + " is named " + name);
     }
 
     private boolean overloaded(ExecutableElement method) {
-        return names.keySet().stream().anyMatch(other -> Program.classOf(other).equals(Program.classOf(method)) && other.getSimpleName().equals(method.getSimpleName()));
+        return names.keySet().stream()
+                .anyMatch(other -> Program.classOf(other).equals(Program.classOf(method))
+                && other.getSimpleName().equals(method.getSimpleName()));
     }
 
     private boolean sameMethod(ExecutableElement a, ExecutableElement b) {
@@ -1863,7 +1967,8 @@ final class MethodNames {
     }
 
     private boolean isTaken(String name, TypeElement type) {
-        return names.entrySet().stream().anyMatch(entry -> entry.getValue().equals(name) && related(Program.classOf(entry.getKey()), type));
+        return names.entrySet().stream()
+                .anyMatch(entry -> entry.getValue().equals(name) && related(Program.classOf(entry.getKey()), type));
     }
 
     private boolean related(TypeElement a, TypeElement b) {
@@ -1875,9 +1980,14 @@ final class MethodNames {
         if (!method.getModifiers().contains(Modifier.PRIVATE) || method.getKind() == ElementKind.CONSTRUCTOR) return;
         for (ExecutableElement other : names.keySet()) {
             TypeElement below = Program.classOf(other);
-            if (other == method || below.equals(Program.classOf(method)) || !program.isBelow(below, Program.classOf(method))) continue;
-            if (!other.getSimpleName().equals(method.getSimpleName()) || !program.types.isSubsignature((ExecutableType) other.asType(), (ExecutableType) method.asType())) continue;
-            notes.warn(program.place(program.trees.getTree(method)), "in korat " + described(other) + " of " + below.getSimpleName() + " would override this private method: one of them is renamed");
+            if (other == method || below.equals(Program.classOf(method)) || !program.isBelow(below, Program.classOf(method)))
+                    continue;
+            if (!other.getSimpleName().equals(method.getSimpleName())
+                    || !program.types.isSubsignature((ExecutableType) other.asType(),
+                    (ExecutableType) method.asType())) continue;
+            notes.warn(program.place(program.trees.getTree(method)),
+                    "in korat " + described(other) + " of " + below.getSimpleName()
+                    + " would override this private method: one of them is renamed");
         }
     }
 }
@@ -1910,7 +2020,8 @@ final class Bounds {
     private static void table(StringBuilder text, String name, Map<String, String> entries) {
         if (entries.isEmpty()) return;
         text.append("\n[").append(name).append("]\n");
-        entries.forEach((key, value) -> text.append(name.equals("objects") ? key : "\"" + key + "\"").append(" = ").append(value).append("\n"));
+        entries.forEach((key, value) ->
+                text.append(name.equals("objects") ? key : "\"" + key + "\"").append(" = ").append(value).append("\n"));
     }
 
     private Map<String, String> objects() {
@@ -1927,13 +2038,15 @@ final class Bounds {
         fin.arrays().forEach((name, bound) -> {
             String kind = kinds.arrayKind(name);
             if (kind.startsWith("?")) {
-                notes.refuse(fin.name(), "nothing says what the elements of " + name + " are", "name their values in [fields], as \"" + name + ".*\" = [1, 2]");
+                notes.refuse(fin.name(), "nothing says what the elements of " + name + " are",
+                        "name their values in [fields], as \"" + name + ".*\" = [1, 2]");
                 return;
             }
             Object lengths = bound.getOrDefault("lengths", List.of());
             String text = "{ count = " + bound.get("count") + ", lengths = " + domain((List<?>) lengths, null) + " }";
             if (result.put(kind, text) != null) {
-                notes.refuse(fin.name(), "the arrays " + arrayNames(kind) + " become one type, " + kind + ", whose arrays can't be told apart",
+                notes.refuse(fin.name(),
+                        "the arrays " + arrayNames(kind) + " become one type, " + kind + ", whose arrays can't be told apart",
                         "make the elements of one of them objects of a class of your own");
             }
             if (!kind.equals(name)) notes.changed(fin.name(), name + " became " + kind);
@@ -1942,7 +2055,8 @@ final class Bounds {
     }
 
     private String arrayNames(String kind) {
-        return fin.arrays().keySet().stream().filter(name -> kinds.arrayKind(name).equals(kind)).collect(Collectors.joining(" and "));
+        return fin.arrays().keySet().stream().filter(name -> kinds.arrayKind(name).equals(kind))
+                .collect(Collectors.joining(" and "));
     }
 
     private Map<String, String> fields() {
@@ -1957,10 +2071,13 @@ final class Bounds {
             } else if (field == null) {
                 result.put(key, domain(items, null));
             } else if (isConstant(field)) {
-                notes.warn(fin.name(), key + " is final with a constant: Java reads " + field.getConstantValue() + " whatever the domain says, korat would have a slot; it is a constant now");
+                notes.warn(fin.name(),
+                        key + " is final with a constant: Java reads " + field.getConstantValue()
+                        + " whatever the domain says, korat would have a slot; it is a constant now");
             } else {
                 checkRange(key, items, field.asType().toString());
-                result.put(key, domain(items, program.types.asElement(field.asType()) instanceof TypeElement type ? type : null));
+                result.put(key, domain(items,
+                        program.types.asElement(field.asType()) instanceof TypeElement type ? type : null));
             }
         });
         return result;
@@ -1968,25 +2085,31 @@ final class Bounds {
 
     /** A final field whose value the compiler writes where it is read. */
     static boolean isConstant(VariableElement field) {
-        return field.getModifiers().contains(Modifier.FINAL) && field.getConstantValue() != null && !field.getModifiers().contains(Modifier.STATIC);
+        return field.getModifiers().contains(Modifier.FINAL) && field.getConstantValue() != null
+                && !field.getModifiers().contains(Modifier.STATIC);
     }
 
     private void checkRange(String key, List<Object> items, String type) {
-        Map<String, long[]> ranges = Map.of("byte", new long[] {-128, 127}, "short", new long[] {-32768, 32767}, "char", new long[] {0, 65535},
+        Map<String, long[]> ranges =
+                Map.of("byte", new long[] {-128, 127}, "short", new long[] {-32768, 32767}, "char", new long[] {0, 65535},
                 "Byte", new long[] {-128, 127}, "Short", new long[] {-32768, 32767}, "Character", new long[] {0, 65535});
         long[] range = ranges.get(type.substring(type.lastIndexOf('.') + 1));
         if (range == null) return;
         for (Object item : items) {
-            long from = item instanceof Map<?, ?> map ? (Long) map.get("from") : item instanceof Long number ? number : range[0];
+            long from = item instanceof Map<?,
+                    ?> map ? (Long) map.get("from") : item instanceof Long number ? number : range[0];
             long to = item instanceof Map<?, ?> map ? (Long) map.get("to") : from;
-            if (from < range[0] || to > range[1]) notes.refuse(fin.name(), key + " has values that no " + type + " has", "keep them from " + range[0] + " to " + range[1]);
+            if (from < range[0] || to > range[1])
+                    notes.refuse(fin.name(), key + " has values that no " + type + " has",
+                    "keep them from " + range[0] + " to " + range[1]);
         }
     }
 
     private Map<String, String> params() {
         Map<String, String> result = new LinkedHashMap<>();
         fin.params().forEach((key, items) -> {
-            if (reach.tested != null && key.startsWith(reach.tested.getSimpleName() + ".")) result.put(key, domain(items, null));
+            if (reach.tested != null && key.startsWith(reach.tested.getSimpleName() + "."))
+                    result.put(key, domain(items, null));
             else notes.changed(fin.name(), "dropped params." + key + ", of a method that isn't kept");
         });
         return result;
@@ -1995,11 +2118,15 @@ final class Bounds {
     /** A domain as text; the constants of an enum are their numbers. */
     private String domain(List<?> items, TypeElement type) {
         boolean isEnum = type != null && type.getKind() == ElementKind.ENUM;
-        List<String> constants = !isEnum ? List.of() : type.getEnclosedElements().stream().filter(e -> e.getKind() == ElementKind.ENUM_CONSTANT).map(e -> e.getSimpleName().toString()).toList();
+        List<String> constants = !isEnum ? List.of() : type.getEnclosedElements().stream()
+                .filter(e -> e.getKind() == ElementKind.ENUM_CONSTANT).map(e -> e.getSimpleName().toString()).toList();
         List<String> texts = new ArrayList<>();
         for (Object item : items) {
-            if (isEnum && "null".equals(item)) notes.refuse(fin.name(), "null among the constants of " + type.getSimpleName(), "add a constant to the enum that stands for none");
-            else if (isEnum && item.equals(type.getSimpleName().toString())) for (int i = 0; i < constants.size(); i++) texts.add(String.valueOf(i));
+            if (isEnum && "null".equals(item))
+                    notes.refuse(fin.name(), "null among the constants of " + type.getSimpleName(),
+                    "add a constant to the enum that stands for none");
+            else if (isEnum && item.equals(type.getSimpleName().toString())) for (int i =
+                    0; i < constants.size(); i++) texts.add(String.valueOf(i));
             else if (isEnum && constants.contains(item)) texts.add(String.valueOf(constants.indexOf(item)));
             else texts.add(text(item));
         }
@@ -2062,7 +2189,8 @@ final class Rewriter {
             int from = program.start(group.get(0));
             int to = program.end(group.get(group.size() - 1));
             text.append(gap(source.text().substring(at, from)));
-            String made = given.containsKey(group.get(0)) ? given.get(group.get(0)) : group.get(0) instanceof VariableTree ? statements.variables(group) : of(group.get(0));
+            String made = given.containsKey(group.get(0)) ? given.get(group.get(0)) : group.get(0) instanceof VariableTree
+                    ? statements.variables(group) : of(group.get(0));
             text.append(padded(made, source.text().substring(from, to)));
             at = to;
         }
@@ -2089,7 +2217,8 @@ final class Rewriter {
         for (Tree tree : trees) {
             if (program.end(tree) <= program.start(tree)) continue;
             List<Tree> last = groups.isEmpty() ? null : groups.get(groups.size() - 1);
-            boolean joined = last != null && tree instanceof VariableTree && last.get(0) instanceof VariableTree && program.start(last.get(0)) == program.start(tree);
+            boolean joined = last != null && tree instanceof VariableTree && last.get(0) instanceof VariableTree
+                    && program.start(last.get(0)) == program.start(tree);
             if (joined) last.add(tree);
             else groups.add(new ArrayList<>(List.of(tree)));
         }
@@ -2130,14 +2259,19 @@ final class Rewriter {
     }
 
     private String refusedType(Tree at, String type) {
-        boolean parameter = type.length() <= 1 || Character.isUpperCase(type.charAt(0)) && program.elements.getTypeElement("java.lang." + type) == null
+        boolean parameter = type.length() <= 1 || Character.isUpperCase(type.charAt(0))
+                && program.elements.getTypeElement("java.lang." + type) == null
                 && program.elements.getTypeElement("java.util." + type) == null && !type.contains(".");
-        if (Set.of("long", "float", "double").contains(type)) refused(at, "`" + type + "` is no type of korat's", "write int, or keep it out of what repOk reads");
-        else if (type.equals("String")) refused(at, "`String` is no type of korat's", "write a number or an object of a class of your own in its place");
+        if (Set.of("long", "float", "double").contains(type))
+                refused(at, "`" + type + "` is no type of korat's", "write int, or keep it out of what repOk reads");
+        else if (type.equals("String")) refused(at, "`String` is no type of korat's",
+                "write a number or an object of a class of your own in its place");
         else if (type.startsWith("record ")) refused(at, "a " + type, "write it as a class with fields");
-        else if (type.startsWith("null among")) refused(at, type, "write a class with a number, or leave null out of the domain");
+        else if (type.startsWith("null among")) refused(at, type,
+                "write a class with a number, or leave null out of the domain");
         else if (parameter || type.matches("Object|Comparable|Number")) {
-            refused(at, "nothing says what `" + type + "` is", "give its values in the finitization's [fields], as [1, 2] or the name of a class of the sources");
+            refused(at, "nothing says what `" + type + "` is",
+                    "give its values in the finitization's [fields], as [1, 2] or the name of a class of the sources");
         } else refused(at, "`" + type + "` has no place in korat", "write an array, linked nodes or a class of your own");
         return "int";
     }
@@ -2151,7 +2285,8 @@ final class Rewriter {
         for (ImportTree tree : unit.getImports()) {
             text.append(gap(source.text().substring(at, program.start(tree))));
             String name = tree.getQualifiedIdentifier().toString();
-            boolean kept = !tree.isStatic() && Set.of("java.util.*", "java.util.HashSet", "java.util.LinkedList").contains(name);
+            boolean kept = !tree.isStatic()
+                    && Set.of("java.util.*", "java.util.HashSet", "java.util.LinkedList").contains(name);
             text.append(kept ? program.text(tree) : "");
             at = program.end(tree);
         }
@@ -2163,10 +2298,12 @@ final class Rewriter {
     private String withImports(String text, CompilationUnitTree unit) {
         StringBuilder imports = new StringBuilder();
         for (String name : List.of("HashSet", "LinkedList")) {
-            if (text.contains(name + "<") && !text.contains("import java.util." + name) && !text.contains("import java.util.*")) imports.append("import java.util.").append(name).append("; ");
+            if (text.contains(name + "<") && !text.contains("import java.util." + name)
+                    && !text.contains("import java.util.*")) imports.append("import java.util.").append(name).append("; ");
         }
         int at = unit.getPackage() == null ? 0 : program.end(unit.getPackage());
-        return imports.length() == 0 ? text : text.substring(0, at) + (at > 0 ? " " : "") + (at > 0 ? imports.toString().strip() : imports) + text.substring(at);
+        return imports.length() == 0 ? text : text.substring(0, at) + (at > 0 ? " " : "")
+                + (at > 0 ? imports.toString().strip() : imports) + text.substring(at);
     }
 
     /** Members, or classes of a file; the lines of those that are dropped are left empty. */
@@ -2181,7 +2318,8 @@ final class Rewriter {
             String made = member(group);
             String gap = source.text().substring(at, from);
             boolean contract = reach.tested != null && group.get(0) == program.trees.getTree(reach.tested);
-            text.append(made == null ? emptied(gap, keptBefore) : keptBefore ? contract ? gap : gap(gap) : behindDropped(gap, contract));
+            text.append(made == null ? emptied(gap, keptBefore) : keptBefore ? contract ? gap : gap(gap)
+                    : behindDropped(gap, contract));
             text.append(padded(made == null ? "" : made, source.text().substring(from, to)));
             keptBefore = made != null;
             at = to;
@@ -2192,7 +2330,8 @@ final class Rewriter {
 
     private static String emptied(String gap, boolean keptBefore) {
         int line = gap.indexOf('\n');
-        return (keptBefore && line > 0 ? gap(gap.substring(0, line)) : "") + "\n".repeat((int) gap.chars().filter(c -> c == '\n').count());
+        return (keptBefore && line > 0 ? gap(gap.substring(0, line)) : "")
+                + "\n".repeat((int) gap.chars().filter(c -> c == '\n').count());
     }
 
     private static String behindDropped(String gap, boolean contract) {
@@ -2214,19 +2353,22 @@ final class Rewriter {
     }
 
     private boolean isKept(ClassTree tree) {
-        return reach.kept.contains(program.element(tree)) || tree.getMembers().stream().anyMatch(member -> member instanceof ClassTree inner && isKept(inner));
+        return reach.kept.contains(program.element(tree))
+                || tree.getMembers().stream().anyMatch(member -> member instanceof ClassTree inner && isKept(inner));
     }
 
     private String type(ClassTree tree) {
         if (!isKept(tree)) return null;
         TypeElement type = (TypeElement) program.element(tree);
         boolean inner = type.getEnclosingElement() instanceof TypeElement;
-        if (reach.kept.contains(type) && program.classes.get(type.getSimpleName().toString()) != type) refused(tree, "two classes are named " + type.getSimpleName(), "rename one of them");
+        if (reach.kept.contains(type) && program.classes.get(type.getSimpleName().toString()) != type)
+                refused(tree, "two classes are named " + type.getSimpleName(), "rename one of them");
         String text = tree.getKind() == Tree.Kind.ENUM ? enumeration(tree, type, inner) : classText(tree, type, inner);
         boolean deep = inner && type.getEnclosingElement().getEnclosingElement() instanceof TypeElement;
         if (deep) {
             hoisted.add(text);
-            notes.changed(program.place(tree), "the class " + type.getSimpleName() + " moved out of " + type.getEnclosingElement().getSimpleName());
+            notes.changed(program.place(tree),
+                    "the class " + type.getSimpleName() + " moved out of " + type.getEnclosingElement().getSimpleName());
             return "";
         }
         if (!inner) return text;
@@ -2240,7 +2382,8 @@ final class Rewriter {
         Program.Source source = program.source(tree);
         int open = open(source.text(), tree);
         String before = source.text().substring(program.start(tree), open);
-        String header = modifiers(tree.getModifiers(), inner ? "static" : "").replace("private ", "") + "class " + type.getSimpleName() + superclass(tree, type) + " {";
+        String header = modifiers(tree.getModifiers(), inner ? "static" : "").replace("private ", "") + "class "
+                + type.getSimpleName() + superclass(tree, type) + " {";
         noteHeader(tree, type, inner);
         String body = members(source, open + 1, program.end(tree) - 1, tree.getMembers());
         boolean host = library.host != null && Program.outermost(library.host) == type;
@@ -2249,10 +2392,14 @@ final class Rewriter {
 
     private void noteHeader(ClassTree tree, TypeElement type, boolean inner) {
         String place = program.place(tree);
-        if (tree.getKind() == Tree.Kind.INTERFACE) notes.changed(place, "the interface " + type.getSimpleName() + " became a class");
-        if (type.getKind() == ElementKind.CLASS && type.getModifiers().contains(Modifier.ABSTRACT)) notes.changed(place, "the abstract class " + type.getSimpleName() + " became a class");
-        if (!tree.getTypeParameters().isEmpty()) notes.changed(place, "the type parameters of " + type.getSimpleName() + " are erased: " + erased(type));
-        if (inner && !type.getModifiers().contains(Modifier.STATIC)) notes.changed(place, "the class " + type.getSimpleName() + " became static");
+        if (tree.getKind() == Tree.Kind.INTERFACE)
+                notes.changed(place, "the interface " + type.getSimpleName() + " became a class");
+        if (type.getKind() == ElementKind.CLASS && type.getModifiers().contains(Modifier.ABSTRACT))
+                notes.changed(place, "the abstract class " + type.getSimpleName() + " became a class");
+        if (!tree.getTypeParameters().isEmpty())
+                notes.changed(place, "the type parameters of " + type.getSimpleName() + " are erased: " + erased(type));
+        if (inner && !type.getModifiers().contains(Modifier.STATIC))
+                notes.changed(place, "the class " + type.getSimpleName() + " became static");
     }
 
     private String erased(TypeElement type) {
@@ -2275,7 +2422,8 @@ final class Rewriter {
     private int open(String text, ClassTree tree) {
         int at = Math.max(program.start(tree), program.end(tree.getModifiers()));
         for (Tree part : parts(tree)) {
-            boolean header = part == tree.getExtendsClause() || tree.getImplementsClause().contains(part) || tree.getTypeParameters().contains(part);
+            boolean header = part == tree.getExtendsClause() || tree.getImplementsClause().contains(part)
+                    || tree.getTypeParameters().contains(part);
             if (header) at = Math.max(at, program.end(part));
         }
         for (; text.charAt(at) != '{'; at++) {
@@ -2287,11 +2435,14 @@ final class Rewriter {
 
     private String superclass(ClassTree tree, TypeElement type) {
         TypeElement above = program.superclass(type);
-        List<TypeElement> interfaces = type.getInterfaces().stream().map(t -> (TypeElement) program.types.asElement(t)).filter(reach.kept::contains).filter(this::isUsed).toList();
+        List<TypeElement> interfaces = type.getInterfaces().stream().map(t -> (TypeElement) program.types.asElement(t))
+                .filter(reach.kept::contains).filter(this::isUsed).toList();
         boolean own = above != null && program.isOwn(above);
         List<TypeElement> missing = interfaces.stream().filter(face -> !own || !program.isBelow(above, face)).toList();
         if (missing.size() > 1 || own && !missing.isEmpty()) {
-            refused(tree.getImplementsClause().get(0), type.getSimpleName() + " would need two superclasses, " + (own ? above.getSimpleName() + ", " : "") + missing, "let it extend one class");
+            refused(tree.getImplementsClause().get(0),
+                    type.getSimpleName() + " would need two superclasses, " + (own ? above.getSimpleName() + ", " : "")
+                    + missing, "let it extend one class");
         }
         if (own) return " extends " + above.getSimpleName();
         return missing.isEmpty() ? "" : " extends " + missing.get(0).getSimpleName();
@@ -2300,24 +2451,31 @@ final class Rewriter {
     /** Whether an interface says more than constants. */
     private boolean isUsed(TypeElement face) {
         return reach.kept.stream().anyMatch(e -> e instanceof ExecutableElement && Program.classOf(e).equals(face)
-                || e instanceof VariableElement && program.types.asElement(e.asType()) == face) || kinds.fin.objects().containsKey(face.getSimpleName().toString());
+                || e instanceof VariableElement && program.types.asElement(e.asType()) == face)
+                        || kinds.fin.objects().containsKey(face.getSimpleName().toString());
     }
 
     /** Whether the members of one class are those of another by their simple names. */
     boolean seesByName(TypeElement from, TypeElement owner) {
         for (TypeElement at = from; at != null; at = Program.classOf(at.getEnclosingElement())) {
-            for (TypeElement above = at; above != null && program.isOwn(above); above = program.superclass(above)) if (above.equals(owner)) return true;
+            for (TypeElement above = at; above != null && program.isOwn(above); above = program.superclass(above))
+                    if (above.equals(owner)) return true;
         }
         return false;
     }
 
     private String enumeration(ClassTree tree, TypeElement type, boolean inner) {
-        StringBuilder text = new StringBuilder(modifiers(tree.getModifiers(), inner ? "static" : "").replace("private ", "") + "class " + type.getSimpleName() + " {");
+        StringBuilder text =
+                new StringBuilder(modifiers(tree.getModifiers(), inner ? "static" : "").replace("private ", "") + "class "
+                + type.getSimpleName() + " {");
         int number = 0;
         for (Element member : type.getEnclosedElements()) {
-            if (member.getKind() == ElementKind.ENUM_CONSTANT) text.append(" static final int ").append(member.getSimpleName()).append(" = ").append(number++).append(";");
-            else if (reach.kept.contains(member) && program.trees.getTree(member) != null && member.getKind() != ElementKind.CONSTRUCTOR) {
-                refused(program.trees.getTree(member), "a member of an enum", "write a static method with a `switch` in another class");
+            if (member.getKind() == ElementKind.ENUM_CONSTANT)
+                    text.append(" static final int ").append(member.getSimpleName()).append(" = ").append(number++).append(";");
+            else if (reach.kept.contains(member) && program.trees.getTree(member) != null
+                    && member.getKind() != ElementKind.CONSTRUCTOR) {
+                refused(program.trees.getTree(member), "a member of an enum",
+                        "write a static method with a `switch` in another class");
             }
         }
         notes.changed(program.place(tree), "the enum " + type.getSimpleName() + " became int constants");
@@ -2327,7 +2485,8 @@ final class Rewriter {
     /** The modifiers that stay, and one that is added. */
     private static String modifiers(ModifiersTree tree, String added) {
         List<String> words = new ArrayList<>();
-        for (Modifier modifier : List.of(Modifier.PUBLIC, Modifier.PROTECTED, Modifier.PRIVATE, Modifier.STATIC, Modifier.FINAL)) {
+        for (Modifier modifier
+                : List.of(Modifier.PUBLIC, Modifier.PROTECTED, Modifier.PRIVATE, Modifier.STATIC, Modifier.FINAL)) {
             if (tree.getFlags().contains(modifier) || modifier.toString().equals(added)) words.add(modifier.toString());
         }
         return words.isEmpty() ? "" : String.join(" ", words) + " ";
@@ -2365,21 +2524,30 @@ final class Rewriter {
         boolean isStatic = field.getModifiers().contains(Modifier.STATIC);
         String access = modifiers(tree.getModifiers(), constant ? "static" : "").replace("final ", "").strip();
         if (isStatic || constant) return constant(tree, field, kind, access, constant);
-        if (hidesAnother(field, type)) refused(tree, "the field `" + field + "` hides one of a superclass", "rename one of them");
-        boolean counted = kinds.fin.objects().keySet().stream().anyMatch(name -> program.classes.containsKey(name) && kinds.fin.counts(name) && program.isBelow(program.classes.get(name), type));
+        if (hidesAnother(field, type))
+                refused(tree, "the field `" + field + "` hides one of a superclass", "rename one of them");
+        boolean counted = kinds.fin.objects().keySet().stream()
+                .anyMatch(name -> program.classes.containsKey(name) && kinds.fin.counts(name)
+                && program.isBelow(program.classes.get(name), type));
         if (counted && (kinds.isList(kind) || kinds.isMap(kind))) {
-            refused(tree, "the field `" + field + "` holds a collection, which no candidate has", "write an array or linked nodes in its place");
+            refused(tree, "the field `" + field + "` holds a collection, which no candidate has",
+                    "write an array or linked nodes in its place");
         } else if (counted && !kinds.fin.fields().containsKey(type.getSimpleName() + "." + field.getSimpleName())) {
-            notes.warn(program.place(tree), "the finitization has no values for " + type.getSimpleName() + "." + field.getSimpleName() + ", which repOk reads: korat will say S2");
+            notes.warn(program.place(tree),
+                    "the finitization has no values for " + type.getSimpleName() + "." + field.getSimpleName()
+                    + ", which repOk reads: korat will say S2");
         }
         noteType(tree, field, kind);
         String start = (access.isEmpty() ? "" : access + " ") + type(tree, kind) + "\t" + field.getSimpleName();
-        return reach.made.contains(type) && tree.getInitializer() != null ? start + " = " + expressions.value(tree.getInitializer(), kind) : start;
+        return reach.made.contains(type)
+                && tree.getInitializer() != null ? start + " = " + expressions.value(tree.getInitializer(), kind) : start;
     }
 
     private boolean hidesAnother(VariableElement field, TypeElement type) {
         for (TypeElement above = program.superclass(type); above != null; above = program.superclass(above)) {
-            if (above.getEnclosedElements().stream().anyMatch(e -> e.getKind() == ElementKind.FIELD && reach.kept.contains(e) && e.getSimpleName().equals(field.getSimpleName()))) return true;
+            if (above.getEnclosedElements().stream()
+                    .anyMatch(e -> e.getKind() == ElementKind.FIELD && reach.kept.contains(e)
+                    && e.getSimpleName().equals(field.getSimpleName()))) return true;
         }
         return false;
     }
@@ -2394,14 +2562,19 @@ final class Rewriter {
 
     private String constant(VariableTree tree, VariableElement field, String kind, String access, boolean wasField) {
         Object value = field.getConstantValue();
-        String start = (access.isEmpty() ? "static " : access.contains("static") ? access + " " : access + " static ") + "final " + type(tree, kind) + "\t" + field.getSimpleName() + " = ";
-        if (wasField) notes.warn(program.place(tree), "the field `" + field + "` is final with a constant, which Java writes where it is read and korat would have as a slot; it is a constant now");
+        String start = (access.isEmpty() ? "static " : access.contains("static") ? access + " " : access + " static ")
+                + "final " + type(tree, kind) + "\t" + field.getSimpleName() + " = ";
+        if (wasField) notes.warn(program.place(tree),
+                "the field `" + field
+                + "` is final with a constant, which Java writes where it is read and korat would have as a slot; it is a constant now");
         if (value == null) {
-            refused(tree, "`" + field + "` is a static field that isn't a constant number or boolean", "write a constant, or pass the value on");
+            refused(tree, "`" + field + "` is a static field that isn't a constant number or boolean",
+                    "write a constant, or pass the value on");
             return start + "0";
         }
         String text = value instanceof Boolean ? value.toString() : Expressions.number(value);
-        boolean plain = tree.getInitializer() != null && program.text(tree.getInitializer()).matches("[-+*/%() 0-9]+") && !program.text(tree.getInitializer()).matches(".*\\b0[0-9].*");
+        boolean plain = tree.getInitializer() != null && program.text(tree.getInitializer()).matches("[-+*/%() 0-9]+")
+                && !program.text(tree.getInitializer()).matches(".*\\b0[0-9].*");
         return start + (plain ? program.text(tree.getInitializer()) : text);
     }
 
@@ -2412,11 +2585,15 @@ final class Rewriter {
         TypeElement type = Program.classOf(method);
         boolean constructor = method.getKind() == ElementKind.CONSTRUCTOR;
         boolean asMethod = constructor && names.hasSeveral(type);
-        String before = tree.getBody() == null ? program.text(tree) : program.source(tree).text().substring(program.start(tree), program.start(tree.getBody()));
-        String parameters = method.getParameters().stream().map(p -> type(program.trees.getTree(p), kinds.of(p)) + " " + p.getSimpleName()).collect(Collectors.joining(", "));
+        String before = tree.getBody() == null ? program.text(tree)
+                : program.source(tree).text().substring(program.start(tree), program.start(tree.getBody()));
+        String parameters = method.getParameters().stream()
+                .map(p -> type(program.trees.getTree(p), kinds.of(p)) + " " + p.getSimpleName())
+                .collect(Collectors.joining(", "));
         String result = constructor ? asMethod ? type.getSimpleName() + " " : "" : type(tree, kinds.of(method)) + " ";
         String name = constructor && !asMethod ? type.getSimpleName().toString() : names.of(method);
-        String header = modifiers(tree.getModifiers(), "").replace(constructor ? "final " : "\0", "") + result + name + "(" + parameters + ")";
+        String header = modifiers(tree.getModifiers(), "").replace(constructor ? "final " : "\0", "") + result + name + "("
+                + parameters + ")";
         if (overridesOwn(method)) header = "@Override " + header;
         if (asMethod) notes.changed(program.place(tree), "the constructor became the method " + name);
         if (tree.getBody() == null) return leading(tree, header, before) + " { " + statements.trap(method) + " }";
@@ -2427,8 +2604,11 @@ final class Rewriter {
 
     private boolean overridesOwn(ExecutableElement method) {
         TypeElement type = Program.classOf(method);
-        return reach.kept.stream().anyMatch(e -> e instanceof ExecutableElement above && program.isOwn(above) && program.elements.overrides(method, above, type)
-                && !above.equals(method) && (Program.classOf(above).getKind() == ElementKind.CLASS || isUsed(Program.classOf(above))));
+        return reach.kept.stream()
+                .anyMatch(e -> e instanceof ExecutableElement above && program.isOwn(above)
+                && program.elements.overrides(method, above, type)
+                && !above.equals(method)
+                        && (Program.classOf(above).getKind() == ElementKind.CLASS || isUsed(Program.classOf(above))));
     }
 }
 
@@ -2446,7 +2626,8 @@ final class Statements extends SimpleTreeVisitor<String, Void> {
 
     private record Label(StatementTree loop, String leave, String next) {}
 
-    Statements(Rewriter rewriter, Expressions expressions, Program program, Kinds kinds, Reach reach, Library library, Notes notes) {
+    Statements(Rewriter rewriter, Expressions expressions, Program program, Kinds kinds, Reach reach, Library library,
+            Notes notes) {
         this.rewriter = rewriter;
         this.expressions = expressions;
         this.program = program;
@@ -2475,7 +2656,8 @@ final class Statements extends SimpleTreeVisitor<String, Void> {
         List<String> texts = new ArrayList<>();
         for (Tree tree : group) texts.add(variable((VariableTree) tree));
         String text = Rewriter.joined(texts);
-        boolean closed = program.source(group.get(0)).text().substring(program.start(group.get(0)), program.end(group.get(group.size() - 1))).endsWith(";");
+        boolean closed = program.source(group.get(0)).text().substring(program.start(group.get(0)),
+                program.end(group.get(group.size() - 1))).endsWith(";");
         return closed ? text : text.substring(0, text.length() - 1);
     }
 
@@ -2498,7 +2680,8 @@ final class Statements extends SimpleTreeVisitor<String, Void> {
     public String visitEnhancedForLoop(EnhancedForLoopTree tree, Void nothing) {
         ExpressionTree over = Program.bare(tree.getExpression());
         String kind = kinds.of(over);
-        if (over instanceof MethodInvocationTree call && kinds.target(call) == null && call.getMethodSelect() instanceof MemberSelectTree select && select.getExpression() != null) {
+        if (over instanceof MethodInvocationTree call && kinds.target(call) == null
+                && call.getMethodSelect() instanceof MemberSelectTree select && select.getExpression() != null) {
             String map = kinds.of(select.getExpression());
             if (kinds.isMap(map)) return withJumps(tree, loopOverMap(tree, select, map));
         }
@@ -2528,7 +2711,8 @@ final class Statements extends SimpleTreeVisitor<String, Void> {
         String array = program.freshName("array");
         String index = program.freshName("index");
         String item = kind.endsWith("[]") ? array + "[" + index + "]" : array + ".get(" + index + ")";
-        return "{ " + rewriter.type(tree, kind) + " " + array + " = " + expressions.value(tree.getExpression(), kind) + "; for (int " + index + " = 0; " + index + " < " + array
+        return "{ " + rewriter.type(tree, kind) + " " + array + " = " + expressions.value(tree.getExpression(), kind)
+                + "; for (int " + index + " = 0; " + index + " < " + array
                 + ".length; " + index + "++) " + body(tree, item, kinds.elementOf(kind)) + " }";
     }
 
@@ -2536,7 +2720,8 @@ final class Statements extends SimpleTreeVisitor<String, Void> {
         String cell = program.freshName("cell");
         String element = kinds.elementOf(kind);
         library.need(kinds, kind, expressions::equality);
-        return "for (CellOf" + Kinds.mangled(element) + " " + cell + " = " + expressions.operand(tree.getExpression()) + ".first; " + cell + " != null; " + cell + " = " + cell + ".next) "
+        return "for (CellOf" + Kinds.mangled(element) + " " + cell + " = " + expressions.operand(tree.getExpression())
+                + ".first; " + cell + " != null; " + cell + " = " + cell + ".next) "
                 + body(tree, cell + ".item", element);
     }
 
@@ -2544,16 +2729,22 @@ final class Statements extends SimpleTreeVisitor<String, Void> {
         ExecutableElement iterator = program.method(type, "iterator", 0);
         String steps = kinds.of(iterator);
         TypeElement stepper = program.classes.get(steps);
-        if (stepper == null) return rewriter.refused(tree, "a `for` over " + type.getSimpleName() + ", whose iterator is of no class of the sources", "write a `for` over its nodes");
+        if (stepper == null)
+                return rewriter.refused(tree,
+                "a `for` over " + type.getSimpleName() + ", whose iterator is of no class of the sources",
+                "write a `for` over its nodes");
         String name = program.freshName("steps");
         ExecutableElement next = program.method(stepper, "next", 0);
-        return "for (" + steps + " " + name + " = " + expressions.operand(tree.getExpression()) + "." + expressions.name(iterator) + "(); " + name + "."
-                + expressions.name(program.method(stepper, "hasNext", 0)) + "(); ) " + body(tree, name + "." + expressions.name(next) + "()", kinds.of(next));
+        return "for (" + steps + " " + name + " = " + expressions.operand(tree.getExpression()) + "."
+                + expressions.name(iterator) + "(); " + name + "."
+                + expressions.name(program.method(stepper, "hasNext", 0)) + "(); ) "
+                        + body(tree, name + "." + expressions.name(next) + "()", kinds.of(next));
     }
 
     private String loopOverMap(EnhancedForLoopTree tree, MemberSelectTree select, String map) {
         String part = select.getIdentifier().toString();
-        if (!part.matches("entrySet|keySet|values")) return rewriter.refused(tree, "a `for` over `" + part + "` of a map", "write it over its entrySet");
+        if (!part.matches("entrySet|keySet|values"))
+                return rewriter.refused(tree, "a `for` over `" + part + "` of a map", "write it over its entrySet");
         String pair = program.freshName("pair");
         String[] sides = kinds.elementOf(map).split(" ");
         String type = map.replaceFirst("Map", "Pair");
@@ -2561,16 +2752,20 @@ final class Statements extends SimpleTreeVisitor<String, Void> {
         notes.changed(program.place(tree), "`for` over a map became a loop");
         String item = part.equals("entrySet") ? pair : pair + (part.equals("keySet") ? ".key" : ".value");
         String kind = part.equals("entrySet") ? type : sides[part.equals("keySet") ? 0 : 1];
-        return "for (" + type + " " + pair + " = " + expressions.operand(select.getExpression()) + ".first; " + pair + " != null; " + pair + " = " + pair + ".next) " + body(tree, item, kind);
+        return "for (" + type + " " + pair + " = " + expressions.operand(select.getExpression()) + ".first; " + pair
+                + " != null; " + pair + " = " + pair + ".next) " + body(tree, item, kind);
     }
 
     /** The body of a loop over elements, each of which its variable gets first. */
     private String body(EnhancedForLoopTree tree, String item, String from) {
         Element variable = program.element(tree.getVariable());
         String kind = kinds.of(variable);
-        String value = kind.equals(Kinds.BOX) && from.equals("int") ? "new " + library.box() + "(" + item + ")" : kind.equals("int") && from.equals(Kinds.BOX) ? item + ".value" : item;
+        String value = kind.equals(Kinds.BOX)
+                && from.equals("int") ? "new " + library.box() + "(" + item + ")" : kind.equals("int")
+                && from.equals(Kinds.BOX) ? item + ".value" : item;
         String text = block(tree.getStatement());
-        return "{ " + rewriter.type(tree.getVariable(), kind) + " " + variable.getSimpleName() + " = " + value + ";" + text.substring(1);
+        return "{ " + rewriter.type(tree.getVariable(), kind) + " " + variable.getSimpleName() + " = " + value + ";"
+                + text.substring(1);
     }
 
     private String block(StatementTree tree) {
@@ -2587,9 +2782,11 @@ final class Statements extends SimpleTreeVisitor<String, Void> {
     @Override
     public String visitLabeledStatement(LabeledStatementTree tree, Void nothing) {
         String name = tree.getLabel().toString();
-        boolean loop = tree.getStatement() instanceof WhileLoopTree || tree.getStatement() instanceof ForLoopTree || tree.getStatement() instanceof DoWhileLoopTree
+        boolean loop = tree.getStatement() instanceof WhileLoopTree || tree.getStatement() instanceof ForLoopTree
+                || tree.getStatement() instanceof DoWhileLoopTree
                 || tree.getStatement() instanceof EnhancedForLoopTree;
-        if (!loop) return rewriter.refused(tree, "a label of a statement that is no loop", "write the statement as a method and return from it");
+        if (!loop) return rewriter.refused(tree, "a label of a statement that is no loop",
+                "write the statement as a method and return from it");
         Label label = new Label(tree.getStatement(), program.freshName("leave" + name), program.freshName("next" + name));
         labels.put(name, label);
         String text = rewriter.of(tree.getStatement());
@@ -2618,7 +2815,8 @@ final class Statements extends SimpleTreeVisitor<String, Void> {
     /** The loop that a statement stands in. */
     private StatementTree around(Tree tree) {
         for (Tree at = program.parent(tree); at != null; at = program.parent(at)) {
-            if (at instanceof WhileLoopTree || at instanceof ForLoopTree || at instanceof DoWhileLoopTree || at instanceof EnhancedForLoopTree) return (StatementTree) at;
+            if (at instanceof WhileLoopTree || at instanceof ForLoopTree || at instanceof DoWhileLoopTree
+                    || at instanceof EnhancedForLoopTree) return (StatementTree) at;
             if (at instanceof MethodTree) return null;
         }
         return null;
@@ -2631,7 +2829,8 @@ final class Statements extends SimpleTreeVisitor<String, Void> {
             if (label.loop == tree || !isWithin(tree, label.loop)) continue;
             behind.append(" if (").append(label.leave).append(") break;");
             boolean direct = around(tree) == label.loop;
-            behind.append(" if (").append(label.next).append(direct ? ") { " + label.next + " = false; continue; }" : ") break;");
+            behind.append(" if (").append(label.next).append(direct ? ") { " + label.next + " = false; continue; }"
+                    : ") break;");
         }
         return behind.length() == 0 ? text : "{ " + text + behind + " }";
     }
@@ -2661,7 +2860,8 @@ final class Statements extends SimpleTreeVisitor<String, Void> {
     @Override
     public String visitSwitch(SwitchTree tree, Void nothing) {
         String kind = kinds.of(tree.getExpression());
-        if (!kind.equals("int") && !kind.equals(Kinds.BOX)) return rewriter.refused(tree, "a `switch` over " + kind.replace("?", ""), "write it as ifs");
+        if (!kind.equals("int") && !kind.equals(Kinds.BOX))
+                return rewriter.refused(tree, "a `switch` over " + kind.replace("?", ""), "write it as ifs");
         String chosen = program.freshName("chosen");
         StringBuilder text = new StringBuilder();
         String last = "";
@@ -2673,9 +2873,11 @@ final class Statements extends SimpleTreeVisitor<String, Void> {
             if (isJoined(tree, i)) continue;
             String body = groupBody(tree, i);
             if (test.isEmpty()) last = body;
-            else text.append(text.length() == 0 ? "" : " else ").append("if (").append(test).append(") { ").append(body).append(" }");
+            else text.append(text.length() == 0 ? ""
+                    : " else ").append("if (").append(test).append(") { ").append(body).append(" }");
         }
-        if (jumps && hasContinue(tree)) return rewriter.refused(tree, "a `switch` with an inner `break` and a `continue`", "write it as ifs");
+        if (jumps && hasContinue(tree))
+                return rewriter.refused(tree, "a `switch` with an inner `break` and a `continue`", "write it as ifs");
         notes.changed(program.place(tree), "`switch` became ifs");
         String whole = text.length() == 0 ? "{ " + last + " }" : text + (last.isEmpty() ? "" : " else { " + last + " }");
         String value = "int " + chosen + " = " + expressions.value(tree.getExpression(), "int") + ";";
@@ -2709,8 +2911,10 @@ final class Statements extends SimpleTreeVisitor<String, Void> {
             for (List<Tree> group : rewriter.groups(one.getStatements())) {
                 Tree statement = group.get(0);
                 boolean leaves = statement instanceof BreakTree jump && jump.getLabel() == null;
-                if (!leaves) text.append(text.length() == 0 ? "" : " ").append(statement instanceof VariableTree ? variables(group) : rewriter.of(statement));
-                ended = leaves || statement instanceof ReturnTree || statement instanceof ThrowTree || statement instanceof ContinueTree || statement instanceof BreakTree;
+                if (!leaves) text.append(text.length() == 0 ? "" : " ").append(statement instanceof VariableTree
+                        ? variables(group) : rewriter.of(statement));
+                ended = leaves || statement instanceof ReturnTree || statement instanceof ThrowTree
+                        || statement instanceof ContinueTree || statement instanceof BreakTree;
             }
             if (ended) break;
         }
@@ -2723,8 +2927,10 @@ final class Statements extends SimpleTreeVisitor<String, Void> {
 
     /** Whether a case has a `break` of the switch that isn't its last statement. */
     private boolean hasInnerBreak(CaseTree one) {
-        List<? extends StatementTree> statements = one.getStatements() == null ? one.getBody() instanceof StatementTree body ? List.of(body) : List.of() : one.getStatements();
-        return statements.stream().filter(statement -> !(statement instanceof BreakTree)).anyMatch(statement -> holds(statement, Tree.Kind.BREAK));
+        List<? extends StatementTree> statements = one.getStatements() == null ? one.getBody() instanceof StatementTree body
+                ? List.of(body) : List.of() : one.getStatements();
+        return statements.stream().filter(statement -> !(statement instanceof BreakTree))
+                .anyMatch(statement -> holds(statement, Tree.Kind.BREAK));
     }
 
     private boolean hasContinue(SwitchTree tree) {
@@ -2739,7 +2945,8 @@ final class Statements extends SimpleTreeVisitor<String, Void> {
             public Void scan(Tree part, Void nothing) {
                 if (part == null) return null;
                 found[0] |= part.getKind() == kind;
-                boolean closed = part != tree && (part instanceof WhileLoopTree || part instanceof ForLoopTree || part instanceof DoWhileLoopTree
+                boolean closed = part != tree
+                        && (part instanceof WhileLoopTree || part instanceof ForLoopTree || part instanceof DoWhileLoopTree
                         || part instanceof EnhancedForLoopTree || part instanceof SwitchTree && kind == Tree.Kind.BREAK);
                 return closed ? null : super.scan(part, nothing);
             }
@@ -2777,14 +2984,17 @@ final class Statements extends SimpleTreeVisitor<String, Void> {
     @Override
     public String visitReturn(ReturnTree tree, Void nothing) {
         ExecutableElement method = program.methodAround(tree);
-        if (tree.getExpression() == null) return method.getKind() == ElementKind.CONSTRUCTOR && expressions.isMethod(method) ? "return this;" : rewriter.plain(tree);
+        if (tree.getExpression() == null)
+                return method.getKind() == ElementKind.CONSTRUCTOR
+                && expressions.isMethod(method) ? "return this;" : rewriter.plain(tree);
         return "return " + expressions.value(tree.getExpression(), kinds.of(method)) + ";";
     }
 
     @Override
     public String visitExpressionStatement(ExpressionStatementTree tree, Void nothing) {
         if (Reach.isPrint(tree)) return ";";
-        if (tree.getExpression() instanceof MethodInvocationTree call && List.of("this", "super").contains(call.getMethodSelect().toString())) return expressions.chained(call);
+        if (tree.getExpression() instanceof MethodInvocationTree call
+                && List.of("this", "super").contains(call.getMethodSelect().toString())) return expressions.chained(call);
         String text = rewriter.plain(tree);
         return text.equals(";") ? text : text.startsWith("(") ? text.replaceFirst("^\\((.*)\\);$", "$1;") : text;
     }
@@ -2798,7 +3008,8 @@ final class Statements extends SimpleTreeVisitor<String, Void> {
 /** Writes expressions. */
 final class Expressions extends SimpleTreeVisitor<String, Void> {
     private static final Map<String, String> OPERATORS = Map.ofEntries(Map.entry("PLUS", "+"), Map.entry("MINUS", "-"), Map.entry("MULTIPLY", "*"),
-            Map.entry("DIVIDE", "/"), Map.entry("REMAINDER", "%"), Map.entry("AND", "&"), Map.entry("OR", "|"), Map.entry("XOR", "^"),
+            Map.entry("DIVIDE", "/"), Map.entry("REMAINDER", "%"), Map.entry("AND", "&"), Map.entry("OR", "|"),
+                    Map.entry("XOR", "^"),
             Map.entry("LEFT_SHIFT", "<<"), Map.entry("RIGHT_SHIFT", ">>"), Map.entry("UNSIGNED_RIGHT_SHIFT", ">>>"));
 
     private final Rewriter rewriter;
@@ -2832,7 +3043,8 @@ final class Expressions extends SimpleTreeVisitor<String, Void> {
 
     /** An expression as a value of a kind: boxed and unboxed where the two differ. */
     String value(ExpressionTree tree, String wanted) {
-        if (Program.isNull(tree) && (wanted.equals("int") || wanted.equals("boolean"))) return rewriter.refused(tree, "null where the values are numbers", "use a number that stands for none");
+        if (Program.isNull(tree) && (wanted.equals("int") || wanted.equals("boolean")))
+                return rewriter.refused(tree, "null where the values are numbers", "use a number that stands for none");
         String kind = kinds.of(tree);
         String text = rewriter.of(tree);
         if (wanted.equals(Kinds.BOX) && kind.equals("int")) return "new " + library.box() + "(" + text + ")";
@@ -2886,10 +3098,12 @@ final class Expressions extends SimpleTreeVisitor<String, Void> {
     public String visitIdentifier(IdentifierTree tree, Void nothing) {
         Element element = program.element(tree);
         if (element instanceof VariableElement variable) {
-            if (variable.getKind() == ElementKind.ENUM_CONSTANT) return Program.classOf(variable).getSimpleName() + "." + tree.getName();
+            if (variable.getKind() == ElementKind.ENUM_CONSTANT)
+                    return Program.classOf(variable).getSimpleName() + "." + tree.getName();
             boolean constant = variable.getKind() == ElementKind.FIELD && variable.getModifiers().contains(Modifier.STATIC);
             if (constant && !program.isOwn(variable)) return libraryConstant(tree, variable);
-            if (constant && !rewriter.seesByName(program.classAround(tree), Program.classOf(variable))) return Program.classOf(variable).getSimpleName() + "." + tree.getName();
+            if (constant && !rewriter.seesByName(program.classAround(tree), Program.classOf(variable)))
+                    return Program.classOf(variable).getSimpleName() + "." + tree.getName();
             refuseForeign(tree, variable);
         }
         return tree.getName().toString();
@@ -2897,17 +3111,25 @@ final class Expressions extends SimpleTreeVisitor<String, Void> {
 
     private void refuseForeign(IdentifierTree tree, Element member) {
         boolean field = member.getKind() == ElementKind.FIELD;
-        if (!field && member.getKind() != ElementKind.METHOD || List.of("this", "super").contains(tree.getName().toString())) return;
-        if (!program.isOwn(member)) rewriter.refused(tree, "`" + tree.getName() + "` is inherited from " + Program.classOf(member).getSimpleName() + ", which is none of the sources", "declare it in your class");
-        else if (!member.getModifiers().contains(Modifier.STATIC) && !(field && Bounds.isConstant((VariableElement) member)) && !program.isBelow(program.classAround(tree), Program.classOf(member))) {
-            rewriter.refused(tree, "an inner class uses its outer object's `" + member.getSimpleName() + "`", "make the class static and give it the object it needs");
+        if (!field && member.getKind() != ElementKind.METHOD || List.of("this", "super").contains(tree.getName().toString()))
+                return;
+        if (!program.isOwn(member))
+                rewriter.refused(tree,
+                "`" + tree.getName() + "` is inherited from " + Program.classOf(member).getSimpleName()
+                + ", which is none of the sources", "declare it in your class");
+        else if (!member.getModifiers().contains(Modifier.STATIC) && !(field && Bounds.isConstant((VariableElement) member))
+                && !program.isBelow(program.classAround(tree), Program.classOf(member))) {
+            rewriter.refused(tree, "an inner class uses its outer object's `" + member.getSimpleName() + "`",
+                    "make the class static and give it the object it needs");
         }
     }
 
     private String libraryConstant(Tree tree, VariableElement variable) {
         Object value = variable.getConstantValue();
-        if (!(value instanceof Number || value instanceof Character) || value instanceof Long || value instanceof Double || value instanceof Float) {
-            return rewriter.refused(tree, "`" + variable.getSimpleName() + "` of " + Program.classOf(variable).getSimpleName(), "write the value as an int");
+        if (!(value instanceof Number || value instanceof Character) || value instanceof Long || value instanceof Double
+                || value instanceof Float) {
+            return rewriter.refused(tree, "`" + variable.getSimpleName() + "` of " + Program.classOf(variable).getSimpleName(),
+                    "write the value as an int");
         }
         notes.changed(program.place(tree), program.text(tree) + " became " + number(value));
         return number(value);
@@ -2918,23 +3140,33 @@ final class Expressions extends SimpleTreeVisitor<String, Void> {
         Element element = program.element(tree);
         if (element instanceof TypeElement type) return type.getSimpleName().toString();
         String name = tree.getIdentifier().toString();
-        if (name.equals("this")) return rewriter.refused(tree, "`" + program.text(tree) + "`", "make the inner class static and give it the object it needs");
-        if (element instanceof VariableElement variable && (variable.getModifiers().contains(Modifier.STATIC) || variable.getKind() == ElementKind.FIELD && program.isOwn(variable) && Bounds.isConstant(variable))) {
-            return program.isOwn(variable) ? Program.classOf(variable).getSimpleName() + "." + name : libraryConstant(tree, variable);
+        if (name.equals("this"))
+                return rewriter.refused(tree, "`" + program.text(tree) + "`",
+                "make the inner class static and give it the object it needs");
+        if (element instanceof VariableElement variable
+                && (variable.getModifiers().contains(Modifier.STATIC) || variable.getKind() == ElementKind.FIELD
+                && program.isOwn(variable) && Bounds.isConstant(variable))) {
+            return program.isOwn(variable) ? Program.classOf(variable).getSimpleName() + "." + name
+                    : libraryConstant(tree, variable);
         }
-        if (name.equals("length") && Program.bare(tree.getExpression()) instanceof MethodInvocationTree call && call.getMethodSelect().toString().endsWith(".values")
-                && program.element(call) instanceof ExecutableElement method && Program.classOf(method).getKind() == ElementKind.ENUM) {
-            return String.valueOf(Program.classOf(method).getEnclosedElements().stream().filter(e -> e.getKind() == ElementKind.ENUM_CONSTANT).count());
+        if (name.equals("length") && Program.bare(tree.getExpression()) instanceof MethodInvocationTree call
+                && call.getMethodSelect().toString().endsWith(".values")
+                && program.element(call) instanceof ExecutableElement method
+                        && Program.classOf(method).getKind() == ElementKind.ENUM) {
+            return String.valueOf(Program.classOf(method).getEnclosedElements().stream()
+                    .filter(e -> e.getKind() == ElementKind.ENUM_CONSTANT).count());
         }
         return rewriter.composed(tree, Map.of(tree.getExpression(), operand(tree.getExpression())));
     }
 
     /** The label of a `case`. */
     String label(ExpressionTree tree) {
-        if (program.element(tree) instanceof VariableElement variable && variable.getKind() == ElementKind.ENUM_CONSTANT) return Program.classOf(variable).getSimpleName() + "." + variable.getSimpleName();
+        if (program.element(tree) instanceof VariableElement variable && variable.getKind() == ElementKind.ENUM_CONSTANT)
+                return Program.classOf(variable).getSimpleName() + "." + variable.getSimpleName();
         if (tree instanceof IdentifierTree name && program.element(tree) == null) {
             for (Tree at = program.parent(tree); at != null; at = program.parent(at)) {
-                if (at instanceof SwitchTree one && program.types.asElement(program.type(Program.bare(one.getExpression()))) instanceof TypeElement type) return type.getSimpleName() + "." + name.getName();
+                if (at instanceof SwitchTree one
+                        && program.types.asElement(program.type(Program.bare(one.getExpression()))) instanceof TypeElement type) return type.getSimpleName() + "." + name.getName();
             }
         }
         return rewriter.of(tree);
@@ -2947,15 +3179,18 @@ final class Expressions extends SimpleTreeVisitor<String, Void> {
         ExpressionTree left = tree.getLeftOperand();
         ExpressionTree right = tree.getRightOperand();
         boolean equality = tree.getKind() == Tree.Kind.EQUAL_TO || tree.getKind() == Tree.Kind.NOT_EQUAL_TO;
-        if (equality && (Program.isNull(left) || Program.isNull(right))) return comparedToNull(tree, Program.isNull(left) ? right : left);
+        if (equality && (Program.isNull(left) || Program.isNull(right)))
+                return comparedToNull(tree, Program.isNull(left) ? right : left);
         for (ExpressionTree side : List.of(left, right)) {
             String kind = kinds.of(side);
             if (!equality && kind.startsWith("?")) return rewriter.type(side, kind);
         }
         boolean numbers = kinds.of(left).matches("int|" + Kinds.BOX) && kinds.of(right).matches("int|" + Kinds.BOX);
         if (!numbers) return rewriter.plain(tree);
-        boolean boxes = equality && !program.type(left).getKind().isPrimitive() && !program.type(right).getKind().isPrimitive() && !isEnum(left);
-        if (boxes) notes.warn(program.place(tree), "Java compares the objects here, and korat their numbers: the two agree from -128 to 127");
+        boolean boxes = equality && !program.type(left).getKind().isPrimitive() && !program.type(right).getKind().isPrimitive()
+                && !isEnum(left);
+        if (boxes) notes.warn(program.place(tree),
+                "Java compares the objects here, and korat their numbers: the two agree from -128 to 127");
         return rewriter.composed(tree, Map.of(left, value(left, "int"), right, value(right, "int")));
     }
 
@@ -2975,13 +3210,18 @@ final class Expressions extends SimpleTreeVisitor<String, Void> {
     public String visitUnary(UnaryTree tree, Void nothing) {
         ExpressionTree target = Program.bare(tree.getExpression());
         String kind = tree.getKind().toString();
-        if (!kind.matches("(PRE|POST)FIX.*")) return rewriter.composed(tree, Map.of(tree.getExpression(), value(tree.getExpression(), kinds.of(tree.getExpression()).equals(Kinds.BOX) ? "int" : "")));
+        if (!kind.matches("(PRE|POST)FIX.*"))
+                return rewriter.composed(tree,
+                Map.of(tree.getExpression(),
+                value(tree.getExpression(), kinds.of(tree.getExpression()).equals(Kinds.BOX) ? "int" : "")));
         boolean scratch = isScratchElement(target);
         String range = narrow(program.type(target));
         if (!scratch && range == null && !kinds.of(target).equals(Kinds.BOX)) return rewriter.plain(tree);
         Tree parent = program.parent(tree);
         boolean valueUsed = !(parent instanceof ExpressionStatementTree) && kind.startsWith("POST");
-        if (valueUsed || !isPlain(target)) return rewriter.refused(tree, "a step within an expression, of " + program.text(target), "write the step as a statement of its own");
+        if (valueUsed || !isPlain(target))
+                return rewriter.refused(tree, "a step within an expression, of " + program.text(target),
+                "write the step as a statement of its own");
         return written(tree, target, kind.endsWith("INCREMENT") ? "+" : "-", "1");
     }
 
@@ -2989,12 +3229,18 @@ final class Expressions extends SimpleTreeVisitor<String, Void> {
     public String visitCompoundAssignment(CompoundAssignmentTree tree, Void nothing) {
         ExpressionTree target = Program.bare(tree.getVariable());
         String text = value(tree.getExpression(), "int");
-        if (kinds.of(tree.getExpression()).startsWith("?")) return rewriter.type(tree.getExpression(), kinds.of(tree.getExpression()));
+        if (kinds.of(tree.getExpression()).startsWith("?"))
+                return rewriter.type(tree.getExpression(), kinds.of(tree.getExpression()));
         if (!isScratchElement(target) && narrow(program.type(target)) == null && !kinds.of(target).equals(Kinds.BOX)) {
-            return rewriter.composed(tree, Map.of(tree.getExpression(), kinds.of(target).equals("boolean") ? rewriter.of(tree.getExpression()) : text));
+            return rewriter.composed(tree,
+                    Map.of(tree.getExpression(),
+                    kinds.of(target).equals("boolean") ? rewriter.of(tree.getExpression()) : text));
         }
-        if (!isPlain(target)) return rewriter.refused(tree, "a compound assignment to " + program.text(target), "write `a = a + b` with a plain a");
-        return written(tree, target, OPERATORS.get(tree.getKind().toString().replace("_ASSIGNMENT", "")), isTight(text) ? text : "(" + text + ")");
+        if (!isPlain(target))
+                return rewriter.refused(tree, "a compound assignment to " + program.text(target),
+                "write `a = a + b` with a plain a");
+        return written(tree, target, OPERATORS.get(tree.getKind().toString().replace("_ASSIGNMENT", "")),
+                isTight(text) ? text : "(" + text + ")");
     }
 
     /** A step or compound assignment as an assignment, within the range of the target's type. */
@@ -3004,7 +3250,8 @@ final class Expressions extends SimpleTreeVisitor<String, Void> {
         String value = before + " " + operator + " " + operand;
         String text = range == null ? value : range.replace("#", "(" + value + ")");
         if (kinds.of(target).equals(Kinds.BOX)) text = "new " + library.box() + "(" + text + ")";
-        boolean statement = program.parent(tree) instanceof ExpressionStatementTree || program.parent(tree) instanceof ForLoopTree;
+        boolean statement = program.parent(tree) instanceof ExpressionStatementTree
+                || program.parent(tree) instanceof ForLoopTree;
         if (isScratchElement(target)) return setter((ArrayAccessTree) target, text);
         String assignment = rewriter.of(target) + " = " + text;
         return statement ? assignment : "(" + assignment + ")";
@@ -3024,7 +3271,9 @@ final class Expressions extends SimpleTreeVisitor<String, Void> {
         if (bare instanceof MemberSelectTree select) return isPlain(select.getExpression());
         if (bare instanceof ArrayAccessTree access) return isPlain(access.getExpression()) && isPlain(access.getIndex());
         if (bare instanceof BinaryTree binary) return isPlain(binary.getLeftOperand()) && isPlain(binary.getRightOperand());
-        if (bare instanceof MethodInvocationTree call) return call.getArguments().isEmpty() && !program.isOwn(program.element(call)) && kinds.receiver(call) != null && isPlain(kinds.receiver(call));
+        if (bare instanceof MethodInvocationTree call)
+                return call.getArguments().isEmpty() && !program.isOwn(program.element(call)) && kinds.receiver(call) != null
+                && isPlain(kinds.receiver(call));
         return bare instanceof IdentifierTree || bare instanceof LiteralTree;
     }
 
@@ -3049,13 +3298,16 @@ final class Expressions extends SimpleTreeVisitor<String, Void> {
     @Override
     public String visitArrayAccess(ArrayAccessTree tree, Void nothing) {
         if (isScratchElement(tree)) return operand(tree.getExpression()) + ".get(" + value(tree.getIndex(), "int") + ")";
-        return rewriter.composed(tree, Map.of(tree.getIndex(), value(tree.getIndex(), "int"), tree.getExpression(), operand(tree.getExpression())));
+        return rewriter.composed(tree,
+                Map.of(tree.getIndex(), value(tree.getIndex(), "int"), tree.getExpression(), operand(tree.getExpression())));
     }
 
     @Override
     public String visitConditionalExpression(ConditionalExpressionTree tree, Void nothing) {
         String kind = kinds.of(tree);
-        return rewriter.composed(tree, Map.of(tree.getTrueExpression(), value(tree.getTrueExpression(), kind), tree.getFalseExpression(), value(tree.getFalseExpression(), kind)));
+        return rewriter.composed(tree,
+                Map.of(tree.getTrueExpression(), value(tree.getTrueExpression(), kind), tree.getFalseExpression(),
+                value(tree.getFalseExpression(), kind)));
     }
 
     @Override
@@ -3063,24 +3315,29 @@ final class Expressions extends SimpleTreeVisitor<String, Void> {
         TypeMirror type = program.type(tree);
         String kind = kinds.kind(type);
         String from = kinds.of(tree.getExpression());
-        if (type.getKind().isPrimitive() && (kind.startsWith("?") || from.startsWith("?"))) return rewriter.type(tree, kind.startsWith("?") ? kind : from);
+        if (type.getKind().isPrimitive() && (kind.startsWith("?") || from.startsWith("?")))
+                return rewriter.type(tree, kind.startsWith("?") ? kind : from);
         String range = narrow(type);
         if (range != null) {
             notes.changed(program.place(tree), "the cast to " + type + " became arithmetic");
             return range.replace("#", operand(tree.getExpression()));
         }
-        if (kind.startsWith("?") || kind.equals(from) && !type.getKind().isPrimitive()) return rewriter.of(tree.getExpression());
+        if (kind.startsWith("?") || kind.equals(from) && !type.getKind().isPrimitive())
+                return rewriter.of(tree.getExpression());
         if (kinds.isAdded(kind) || kind.endsWith(">") || kind.endsWith("[]")) return rewriter.of(tree.getExpression());
         return "(" + rewriter.type(tree, kind) + ") " + value(tree.getExpression(), kind);
     }
 
     @Override
     public String visitInstanceOf(InstanceOfTree tree, Void nothing) {
-        if (tree.getPattern() != null) return rewriter.refused(tree, "`instanceof` with a variable", "write `instanceof` and a cast");
+        if (tree.getPattern() != null)
+                return rewriter.refused(tree, "`instanceof` with a variable", "write `instanceof` and a cast");
         String kind = kinds.kind(program.type(tree.getType()));
         String from = kinds.of(tree.getExpression());
         if (kind.equals("int") && from.equals("int")) return "true";
-        if (kind.startsWith("?") && program.classes.containsKey(from) && program.types.isSubtype(program.types.erasure(program.classes.get(from).asType()), program.types.erasure(program.type(tree.getType())))) {
+        if (kind.startsWith("?") && program.classes.containsKey(from)
+                && program.types.isSubtype(program.types.erasure(program.classes.get(from).asType()),
+                program.types.erasure(program.type(tree.getType())))) {
             return "(" + rewriter.of(tree.getExpression()) + " != null)";
         }
         return operand(tree.getExpression()) + " instanceof " + rewriter.type(tree.getType(), kind);
@@ -3092,10 +3349,14 @@ final class Expressions extends SimpleTreeVisitor<String, Void> {
         String last = null;
         StringBuilder text = new StringBuilder();
         for (CaseTree one : tree.getCases()) {
-            if (!(one.getBody() instanceof ExpressionTree result) || !isPlain(chosen)) return rewriter.refused(tree, "a `switch` with more than values", "write ifs with returns in a method of their own");
+            if (!(one.getBody() instanceof ExpressionTree result) || !isPlain(chosen))
+                    return rewriter.refused(tree, "a `switch` with more than values",
+                    "write ifs with returns in a method of their own");
             String value = value(result, kinds.kind(program.type(tree)));
             if (one.getExpressions().isEmpty()) last = value;
-            else text.append(one.getExpressions().stream().map(label -> value(chosen, "int") + " == " + switchLabel(tree, label)).collect(Collectors.joining(" || "))).append(" ? ").append(value).append(" : ");
+            else text.append(one.getExpressions().stream()
+                    .map(label -> value(chosen, "int") + " == " + switchLabel(tree, label))
+                    .collect(Collectors.joining(" || "))).append(" ? ").append(value).append(" : ");
         }
         String kind = kinds.kind(program.type(tree));
         String trap = kind.equals("int") ? "1 / 0" : kind.equals("boolean") ? "1 / 0 == 0" : "1 / 0 == 0 ? null : null";
@@ -3104,8 +3365,11 @@ final class Expressions extends SimpleTreeVisitor<String, Void> {
     }
 
     private String switchLabel(SwitchExpressionTree tree, ExpressionTree label) {
-        boolean constant = label instanceof IdentifierTree && program.types.asElement(program.type(Program.bare(tree.getExpression()))) instanceof TypeElement type && type.getKind() == ElementKind.ENUM;
-        return constant ? program.types.asElement(program.type(Program.bare(tree.getExpression()))).getSimpleName() + "." + label : label(label);
+        boolean constant = label instanceof IdentifierTree
+                && program.types.asElement(program.type(Program.bare(tree.getExpression()))) instanceof TypeElement type
+                && type.getKind() == ElementKind.ENUM;
+        return constant ? program.types.asElement(program.type(Program.bare(tree.getExpression()))).getSimpleName() + "."
+                + label : label(label);
     }
 
     @Override
@@ -3125,13 +3389,17 @@ final class Expressions extends SimpleTreeVisitor<String, Void> {
         String kind = kinds.of(tree);
         String element = kinds.elementOf(kind);
         List<? extends ExpressionTree> items = tree.getInitializers();
-        if (items == null && element.equals("int") && !((ArrayType) program.type(tree)).getComponentType().getKind().isPrimitive()) {
-            return rewriter.refused(tree, "an array of " + ((ArrayType) program.type(tree)).getComponentType() + ", which begins with null", "write int[]");
+        if (items == null && element.equals("int")
+                && !((ArrayType) program.type(tree)).getComponentType().getKind().isPrimitive()) {
+            return rewriter.refused(tree,
+                    "an array of " + ((ArrayType) program.type(tree)).getComponentType() + ", which begins with null",
+                    "write int[]");
         }
         if (kinds.isAdded(kind)) return scratch(tree, kind, element);
         if (items == null) return "new " + rewriter.type(tree, element) + "[" + value(tree.getDimensions().get(0), "int") + "]";
         notes.changed(program.place(tree), "the array's initial values became assignments of an added method");
-        return library.arrayOf(rewriter.type(tree, element), items.size()) + "(" + items.stream().map(item -> value(item, element)).collect(Collectors.joining(", ")) + ")";
+        return library.arrayOf(rewriter.type(tree, element), items.size()) + "(" + items.stream()
+                .map(item -> value(item, element)).collect(Collectors.joining(", ")) + ")";
     }
 
     private String scratch(NewArrayTree tree, String kind, String element) {
@@ -3139,11 +3407,14 @@ final class Expressions extends SimpleTreeVisitor<String, Void> {
         notes.changed(program.place(tree), "an array of the predicate's own became an object of the added class " + kind);
         if (tree.getInitializers() != null) {
             StringBuilder text = new StringBuilder("new " + kind + "(" + tree.getInitializers().size() + ")");
-            for (int i = 0; i < tree.getInitializers().size(); i++) text.append(".with(").append(i).append(", ").append(value(tree.getInitializers().get(i), element)).append(")");
+            for (int i = 0; i < tree.getInitializers().size(); i++)
+                    text.append(".with(").append(i).append(", ").append(value(tree.getInitializers().get(i),
+                    element)).append(")");
             return text.toString();
         }
         List<String> lengths = tree.getDimensions().stream().map(length -> value(length, "int")).toList();
-        if (lengths.size() > 2) return rewriter.refused(tree, "an array of three dimensions", "write an array of one with computed indices");
+        if (lengths.size() > 2)
+                return rewriter.refused(tree, "an array of three dimensions", "write an array of one with computed indices");
         if (lengths.size() == 1) return "new " + kind + "(" + lengths.get(0) + ")";
         rewriter.type(tree, element);
         return kind + ".rows(" + String.join(", ", lengths) + ")";
@@ -3151,13 +3422,15 @@ final class Expressions extends SimpleTreeVisitor<String, Void> {
 
     @Override
     public String visitNewClass(NewClassTree tree, Void nothing) {
-        if (tree.getClassBody() != null) return rewriter.refused(tree, "an anonymous class", "write it as a static class of its own");
+        if (tree.getClassBody() != null)
+                return rewriter.refused(tree, "an anonymous class", "write it as a static class of its own");
         ExecutableElement constructor = (ExecutableElement) program.element(tree);
         TypeElement type = Program.classOf(constructor);
         if (!program.isOwn(type)) return calls.newCollection(tree, type);
         String arguments = arguments(constructor, tree.getArguments());
         String name = rewriter.type(tree, kinds.kind(program.type(tree)));
-        return names.hasSeveral(type) ? "new " + name + "()." + names.of(constructor) + "(" + arguments + ")" : "new " + name + "(" + arguments + ")";
+        return names.hasSeveral(type) ? "new " + name + "()." + names.of(constructor) + "(" + arguments + ")" : "new " + name
+                + "(" + arguments + ")";
     }
 
     boolean isMethod(ExecutableElement constructor) {
@@ -3172,7 +3445,9 @@ final class Expressions extends SimpleTreeVisitor<String, Void> {
         String arguments = arguments(called, call.getArguments());
         if (isMethod(called)) return names.of(called) + "(" + arguments + ");";
         if (!isMethod(from)) return "super(" + arguments + ");";
-        return arguments.isEmpty() ? ";" : rewriter.refused(call, "a second constructor that hands arguments to its superclass", "give the class one constructor");
+        return arguments.isEmpty() ? ";"
+                : rewriter.refused(call, "a second constructor that hands arguments to its superclass",
+                "give the class one constructor");
     }
 
     // ---- calls
@@ -3182,7 +3457,8 @@ final class Expressions extends SimpleTreeVisitor<String, Void> {
         int fixed = method.isVarArgs() && isPacked(method, arguments) ? parameters.size() - 1 : arguments.size();
         List<String> texts = new ArrayList<>();
         for (int i = 0; i < fixed; i++) texts.add(value(arguments.get(i), kinds.of(parameters.get(i))));
-        if (fixed < arguments.size() || fixed < parameters.size()) texts.add(packed(parameters.get(fixed), arguments.subList(fixed, arguments.size())));
+        if (fixed < arguments.size() || fixed < parameters.size())
+                texts.add(packed(parameters.get(fixed), arguments.subList(fixed, arguments.size())));
         return String.join(", ", texts);
     }
 
@@ -3210,13 +3486,15 @@ final class Expressions extends SimpleTreeVisitor<String, Void> {
     private String own(MethodInvocationTree tree, ExecutableElement method) {
         String call = names.of(method) + "(" + arguments(method, tree.getArguments()) + ")";
         if (tree.getMethodSelect() instanceof MemberSelectTree select) {
-            if (select.getExpression().toString().endsWith(".super")) return rewriter.refused(tree, "a call of an interface's method by `super`", "write the method anew");
+            if (select.getExpression().toString().endsWith(".super"))
+                    return rewriter.refused(tree, "a call of an interface's method by `super`", "write the method anew");
             boolean isType = program.element(select.getExpression()) instanceof TypeElement;
             return (isType ? Program.classOf(method).getSimpleName().toString() : operand(select.getExpression())) + "." + call;
         }
         IdentifierTree name = (IdentifierTree) tree.getMethodSelect();
         refuseForeign(name, method);
-        boolean seen = !method.getModifiers().contains(Modifier.STATIC) || rewriter.seesByName(program.classAround(tree), Program.classOf(method));
+        boolean seen = !method.getModifiers().contains(Modifier.STATIC)
+                || rewriter.seesByName(program.classAround(tree), Program.classOf(method));
         return seen ? call : Program.classOf(method).getSimpleName() + "." + call;
     }
 }
@@ -3256,7 +3534,8 @@ final class Calls {
 
     private String refused(MethodInvocationTree tree, ExecutableElement method) {
         String owner = Program.classOf(method).getSimpleName().toString();
-        return rewriter.refused(tree, "`" + method.getSimpleName() + "` of " + owner, "write what it does as a method of your own");
+        return rewriter.refused(tree, "`" + method.getSimpleName() + "` of " + owner,
+                "write what it does as a method of your own");
     }
 
     private String argument(MethodInvocationTree tree, int index, String kind) {
@@ -3270,7 +3549,9 @@ final class Calls {
     /** A call of an added method over ints. */
     private String helper(MethodInvocationTree tree, ExecutableElement method, String known) {
         String name = method.getSimpleName().toString();
-        if (!name.matches(known) || tree.getArguments().stream().anyMatch(argument -> !kinds.of(argument).matches("int|" + Kinds.BOX))) return null;
+        if (!name.matches(known)
+                || tree.getArguments().stream()
+                .anyMatch(argument -> !kinds.of(argument).matches("int|" + Kinds.BOX))) return null;
         notes.changed(program.place(tree), Program.classOf(method).getSimpleName() + "." + name + " became an added method");
         return library.method(name) + "(" + String.join(", ", arguments(tree, "int")) + ")";
     }
@@ -3279,11 +3560,19 @@ final class Calls {
         String name = method.getSimpleName().toString();
         if (!owner.matches("java\\.lang\\.(Integer|Short|Byte|Character|Boolean)")) return null;
         boolean one = tree.getArguments().size() == 1;
-        if (owner.endsWith("Boolean")) return name.equals("compare") ? library.method("compareBoolean") + "(" + String.join(", ", arguments(tree, "boolean")) + ")" : name.equals("valueOf") ? argument(tree, 0, "boolean") : null;
-        if (one && name.matches("valueOf|hashCode|intValue") && kinds.of(tree.getArguments().get(0)).matches("int|" + Kinds.BOX)) return "(" + argument(tree, 0, "int") + ")";
+        if (owner.endsWith("Boolean"))
+                return name.equals("compare") ? library.method("compareBoolean") + "("
+                + String.join(", ", arguments(tree, "boolean")) + ")" : name.equals("valueOf") ? argument(tree, 0, "boolean")
+                : null;
+        if (one && name.matches("valueOf|hashCode|intValue")
+                && kinds.of(tree.getArguments().get(0)).matches("int|" + Kinds.BOX)) return "(" + argument(tree, 0, "int")
+                + ")";
         boolean letters = owner.endsWith("Character");
-        if (letters && name.startsWith("is")) notes.warn(program.place(tree), name + " knows the letters and digits of ASCII alone");
-        return helper(tree, method, letters ? "compare|isDigit|isLetter|isLowerCase|isUpperCase" : "max|min|sum|compare|signum|bitCount|numberOfTrailingZeros|numberOfLeadingZeros");
+        if (letters && name.startsWith("is"))
+                notes.warn(program.place(tree), name + " knows the letters and digits of ASCII alone");
+        return helper(tree, method,
+                letters ? "compare|isDigit|isLetter|isLowerCase|isUpperCase"
+                : "max|min|sum|compare|signum|bitCount|numberOfTrailingZeros|numberOfLeadingZeros");
     }
 
     // ---- methods of objects
@@ -3295,9 +3584,12 @@ final class Calls {
         String kind = kinds.of(receiver);
         if (kinds.isList(kind)) return onList(tree, method, kind);
         if (kinds.isMap(kind)) return onMap(tree, method, kind);
-        if (kinds.isAdded(kind) && kind.matches("(Pair|Iterator)Of.*")) return name.matches("getKey|getValue|setValue|hasNext|next") ? called(tree, kind, name, kinds.elementOf(kind)) : null;
+        if (kinds.isAdded(kind) && kind.matches("(Pair|Iterator)Of.*"))
+                return name.matches("getKey|getValue|setValue|hasNext|next") ? called(tree, kind, name, kinds.elementOf(kind))
+                : null;
         if (kind.equals("int") || kind.equals(Kinds.BOX)) return onNumber(tree, name, receiver);
-        if (name.equals("clone") && kind.endsWith("[]")) return copy(tree, rewriter.of(receiver), "0", rewriter.of(receiver) + ".length");
+        if (name.equals("clone") && kind.endsWith("[]"))
+                return copy(tree, rewriter.of(receiver), "0", rewriter.of(receiver) + ".length");
         if (name.equals("equals") && program.classes.containsKey(kind)) {
             return library.method("isSame@", kind, "") + "(" + rewriter.of(receiver) + ", " + argument(tree, 0, kind) + ")";
         }
@@ -3310,7 +3602,8 @@ final class Calls {
             case "intValue": case "shortValue": case "byteValue": case "charValue": case "hashCode": case "ordinal": return value;
             case "equals":
                 String other = rewriter.of(tree.getArguments().get(0));
-                if (kinds.of(tree.getArguments().get(0)).equals(Kinds.BOX)) return "(" + other + " != null && " + value + " == " + other + ".value)";
+                if (kinds.of(tree.getArguments().get(0)).equals(Kinds.BOX))
+                        return "(" + other + " != null && " + value + " == " + other + ".value)";
                 return "(" + value + " == " + expressions.operand(tree.getArguments().get(0)) + ")";
             case "compareTo": return library.method("compare") + "(" + value + ", " + argument(tree, 0, "int") + ")";
             default: return null;
@@ -3319,7 +3612,8 @@ final class Calls {
 
     private String called(MethodInvocationTree tree, String kind, String name, String argumentKind) {
         library.need(kinds, kind, expressions::equality);
-        return expressions.operand(kinds.receiver(tree)) + "." + name + "(" + String.join(", ", arguments(tree, argumentKind)) + ")";
+        return expressions.operand(kinds.receiver(tree)) + "." + name + "(" + String.join(", ", arguments(tree, argumentKind))
+                + ")";
     }
 
     private String onList(MethodInvocationTree tree, ExecutableElement method, String kind) {
@@ -3327,7 +3621,8 @@ final class Calls {
         boolean stack = Program.classOf(method).getSimpleName().contentEquals("Stack");
         String call = method.getSimpleName() + "/" + method.getParameters().size();
         boolean byIndex = !method.getParameters().isEmpty() && method.getParameters().get(0).asType().getKind() == TypeKind.INT;
-        String name = stack && call.matches("pop/0|peek/0|push/1") ? Map.of("pop/0", "removeLast", "peek/0", "getLast", "push/1", "add").get(call) : onList(call, byIndex);
+        String name = stack && call.matches("pop/0|peek/0|push/1")
+                ? Map.of("pop/0", "removeLast", "peek/0", "getLast", "push/1", "add").get(call) : onList(call, byIndex);
         if (name == null) return null;
         boolean all = name.matches("addAll|containsAll");
         if (!kind.endsWith(">")) library.need(kinds, kind, expressions::equality);
@@ -3365,8 +3660,10 @@ final class Calls {
         String[] sides = kinds.elementOf(kind).split(" ");
         library.need(kinds, kind, expressions::equality);
         String receiver = expressions.operand(kinds.receiver(tree));
-        if (name.equals("merge") && tree.getArguments().get(2).toString().equals("Integer::sum")) return receiver + ".addTo(" + argument(tree, 0, sides[0]) + ", " + argument(tree, 1, "int") + ")";
-        if (!name.matches("get|getOrDefault|containsKey|put|putIfAbsent|remove|size|isEmpty|clear") || name.equals("remove") && tree.getArguments().size() > 1) return null;
+        if (name.equals("merge") && tree.getArguments().get(2).toString().equals("Integer::sum"))
+                return receiver + ".addTo(" + argument(tree, 0, sides[0]) + ", " + argument(tree, 1, "int") + ")";
+        if (!name.matches("get|getOrDefault|containsKey|put|putIfAbsent|remove|size|isEmpty|clear") || name.equals("remove")
+                && tree.getArguments().size() > 1) return null;
         List<String> texts = new ArrayList<>();
         for (int i = 0; i < tree.getArguments().size(); i++) texts.add(argument(tree, i, sides[i]));
         return receiver + "." + name + "(" + String.join(", ", texts) + ")";
@@ -3376,7 +3673,8 @@ final class Calls {
 
     String newCollection(NewClassTree tree, TypeElement type) {
         String kind = kinds.kind(program.type(tree));
-        if (!kinds.isList(kind) && !kinds.isMap(kind)) return rewriter.type(tree, kind.startsWith("?") ? kind : "?" + type.getSimpleName());
+        if (!kinds.isList(kind) && !kinds.isMap(kind))
+                return rewriter.type(tree, kind.startsWith("?") ? kind : "?" + type.getSimpleName());
         String element = kinds.elementOf(kind);
         if (type.getSimpleName().contentEquals("ArrayDeque") && !element.equals("int")) kind = kinds.added("DequeOf", element);
         rewriter.type(tree, kind);
@@ -3384,7 +3682,9 @@ final class Calls {
         if (!Collected.needsOwn(tree) || tree.getArguments().isEmpty()) return "new " + kind + "()";
         String argument = kinds.of(tree.getArguments().get(0));
         if (argument.equals("int")) return "new " + kind + "()";
-        if (!kinds.isList(argument) || kinds.isMap(kind)) return rewriter.refused(tree, "a collection made of " + program.text(tree.getArguments().get(0)), "add the members one by one");
+        if (!kinds.isList(argument) || kinds.isMap(kind))
+                return rewriter.refused(tree, "a collection made of " + program.text(tree.getArguments().get(0)),
+                "add the members one by one");
         return "new " + kind + "().withAll(" + rewriter.of(tree.getArguments().get(0)) + ")";
     }
 
@@ -3392,7 +3692,8 @@ final class Calls {
         String name = method.getSimpleName().toString();
         if (!method.getModifiers().contains(Modifier.STATIC)) return instance(tree, method);
         String kind = kinds.kind(program.type(tree));
-        if (name.equals("newSetFromMap") && tree.getArguments().get(0).toString().contains("IdentityHashMap") && !kinds.hasEquals(kinds.elementOf(kind))) return "new " + rewriter.type(tree, kind) + "()";
+        if (name.equals("newSetFromMap") && tree.getArguments().get(0).toString().contains("IdentityHashMap")
+                && !kinds.hasEquals(kinds.elementOf(kind))) return "new " + rewriter.type(tree, kind) + "()";
         if (!Collected.makes(method)) return null;
         return made(tree, kind, name.equals("of"));
     }
@@ -3403,7 +3704,8 @@ final class Calls {
         if (tree.getArguments().size() == 1 && kinds.of(tree.getArguments().get(0)).endsWith("[]")) return null;
         rewriter.type(tree, kind);
         notes.changed(program.place(tree), "`" + tree.getMethodSelect() + "` became new " + kind);
-        return "new " + kind + "()" + arguments(tree, element).stream().map(text -> ".with(" + text + ")").collect(Collectors.joining());
+        return "new " + kind + "()" + arguments(tree, element).stream().map(text -> ".with(" + text + ")")
+                .collect(Collectors.joining());
     }
 
     // ---- static methods of java.util and java.lang
@@ -3414,12 +3716,17 @@ final class Calls {
         switch (method.getSimpleName().toString()) {
             case "equals":
                 if (kind.equals("null")) kind = kinds.of(tree.getArguments().get(1));
-                if (kinds.hasEquals(kind)) return library.method("areEqual@", kind, expressions.equality(kind)) + "(" + String.join(", ", arguments(tree, kind)) + ")";
-                return kind.equals(Kinds.BOX) || kind.startsWith("?") ? null : "(" + argument(tree, 0, kind) + " == " + argument(tree, 1, kind) + ")";
-            case "requireNonNull": return number ? argument(tree, 0, kind) : library.method("nonNull@", rewriter.type(tree, kind), "") + "(" + argument(tree, 0, kind) + ")";
+                if (kinds.hasEquals(kind))
+                        return library.method("areEqual@", kind, expressions.equality(kind)) + "("
+                        + String.join(", ", arguments(tree, kind)) + ")";
+                return kind.equals(Kinds.BOX)
+                        || kind.startsWith("?") ? null : "(" + argument(tree, 0, kind) + " == " + argument(tree, 1, kind) + ")";
+            case "requireNonNull": return number ? argument(tree, 0, kind)
+                    : library.method("nonNull@", rewriter.type(tree, kind), "") + "(" + argument(tree, 0, kind) + ")";
             case "isNull": return number ? "false" : "(" + argument(tree, 0, kind) + " == null)";
             case "nonNull": return number ? "true" : "(" + argument(tree, 0, kind) + " != null)";
-            case "hashCode": return number ? argument(tree, 0, kind) : kinds.hasEquals(kind) ? library.method("hashOf@", kind, "") + "(" + argument(tree, 0, kind) + ")" : null;
+            case "hashCode": return number ? argument(tree, 0, kind) : kinds.hasEquals(kind)
+                    ? library.method("hashOf@", kind, "") + "(" + argument(tree, 0, kind) + ")" : null;
             default: return null;
         }
     }
@@ -3430,13 +3737,21 @@ final class Calls {
         String kind = tree.getArguments().isEmpty() ? "?" : kinds.of(tree.getArguments().get(0));
         String element = kinds.elementOf(kind);
         int count = tree.getArguments().size();
-        if (kind.startsWith("ArrayOf") && name.equals("fill") && count == 2) return expressions.operand(tree.getArguments().get(0)) + ".fill(" + argument(tree, 1, element) + ")";
+        if (kind.startsWith("ArrayOf") && name.equals("fill") && count == 2)
+                return expressions.operand(tree.getArguments().get(0)) + ".fill(" + argument(tree, 1, element) + ")";
         if (!kind.endsWith("[]")) return null;
-        if (name.equals("fill")) return library.method(count == 2 ? "fill@" : "fillRange@", element, "") + "(" + String.join(", ", withLast(tree, element)) + ")";
-        if (name.equals("equals") && count == 2) return library.method("areEqual@Array", element, expressions.equality(element).replaceAll("\\ba\\b", "a[i]").replaceAll("\\bb\\b", "b[i]")) + "(" + String.join(", ", arguments(tree, kind)) + ")";
-        if (name.equals("sort") && count == 1 && element.equals("int")) return library.method("sort@", element, "") + "(" + argument(tree, 0, kind) + ")";
+        if (name.equals("fill"))
+                return library.method(count == 2 ? "fill@" : "fillRange@", element, "") + "("
+                + String.join(", ", withLast(tree, element)) + ")";
+        if (name.equals("equals") && count == 2)
+                return library.method("areEqual@Array", element,
+                expressions.equality(element).replaceAll("\\ba\\b", "a[i]").replaceAll("\\bb\\b", "b[i]")) + "("
+                + String.join(", ", arguments(tree, kind)) + ")";
+        if (name.equals("sort") && count == 1 && element.equals("int"))
+                return library.method("sort@", element, "") + "(" + argument(tree, 0, kind) + ")";
         if (name.equals("copyOf")) return copy(tree, argument(tree, 0, kind), "0", argument(tree, 1, "int"));
-        return name.equals("copyOfRange") ? copy(tree, argument(tree, 0, kind), argument(tree, 1, "int"), argument(tree, 2, "int")) : null;
+        return name.equals("copyOfRange")
+                ? copy(tree, argument(tree, 0, kind), argument(tree, 1, "int"), argument(tree, 2, "int")) : null;
     }
 
     private List<String> withLast(MethodInvocationTree tree, String kind) {

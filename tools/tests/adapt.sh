@@ -42,7 +42,7 @@ javac -nowarn -d "$work/adapt" "$top/tools/Adapt.java" 2>"$work/err"
 count $? "Adapt doesn't compile: $(head -n 1 "$work/err")"
 cp "$top/tools/Replay.java" "$work" 2>/dev/null && javac -nowarn -d "$work/replay" "$work/Replay.java" 2>/dev/null
 adapt() {
-    java -cp "$work/adapt" Adapt "$@" >"$work/out" 2>"$work/err"
+    java -XX:TieredStopAtLevel=1 -XX:+UseSerialGC -cp "$work/adapt" Adapt "$@" >"$work/out" 2>"$work/err"
 }
 
 # ---- words
@@ -66,7 +66,9 @@ wrong 2 fin.toml none.java -o adapted
 wrong 2 none.toml Cell.java -o adapted
 wrong 2 fin.toml Cell.java -o .
 wrong 2 fin.toml Cell.java ./Cell.java -o adapted
-wrong 1 Cell.java Cell.java -o adapted
+cp Cell.java none.fin
+wrong 1 none.fin Cell.java -o adapted
+rm none.fin
 printf 'class Cell { int v boolean }' >Wrong.java
 wrong 1 fin.toml Wrong.java -o adapted
 
@@ -80,17 +82,19 @@ rm -r adapted
 # ---- what is rewritten
 
 # Adapts a class made of members, of which the root is Cell with a field v from 0 to 3, and lists it: MEMBERS VALUES.. where
-# the values are those of v that are valid.
+# the values are those of v that are valid. What is made is kept below made/, each in a package of its own.
+rewritten=0
 rewrites() {
-    printf 'import java.util.*;\n\nclass Cell {\n    int v;\n%s\n}\n' "$1" >Cell.java
+    rewritten=$((rewritten + 1))
+    made=made/$rewritten
+    printf 'package made%d;\n\nimport java.util.*;\n\nclass Cell {\n    int v;\n%s\n}\n' "$rewritten" "$1" >Cell.java
     printf 'root = "Cell"\nfuel = 10000\n[objects]\nCell = 1\n[fields]\n"Cell.v" = [{ from = 0, to = 3 }]\n' >fin.toml
-    rm -rf adapted
-    adapt fin.toml Cell.java -o adapted
+    adapt fin.toml Cell.java -o "$made"
     ended=$?
-    [ "$ended" = 0 ] && javac -nowarn -d "$work/made" adapted/Cell.java 2>javac.err
-    count $? "not adapted to a Java class: $1: $(cat err javac.err 2>/dev/null | head -n 1)"
+    count $ended "not adapted: $1: $(head -n 1 err)"
+    [ "$ended" = 0 ] || return
     [ -x "$korat" ] || { untried=$((untried + 1)); return; }
-    "$korat" list adapted/fin.toml adapted/Cell.java >rows
+    "$korat" list "$made/fin.toml" "$made/Cell.java" >rows
     values=$(sed -nE 's/.*\{v=([0-9]+).*/\1/p' rows | tr '\n' ' ')
     [ "${values% }" = "$2" ]
     count $? "valid are ${values% }, and not $2: $1"
@@ -130,11 +134,16 @@ rewrites '//@Deprecated
 rewrites 'class Inner implements Comparable<Inner> { int w = 1; public int compareTo(Inner o) { return Integer.compare(w, o.w); } } boolean repOk() { return make().compareTo(make()) == 0 && v == 1; } static Inner make() { return null; }' ''
 rewrites 'boolean repOk() { Integer least = null; for (int x : List.of(3, v)) if (least == null || x < least) least = x; return least.equals(2); }' '2'
 
+# The adapted classes are Java still.
+javac -nowarn -d classes made/*/Cell.java 2>javac.err
+count $? "an adapted class is no Java: $(head -n 1 javac.err)"
+
 # Lines stay where they are.
 printf 'class Cell {\n    int v;\n\n    /** Not reached. */\n    public String text() {\n        return "";\n    }\n\n    boolean repOk() {\n        return isOdd();\n    }\n\n    private boolean isOdd() {\n        return Math.abs(v) %% 2 == 1;\n    }\n}\n' >Cell.java
 adapt fin.toml Cell.java -o adapted
 [ "$(grep -n 'isOdd() {' adapted/Cell.java)" = '13:    private boolean isOdd() {' ] && ! grep -q 'text\|reached' adapted/Cell.java
 count $? "the lines of a class moved"
+rm -r adapted
 
 # ---- a method with its contract
 
@@ -205,7 +214,7 @@ for folder in "$tests"/classes/*/; do
         continue
         ;;
     esac
-    [ "$ended" = 0 ] && [ ! -s err ] && javac -nowarn -d "$work/made-$name" "$name"/*.java 2>err
+    [ "$ended" = 0 ] && [ ! -s err ] && javac -nowarn -d "$work/classes/$name" "$name"/*.java 2>err
     count $? "$name: status $ended, $(head -n 1 err)"
     adapted=$((adapted + 1))
     [ -x "$korat" ] || continue
