@@ -3183,7 +3183,7 @@ final class Expressions extends SimpleTreeVisitor<String, Void> {
                 return comparedToNull(tree, Program.isNull(left) ? right : left);
         for (ExpressionTree side : List.of(left, right)) {
             String kind = kinds.of(side);
-            if (!equality && kind.startsWith("?")) return rewriter.type(side, kind);
+            if (!equality && kind.startsWith("?")) return isDeclared(side) ? program.text(tree) : rewriter.type(side, kind);
         }
         boolean numbers = kinds.of(left).matches("int|" + Kinds.BOX) && kinds.of(right).matches("int|" + Kinds.BOX);
         if (!numbers) return rewriter.plain(tree);
@@ -3192,6 +3192,11 @@ final class Expressions extends SimpleTreeVisitor<String, Void> {
         if (boxes) notes.warn(program.place(tree),
                 "Java compares the objects here, and korat their numbers: the two agree from -128 to 127");
         return rewriter.composed(tree, Map.of(left, value(left, "int"), right, value(right, "int")));
+    }
+
+    /** Whether an expression is a variable of the sources, whose declaration is refused already. */
+    private boolean isDeclared(ExpressionTree tree) {
+        return program.element(Program.bare(tree)) instanceof VariableElement variable && program.isOwn(variable);
     }
 
     private boolean isEnum(ExpressionTree tree) {

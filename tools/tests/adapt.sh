@@ -188,7 +188,7 @@ refuses() {
     count $? "status $ended with $(wc -l <err) lines, and not $1 refusals: $2"
 }
 refuses 1 'long big = 3; boolean repOk() { return v < big; }'
-refuses 3 'String name; Object any; double part; boolean repOk() { return name == null && any == null && part == 0.0; }'
+refuses 4 'String name; Object any; double part; boolean repOk() { return name == null && any == null && part == 0.0; }'
 refuses 2 'boolean repOk() { Runnable r = () -> { }; return r != null; }'
 refuses 1 'boolean repOk() { try { return 1 / v > 0; } finally { check(); } } void check() { }'
 refuses 1 'boolean repOk() { v = 1; return true; }'
