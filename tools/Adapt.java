@@ -1739,34 +1739,24 @@ final class Templates {
                 $C first;
                 int size;
 
-                $C cell(int index) { $C cell = index < 0 ? null
-                        : first; for (int i = 0; i < index; i++) cell = cell.next; return cell; }
-                boolean add($X item) { if (size == 0) first = new $C(item, null); else cell(size - 1).next =
-                        new $C(item, null); size++; return true; }
+                $C cell(int index) { $C cell = index < 0 ? null : first; for (int i = 0; i < index; i++) cell = cell.next; return cell; }
+                boolean add($X item) { if (size == 0) first = new $C(item, null); else cell(size - 1).next = new $C(item, null); size++; return true; }
                 void addFirst($X item) { first = new $C(item, first); size++; }
-                void insert(int index,
-                        $X item) { if (index == 0) addFirst(item); else { $C before = cell(index - 1); before.next =
-                        new $C(item, before.next); size++; } }
-                boolean addAll($L items) { boolean changed =
-                        false; for ($C cell = items.first; cell != null; cell = cell.next) if (add(cell.item)) changed =
-                        true; return changed; }
+                void insert(int index, $X item) { if (index == 0) addFirst(item); else { $C before = cell(index - 1); before.next = new $C(item, before.next); size++; } }
+                boolean addAll($L items) { boolean changed = false; for ($C cell = items.first; cell != null; cell = cell.next) if (add(cell.item)) changed = true; return changed; }
                 int size() { return size; }
                 boolean isEmpty() { return size == 0; }
-                int indexOf($X item) { int index =
-                        0; for ($C cell = first; cell != null; cell = cell.next) { if ($E) return index; index++; } return -1; }
+                int indexOf($X item) { int index = 0; for ($C cell = first; cell != null; cell = cell.next) { if ($E) return index; index++; } return -1; }
                 boolean contains($X item) { return indexOf(item) >= 0; }
-                boolean containsAll($L items) { for ($C cell = items.first; cell != null; cell =
-                        cell.next) if (!contains(cell.item)) return false; return true; }
+                boolean containsAll($L items) { for ($C cell = items.first; cell != null; cell = cell.next) if (!contains(cell.item)) return false; return true; }
                 $X get(int index) { return cell(index).item; }
                 $X set(int index, $X item) { $C cell = cell(index); $X before = cell.item; cell.item = item; return before; }
                 $X getFirst() { return first.item; }
                 $X getLast() { return cell(size - 1).item; }
                 $X removeFirst() { $X item = first.item; first = first.next; size--; return item; }
-                $X removeAt(int index) { if (index == 0) return removeFirst(); $C before = cell(index - 1); $X item =
-                        before.next.item; before.next = before.next.next; size--; return item; }
+                $X removeAt(int index) { if (index == 0) return removeFirst(); $C before = cell(index - 1); $X item = before.next.item; before.next = before.next.next; size--; return item; }
                 $X removeLast() { return removeAt(size - 1); }
-                boolean remove($X item) { int index =
-                        indexOf(item); if (index < 0) return false; removeAt(index); return true; }
+                boolean remove($X item) { int index = indexOf(item); if (index < 0) return false; removeAt(index); return true; }
                 $P peekFirst() { return size == 0 ? null : $Ofirst.item); }
                 $P peekLast() { return size == 0 ? null : $OgetLast()); }
                 $P pollFirst() { return size == 0 ? null : $OremoveFirst()); }
@@ -1807,13 +1797,8 @@ final class Templates {
     static final String SORTED = """
             // A set in ascending order.
             class $N extends $L {
-                boolean add($X item) { int index =
-                        0; for ($C after = first; after != null
-                        && $D; after = after.next) index++; if (contains(item)) return false; insert(index,
-                        item); return true; }
-                int indexOf($X item) { int index =
-                        0; for ($C after = first; after != null; after =
-                        after.next) { if ($S) return index; index++; } return -1; }
+                boolean add($X item) { int index = 0; for ($C after = first; after != null && $D; after = after.next) index++; if (contains(item)) return false; insert(index, item); return true; }
+                int indexOf($X item) { int index = 0; for ($C after = first; after != null; after = after.next) { if ($S) return index; index++; } return -1; }
                 $N with($X item) { add(item); return this; }
                 $N withAll($L items) { addAll(items); return this; }
             }
@@ -1841,12 +1826,9 @@ final class Templates {
                 $R get($K key) { $P pair = find(key); return pair == null ? null : $Opair.value); }
                 $V getOrDefault($K key, $V other) { $P pair = find(key); return pair == null ? other : pair.value; }
                 boolean containsKey($K key) { return find(key) != null; }
-                $R put($K key, $V value) { $P pair = find(key); if (pair != null) return $Opair.setValue(value)); first =
-                        new $P(key, value, first); size++; return null; }
+                $R put($K key, $V value) { $P pair = find(key); if (pair != null) return $Opair.setValue(value)); first = new $P(key, value, first); size++; return null; }
                 $R putIfAbsent($K key, $V value) { $R before = get(key); if (before == null) put(key, value); return before; }
-                $R remove($K key) { $P gone = find(key); if (gone == null) return null; if (gone == first) first =
-                        first.next; for ($P pair = first; pair != null; pair = pair.next) if (pair.next == gone) pair.next =
-                        gone.next; size--; return $Ogone.value); }
+                $R remove($K key) { $P gone = find(key); if (gone == null) return null; if (gone == first) first = first.next; for ($P pair = first; pair != null; pair = pair.next) if (pair.next == gone) pair.next = gone.next; size--; return $Ogone.value); }
                 int size() { return size; }
                 boolean isEmpty() { return size == 0; }
                 void clear() { first = null; size = 0; }
@@ -1878,9 +1860,7 @@ final class Templates {
                 void fill($X item) { for (int i = 0; i < length; i++) set(i, item); }
             """;
     static final String ROWS = """
-                static $N rows(int length,
-                        int width) { $N rows =
-                        new $N(length); for (int i = 0; i < length; i++) rows.set(i, new $X(width)); return rows; }
+                static $N rows(int length, int width) { $N rows = new $N(length); for (int i = 0; i < length; i++) rows.set(i, new $X(width)); return rows; }
             """;
 }
 
