@@ -316,6 +316,12 @@ record Finitization(String name, String text, String root, long fuel, Map<String
         return objects.getOrDefault(type, 0L) > 0;
     }
 
+    /** Whether candidates have the fields of a class. */
+    boolean counts(Program program, TypeElement type) {
+        return program.classes.entrySet().stream()
+                .anyMatch(entry -> counts(entry.getKey()) && program.isBelow(entry.getValue(), type));
+    }
+
     /** The names in a domain, without null. */
     static List<String> names(List<Object> domain) {
         return domain.stream().filter(String.class::isInstance).map(String.class::cast).filter(name -> !name.equals("null"))
@@ -509,6 +515,28 @@ final class Program {
                     && method.getSimpleName().contentEquals(name) && method.getParameters().size() == parameters) return method;
         }
         return null;
+    }
+
+    /** A method of the sources by which a class overrides one, or which it inherits. */
+    ExecutableElement overriding(TypeElement type, ExecutableElement above) {
+        for (Element member : elements.getAllMembers(type)) {
+            if (member instanceof ExecutableElement method && method.getKind() == ElementKind.METHOD && isOwn(member)
+                    && elements.overrides(method, above, type)) return method;
+        }
+        return null;
+    }
+
+    /** A class's own `equals` of objects. */
+    ExecutableElement equality(TypeElement type) {
+        ExecutableElement equals = method(type, "equals", 1);
+        boolean ofObjects = equals != null && equals.getParameters().get(0).asType().toString().equals("java.lang.Object");
+        return ofObjects ? equals : null;
+    }
+
+    /** Whether a class below this one has its own `equals`, and this one doesn't. */
+    boolean isComparedBelow(TypeElement type) {
+        return equality(type) == null
+                && classes.values().stream().anyMatch(below -> isBelow(below, type) && equality(below) != null);
     }
 
     /** The method or constructor that a node stands in. */
@@ -880,7 +908,7 @@ final class Kinds {
 
     boolean hasEquals(String kind) {
         TypeElement type = program.classes.get(kind);
-        return type != null && program.method(type, "equals", 1) != null;
+        return type != null && program.equality(type) != null;
     }
 
     /** The elements of an array or a collection. */
@@ -940,8 +968,7 @@ final class Kinds {
 
     /** Whether null may come into a variable or result whose other values are numbers. */
     private boolean isNullable(Element element) {
-        if (!(element instanceof ExecutableElement) && element.getKind() == ElementKind.FIELD
-                && fin.counts(kind(Program.classOf(element).asType()))) return false;
+        if (element.getKind() == ElementKind.FIELD) return !fin.counts(program, Program.classOf(element));
         if (!asked.add(element)) return false;
         try {
             return flow.into(element).stream().anyMatch(this::mayBeNull);
@@ -993,7 +1020,7 @@ final class Kinds {
         ExpressionTree receiver = receiver(call);
         if (method == null || receiver == null || method.getModifiers().contains(Modifier.STATIC)) return null;
         TypeElement type = program.classes.get(of(receiver));
-        return type == null ? null : program.method(type, method.getSimpleName().toString(), method.getParameters().size());
+        return type == null ? null : program.overriding(type, method);
     }
 
     private String result(MethodInvocationTree call) {
@@ -1197,7 +1224,11 @@ final class Reach {
 
     private void reachMember(String kind, String name) {
         TypeElement type = program.classes.get(kind);
-        ExecutableElement method = type == null ? null : program.method(type, name, 1);
+        if (type != null && name.equals("equals") && program.isComparedBelow(type)) {
+            notes.refuse(program.place(program.trees.getTree(type)),
+                    "objects of " + type.getSimpleName() + " are compared by the `equals` of classes below it", "declare `equals` in it");
+        }
+        ExecutableElement method = type == null ? null : name.equals("equals") ? program.equality(type) : program.method(type, name, 1);
         if (method == null || kept.contains(method)) return;
         kinds.give(method.getParameters().get(0), kind);
         reach(method);
@@ -1427,7 +1458,7 @@ final class Reach {
             }
             Element field = target instanceof ArrayAccessTree ? null : program.element(target);
             if (field != null && field.getKind() == ElementKind.FIELD && program.isOwn(field)
-                    && fin.counts(Program.classOf(field).getSimpleName().toString())) {
+                    && fin.counts(program, Program.classOf(field))) {
                 notes.refuse(program.place(target), "the predicate changes the field `" + field + "` of a candidate",
                         "let repOk leave the candidate as it is");
             }
@@ -1435,7 +1466,7 @@ final class Reach {
         for (ExpressionTree creation : creations) {
             if (!kinds.flow.isScratch(creation)) continue;
             for (Element element : kinds.flow.sharing(creation)) {
-                if (element.getKind() != ElementKind.FIELD || !fin.counts(Program.classOf(element).getSimpleName().toString()))
+                if (element.getKind() != ElementKind.FIELD || !fin.counts(program, Program.classOf(element)))
                         continue;
                 notes.refuse(program.place(creation), "this array and the field `" + element + "` meet in one variable",
                         "use a variable for each");
@@ -1550,6 +1581,7 @@ final class Library {
             Map.entry("arrayCopy@", "static void $(#[] from, int start, #[] to, int at, int count) { if (start < 0 || at < 0 || count < 0 || start + count > from.length || at + count > to.length) count = 1 / 0; if (from == to && start < at) { for (int i = count - 1; i >= 0; i--) to[at + i] = from[start + i]; } else { for (int i = 0; i < count; i++) to[at + i] = from[start + i]; } }"),
             Map.entry("sort@", "static void $(#[] array) { for (int i = 1; i < array.length; i++) { for (int j = i; j > 0 && array[j - 1] > array[j]; j--) { # item = array[j]; array[j] = array[j - 1]; array[j - 1] = item; } } }"),
             Map.entry("isSame@", "static boolean $(# a, # b) { return a == null ? 1 / 0 == 0 : a == b; }"),
+            Map.entry("isAbsent@", "static boolean $(# item) { return false; }"),
             Map.entry("areEqual@", "static boolean $(# a, # b) { return =; }"),
             Map.entry("hashOf@", "static int $(# a) { return a == null ? 0 : a.hash(); }"),
             Map.entry("nonNull@", "static # $(# a) { return a == null && 1 / 0 == 0 ? null : a; }"));
@@ -1681,18 +1713,23 @@ final class Library {
     private void collection(String kind, String of, String element, String equality) {
         boolean number = element.equals("int");
         String nullable = number ? box() : element;
-        Map<String, String> words =
-                Map.of("$L", "ListOf" + of, "$C", "CellOf" + of, "$X", element, "$P", nullable, "$E",
+        Map<String, String> words = of("$L", "ListOf" + of, "$C", "CellOf" + of, "$X", element, "$P", nullable, "$E",
                 equality.replaceAll("\\ba\\b", "item").replaceAll("\\bb\\b", "cell.item"),
                 "$O", number ? "new BoxedInt(" : "(", "$I", "IteratorOf" + of, "$N", kind,
-                "$D", number ? "after.item < item" : "after.item.compareTo(item) < 0", "$S",
-                        number ? "after.item == item" : "after.item.compareTo(item) == 0");
+                "$A", number ? "false" : "item == null", "$D", number ? "after.item < item" : "item.compareTo(after.item) > 0", "$S",
+                        number ? "after.item == item" : "item.compareTo(after.item) == 0");
         add("CellOf" + of, name -> Templates.fill(Templates.CELL, words));
         add("ListOf" + of, name -> Templates.fill(Templates.LIST, words));
         add("IteratorOf" + of, name -> Templates.fill(Templates.ITERATOR, words));
         if (kind.startsWith("SetOf")) add(kind, name -> Templates.fill(Templates.SET, words));
         if (kind.startsWith("SortedSetOf")) add(kind, name -> Templates.fill(Templates.SORTED, words));
         if (kind.startsWith("DequeOf")) add(kind, name -> Templates.fill(Templates.DEQUE, words));
+    }
+
+    private static Map<String, String> of(String... pairs) {
+        Map<String, String> words = new HashMap<>();
+        for (int i = 0; i < pairs.length; i += 2) words.put(pairs[i], pairs[i + 1]);
+        return words;
     }
 
     private void map(String kind, String key, String value, String equality) {
@@ -1797,7 +1834,7 @@ final class Templates {
     static final String SORTED = """
             // A set in ascending order.
             class $N extends $L {
-                boolean add($X item) { int index = 0; for ($C after = first; after != null && $D; after = after.next) index++; if (contains(item)) return false; insert(index, item); return true; }
+                boolean add($X item) { int index = $A ? 1 / 0 : 0; for ($C after = first; after != null && $D; after = after.next) index++; if (contains(item)) return false; insert(index, item); return true; }
                 int indexOf($X item) { int index = 0; for ($C after = first; after != null; after = after.next) { if ($S) return index; index++; } return -1; }
                 $N with($X item) { add(item); return this; }
                 $N withAll($L items) { addAll(items); return this; }
@@ -2365,9 +2402,23 @@ final class Rewriter {
         String header = modifiers(tree.getModifiers(), inner ? "static" : "").replace("private ", "") + "class "
                 + type.getSimpleName() + superclass(tree, type) + " {";
         noteHeader(tree, type, inner);
+        refuseSilentSuper(tree, type);
         String body = members(source, open + 1, program.end(tree) - 1, tree.getMembers());
         boolean host = library.host != null && Program.outermost(library.host) == type;
         return leading(tree, header, before) + body + (host ? Library.PLACE : "") + "}";
+    }
+
+    /** Refuses a constructor that calls one of several of the superclass without saying so. */
+    private void refuseSilentSuper(ClassTree tree, TypeElement type) {
+        TypeElement above = program.superclass(type);
+        if (above == null || !reach.made.contains(type) || !names.hasSeveral(above)) return;
+        List<MethodTree> constructors = tree.getMembers().stream().filter(MethodTree.class::isInstance).map(MethodTree.class::cast)
+                .filter(method -> method.getReturnType() == null && reach.kept.contains(program.element(method))
+                        && program.end(method) > program.start(method)).toList();
+        boolean said = constructors.stream().allMatch(constructor -> constructor.getBody().getStatements().stream().limit(1)
+                .anyMatch(statement -> program.end(statement) > program.start(statement)
+                        && program.text(statement).matches("(?s)(this|super)\\s*\\(.*")));
+        if (!said || constructors.isEmpty()) refused(tree, "the superclass of " + type.getSimpleName() + " has several constructors", "give it one");
     }
 
     private void noteHeader(ClassTree tree, TypeElement type, boolean inner) {
@@ -2506,9 +2557,7 @@ final class Rewriter {
         if (isStatic || constant) return constant(tree, field, kind, access, constant);
         if (hidesAnother(field, type))
                 refused(tree, "the field `" + field + "` hides one of a superclass", "rename one of them");
-        boolean counted = kinds.fin.objects().keySet().stream()
-                .anyMatch(name -> program.classes.containsKey(name) && kinds.fin.counts(name)
-                && program.isBelow(program.classes.get(name), type));
+        boolean counted = kinds.fin.counts(program, type);
         if (counted && (kinds.isList(kind) || kinds.isMap(kind))) {
             refused(tree, "the field `" + field + "` holds a collection, which no candidate has",
                     "write an array or linked nodes in its place");
@@ -2624,7 +2673,8 @@ final class Statements extends SimpleTreeVisitor<String, Void> {
 
     /** A statement that ends the run, where Java has an exception. */
     String trap(ExecutableElement method) {
-        String kind = method == null || method.getKind() == ElementKind.CONSTRUCTOR ? "void" : kinds.of(method);
+        boolean constructor = method.getKind() == ElementKind.CONSTRUCTOR;
+        String kind = !constructor ? kinds.of(method) : expressions.isMethod(method) ? "" : "void";
         if (kind.equals("void")) return "if (1 / 0 == 0) return;";
         if (kind.equals("int")) return "return 1 / 0;";
         return "return 1 / 0 == 0" + (kind.equals("boolean") ? ";" : " ? null : null;");
@@ -2972,11 +3022,30 @@ final class Statements extends SimpleTreeVisitor<String, Void> {
 
     @Override
     public String visitExpressionStatement(ExpressionStatementTree tree, Void nothing) {
-        if (Reach.isPrint(tree)) return ";";
+        if (Reach.isPrint(tree)) {
+            return mayFail(tree) ? rewriter.refused(tree, "a print that may end by an exception", "leave it out") : ";";
+        }
         if (tree.getExpression() instanceof MethodInvocationTree call
                 && List.of("this", "super").contains(call.getMethodSelect().toString())) return expressions.chained(call);
         String text = rewriter.plain(tree);
         return text.equals(";") ? text : text.startsWith("(") ? text.replaceFirst("^\\((.*)\\);$", "$1;") : text;
+    }
+
+    /** Whether what a call prints may end by an exception. */
+    private boolean mayFail(ExpressionStatementTree tree) {
+        boolean[] found = new boolean[1];
+        new TreeScanner<Void, Void>() {
+            @Override
+            public Void scan(Tree part, Void nothing) {
+                TypeMirror type = part instanceof IdentifierTree ? program.type(part) : null;
+                found[0] |= type != null && program.isOwn(program.types.asElement(type))
+                        || part instanceof MethodInvocationTree || part instanceof MemberSelectTree || part instanceof ArrayAccessTree
+                        || part instanceof NewClassTree
+                        || part != null && Set.of(Tree.Kind.DIVIDE, Tree.Kind.REMAINDER).contains(part.getKind());
+                return super.scan(part, nothing);
+            }
+        }.scan(((MethodInvocationTree) tree.getExpression()).getArguments(), null);
+        return found[0];
     }
 
     @Override
@@ -3048,7 +3117,7 @@ final class Expressions extends SimpleTreeVisitor<String, Void> {
     /** When two members of a kind are equal, `a` and `b`. */
     String equality(String kind) {
         if (!kinds.hasEquals(kind)) return "a == b";
-        return "(a == null ? b == null : a." + names.of(program.method(program.classes.get(kind), "equals", 1)) + "(b))";
+        return "(a == null ? b == null : a." + names.of(program.equality(program.classes.get(kind))) + "(b))";
     }
 
     static String number(Object value) {
@@ -3186,9 +3255,16 @@ final class Expressions extends SimpleTreeVisitor<String, Void> {
     private String comparedToNull(BinaryTree tree, ExpressionTree other) {
         String kind = kinds.of(other);
         if (!kind.equals("int") && !kind.equals("boolean")) return rewriter.plain(tree);
-        boolean never = tree.getKind() == Tree.Kind.EQUAL_TO;
-        notes.changed(program.place(tree), "`" + program.text(tree) + "` became " + !never + ", since numbers are never null");
-        return String.valueOf(!never);
+        boolean equal = tree.getKind() == Tree.Kind.EQUAL_TO;
+        notes.changed(program.place(tree), "`" + program.text(tree) + "` became " + !equal + ", since numbers are never null");
+        return (equal ? "" : "!") + absent(other, kind);
+    }
+
+    /** That a number is null, which it never is; what may end by a trap is evaluated. */
+    String absent(ExpressionTree tree, String kind) {
+        String text = value(tree, kind);
+        if (Program.bare(tree) instanceof IdentifierTree) return "false";
+        return library.method("isAbsent@", kind, "") + "(" + text + ")";
     }
 
     @Override
@@ -3319,7 +3395,7 @@ final class Expressions extends SimpleTreeVisitor<String, Void> {
                 return rewriter.refused(tree, "`instanceof` with a variable", "write `instanceof` and a cast");
         String kind = kinds.kind(program.type(tree.getType()));
         String from = kinds.of(tree.getExpression());
-        if (kind.equals("int") && from.equals("int")) return "true";
+        if (kind.equals("int") && from.equals("int")) return "!" + absent(tree.getExpression(), from);
         if (kind.startsWith("?") && program.classes.containsKey(from)
                 && program.types.isSubtype(program.types.erasure(program.classes.get(from).asType()),
                 program.types.erasure(program.type(tree.getType())))) {
@@ -3575,7 +3651,7 @@ final class Calls {
         if (kind.equals("int") || kind.equals(Kinds.BOX)) return onNumber(tree, name, receiver);
         if (name.equals("clone") && kind.endsWith("[]"))
                 return copy(tree, rewriter.of(receiver), "0", rewriter.of(receiver) + ".length");
-        if (name.equals("equals") && program.classes.containsKey(kind)) {
+        if (name.equals("equals") && program.classes.containsKey(kind) && !program.isComparedBelow(program.classes.get(kind))) {
             return library.method("isSame@", kind, "") + "(" + rewriter.of(receiver) + ", " + argument(tree, 0, kind) + ")";
         }
         return kind.startsWith("?") ? rewriter.type(receiver, kind) : null;
@@ -3708,8 +3784,8 @@ final class Calls {
                         || kind.startsWith("?") ? null : "(" + argument(tree, 0, kind) + " == " + argument(tree, 1, kind) + ")";
             case "requireNonNull": return number ? argument(tree, 0, kind)
                     : library.method("nonNull@", rewriter.type(tree, kind), "") + "(" + argument(tree, 0, kind) + ")";
-            case "isNull": return number ? "false" : "(" + argument(tree, 0, kind) + " == null)";
-            case "nonNull": return number ? "true" : "(" + argument(tree, 0, kind) + " != null)";
+            case "isNull": return number ? expressions.absent(tree.getArguments().get(0), kind) : "(" + argument(tree, 0, kind) + " == null)";
+            case "nonNull": return number ? "!" + expressions.absent(tree.getArguments().get(0), kind) : "(" + argument(tree, 0, kind) + " != null)";
             case "hashCode": return number ? argument(tree, 0, kind) : kinds.hasEquals(kind)
                     ? library.method("hashOf@", kind, "") + "(" + argument(tree, 0, kind) + ")" : null;
             default: return null;

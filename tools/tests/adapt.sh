@@ -134,6 +134,11 @@ rewrites '//@Deprecated
 rewrites 'class Inner implements Comparable<Inner> { int w = 1; public int compareTo(Inner o) { return Integer.compare(w, o.w); } } boolean repOk() { return make().compareTo(make()) == 0 && v == 1; } static Inner make() { return null; }' ''
 rewrites 'boolean repOk() { Integer least = null; for (int x : List.of(3, v)) if (least == null || x < least) least = x; return least.equals(2); }' '2'
 
+rewrites 'static class Box<T> { T t; Box(T t) { this.t = t; } } Box<Integer> box() { return v == 0 ? null : new Box<>(v); } boolean repOk() { return box().t != null && v < 2; }' '1'
+rewrites 'Integer at(int i) { return new int[] { 1 }[i]; } boolean repOk() { return at(v) != null; }' '0'
+rewrites 'enum E { A, B } static class S { E e; } boolean repOk() { return new S().e == null && v == 1; }' '1'
+rewrites 'static class A { int a; A() { a = 1; } A(int a) { this.a = a; } } static class B extends A { B() { super(2); } } boolean repOk() { return new A().a + new B().a == v; }' '3'
+
 # The adapted classes are Java still.
 javac -nowarn -d classes made/*/Cell.java 2>javac.err
 count $? "an adapted class is no Java: $(head -n 1 javac.err)"
@@ -193,6 +198,9 @@ refuses 2 'boolean repOk() { Runnable r = () -> { }; return r != null; }'
 refuses 1 'boolean repOk() { try { return 1 / v > 0; } finally { check(); } } void check() { }'
 refuses 1 'boolean repOk() { v = 1; return true; }'
 refuses 1 'boolean repOk() { return new Cell().v == v; }'
+refuses 1 'boolean repOk() { System.out.println(6 / v); return true; }'
+refuses 1 'static class A { int a; A() { } A(int a) { } } static class B extends A { B() { } } boolean repOk() { return new A(1).a + new A().a + new B().a == 0; }'
+refuses 1 'static class A { } static class B extends A { public boolean equals(Object o) { return true; } public int hashCode() { return 0; } } boolean repOk() { HashSet<A> s = new HashSet<>(); s.add(new A()); s.add(new B()); return s.size() == 2; }'
 refuses 1 'List<Cell> others; boolean repOk() { return others.isEmpty(); }'
 refuses 1 'static int counter; boolean repOk() { return counter == v; }'
 refuses 1 'class Inner { int get() { return v; } } Inner inner; boolean repOk() { return inner.get() == 0; }'
