@@ -3111,7 +3111,7 @@ final class Expressions extends SimpleTreeVisitor<String, Void> {
     }
 
     private static boolean isTight(String text) {
-        return text.matches("[\\p{L}\\p{N}_$.]+(\\([^()]*\\))?|\\((?:[^()]|\\([^()]*\\))*\\)");
+        return text.matches("[\\p{L}\\p{N}_$]+(\\.[\\p{L}\\p{N}_$]+|\\[[^\\[\\]()]*]|\\([^()]*\\))*|\\((?:[^()]|\\([^()]*\\))*\\)");
     }
 
     /** When two members of a kind are equal, `a` and `b`. */

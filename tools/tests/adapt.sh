@@ -79,6 +79,16 @@ count $? "a class of the subset isn't left as it is"
 count $? "something is written beside the folder"
 rm -r adapted
 
+for folder in "$top"/examples/*/; do
+    adapt "$folder/fin.toml" "$folder"/*.java -o adapted
+    ended=$?
+    for source in "$folder"/*.java; do
+        cmp -s "$source" "adapted/$(basename "$source")" || ended=1
+    done
+    count $ended "examples/$(basename "$folder") isn't left as it is"
+    rm -rf adapted
+done
+
 # ---- what is rewritten
 
 # Adapts a class made of members, of which the root is Cell with a field v from 0 to 3, and lists it: MEMBERS VALUES.. where
