@@ -223,8 +223,7 @@ final class Toml {
             String digits = word.replace("_", "").replaceFirst("^\\+", "");
             return digits.matches("0[ob].*")
                     ? Long.parseLong(digits.substring(2), digits.charAt(1) == 'o' ? 8 : 2)
-                    : Long.decode(digits.equals("0")
-                            || digits.startsWith("0x") ? digits : digits.replaceFirst("^(-?)0+$", "0"));
+                    : Long.decode(digits);
         } catch (NumberFormatException e) {
             throw wrong();
         }
@@ -287,21 +286,24 @@ final class Toml {
     }
 
     private IllegalArgumentException wrong() {
-        return new IllegalArgumentException("line "
-                + (1 + text.substring(0, Math.min(at, text.length())).lines().count() - (at > 0 ? 1 : 0)));
+        long line = 1 + text.substring(0, Math.min(at, text.length())).chars().filter(c -> c == '\n').count();
+        return new IllegalArgumentException("line " + line);
     }
 }
 
 /** A finitization as it is written. */
-record Finitization(String name, String text, String root, long fuel, Map<String, Long> objects, Map<String, Map<String,
-        Object>> arrays,
-        Map<String, List<Object>> fields, Map<String, List<Object>> params) {
+record Finitization(String name, String root, long fuel, Map<String, Long> objects,
+        Map<String, Map<String, Object>> arrays, Map<String, List<Object>> fields, Map<String, List<Object>> params) {
 
     @SuppressWarnings("unchecked")
     static Finitization read(Path path, String text) throws Fault {
         try {
             Map<String, Object> document = Toml.read(text);
-            return new Finitization(path.toString(), text, (String) document.get("root"), (Long) document.get("fuel"),
+            check(document, "objects", Long.class);
+            check(document, "arrays", Map.class);
+            check(document, "fields", List.class);
+            check(document, "params", List.class);
+            return new Finitization(path.toString(), (String) document.get("root"), (Long) document.get("fuel"),
                     (Map<String, Long>) document.getOrDefault("objects", Map.of()),
                     (Map<String, Map<String, Object>>) document.getOrDefault("arrays", Map.of()),
                     (Map<String, List<Object>>) document.getOrDefault("fields", Map.of()),
@@ -310,6 +312,10 @@ record Finitization(String name, String text, String root, long fuel, Map<String
             String where = e instanceof IllegalArgumentException ? " (" + e.getMessage() + ")" : "";
             throw new Fault(1, path + ": no finitization" + where + ": see docs/FINITIZATION.md");
         }
+    }
+
+    private static void check(Map<String, Object> document, String table, Class<?> kind) {
+        ((Map<?, ?>) document.getOrDefault(table, Map.of())).values().forEach(kind::cast);
     }
 
     boolean counts(String type) {
@@ -1263,12 +1269,14 @@ final class Reach {
 
     /** Whether a `try` says what the predicate says anyway: a run that ends by an exception counts as false. */
     boolean isIdleTry(TryTree tree) {
-        boolean all = tree.getCatches().stream().allMatch(c -> c.getBlock().getStatements().size() == 1
-                && c.getBlock().getStatements().get(0) instanceof ReturnTree back
-                        && back.getExpression().getKind() == Tree.Kind.BOOLEAN_LITERAL
-                && Boolean.FALSE.equals(((LiteralTree) back.getExpression()).getValue()));
-        return all && tree.getFinallyBlock() == null && tree.getResources().isEmpty()
+        return tree.getCatches().stream().allMatch(Reach::givesFalse) && tree.getFinallyBlock() == null && tree.getResources().isEmpty()
                 && predicate.equals(program.methodAround(tree)) && !predicateIsCalled;
+    }
+
+    private static boolean givesFalse(CatchTree tree) {
+        List<? extends StatementTree> statements = tree.getBlock().getStatements();
+        return statements.size() == 1 && statements.get(0) instanceof ReturnTree back
+                && back.getExpression() instanceof LiteralTree literal && Boolean.FALSE.equals(literal.getValue());
     }
 
     static boolean isPrint(ExpressionStatementTree tree) {
