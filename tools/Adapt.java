@@ -994,7 +994,10 @@ final class Kinds {
         if (bare instanceof ArrayAccessTree access) return elementOf(of(access.getExpression()));
         if (bare instanceof ConditionalExpressionTree choice)
                 return either(of(choice.getTrueExpression()), of(choice.getFalseExpression()));
-        if (bare instanceof MethodInvocationTree call) return result(call);
+        if (bare instanceof MethodInvocationTree call) {
+            String kind = result(call);
+            return kind.endsWith("[]") && flow.isScratch(bare) ? scratch(kind) : kind;
+        }
         if (bare instanceof NewArrayTree && flow.isScratch(bare)) return scratch(kind(program.type(bare)));
         TypeMirror type = program.type(bare);
         String kind = type == null ? "?" : kind(type);

@@ -153,6 +153,41 @@ rewrites 'static class A { int a; A() { a = 1; } A(int a) { this.a = a; } } stat
 javac -nowarn -d classes made/*/Cell.java 2>javac.err
 count $? "an adapted class is no Java: $(head -n 1 javac.err)"
 
+# Arrays of a counted type that the predicate makes.
+cat >Cell.java <<'END'
+import java.util.Arrays;
+
+class Cell {
+    int[] a;
+
+    private static int first(int[] from) { return from[0]; }
+
+    boolean repOk() {
+        int[] copy = Arrays.copyOf(a, 3);
+        int[] other = a.clone();
+        int[] counts = new int[a.length];
+        counts[0]++;
+        return copy[0] == 1 && copy[2] == 0 && counts[0] == 1 && first(other) == 1 && other.length == 1;
+    }
+}
+END
+cat >counted.toml <<'END'
+root = "Cell"
+fuel = 10000
+objects.Cell = 1
+arrays."int[]" = { count = 1, lengths = [1] }
+[fields]
+"Cell.a" = ["null", "int[]"]
+"int[].*" = [0, 1]
+END
+adapt counted.toml Cell.java -o adapted
+count $? "arrays of a counted type: $(head -n 1 err)"
+if [ -x "$korat" ]; then
+    [ "$("$korat" list adapted/counted.toml adapted/Cell.java | head -n 1)" = '0.1.0.1 Cell#0{a=int[]#0} int[]#0[1]' ]
+    count $? "arrays of a counted type are listed otherwise"
+fi
+rm -r adapted
+
 # Lines stay where they are.
 printf 'class Cell {\n    int v;\n\n    /** Not reached. */\n    public String text() {\n        return "";\n    }\n\n    boolean repOk() {\n        return isOdd();\n    }\n\n    private boolean isOdd() {\n        return Math.abs(v) %% 2 == 1;\n    }\n}\n' >Cell.java
 adapt fin.toml Cell.java -o adapted
