@@ -1,0 +1,284 @@
+#!/usr/bin/env bash
+# Tests of tools/Adapt.java: its words, each thing that it rewrites, what it names that it can't do, what it warns of, and
+# the classes below classes/, which go through it, `korat list` and, where it is there, `Replay --all`. Of those REFUSED
+# names the ones that are refused. KORAT names the program; without it, or without java, what needs them is not tried.
+set -u
+tests=$(cd "$(dirname "$(readlink -f "$0")")" && pwd)
+top=$(cd "$tests/../.." && pwd)
+korat=${KORAT:-$top/crates/korat/out/korat}
+REFUSED="lru-cache open-addressing-set"
+work=$(mktemp -d) || exit 1
+trap 'rm -rf "$work"' EXIT
+passed=0 failed=0 untried=0
+
+# Counts a test, of which the status is the first word and what it says the rest.
+count() {
+    if [ "$1" = 0 ]; then
+        passed=$((passed + 1))
+    else
+        failed=$((failed + 1))
+        shift
+        echo "failed: $*"
+    fi
+}
+
+finish() {
+    [ "$untried" = 0 ] || echo "$untried not tried, for want of a JDK or of the program"
+    echo "$passed passed, $failed failed"
+    [ "$failed" = 0 ]
+    exit
+}
+
+classes=$(find "$tests/classes" -mindepth 1 -maxdepth 1 -type d | wc -l)
+[ "$classes" = 20 ]
+count $? "there are $classes classes"
+if ! command -v javac >/dev/null; then
+    untried=$((classes + 60))
+    finish
+fi
+
+# Compiled once, so that a call takes a second.
+javac -nowarn -d "$work/adapt" "$top/tools/Adapt.java" 2>"$work/err"
+count $? "Adapt doesn't compile: $(head -n 1 "$work/err")"
+cp "$top/tools/Replay.java" "$work" 2>/dev/null && javac -nowarn -d "$work/replay" "$work/Replay.java" 2>/dev/null
+adapt() {
+    java -XX:TieredStopAtLevel=1 -XX:+UseSerialGC -cp "$work/adapt" Adapt "$@" >"$work/out" 2>"$work/err"
+}
+
+# ---- words
+
+cd "$work" || exit 1
+printf 'class Cell {\n    int v;\n\n    boolean repOk() { return v > 0; }\n}\n' >Cell.java
+printf 'root = "Cell"\nfuel = 1000\n\n[objects]\nCell = 1\n\n[fields]\n"Cell.v" = [{ from = 0, to = 2 }]\n' >fin.toml
+wrong() {
+    adapt "${@:2}"
+    ended=$?
+    [ "$ended" = "$1" ] && [ "$(wc -l <err)" = 1 ] && [ ! -s out ] && [ ! -e adapted ]
+    count $? "status $ended, and not $1 with one line: Adapt ${*:2}"
+}
+wrong 2
+wrong 2 fin.toml Cell.java
+wrong 2 fin.toml -o adapted
+wrong 2 fin.toml Cell.java -o
+wrong 2 fin.toml Cell.java -o adapted -o other
+wrong 2 fin.toml Cell.java --other -o adapted
+wrong 2 fin.toml none.java -o adapted
+wrong 2 none.toml Cell.java -o adapted
+wrong 2 fin.toml Cell.java -o .
+wrong 2 fin.toml Cell.java ./Cell.java -o adapted
+cp Cell.java none.fin
+wrong 1 none.fin Cell.java -o adapted
+rm none.fin
+printf 'class Cell { int v boolean }' >Wrong.java
+wrong 1 fin.toml Wrong.java -o adapted
+
+adapt fin.toml Cell.java -o adapted
+[ $? = 0 ] && cmp -s Cell.java adapted/Cell.java && cmp -s fin.toml adapted/fin.toml && [ ! -s out ] && [ ! -s err ]
+count $? "a class of the subset isn't left as it is"
+[ "$(find adapted -type f | wc -l)" = 2 ] && [ "$(find . -newer fin.toml -type f ! -path './adapted/*' ! -path './replay/*' | grep -cvE 'out|err|Wrong.java')" = 0 ]
+count $? "something is written beside the folder"
+rm -r adapted
+
+for folder in "$top"/examples/*/; do
+    adapt "$folder/fin.toml" "$folder"/*.java -o adapted
+    ended=$?
+    for source in "$folder"/*.java; do
+        cmp -s "$source" "adapted/$(basename "$source")" || ended=1
+    done
+    count $ended "examples/$(basename "$folder") isn't left as it is"
+    rm -rf adapted
+done
+
+# ---- what is rewritten
+
+# Adapts a class made of members, of which the root is Cell with a field v from 0 to 3, and lists it: MEMBERS VALUES.. where
+# the values are those of v that are valid. What is made is kept below made/, each in a package of its own.
+rewritten=0
+rewrites() {
+    rewritten=$((rewritten + 1))
+    made=made/$rewritten
+    printf 'package made%d;\n\nimport java.util.*;\n\nclass Cell {\n    int v;\n%s\n}\n' "$rewritten" "$1" >Cell.java
+    printf 'root = "Cell"\nfuel = 10000\n[objects]\nCell = 1\n[fields]\n"Cell.v" = [{ from = 0, to = 3 }]\n' >fin.toml
+    adapt fin.toml Cell.java -o "$made"
+    ended=$?
+    count $ended "not adapted: $1: $(head -n 1 err)"
+    [ "$ended" = 0 ] || return
+    [ -x "$korat" ] || { untried=$((untried + 1)); return; }
+    "$korat" list "$made/fin.toml" "$made/Cell.java" >rows
+    values=$(sed -nE 's/.*\{v=([0-9]+).*/\1/p' rows | tr '\n' ' ')
+    [ "${values% }" = "$2" ]
+    count $? "valid are ${values% }, and not $2: $1"
+}
+rewrites 'boolean repOk() { int sum = 0; for (int x : new int[] { 1, 1 }) sum += x; return sum == v; }' '2'
+rewrites 'boolean repOk() { return Math.max(v, 1) == 1 && Math.abs(-v) == Math.min(v, Integer.MAX_VALUE); }' '0 1'
+rewrites 'boolean repOk() { char c = (char) (97 + v); return c == '"'b'"' || c == 0x64; }' '1 3'
+rewrites 'boolean repOk() { byte b = 127; b += v; return b < 0; }' '1 2 3'
+rewrites 'boolean repOk() { short s = (short) (32767 + v); s++; return s == -32767; }' '1'
+rewrites 'boolean repOk() { switch (v) { case 0: case 1: return false; case 2: v(); default: return v == 2; } } private int v() { return v; }' '2'
+rewrites 'boolean repOk() { int n = 0; switch (v) { case 1: n++; case 2: n++; break; case 3: if (n == 0) break; n = 9; } return n == 2; }' '1'
+rewrites 'boolean repOk() { return switch (v) { case 1, 2 -> true; default -> false; }; }' '1 2'
+rewrites 'enum Kind { A, B } Kind kind() { return v == 1 ? Kind.B : Kind.A; } boolean repOk() { switch (kind()) { case A: return false; default: return kind().ordinal() == 1; } }' '1'
+rewrites 'boolean repOk() { assert v > 0; if (v == 2) throw new IllegalStateException("two"); return true; }' '1 3'
+rewrites 'boolean repOk() { try { return 6 / v > 2; } catch (ArithmeticException e) { return false; } }' '1 2'
+rewrites 'boolean repOk() { Set<Integer> s = new HashSet<>(); for (int i = 0; i < 3; i++) s.add(i % 2); return s.size() == v && s.contains(0); }' '2'
+rewrites 'boolean repOk() { Deque<Integer> d = new ArrayDeque<>(); d.push(1); d.push(2); d.addLast(3); return d.pop() == 2 && d.peekLast() == v && d.poll() == 1; }' '3'
+rewrites 'boolean repOk() { Queue<Cell> q = new LinkedList<>(); q.offer(this); return q.poll() == this && q.poll() == null; }' '0 1 2 3'
+rewrites 'boolean repOk() { List<Cell> l = new ArrayList<>(); l.add(this); l.add(0, null); int n = 0; for (Cell c : l) if (c != null) n++; return n == v && l.get(1).v == 1; }' '1'
+rewrites 'boolean repOk() { Map<Cell, Integer> m = new HashMap<>(); m.put(this, 2); Integer x = m.get(null); return x == null && m.get(this) == v; }' '2'
+rewrites 'boolean repOk() { TreeSet<Integer> s = new TreeSet<>(); s.add(3); s.add(v); s.add(1); int last = -1; for (int x : s) { if (x <= last) return false; last = x; } return s.size() == 2; }' '1 3'
+rewrites 'boolean repOk() { Iterator<Integer> i = Arrays.asList(v, 1).iterator(); return i.next() == 2 && i.hasNext(); }' '2'
+rewrites 'static <T> boolean same(T a, T b) { return a == b; } boolean repOk() { return same(this, this) && v == 1; }' '1'
+rewrites 'int twice() { return twice(v); } int twice(int x) { return 2 * x; } boolean repOk() { return twice() == 4; }' '2'
+rewrites 'static class Pair { int a, b; Pair(int a) { this(a, 1); } Pair(int a, int b) { this.a = a; this.b = b; } } boolean repOk() { return new Pair(v).b == new Pair(1, 2).a && new Pair(v).a == 3; }' '3'
+rewrites 'interface Shape { int area(); default boolean isBig() { return area() > 1; } } static class Square implements Shape { final int side; Square(int side) { this.side = side; } public int area() { return side * side; } } boolean repOk() { Shape s = new Square(v); return s.isBig(); }' '2 3'
+rewrites 'static abstract class A { abstract int get(); private int own() { return 1; } int both() { return own() + get(); } } static class B extends A { int get() { return 1; } private int own() { return 5; } int o() { return own(); } } boolean repOk() { B b = new B(); return b.both() == v && b.o() == 5; }' '2'
+rewrites 'boolean repOk() { int[][] grid = new int[2][3]; grid[1][2] = v; int sum = 0; for (int[] row : grid) for (int x : row) sum += x; return sum == 3 && grid[1].length == 3; }' '3'
+rewrites 'boolean repOk() { boolean[] seen = new boolean[70]; seen[v + 66] = true; return seen[67] && seen.length == 70; }' '1'
+rewrites 'boolean repOk() { outer: for (int i = 0; i < 3; i++) { for (int j = 0; j < 3; j++) { if (j == 1) continue outer; if (i == v) break outer; if (i > v) return false; } } return v < 2; }' '0 1'
+rewrites 'private static int of(int... xs) { return xs.length; } boolean repOk() { return of() == 0 && of(1, 2) == v; }' '2'
+rewrites 'boolean repOk() { int[] a = { 3, 1, 2 }; Arrays.sort(a); int[] b = Arrays.copyOf(a, 2); Arrays.fill(a, 7); return b[1] == v && a[2] == 7 && b.length == 2; }' '2'
+rewrites 'static class P { int x; P(int x) { this.x = x; } @Override public boolean equals(Object o) { return o instanceof P && ((P) o).x == x; } @Override public int hashCode() { return x; } } boolean repOk() { Set<P> s = new HashSet<>(); s.add(new P(v)); return !s.add(new P(1)) && Objects.equals(new P(v), new P(1)); }' '1'
+rewrites '//@Deprecated
+    public int unused(String text) { return text.length(); } //@ nothing
+    boolean repOk() { System.out.println("v " + v); return v == 1; }' '1'
+rewrites 'class Inner implements Comparable<Inner> { int w = 1; public int compareTo(Inner o) { return Integer.compare(w, o.w); } } boolean repOk() { return make().compareTo(make()) == 0 && v == 1; } static Inner make() { return null; }' ''
+rewrites 'boolean repOk() { Integer least = null; for (int x : List.of(3, v)) if (least == null || x < least) least = x; return least.equals(2); }' '2'
+
+rewrites 'static class Box<T> { T t; Box(T t) { this.t = t; } } Box<Integer> box() { return v == 0 ? null : new Box<>(v); } boolean repOk() { return box().t != null && v < 2; }' '1'
+rewrites 'Integer at(int i) { return new int[] { 1 }[i]; } boolean repOk() { return at(v) != null; }' '0'
+rewrites 'enum E { A, B } static class S { E e; } boolean repOk() { return new S().e == null && v == 1; }' '1'
+rewrites 'static class A { int a; A() { a = 1; } A(int a) { this.a = a; } } static class B extends A { B() { super(2); } } boolean repOk() { return new A().a + new B().a == v; }' '3'
+
+# The adapted classes are Java still.
+javac -nowarn -d classes made/*/Cell.java 2>javac.err
+count $? "an adapted class is no Java: $(head -n 1 javac.err)"
+
+# Arrays of a counted type that the predicate makes.
+cat >Cell.java <<'END'
+import java.util.Arrays;
+
+class Cell {
+    int[] a;
+
+    private static int first(int[] from) { return from[0]; }
+
+    boolean repOk() {
+        int[] copy = Arrays.copyOf(a, 3);
+        int[] other = a.clone();
+        int[] counts = new int[a.length];
+        counts[0]++;
+        return copy[0] == 1 && copy[2] == 0 && counts[0] == 1 && first(other) == 1 && other.length == 1;
+    }
+}
+END
+cat >counted.toml <<'END'
+root = "Cell"
+fuel = 10000
+objects.Cell = 1
+arrays."int[]" = { count = 1, lengths = [1] }
+[fields]
+"Cell.a" = ["null", "int[]"]
+"int[].*" = [0, 1]
+END
+adapt counted.toml Cell.java -o adapted
+count $? "arrays of a counted type: $(head -n 1 err)"
+if [ -x "$korat" ]; then
+    [ "$("$korat" list adapted/counted.toml adapted/Cell.java | head -n 1)" = '0.1.0.1 Cell#0{a=int[]#0} int[]#0[1]' ]
+    count $? "arrays of a counted type are listed otherwise"
+fi
+rm -r adapted
+
+# Lines stay where they are.
+printf 'class Cell {\n    int v;\n\n    /** Not reached. */\n    public String text() {\n        return "";\n    }\n\n    boolean repOk() {\n        return isOdd();\n    }\n\n    private boolean isOdd() {\n        return Math.abs(v) %% 2 == 1;\n    }\n}\n' >Cell.java
+adapt fin.toml Cell.java -o adapted
+[ "$(grep -n 'isOdd() {' adapted/Cell.java)" = '13:    private boolean isOdd() {' ] && ! grep -q 'text\|reached' adapted/Cell.java
+count $? "the lines of a class moved"
+rm -r adapted
+
+# ---- a method with its contract
+
+printf 'class Cell {\n    int v;\n\n    //@ requires x > 0 && isSmall(x);\n    //@ ensures v == x;\n    void put(int x) { v = Math.max(x, 0); }\n\n    //@ requires true;\n    void other() { throw new Error(); }\n\n    private boolean isSmall(int x) { return x < 9; }\n\n    boolean repOk() { return v >= 0; }\n}\n' >Cell.java
+printf '[params]\n"put.x" = [1, 2]\n' | cat fin.toml - >params.toml
+adapt --method put params.toml Cell.java -o adapted
+[ $? = 0 ] && grep -q '^    //@ requires x > 0' adapted/Cell.java && grep -q 'isSmall(int x)' adapted/Cell.java && ! grep -q 'other\|requires true' adapted/Cell.java && grep -q 'put.x' adapted/params.toml
+count $? "the method under test isn't kept with its contract"
+adapt params.toml Cell.java -o adapted
+[ $? = 0 ] && ! grep -q '//@\|put' adapted/Cell.java && ! grep -q 'put.x' adapted/params.toml
+count $? "a method that isn't kept leaves its contract or its parameters"
+rm -r adapted
+
+# ---- warnings
+
+# Adapts a class of these members and looks for a warning: WHAT MEMBERS [FIELDS OF THE FINITIZATION]
+warns() {
+    printf 'class Cell {\n    int v;\n%s\n}\n' "$2" >Cell.java
+    printf 'root = "Cell"\nfuel = 1000\n[objects]\nCell = 1\n[fields]\n"Cell.v" = [0]\n%s\n' "${3:-}" >fin.toml
+    adapt fin.toml Cell.java -o adapted
+    [ $? = 0 ] && grep -q "warning: .*$1" out
+    count $? "no warning of '$1': $2"
+}
+warns 'longer than 64' 'boolean repOk() { return new int[65].length == 65; }'
+warns 'would override this private method' 'static class A { private int m() { return 1; } int n() { return m(); } } static class B extends A { int m() { return 2; } } boolean repOk() { B b = new B(); return b.n() + b.m() == 3; }'
+warns 'final with a constant' 'private final int limit = 3; boolean repOk() { return v < limit; }'
+warns 'whatever the domain says' 'private final int limit = 3; boolean repOk() { return v < limit; }' '"Cell.limit" = [1, 2]'
+grep -q limit adapted/fin.toml
+[ $? = 1 ]
+count $? "a constant keeps its domain"
+rm -r adapted
+
+# ---- what it can't do
+
+# All refusals of a class come in one pass, each with a place and a rewrite: NUMBER MEMBERS
+refuses() {
+    printf 'import java.util.*;\n\nclass Cell {\n    int v;\n%s\n}\n' "$2" >Cell.java
+    printf 'root = "Cell"\nfuel = 1000\n[objects]\nCell = 1\n[fields]\n"Cell.v" = [0]\n' >fin.toml
+    adapt fin.toml Cell.java -o adapted
+    ended=$?
+    [ "$ended" = 1 ] && [ "$(wc -l <err)" = "$1" ] && [ "$(grep -cE '^Cell.java:[0-9]+:[0-9]+: .*; ' err)" = "$1" ] && [ ! -e adapted ]
+    count $? "status $ended with $(wc -l <err) lines, and not $1 refusals: $2"
+}
+refuses 1 'long big = 3; boolean repOk() { return v < big; }'
+refuses 4 'String name; Object any; double part; boolean repOk() { return name == null && any == null && part == 0.0; }'
+refuses 2 'boolean repOk() { Runnable r = () -> { }; return r != null; }'
+refuses 1 'boolean repOk() { try { return 1 / v > 0; } finally { check(); } } void check() { }'
+refuses 1 'boolean repOk() { v = 1; return true; }'
+refuses 1 'boolean repOk() { return new Cell().v == v; }'
+refuses 1 'boolean repOk() { System.out.println(6 / v); return true; }'
+refuses 1 'static class A { int a; A() { } A(int a) { } } static class B extends A { B() { } } boolean repOk() { return new A(1).a + new A().a + new B().a == 0; }'
+refuses 1 'static class A { } static class B extends A { public boolean equals(Object o) { return true; } public int hashCode() { return 0; } } boolean repOk() { HashSet<A> s = new HashSet<>(); s.add(new A()); s.add(new B()); return s.size() == 2; }'
+refuses 1 'List<Cell> others; boolean repOk() { return others.isEmpty(); }'
+refuses 1 'static int counter; boolean repOk() { return counter == v; }'
+refuses 1 'class Inner { int get() { return v; } } Inner inner; boolean repOk() { return inner.get() == 0; }'
+
+# ---- the classes
+
+[ -x "$korat" ] || untried=$((untried + classes))
+adapted=0
+for folder in "$tests"/classes/*/; do
+    name=$(basename "$folder")
+    cd "$folder" || exit 1
+    adapt fin.toml ./*.java -o "$work/$name"
+    ended=$?
+    cd "$work" || exit 1
+    case " $REFUSED " in
+    *" $name "*)
+        [ "$ended" = 1 ] && [ ! -e "$name" ] && ! grep -qvE '^[^ ]+: .*; ' err
+        count $? "$name: status $ended, and not 1 with refusals alone"
+        continue
+        ;;
+    esac
+    [ "$ended" = 0 ] && [ ! -s err ] && javac -nowarn -d "$work/classes/$name" "$name"/*.java 2>err
+    count $? "$name: status $ended, $(head -n 1 err)"
+    adapted=$((adapted + 1))
+    [ -x "$korat" ] || continue
+    "$korat" list "$name/fin.toml" "$name"/*.java >rows
+    [ $? = 0 ] && [ "$(wc -l <rows)" -gt 1 ]
+    count $? "$name isn't listed: $(tail -n 1 rows)"
+    [ -d replay ] || { untried=$((untried + 1)); continue; }
+    java -cp replay Replay --all "$name/fin.toml" "$folder"/*.java <rows >out 2>err
+    [ $? = 0 ] && [ "$(cat out)" = "agree $(($(wc -l <rows) - 1))" ]
+    count $? "$name differs from the JVM: $(cat out err | head -n 1)"
+done
+[ "$adapted" -ge 16 ]
+count $? "only $adapted classes are adapted"
+finish

@@ -1,0 +1,5 @@
+package rings;
+
+/** An element of a deque. */
+class Token {
+}
