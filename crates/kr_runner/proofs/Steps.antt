@@ -160,9 +160,6 @@ drop_past (y ∷ ys) (suc k) e = drop_past ys k e
 -- ---- steps
 
 module _ (b : Bounds) (p : Predicate) (v : List ℕ) where
-  own : Heap
-  own = heap_of (bare b) v
-
   pub goes_on : (condition : ℕ) (fs fs' : List Frame) (task task' : Task) (w w' : World) → GoesOn b p v condition fs task w → Leads p.code (Ok task') fs' w' w (λ d x. resumed p.code d fs task (state_at w x)) → GoesOn b p v condition fs' task' w'
   goes_on condition fs fs' task task' w w' g l =
       let k = (l None tt).0 in
