@@ -1,4 +1,4 @@
--- Why a document is refused.
+-- Between crates: why a document is refused.
 use Rattle.std.specs.Prelude.{◌≡◌, Option, Some}
 use Rattle.kr_domains.specs.declared.refusal.Fault.{Fault}
 use Rattle.kr_domains.specs.declared.refusal.SpaceRefusal.{SpaceRefusal}
