@@ -1,38 +1,45 @@
 // The array types that `class A { int[][] v = new A[7]; }` names.
+ghost use Rattle.std.specs.Prelude.{◌<◌, length};
 ghost use Rattle.kr_arrays.specs.Collected.{AreNumbers};
+ghost use Rattle.kr_names.specs.Shown.{AreHeads};
 
 use kr_arrays::array_types;
+use kr_ast::Tree;
 use kr_base::NoMemory;
 use kr_names::Heads;
-use kr_sources::tree_of;
 use kr_type_numbers::{NodeTypes, TypeForm, Types};
 use std::alloc::Global;
 
-// The form of the array type at a place, if there is one.
-fn form_at(types: &Types, arrays: &[u32], at: usize) -> Option<TypeForm>
+/// `int[]`, `int[][]` and `A[]`.
+fn forms_fit(types: &Types, arrays: &[u32], class: u32) -> bool
     requires { AreNumbers types.now arrays.now }
 {
-    if at < arrays.len() {
-        Some(types.form(arrays[at]))
-    } else {
-        None
-    }
+    arrays.len() == 3
+        && types.form(arrays[0]) == TypeForm::Array(types.int())
+        && types.form(arrays[1]) == TypeForm::Array(arrays[0])
+        && types.form(arrays[2]) == TypeForm::Array(class)
 }
 
-#[test]
-fn three_array_types(rt: HostRuntime) -> Result<(), NoMemory> {
-    let alloc = rt.alloc();
-    let mut trees = Vec::new(alloc);
-    trees.push(tree_of(alloc, 0, "class A { int[][] v = new A[7]; }")?)?;
-    let heads = Heads::read(alloc, &trees)?;
-    let mut types = Types::new(alloc)?;
+fn read_fit(
+    alloc: Global,
+    trees: &[Tree],
+    heads: &Heads,
+    types: &mut Types,
+) -> Result<bool, NoMemory>
+    requires few { length trees.now < 65 }
+    requires heads { AreHeads trees.now heads.now }
+{
     let class = types.number(TypeForm::Class(0))?;
-    let numbers = NodeTypes::read(alloc, &trees, &heads, &mut types)?;
-    let arrays = array_types(alloc, &mut types, &trees, &numbers)?.into_vec();
-    let integer = types.int();
-    assert_eq!(rt; arrays.len(), 3);
-    assert!(rt; form_at(&types, &arrays, 0) == Some(TypeForm::Array(integer)));
-    assert!(rt; form_at(&types, &arrays, 1) == Some(TypeForm::Array(arrays[0])));
-    assert!(rt; form_at(&types, &arrays, 2) == Some(TypeForm::Array(class)));
-    Ok(())
+    let numbers = NodeTypes::read(alloc, trees, heads, types)?;
+    let arrays = array_types(alloc, types, trees, &numbers)?.into_vec();
+    Ok(forms_fit(types, &arrays, class))
+}
+
+/// The three array types of the class.
+pub fn fit(alloc: Global, trees: &[Tree], heads: &Heads) -> Result<bool, NoMemory>
+    requires few { length trees.now < 65 }
+    requires heads { AreHeads trees.now heads.now }
+{
+    let mut types = Types::new(alloc)?;
+    read_fit(alloc, trees, heads, &mut types)
 }

@@ -1,4 +1,6 @@
 //! Tests of the class table and of typing, layer by layer: small sources, and what each layer says of their trees.
+//! What a test looks at is borrowed by small functions that answer whether it is as it should be: a step that may fail
+//! while trees or tables are owned makes a proof long.
 #![tactic(auto)]
 
 #[cfg(test)]
@@ -9,6 +11,8 @@ mod classes;
 mod constants;
 #[cfg(test)]
 mod expressions;
+#[cfg(test)]
+mod layers;
 #[cfg(test)]
 mod members;
 #[cfg(test)]

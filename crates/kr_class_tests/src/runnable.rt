@@ -1,36 +1,30 @@
 // `class A { int m() { } }`: a call of its method may run that one, and its creation the code of `A`.
+ghost use Rattle.kr_members.specs.Kept.{AreMembers};
 
+use kr_ast::Tree;
 use kr_base::NoMemory;
 use kr_members::Members;
-use kr_names::Heads;
 use kr_runnable::{created_classes, runnable_methods};
-use kr_sources::tree_of;
 use kr_type_numbers::{TypeForm, Types};
 use std::alloc::Global;
 
-#[test]
-fn a_call_of_the_method(rt: HostRuntime) -> Result<(), NoMemory> {
-    let alloc = rt.alloc();
-    let mut trees = Vec::new(alloc);
-    trees.push(tree_of(alloc, 0, "class A { int m() { } }")?)?;
-    let heads = Heads::read(alloc, &trees)?;
-    let members = Members::read(alloc, &trees, &heads)?;
+/// A call of the method may run one.
+pub fn methods_fit(alloc: Global, trees: &[Tree], members: &Members) -> Result<bool, NoMemory>
+    requires { AreMembers trees.now members.now }
+{
     let meant = members.method_named(0, b"m");
-    let found = runnable_methods(alloc, &trees, &members, meant)?;
-    assert_eq!(rt; found.len(), 1);
-    Ok(())
+    let found = runnable_methods(alloc, trees, members, meant)?;
+    Ok(found.len() == 1)
 }
 
-#[test]
-fn a_creation_of_the_class(rt: HostRuntime) -> Result<(), NoMemory> {
-    let alloc = rt.alloc();
-    let mut trees = Vec::new(alloc);
-    trees.push(tree_of(alloc, 0, "class A { int m() { } }")?)?;
-    let heads = Heads::read(alloc, &trees)?;
-    let members = Members::read(alloc, &trees, &heads)?;
-    let mut types = Types::new(alloc)?;
+fn created_fit(alloc: Global, types: &mut Types, members: &Members) -> Result<bool, NoMemory> {
     let own = types.number(TypeForm::Class(0))?;
-    let classes = created_classes(alloc, &types, &members, own)?;
-    assert_eq!(rt; classes.len(), 1);
-    Ok(())
+    let classes = created_classes(alloc, types, members, own)?;
+    Ok(classes.len() == 1)
+}
+
+/// A creation runs code of one class.
+pub fn classes_fit(alloc: Global, members: &Members) -> Result<bool, NoMemory> {
+    let mut types = Types::new(alloc)?;
+    created_fit(alloc, &mut types, members)
 }
