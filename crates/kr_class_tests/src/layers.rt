@@ -3,10 +3,7 @@ ghost use Rattle.std.specs.Prelude.{◌≡◌, ◌<◌, IfOk, length};
 ghost use Rattle.kr_members.specs.Kept.{AreMembers};
 ghost use Rattle.kr_names.specs.Shown.{AreHeads};
 
-use crate::{
-    arrays, classes, constants, expressions, members, names, roster, runnable, statements,
-    type_numbers,
-};
+use crate::{classes, constants, expressions, members, names, roster, statements, type_numbers};
 use kr_ast::Tree;
 use kr_base::NoMemory;
 use kr_members::Members;
@@ -21,10 +18,7 @@ enum Layer {
     Members,
     Roster,
     Constants,
-    Runnable,
-    Created,
     NodeTypes,
-    Arrays,
     Sets,
     Calls,
     Hierarchy,
@@ -48,10 +42,7 @@ fn members_fit(
         Layer::Members => members::fit(alloc, members),
         Layer::Roster => roster::fit(alloc, members),
         Layer::Constants => constants::fit(alloc, trees, heads, members),
-        Layer::Runnable => runnable::methods_fit(alloc, trees, members),
-        Layer::Created => runnable::classes_fit(alloc, members),
         Layer::NodeTypes => type_numbers::fit(alloc, trees, heads),
-        Layer::Arrays => arrays::fit(alloc, trees, heads),
         Layer::Sets => statements::set_fits(alloc, trees, heads),
         Layer::Calls => expressions::calls_fit(alloc, trees, heads, members),
         Layer::Hierarchy => Ok(classes::hierarchy_fits(alloc, trees)),
@@ -111,10 +102,7 @@ fn two_files(rt: HostRuntime) -> Result<(), NoMemory> {
             "class Half { static final int VALUE = 7 / 2; }",
             "class None { static final int VALUE = 7 / 0; }",
         ),
-        (Layer::Runnable, "class A { int m() { } }", ""),
-        (Layer::Created, "class A { int m() { } }", ""),
         (Layer::NodeTypes, "class A { int[] v; }", ""),
-        (Layer::Arrays, "class A { int[][] v = new A[7]; }", ""),
         (Layer::Sets, "class A { HashSet<int[]> v; }", ""),
         (Layer::Calls, "", ""),
         (

@@ -4,8 +4,6 @@
 #![tactic(auto)]
 
 #[cfg(test)]
-mod arrays;
-#[cfg(test)]
 mod classes;
 #[cfg(test)]
 mod constants;
@@ -19,8 +17,6 @@ mod members;
 mod names;
 #[cfg(test)]
 mod roster;
-#[cfg(test)]
-mod runnable;
 #[cfg(test)]
 mod scopes;
 #[cfg(test)]

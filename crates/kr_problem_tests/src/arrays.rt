@@ -3,6 +3,7 @@ ghost use Rattle.std.specs.Prelude.{◌<◌, length};
 ghost use Rattle.kr_arrays.specs.Collected.{AreNumbers};
 ghost use Rattle.kr_names.specs.Shown.{AreHeads};
 
+use crate::files::one_file;
 use kr_arrays::array_types;
 use kr_ast::Tree;
 use kr_base::NoMemory;
@@ -20,7 +21,7 @@ fn forms_fit(types: &Types, arrays: &[u32], class: u32) -> bool
         && types.form(arrays[2]) == TypeForm::Array(class)
 }
 
-fn read_fit(
+fn types_fit(
     alloc: Global,
     trees: &[Tree],
     heads: &Heads,
@@ -35,11 +36,25 @@ fn read_fit(
     Ok(forms_fit(types, &arrays, class))
 }
 
-/// The three array types of the class.
-pub fn fit(alloc: Global, trees: &[Tree], heads: &Heads) -> Result<bool, NoMemory>
+fn heads_fit(alloc: Global, trees: &[Tree], heads: &Heads) -> Result<bool, NoMemory>
     requires few { length trees.now < 65 }
     requires heads { AreHeads trees.now heads.now }
 {
     let mut types = Types::new(alloc)?;
-    read_fit(alloc, trees, heads, &mut types)
+    types_fit(alloc, trees, heads, &mut types)
+}
+
+fn trees_fit(alloc: Global, trees: &[Tree]) -> Result<bool, NoMemory>
+    requires { length trees.now < 65 }
+{
+    let heads = Heads::read(alloc, trees)?;
+    heads_fit(alloc, trees, &heads)
+}
+
+#[test]
+fn three_array_types(rt: HostRuntime) -> Result<(), NoMemory> {
+    let trees = one_file(rt.alloc(), "class A { int[][] v = new A[7]; }")?;
+    let fit = trees_fit(rt.alloc(), &trees)?;
+    assert!(rt; fit);
+    Ok(())
 }
