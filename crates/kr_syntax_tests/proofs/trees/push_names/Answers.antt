@@ -2,7 +2,7 @@ use Rattle.std.proofs.Common.{arith}
 use Rattle.std.proofs.lemmas.Option.{slice_get-get_or}
 use Rattle.kr_ast.specs.declared.node.Name.{Name}
 use Rattle.kr_syntax_tests.proofs.Named.{one_in}
-use Rattle.kr_syntax_tests.proofs.parse_trees.push_names.Goals as goal
+use Rattle.kr_syntax_tests.proofs.trees.push_names.Goals as goal
 
 pub name-requires : goal.name-requires
 name-requires c =
