@@ -8,7 +8,7 @@ use kr_base::{NoMemory, Place};
 use std::alloc::{AllocError, AllocFailed, Global};
 
 /// A file of the call.
-#[derive(Clone, Copy, Debug, PartialEq, Eq)]
+#[derive(Clone, Copy)]
 pub(crate) enum InputFile {
     Finitization,
     /// The source of this number, from 0.
@@ -16,7 +16,7 @@ pub(crate) enum InputFile {
 }
 
 /// A file breaks a rule: where in it, if there is a place, and of what item, if that isn't empty.
-#[derive(Debug, Drop)]
+#[derive(Drop)]
 pub(crate) struct Refusal {
     pub(crate) file: InputFile,
     pub(crate) place: Option<Place>,
@@ -70,7 +70,7 @@ impl Refusal {
 }
 
 /// Why the work for a command stops.
-#[derive(Debug, Drop)]
+#[derive(Drop)]
 pub(crate) enum Stop {
     /// The file was not read.
     Read(InputFile),
