@@ -1,5 +1,5 @@
 // The call.
-ghost use Rattle.std.specs.Prelude.{◌≡◌, ◌<◌, ◌≤◌, Some, IfOk, OnErr, is_ok, if◌then◌else◌, length};
+ghost use Rattle.std.specs.Prelude.{◌≡◌, ◌<◌, ◌≤◌, Some, IfOk, OnErr, length};
 ghost use Rattle.kr_mean.specs.declared.mode.Mode.TheVariants.{List as Listing};
 ghost use Rattle.kr_report.specs.Endings.{EndsListing};
 ghost use Rattle.korat_top.specs.Answer.{asked_of, counts_of, inputs_of, listing_of, report_of, tally_of};
@@ -15,20 +15,13 @@ use kr_base::{Failed, NoMemory, Sink, Words};
 use kr_compiled::predicate_of;
 use kr_io::{Files, Gate};
 use kr_listing::put_subject;
-use kr_report::{put_checked, put_out_of_memory, put_read_fault, put_usage_fault};
+use kr_report::{once_written, put_checked, put_out_of_memory, put_read_fault, put_usage_fault};
 use kr_steps::Steps;
 use kr_subject::{Accepted, Prepared};
 use kr_tally::put_tally;
 use std::alloc::Global;
 use std::marker::Brand;
 use std::sync::ledger::{Blank, Ledger};
-
-/// A status once its text is written, or that of a write fault.
-fn once_written(written: Result<(), Failed>, status: u8) -> u8
-    ensures { result ≡ (if is_ok written then status else 7) }
-{
-    if written.is_ok() { status } else { 7 }
-}
 
 /// A problem with what its search and its listing need.
 fn prepare(alloc: Global, found: Accepted) -> Result<Prepared, NoMemory>

@@ -53,11 +53,6 @@ starts_with n (b ∷ bs) (c ∷ cs) = n ∷ starts_with (n + length (class_entri
 
 -- ---- a slot's place and a slot, as the problem has them
 
-abbrev pub place_of : SlotPlace → places.SlotPlace
-place_of This = places.This
-place_of (Parameter i) = places.Parameter i
-place_of (At o spot) = places.At o spot
-
 -- the domain of a number; of none it is all objects of the root
 abbrev pub domain_with : ℕ → List Domain → Option ℕ → Domain
 domain_with root domains None = Objects root ∷ []

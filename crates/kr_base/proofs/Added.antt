@@ -1,9 +1,21 @@
--- Lists that grow by what was found.
-use Rattle.std.proofs.Common.{◌≡◌, refl, sym, ap, ◌∙◌, subst, ℕ, ◌+◌, ◌<◌, List, [], ◌++◌, length, map, take, get_or, All}
+-- Lists that grow item by item, by what was found.
+use Rattle.std.proofs.Common.{◌≡◌, refl, sym, ap, ◌∙◌, subst, ℕ, ◌+◌, ◌<◌, ◌≤◌, List, [], ◌∷◌, ◌++◌, length, map, take, get_or, All, append_assoc, append-nil}
 use Rattle.std.specs.Prelude.{Option, Some, None, flat_map, IfSome, option_map, option_to_list}
-use Rattle.std.proofs.lemmas.List.{map-append}
+use Rattle.std.proofs.lemmas.List.{map-append, take_more, take_all}
+use Rattle.std.proofs.lemmas.Grind.{flat_map-append}
+use Rattle.std.proofs.lemmas.List.Folds.{flat_map-map}
 use Rattle.std.proofs.lemmas.List.Elements.{All-append, All-nil, All-push}
-use Rattle.kr_names.proofs.Walks.{flat_step}
+
+-- one item more
+pub flat_step : {A B : Type 0} (f : A → List B) (before all more : List B) (xs : List A) (i : ℕ) (d : A) → i < length xs → all ≡ before ++ flat_map f (take i xs) → more ≡ f (get_or xs i d) → all ++ more ≡ before ++ flat_map f (take (i + 1) xs)
+flat_step f before all more xs i d l a m =
+    ap (λ ys. ys ++ more) a ∙ append_assoc before (flat_map f (take i xs)) more
+    ∙ ap (λ ys. before ++ (flat_map f (take i xs) ++ ys)) (m ∙ sym (append-nil (f (get_or xs i d))))
+    ∙ ap (λ ys. before ++ ys) (sym (flat_map-append f (take i xs) (get_or xs i d ∷ [])) ∙ ap (flat_map f) (sym (take_more xs i d l)))
+
+-- all items, seen as trees
+pub flat_all : {A B C : Type 0} (f : B → List C) (v : A → B) (xs : List A) (n : ℕ) (ts : List B) → length xs ≤ n → map v xs ≡ ts → flat_map (λ x. f (v x)) (take n xs) ≡ flat_map f ts
+flat_all f v xs n ts l e = ap (flat_map (λ x. f (v x))) (take_all n xs l) ∙ sym (flat_map-map f v xs) ∙ ap (flat_map f) e
 
 found_map : {A B : Type 0} (f : A → B) (found : Option A) → map f (option_to_list found) ≡ option_to_list (option_map f found)
 found_map f None = refl

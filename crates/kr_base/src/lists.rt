@@ -1,7 +1,7 @@
 // Lists that grow by what was found.
 ghost use Rattle.std.specs.Prelude.{◌≡◌, ◌++◌, IfOk, option_to_list};
 
-use kr_base::NoMemory;
+use crate::memory::NoMemory;
 
 /// Adds what was found, if anything.
 pub fn add_found<T: Copy>(items: &mut Vec<T>, found: Option<T>) -> Result<(), NoMemory>
