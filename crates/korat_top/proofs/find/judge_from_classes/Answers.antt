@@ -9,6 +9,6 @@ use Rattle.korat_top.proofs.find.judge_from_classes.Goals as goal
 pub returns : goal.returns
 returns c = record {
   judged = meets_next (classing (map root c.args.trees.items)) (λ table. from_table c.args.fin.now (map root c.args.trees.items)) posed (table_of (map root c.args.trees.items)) c.judge_from_typing.result
-  (rw c.as_slice.ensures.value at c.in_ok-table.ensures.judged) c.judge_from_typing.ensures.judged;
+      (rw c.as_slice.ensures.value at c.in_ok-table.ensures.judged) c.judge_from_typing.ensures.judged;
   listing = c.judge_from_typing.ensures.listing;
 }

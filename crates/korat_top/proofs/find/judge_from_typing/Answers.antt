@@ -17,6 +17,6 @@ judge_from_finitization-requires-clause-shaped c = subst (λ (files : List Arena
 pub returns : goal.returns
 returns c = record {
   judged = meets_next (typing (map root c.args.trees.items)) (λ done. from_trees c.args.fin.now (map root c.args.trees.items)) posed tt c.judge_from_finitization.result c.in_ok-program.ensures.judged
-  (subst (λ (ts : List Arena). Meets (from_trees c.args.fin.now (map root ts)) posed c.judge_from_finitization.result) c.in_ok-program.ensures.files c.judge_from_finitization.ensures.judged);
+      (subst (λ (ts : List Arena). Meets (from_trees c.args.fin.now (map root ts)) posed c.judge_from_finitization.result) c.in_ok-program.ensures.files c.judge_from_finitization.ensures.judged);
   listing = c.judge_from_finitization.ensures.listing;
 }
