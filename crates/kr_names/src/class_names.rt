@@ -7,7 +7,7 @@ ghost use Rattle.kr_names.specs.Shown.{count_of, file_at, heading_shown, name_sh
 
 use crate::headings::{Heading, all_headings};
 use crate::names::Index;
-use kr_ast::{Node, Tree};
+use kr_ast::{Node, Tree, tree_of};
 use kr_base::NoMemory;
 use std::alloc::Global;
 

@@ -129,19 +129,25 @@ arrays_kept a b setting arrays e k = record { numbers = numbers_kept a b arrays 
 pub ok_same : {T E : Type 0} (r : Result T E) (a b : T) → a ≡ b → IfOk r (λ x. x ≡ a) → IfOk r (λ x. x ≡ b)
 ok_same r a b e h = subst (λ (y : _). IfOk r (λ x. x ≡ y)) e h
 
-pub layout_is : (files : List Tree) (document : FinDoc) (l : TypeList) (mode : Mode) (class : Option ℕ) (root : ℕ) (parameters : List ℕ) (first all : List ClassDomain) (bounds : List Bound) (ds : List (List Item)) → map domain_of ds ≡ pool (setting_of files document) document
-    → class ≡ root_of (setting_of files document) → root ≡ unwrap_or class 0
-    → map (λ n. get_or (pool (setting_of files document) document) n []) parameters ≡ map (λ p. values_given (setting_of files document) document.params (parameter_key mode p)) (tested_parameters (setting_of files document) mode)
+pub domains_whole : (files : List Tree) (document : FinDoc) (l : TypeList) (first all : List ClassDomain) (bounds : List Bound)
     → map (shapes.class_domain (pool (setting_of files document) document)) first ≡ class_domains (setting_of files document) 0 (headings_of files)
     → map (shapes.class_domain (pool (setting_of files document) document)) all ≡ map (shapes.class_domain (pool (setting_of files document) document)) first ++ map (array_class_domain (setting_of files document)) (map (bound_shown l document.arrays) bounds)
-    → map (bound_shown l document.arrays) bounds ≡ (setting_of files document).arrays → bounds_of root mode document.fuel parameters all (map domain_of ds) ≡ bounds_on (setting_of files document) mode
+    → map (bound_shown l document.arrays) bounds ≡ (setting_of files document).arrays → map (shapes.class_domain (pool (setting_of files document) document)) all ≡ domains_of (setting_of files document)
 unfolding setting_of table_of
-layout_is files document l mode class root parameters first all bounds ds d c r p f a b =
+domains_whole files document l first all bounds f a b =
     let setting = setting_of files document in
-    let domains : map (shapes.class_domain (pool setting document)) all ≡ domains_of setting =
-    a ∙ (ap (λ (ks : List problems.ClassDomain). ks ++ map (array_class_domain setting) (map (bound_shown l document.arrays) bounds)) f ∙ ap (λ (bs : List (JavaType × ArrayBound)). class_domains setting 0 (headings_of files) ++ map (array_class_domain setting) bs) b) in
+    a ∙ (ap (λ (ks : List problems.ClassDomain). ks ++ map (array_class_domain setting) (map (bound_shown l document.arrays) bounds)) f ∙ ap (λ (bs : List (JavaType × ArrayBound)). class_domains setting 0 (headings_of files) ++ map (array_class_domain setting) bs) b)
+
+pub layout_is : (files : List Tree) (document : FinDoc) (mode : Mode) (class : Option ℕ) (root : ℕ) (parameters : List ℕ) (all : List ClassDomain) (ds : List (List Item)) → map domain_of ds ≡ pool (setting_of files document) document
+    → class ≡ root_of (setting_of files document) → root ≡ unwrap_or class 0
+    → map (λ n. get_or (pool (setting_of files document) document) n []) parameters ≡ map (λ p. values_given (setting_of files document) document.params (parameter_key mode p)) (tested_parameters (setting_of files document) mode)
+    → map (shapes.class_domain (pool (setting_of files document) document)) all ≡ domains_of (setting_of files document)
+    → bounds_of root mode document.fuel parameters all (map domain_of ds) ≡ bounds_on (setting_of files document) mode
+unfolding setting_of table_of
+layout_is files document mode class root parameters all ds d c r p a =
+    let setting = setting_of files document in
     let own : map (λ n. get_or (pool setting document) n []) parameters ≡ (bounds_on setting mode).parameters = p in
     ap (λ (ps : List Domain). bounds_of root mode document.fuel parameters all ps) d
     ∙ (ap (λ (n : ℕ). record { root = n; mode = mode; parameters = map (λ n. get_or (pool setting document) n []) parameters; fuel = document.fuel; domains = map (shapes.class_domain (pool setting document)) all }) (r ∙ ap (λ (o : Option ℕ). unwrap_or o 0) c)
     ∙ (ap (λ (ps : List Domain). record { root = unwrap_or (root_of setting) 0; mode = mode; parameters = ps; fuel = document.fuel; domains = map (shapes.class_domain (pool setting document)) all }) own
-    ∙ ap (λ (ks : List problems.ClassDomain). record { root = unwrap_or (root_of setting) 0; mode = mode; parameters = (bounds_on setting mode).parameters; fuel = document.fuel; domains = ks }) domains))
+    ∙ ap (λ (ks : List problems.ClassDomain). record { root = unwrap_or (root_of setting) 0; mode = mode; parameters = (bounds_on setting mode).parameters; fuel = document.fuel; domains = ks }) a))
