@@ -1,4 +1,4 @@
--- The nodes of an arena, and the trees that they stand for.
+-- Between crates: the nodes of an arena, and the trees that they stand for.
 use Rattle.std.specs.Prelude.{ℕ, ◌+◌, ◌-◌, ◌≤◌, ◌<◌, ◌≡◌, List, [], ◌∷◌, length, take, drop, Some, slice_get, slice_index_or}
 use Rattle.kr_base.specs.declared.place.Place.{Place}
 use Rattle.kr_ast.specs.declared.node.Name.{Name}
@@ -181,3 +181,8 @@ tree_in a i = tree_at a.text a.entries i
 -- the tree of the last node
 abbrev pub root : Arena → Tree
 root a = tree_in a (length a.entries - 1)
+
+-- numbers below a bound: parts that stand before their node
+abbrev pub AreBelow : ℕ → List ℕ → Type 0
+AreBelow n [] = Unit {0}
+AreBelow n (i ∷ is) = (i < n) × AreBelow n is

@@ -2,6 +2,7 @@
 //! it.
 #![tactic(auto)]
 
+mod files;
 mod forest;
 mod node;
 mod parts;
@@ -9,6 +10,7 @@ mod parts;
 mod tests;
 mod tree;
 
+pub use files::{NodeAt, tree_of};
 pub use forest::Forest;
 pub use node::{BinaryOperator, Entry, Name, Node, Primitive, StepOperator, UnaryOperator};
 pub use parts::{Names, Parts};

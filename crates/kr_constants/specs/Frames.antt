@@ -1,4 +1,4 @@
--- What an expression comes to, with what is still to be done on the way.
+-- Between crates: what an expression comes to, with what is still to be done on the way.
 use Rattle.std.specs.Prelude.{ℕ, ◌+◌, ◌*◌, ◌<◌, pos, List, [], ◌∷◌, if◌then◌else◌, Some, None}
 use Rattle.kr_base.specs.declared.place.Place.{Place}
 use Rattle.kr_ast.specs.Tree.{size}
@@ -58,10 +58,6 @@ abbrev pub whole : Setting → Task → List Frame → Outcome
 whole s task fs = resumed s fs (given s task)
 
 -- ---- each node is one of the tree
-
-abbrev pub AreBelow : ℕ → List ℕ → Type 0
-AreBelow n [] = Unit {0}
-AreBelow n (i ∷ is) = (i < n) × AreBelow n is
 
 abbrev pub IsWithin : ℕ → Task → Type 0
 IsWithin n (Look i) = i < n
