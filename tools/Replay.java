@@ -4,6 +4,8 @@
 //
 //     ./korat list fin.toml A.java | java tools/Replay.java [--all [--plain] [--most N]] [--junit CALL] fin.toml A.java..
 
+import com.sun.source.tree.AnnotationTree;
+import com.sun.source.tree.ArrayAccessTree;
 import com.sun.source.tree.AssignmentTree;
 import com.sun.source.tree.BlockTree;
 import com.sun.source.tree.ClassTree;
@@ -11,13 +13,19 @@ import com.sun.source.tree.CompilationUnitTree;
 import com.sun.source.tree.CompoundAssignmentTree;
 import com.sun.source.tree.DoWhileLoopTree;
 import com.sun.source.tree.EnhancedForLoopTree;
+import com.sun.source.tree.ExpressionStatementTree;
+import com.sun.source.tree.ExpressionTree;
 import com.sun.source.tree.ForLoopTree;
 import com.sun.source.tree.IdentifierTree;
 import com.sun.source.tree.MemberSelectTree;
+import com.sun.source.tree.MethodInvocationTree;
 import com.sun.source.tree.MethodTree;
+import com.sun.source.tree.NewArrayTree;
+import com.sun.source.tree.ParenthesizedTree;
 import com.sun.source.tree.StatementTree;
 import com.sun.source.tree.Tree;
 import com.sun.source.tree.UnaryTree;
+import com.sun.source.tree.VariableTree;
 import com.sun.source.tree.WhileLoopTree;
 import com.sun.source.util.JavacTask;
 import com.sun.source.util.SourcePositions;
@@ -63,7 +71,10 @@ import java.util.regex.Matcher;
 import java.util.regex.Pattern;
 import javax.lang.model.element.Element;
 import javax.lang.model.element.ElementKind;
+import javax.lang.model.element.ExecutableElement;
 import javax.lang.model.element.TypeElement;
+import javax.lang.model.type.TypeKind;
+import javax.lang.model.type.TypeMirror;
 import javax.lang.model.util.Types;
 import javax.tools.Diagnostic;
 import javax.tools.DiagnosticCollector;
@@ -710,6 +721,16 @@ public final class Replay {
                         if (reader != null) reader.accept(object, field);
                         return object;
                     }
+                    public static <T> T whole(T array) { return read(array, -1); }
+                    public static <T> T get(T[] array, int index) { return read(array, -2 - index)[index]; }
+                    public static boolean get(boolean[] array, int index) { return read(array, -2 - index)[index]; }
+                    public static byte get(byte[] array, int index) { return read(array, -2 - index)[index]; }
+                    public static char get(char[] array, int index) { return read(array, -2 - index)[index]; }
+                    public static short get(short[] array, int index) { return read(array, -2 - index)[index]; }
+                    public static int get(int[] array, int index) { return read(array, -2 - index)[index]; }
+                    public static long get(long[] array, int index) { return read(array, -2 - index)[index]; }
+                    public static float get(float[] array, int index) { return read(array, -2 - index)[index]; }
+                    public static double get(double[] array, int index) { return read(array, -2 - index)[index]; }
                     public void accept(int steps) { left = steps; }
                     public void accept(ObjIntConsumer<Object> next) { reader = next; }
                 }
@@ -870,12 +891,15 @@ public final class Replay {
     }
 
     /**
-     * Puts a counted step into each loop and method of the sources, and a note at each read of a field, without a change of
-     * their lines. A note hands the object on: `a.f` becomes `replayed.Steps.read(a, 7).f`.
+     * Puts a counted step into each loop and method of the sources, and a note at each read of a field or an element, without a
+     * change of their lines: `a.f` becomes `replayed.Steps.read(a, 7).f`, `a[i]` becomes `replayed.Steps.get(a, i)`. An array
+     * that goes where its elements may be read unseen, as to a library, is noted as read whole.
      */
     private static final class Rewriting {
         private static final String STEP = " " + Sources.STEPS + ".step(); ";
         private static final String READ = Sources.STEPS + ".read(";
+        private static final String GET = Sources.STEPS + ".get(";
+        private static final String WHOLE = Sources.STEPS + ".whole(";
         private final Map<String, String> sources;
         private final List<CompilationUnitTree> units = new ArrayList<>();
         private final List<String> noted = new ArrayList<>();
@@ -910,6 +934,7 @@ public final class Replay {
                 }
                 String name = unit.getSourceFile().getName();
                 StringBuilder text = new StringBuilder(sources.get(name));
+                insertions.changed.forEach(text::setCharAt);
                 insertions.added.descendingMap().forEach(text::insert);
                 texts.add(new Text(name, text.toString()));
             }
@@ -946,6 +971,7 @@ public final class Replay {
         private final SourcePositions places;
         private final boolean noting;
         private final TreeMap<Integer, String> added = new TreeMap<>();
+        private final Map<Integer, Character> changed = new HashMap<>();
         private boolean unnoted;
 
         Insertions(Rewriting whole, CompilationUnitTree unit, boolean noting) {
@@ -1000,6 +1026,71 @@ public final class Replay {
         public Void visitEnhancedForLoop(EnhancedForLoopTree loop, Void none) {
             guard(loop.getStatement());
             return super.visitEnhancedForLoop(loop, none);
+        }
+
+        @Override
+        public Void scan(Tree tree, Void none) {
+            if (noting && tree instanceof ExpressionTree && !(tree instanceof NewArrayTree) && getCurrentPath() != null) {
+                TypeMirror type = whole.trees.getTypeMirror(new TreePath(getCurrentPath(), tree));
+                if (type != null && type.getKind() == TypeKind.ARRAY && !staysInSight(tree)) {
+                    add(places.getStartPosition(unit, tree), Rewriting.WHOLE);
+                    add(places.getEndPosition(unit, tree), ")");
+                }
+            }
+            return super.scan(tree, none);
+        }
+
+        /** Whether the elements of an array that stands here can be read by noted reads alone. */
+        private boolean staysInSight(Tree array) {
+            Tree parent = getCurrentPath().getLeaf();
+            if (parent instanceof VariableTree variable) {
+                return isArray(variable.getType());
+            } else if (parent instanceof AssignmentTree assignment) {
+                return assignment.getVariable() == array || isArray(assignment.getVariable());
+            } else if (parent instanceof MethodInvocationTree call) {
+                return isOwnParameter(call, call.getArguments().indexOf(array));
+            }
+            return parent instanceof ArrayAccessTree
+                    || parent instanceof ParenthesizedTree
+                    || parent instanceof ExpressionStatementTree
+                    || parent instanceof MemberSelectTree select && select.getIdentifier().contentEquals("length")
+                    || parent.getKind() == Tree.Kind.EQUAL_TO
+                    || parent.getKind() == Tree.Kind.NOT_EQUAL_TO;
+        }
+
+        private boolean isArray(Tree tree) {
+            TypeMirror type = tree == null ? null : whole.trees.getTypeMirror(new TreePath(getCurrentPath(), tree));
+            return type != null && type.getKind() == TypeKind.ARRAY;
+        }
+
+        /** Whether this argument goes to an array of a method of the sources. */
+        private boolean isOwnParameter(MethodInvocationTree call, int index) {
+            Element called = whole.trees.getElement(getCurrentPath());
+            return index >= 0
+                    && called instanceof ExecutableElement method
+                    && whole.trees.getTree(method) != null
+                    && !method.isVarArgs()
+                    && method.getParameters().get(index).asType().getKind() == TypeKind.ARRAY;
+        }
+
+        @Override
+        public Void visitAnnotation(AnnotationTree annotation, Void none) {
+            return null;
+        }
+
+        @Override
+        public Void visitArrayAccess(ArrayAccessTree access, Void none) {
+            if (noting && !isTarget(access)) {
+                int open = sourceOf(unit).indexOf("[", (int) places.getEndPosition(unit, access.getExpression()));
+                add(places.getStartPosition(unit, access), Rewriting.GET);
+                changed.put(open, ',');
+                changed.put((int) places.getEndPosition(unit, access) - 1, ')');
+            }
+            return super.visitArrayAccess(access, none);
+        }
+
+        private String sourceOf(CompilationUnitTree unit) {
+            return whole.sources.get(unit.getSourceFile().getName());
         }
 
         @Override
@@ -1477,8 +1568,8 @@ public final class Replay {
     /**
      * Enumerates the structures within the bounds, at least one of each class of isomorphic ones. The predicate runs; the slots
      * that it reads are decided in this order, and of the objects not in use yet the first alone is a choice. Then the last
-     * decision is changed. What it doesn't read can't change its answer, so it is varied only where that is true. An array that
-     * is met counts as read whole. Where reads aren't noted, or on demand, each reachable slot counts as read.
+     * decision is changed. What it doesn't read can't change its answer, so it is varied only where that is true. Where reads
+     * aren't noted, or on demand, each reachable slot counts as read. An array's length is decided where the array is.
      */
     private static final class Space implements ObjIntConsumer<Object> {
         private final Model model;
@@ -1677,18 +1768,33 @@ public final class Replay {
             }
         }
 
-        /** A read of a field by a run. */
+        /** A read by a run: of a field by its number, of an array whole (-1), or of an element (-2 less its index). */
         @Override
         public void accept(Object object, int number) {
             Cell cell = cells.get(object);
-            for (int slot = 0; cell != null && slot < cell.slots.size(); slot++) {
+            if (cell == null) {
+                return;
+            }
+            if (number < 0) {
+                int index = -2 - number;
+                if (number == -1) {
+                    decideAll(cell);
+                } else if (index >= 0 && index < cell.slots.size()) {
+                    decide(cell, index);
+                }
+                return;
+            }
+            for (int slot = 0; slot < cell.slots.size(); slot++) {
                 if (cell.slots.get(slot).number == number) {
                     decide(cell, slot);
+                    if (!cell.slots.get(slot).field.getType().isArray()) {
+                        decideArray(cell.held[slot]);
+                    }
                 }
             }
         }
 
-        /** Decides a slot for what it holds, which is its first value, and the elements of an array that it holds. */
+        /** Decides a slot for what it holds, which is its first value. */
         private void decide(Cell cell, int slot) {
             if (!cell.decided[slot]) {
                 try {
@@ -1697,11 +1803,19 @@ public final class Replay {
                     throw new IllegalStateException(never);
                 }
             }
-            Cell held = cell.held[slot];
-            for (int index = 0; held != null && held.name.isArray() && index < held.slots.size(); index++) {
-                if (!held.decided[index] || held.held[index] != null) {
-                    decide(held, index);
-                }
+        }
+
+        /** Decides the elements of an array, and of the arrays in it. */
+        private void decideAll(Cell array) {
+            for (int index = 0; index < array.slots.size(); index++) {
+                decide(array, index);
+                decideArray(array.held[index]);
+            }
+        }
+
+        private void decideArray(Cell held) {
+            if (held != null && held.name.isArray()) {
+                decideAll(held);
             }
         }
 
