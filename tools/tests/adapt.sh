@@ -33,7 +33,7 @@ classes=$(find "$tests/classes" -mindepth 1 -maxdepth 1 -type d | wc -l)
 [ "$classes" = 20 ]
 count $? "there are $classes classes"
 if ! command -v javac >/dev/null; then
-    untried=$((classes + 60))
+    untried=179
     finish
 fi
 
