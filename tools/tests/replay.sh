@@ -73,6 +73,8 @@ if [ -n "$java" ]; then
     java "$top/tools/Replay.java" "$top/examples/cell/fin.toml" "$top/examples/cell/Cell.java" <"$top/examples/cell/expected" >../out 2>../err
     [ $? = 0 ] && [ "$(cat ../out)" = "agree 2" ] && [ ! -s ../err ]
     count $? "the tool as a source: $(cat ../out ../err)"
+else
+    untried=$((untried + 1))
 fi
 
 # ---- rows that differ
@@ -336,7 +338,7 @@ refused 'more than 10 structures' --all --most 10 fin.toml SortedList.java <"$li
 
 # ---- the program's own listing
 
-if [ -n "$java" ] && [ -x "$program" ]; then
+if [ -x "$program" ]; then
     sed 's/Node = 3/Node = 4/; s/to = 3/to = 4/; s/to = 2/to = 3/' fin.toml >larger.toml
     "$program" list larger.toml SortedList.java >listing
     rows 0 "agree $(($(wc -l <listing) - 1))" --all larger.toml SortedList.java <listing
