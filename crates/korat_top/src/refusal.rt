@@ -10,7 +10,7 @@ use kr_type_rules::TypingRule;
 use std::alloc::{AllocError, AllocFailed, Global};
 
 /// A file of the call.
-#[derive(Clone, Copy, Debug, PartialEq, Eq)]
+#[derive(Clone, Copy)]
 pub(crate) enum InputFile {
     Finitization,
     /// The source of this number, from 0.
@@ -18,7 +18,7 @@ pub(crate) enum InputFile {
 }
 
 /// A file breaks a rule: where in it, if there is a place, and of what item, if that isn't empty.
-#[derive(Debug, Drop)]
+#[derive(Drop)]
 pub(crate) struct Refusal {
     pub(crate) file: InputFile,
     pub(crate) place: Option<Place>,
@@ -72,7 +72,7 @@ impl Refusal {
 }
 
 /// Why the work for a command stops.
-#[derive(Debug, Drop)]
+#[derive(Drop)]
 pub(crate) enum Stop {
     /// The file was not read.
     Read(InputFile),

@@ -1,8 +1,9 @@
--- The tables of slots and of class domains.
+-- Between crates: the tables of slots and of class domains.
 use Rattle.std.specs.Prelude.{ℕ, ◌+◌, List, [], ◌∷◌, ◌++◌, length, map, flat_map, Option, Some, None}
 use Rattle.std.specs.List.{range_with_len}
 use Rattle.std.proofs.Common.{get_or}
 use Rattle.kr_mean.specs.Places as places
+use Rattle.kr_mean.specs.Places.{place_of}
 use Rattle.kr_mean.specs.Problem.{Domain, Slot, Objects}
 use Rattle.kr_iso.specs.Objects.{shown}
 use Rattle.kr_problem.specs.declared.classes.Spotted.{Spotted}

@@ -1,11 +1,9 @@
 // What is known of a node, and what a rule says of it.
-ghost use Rattle.std.specs.Prelude.{◌≡◌, ◌<◌, ℕ, MatchOption};
+ghost use Rattle.std.specs.Prelude.{◌≡◌, ◌<◌};
 ghost use Rattle.kr_typing.specs.Rules as rules;
-ghost use Rattle.kr_typing.specs.Typing.{on_one};
 ghost use Rattle.kr_type_numbers.specs.Types.{TypeList, count, type_at};
-ghost use Rattle.kr_table.specs.Types.{JavaType};
 ghost use Rattle.kr_type_rules.specs.Numbers.{rule_number};
-ghost use Rattle.kr_type_rules.specs.Shown.{IsVerdictWithin, known_shown, verdict_shown};
+ghost use Rattle.kr_type_rules.specs.Shown.{IsVerdictWithin, verdict_shown};
 
 use crate::rules::TypingRule;
 
@@ -79,19 +77,6 @@ impl Verdict {
             Verdict::Fits(Typed::Untyped)
         } else {
             Verdict::Breaks(rule)
-        }
-    }
-}
-
-impl Known {
-    /// The type of a value.
-    pub fn type_number(self) -> Option<u32>
-        ensures { (l : TypeList) (look : ℕ → rules.Typed) (f : JavaType → rules.Verdict) → MatchOption result (on_one f (known_shown l look self) ≡ rules.fine) (λ t. on_one f (known_shown l look self) ≡ f (type_at l t)) }
-    {
-        match self {
-            Known::One(Typed::Value(number)) => Some(number),
-            Known::One(Typed::Variable(number)) => Some(number),
-            _ => None,
         }
     }
 }
