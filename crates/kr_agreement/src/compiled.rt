@@ -29,8 +29,8 @@ fn is_call(node: Option<&Node>, object: u32) -> bool {
     }
 }
 
-/// Whether there is one condition: the call, on the node behind it, where so many nodes are those of files.
-fn is_call_behind(predicate: &Predicate, nodes: u32) -> bool {
+/// Whether there is one condition: the call, on the node after it, where so many nodes are those of files.
+fn is_call_after(predicate: &Predicate, nodes: u32) -> bool {
     let code = &predicate.code.nodes;
     predicate.conditions.as_slice() == [nodes].as_slice()
         && code.len() == nodes as usize + 2
@@ -42,11 +42,11 @@ fn is_made(alloc: Global, problem: &Problem) -> Result<bool, NoMemory>
     requires shaped { AreShaped problem.now.program }
 {
     let predicate = predicate_of(alloc, problem)?;
-    Ok(is_call_behind(&predicate, problem.program.nodes()))
+    Ok(is_call_after(&predicate, problem.program.nodes()))
 }
 
 #[test]
-fn the_call_stands_behind_the_nodes_of_the_files(rt: HostRuntime) -> Result<(), NoMemory> {
+fn the_call_comes_after_the_nodes_of_the_files(rt: HostRuntime) -> Result<(), NoMemory> {
     let alloc = rt.alloc();
     let none = Listed::new(alloc);
     let domains = Listed::new(alloc);
