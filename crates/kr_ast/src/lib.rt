@@ -5,8 +5,6 @@
 mod forest;
 mod node;
 mod parts;
-#[cfg(test)]
-mod tests;
 mod tree;
 
 pub use forest::Forest;
