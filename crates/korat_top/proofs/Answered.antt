@@ -1,6 +1,7 @@
 -- What was found for a command, and the statuses of refusals.
-use Rattle.std.proofs.Common.{◌≡◌, ℕ, ◌<◌, List, [], ◌∷◌, refl, arith}
-use Rattle.std.specs.Prelude.{Option, Result, Ok, Err}
+use Rattle.std.proofs.Common.{◌≡◌, ◌∙◌, ℕ, ◌<◌, List, [], ◌∷◌, ap, arith}
+use Rattle.std.specs.Prelude.{Option, Result, Ok, Err, IfOk}
+use Rattle.kr_mean.specs.declared.mode.Mode.TheVariants.{List as Listing}
 use Rattle.kr_args.specs.Reading.{Range}
 use Rattle.kr_demo.specs.Texts.{source_text, finitization_text}
 use Rattle.kr_posed.specs.Posed.{posed}
@@ -11,8 +12,8 @@ use Rattle.korat_top.specs.declared.refusal.Stop.{Stop}
 use Rattle.korat_top.specs.declared.refusal.Stop.TheVariants.{Read, Refused, Memory}
 use Rattle.korat_top.specs.Refusals.{Inputs, status_of_file}
 use Rattle.korat_top.specs.Steps.{Held, demonstrating, from_texts}
-use Rattle.korat_top.specs.Answer.{ListFiles, CheckFiles, DemoOf}
-use Rattle.korat_top.specs.Found.{Meets, CountStays, FindsIn, Finds}
+use Rattle.korat_top.specs.Answer.{ListFiles}
+use Rattle.korat_top.specs.Found.{Judges, FindsIn, Finds}
 
 -- a refusal ends with 3 or 4
 pub refused_low : (file : InputFile) → status_of_file file < 6
@@ -32,28 +33,12 @@ list_found held faults last inputs range files files' (Err (Refused x)) h = h
 list_found held faults last inputs range files files' (Err (Read failed)) h = h
 list_found held faults last inputs range files files' (Err Memory) h = h
 
-pub check_found : {F : Type 0} (held : F → Held) (faults : F → ℕ) (last : F → Option (List ℕ)) (inputs : Inputs) (files files' : F) (r : Result Problem Stop)
-    → FindsIn held faults last inputs files files' r → Finds held faults last (CheckFiles inputs) files files' r
-check_found held faults last inputs files files' (Ok f) h = h
-check_found held faults last inputs files files' (Err (Refused x)) h = h
-check_found held faults last inputs files files' (Err (Read failed)) h = h
-check_found held faults last inputs files files' (Err Memory) h = h
-
 -- the demo's texts have the steps of files
-pub demo_judged : (n : ℕ) (r : Result Problem Stop) → Meets (from_texts (finitization_text n) (source_text n ∷ [])) posed r → Meets (demonstrating n) posed r
+pub demo_judged : (n : ℕ) (r : Result Problem Stop) → Judges (from_texts (finitization_text n) (source_text n ∷ [])) r → Judges (demonstrating n) r
 unfolding demonstrating
-demo_judged n r h = h
+demo_judged n r h = record { judged = h.judged; listing = h.listing }
 
--- the demo reads nothing
-pub demo_found : {F : Type 0} (held : F → Held) (faults : F → ℕ) (last : F → Option (List ℕ)) (n : ℕ) (files : F) (r : Result Problem Stop)
-    → Meets (demonstrating n) posed r → Finds held faults last (DemoOf n) files files r
-demo_found held faults last n files (Ok f) h = λ _. h
-demo_found held faults last n files (Err (Refused x)) h = λ _. h
-demo_found held faults last n files (Err (Read failed)) h = absurd h
-demo_found held faults last n files (Err Memory) h = tt
-
-pub demo_count : (count n : ℕ) (r : Result Problem Stop) → Meets (demonstrating n) posed r → CountStays count count r
-demo_count count n (Ok f) h = refl
-demo_count count n (Err (Refused x)) h = refl
-demo_count count n (Err (Read failed)) h = absurd h
-demo_count count n (Err Memory) h = refl
+-- a problem that is handed on has the mode that it had
+pub listing_kept : (problem : Problem) (r : Result Problem Stop) → (posed problem).mode ≡ Listing → IfOk r (λ found. found ≡ problem) → IfOk r (λ found. (posed found).mode ≡ Listing)
+listing_kept problem (Ok found) m e = ap (λ (p : Problem). (posed p).mode) e ∙ m
+listing_kept problem (Err stop) m e = tt

@@ -1,5 +1,4 @@
 pub mod Small
-pub mod Texts
 pub mod Calls
 pub mod Outcomes
 pub mod Told

@@ -1,6 +1,6 @@
 -- How steps follow each other, and that each has one outcome.
-use Rattle.std.proofs.Common.{◌≡◌, ℕ, zero, suc, ◌+◌, ◌<◌, ◌≤◌, inl, inr, List, [], ◌∷◌, ◌++◌, length, take, drop, get_or, drop-cons, refl, sym, ap, ◌∙◌, subst, arith}
-use Rattle.std.proofs.lemmas.List.{length-take, take_all, take-append-drop}
+use Rattle.std.proofs.Common.{◌≡◌, ℕ, zero, suc, ◌+◌, ◌<◌, inl, inr, List, [], ◌∷◌, ◌++◌, length, take, drop, get_or, drop-cons, refl, sym, ap, ◌∙◌, subst, arith}
+use Rattle.std.proofs.lemmas.List.{length-take, take-append-drop}
 use Rattle.std.specs.Prelude.{Result, Ok, Err}
 use Rattle.korat_top.specs.declared.refusal.Stop.{Stop}
 use Rattle.korat_top.specs.declared.refusal.Stop.TheVariants.{Read, Refused, Memory}
@@ -63,17 +63,7 @@ each_refused step items i d made r h e s =
     subst (λ xs. each step 0 xs (Err r)) (split_at items i d h)
     (each_stop step 0 (take i items) made (get_or items i d) (drop (suc i) items) r e (subst (λ k. step k (get_or items i d) (Err r)) (sym (number_of items i h)) s))
 
--- all items
-pub each_all : {A B : Type 0} (step : ℕ → A → Result B Refusal → Type 0) (items : List A) (i : ℕ) (made : List B)
-    → length items ≤ i → each step 0 (take i items) (Ok made) → each step 0 items (Ok made)
-each_all step items i made h e = subst (λ xs. each step 0 xs (Ok made)) (take_all i items h) e
-
 -- ---- work that stops
-
-pub stops_first : {A B : Type 0} (first : Result A Refusal → Type 0) (next : A → Result B Refusal → Type 0) (stop : Stop) → StopsBy first stop → StopsBy (and_then first next) stop
-stops_first first next (Refused r) h = inl h
-stops_first first next (Read file) h = absurd h
-stops_first first next Memory h = tt
 
 pub stops_next : {A B : Type 0} (first : Result A Refusal → Type 0) (next : A → Result B Refusal → Type 0) (a : A) (stop : Stop) → first (Ok a) → StopsBy (next a) stop → StopsBy (and_then first next) stop
 stops_next first next a (Refused r) f h = inr (a, f, h)

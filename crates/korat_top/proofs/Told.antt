@@ -130,10 +130,6 @@ each_long held n (f ∷ names) r (inr h) told = inr (
 
 -- ---- all files of a command
 
--- the finitization is too long
-pub finitization_long : (held : Held) (inputs : Inputs) (r : Refusal) → telling held input.Finitization inputs.fin (Err r) → AllTold held inputs → checking held inputs (Err r)
-finitization_long held inputs r h told = inl (read_long held input.Finitization inputs.fin r h (told inputs.fin (inl refl)))
-
 rest_told : (held : Held) (inputs : Inputs) (fin : List ℕ) → telling held input.Finitization inputs.fin (Ok fin) → AllTold held inputs → (file : List ℕ) → ReadsIn held inputs.sources file → IsSome (held file)
 rest_told held inputs fin h told file r = told file (inr (short_told (held inputs.fin) fin h.1 h.0, r))
 

@@ -1,13 +1,15 @@
 -- What the work for a command finds, before anything is written.
-use Rattle.std.specs.Prelude.{◌≡◌, ℕ, ◌<◌, ◌≤◌, List, [], length, All, Option, Some, IfSome, Result, Ok, Err, Vec, slice_index_or}
+use Rattle.std.specs.Prelude.{◌≡◌, ℕ, ◌<◌, ◌≤◌, List, [], length, All, Option, Some, IfSome, Result, Ok, Err, IfOk, Vec, slice_index_or}
 use Rattle.std.specs.declared.alloc.Global.{Global}
 use Rattle.kr_base.specs.Causes.{Rose}
 use Rattle.kr_ast.specs.Arena.{Arena, root}
+use Rattle.kr_mean.specs.declared.mode.Mode.TheVariants.{List as Listing}
+use Rattle.kr_mean.specs.Problem as means
 use Rattle.kr_posed.specs.Posed.{posed}
 use Rattle.kr_shapes.specs.Shapes.{AreClasses}
 use Rattle.kr_posed.specs.declared.problem.Problem.{Problem}
 use Rattle.korat_top.specs.Refusals.{Inputs, Refusal, too_long, name_of, refusal_of}
-use Rattle.korat_top.specs.Steps.{Held, LIMIT, each, checking, ReadsIn, Reads, AllTold}
+use Rattle.korat_top.specs.Steps.{Held, LIMIT, MOST_NODES, each, checking, ReadsIn, Reads, AllTold}
 use Rattle.korat_top.specs.Answer.{Command, IsTold, ReadsFor, inputs_of, steps_of}
 use Rattle.korat_top.specs.declared.refusal.InputFile.{InputFile}
 use Rattle.korat_top.specs.declared.refusal.InputFile.TheVariants as input
@@ -74,6 +76,17 @@ Meets outcome seen (Err stop) = StopsBy outcome stop
 -- each file is a list of classes, whose parts are of their places' shapes
 abbrev pub AreShaped : List Arena → Type 0
 AreShaped files = All (λ a. AreClasses (root a)) files
+
+-- What steps come to: the problem of a listing that they say, or why they stop.
+pub record Judges (steps : Result means.Problem Refusal → Type 0) (result : Result Problem Stop) : Type 0 where
+  pub judged : Meets steps posed result
+  pub listing : IfOk result (λ found. (posed found).mode ≡ Listing)
+
+-- the trees of at most 16 sources, each of as many nodes as a source can have, and of the shapes of classes
+pub record AreGrown (trees : List Arena) : Type 0 where
+  pub few : length trees ≤ 16
+  pub small : All (λ tree. length tree.entries ≤ MOST_NODES) trees
+  pub shaped : AreShaped trees
 
 -- ---- What is found
 

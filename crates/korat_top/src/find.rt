@@ -1,5 +1,5 @@
 // The work for a command, before anything is written: its files are read, and then judged.
-ghost use Rattle.std.specs.Prelude.{◌≡◌, ◌<◌, ◌≤◌, ◌+◌, ◌*◌, ◌^◌, All, IfOk, length, map};
+ghost use Rattle.std.specs.Prelude.{◌≡◌, ◌<◌, ◌≤◌, ◌+◌, ◌*◌, ◌^◌, ◌∷◌, [], All, IfOk, length, map};
 ghost use Rattle.kr_ast.specs.Arena.{root};
 ghost use Rattle.kr_table.specs.Table.{table_of};
 ghost use Rattle.kr_classes.specs.ClassTables.{IsClassTable};
@@ -14,7 +14,8 @@ ghost use Rattle.korat_top.specs.Refusals.{refusal_of, too_long as too_long_of, 
 ghost use Rattle.korat_top.specs.Steps.{LIMIT, lexing, parsing, growing, classing, typing, stating, MOST_NODES, spacing, purifying, from_texts, from_grown, from_table, from_trees, from_document, from_problem, each, demonstrating};
 ghost use Rattle.korat_top.specs.Answer.{inputs_of};
 ghost use Rattle.korat_top.specs.Orders.{command_in};
-ghost use Rattle.korat_top.specs.Found.{HasRead, HasReadAll, IsLater, Meets, FindsIn, Finds, CountStays, AreShaped};
+ghost use Rattle.kr_demo.specs.Texts.{source_text};
+ghost use Rattle.korat_top.specs.Found.{HasRead, HasReadAll, IsLater, Meets, Judges, FindsIn, Finds, CountStays, AreShaped, AreGrown};
 
 use crate::MAX_FILE_BYTES;
 use crate::command::Order;
@@ -248,9 +249,9 @@ fn purity(alloc: Global, problem: &Problem) -> Result<(), Stop>
     }
 }
 
-// The steps behind each other: what is judged from one of them on.
+// The steps after each other: each of these goes on from the step that its name says.
 
-fn judge_problem(alloc: Global, problem: Problem) -> Result<Accepted, Stop>
+fn judge_from_purity(alloc: Global, problem: Problem) -> Result<Accepted, Stop>
     requires shaped { AreShaped problem.program.trees.items }
     requires posed { IsPosed problem }
     requires well_formed { IsWellFormed (posed problem) }
@@ -262,65 +263,56 @@ fn judge_problem(alloc: Global, problem: Problem) -> Result<Accepted, Stop>
     Ok(Accepted::new(problem))
 }
 
-fn judge_document(alloc: Global, program: Program, document: &FinDoc) -> Result<Accepted, Stop>
+fn judge_from_posing(alloc: Global, program: Program, document: &FinDoc) -> Result<Accepted, Stop>
     requires program { IsProgram program }
     requires shaped { AreShaped program.trees.items }
     requires limits { IsWithinLimits document.now }
-    ensures judged { Meets (from_document (map root program.trees.items) document.now) posed result }
-    ensures mode { IfOk result (λ found. (posed found).mode ≡ Listing) }
+    ensures { Judges (from_document (map root program.trees.items) document.now) result }
 {
     let problem = problem_of(alloc, program, document)?;
-    judge_problem(alloc, problem)
+    judge_from_purity(alloc, problem)
 }
 
-fn judge_program(alloc: Global, fin: &[u8], program: Program) -> Result<Accepted, Stop>
+fn judge_from_finitization(alloc: Global, fin: &[u8], program: Program) -> Result<Accepted, Stop>
     requires program { IsProgram program }
     requires shaped { AreShaped program.trees.items }
-    ensures judged { Meets (from_trees fin.now (map root program.trees.items)) posed result }
-    ensures mode { IfOk result (λ found. (posed found).mode ≡ Listing) }
+    ensures { Judges (from_trees fin.now (map root program.trees.items)) result }
 {
     limits_law();
     let document = document_of(alloc, fin)?;
-    judge_document(alloc, program, &document)
+    judge_from_posing(alloc, program, &document)
 }
 
-fn judge_table(
+fn judge_from_typing(
     alloc: Global,
     fin: &[u8],
     trees: Vec<Tree>,
     table: ClassTable,
 ) -> Result<Accepted, Stop>
-    requires few { length trees.items ≤ 16 }
-    requires small { All (λ tree. length tree.entries ≤ MOST_NODES) trees.items }
-    requires shaped { AreShaped trees.items }
+    requires grown { AreGrown trees.items }
     requires table { IsClassTable trees.items table }
-    ensures judged { Meets (from_table fin.now (map root trees.items)) posed result }
-    ensures mode { IfOk result (λ found. (posed found).mode ≡ Listing) }
+    ensures { Judges (from_table fin.now (map root trees.items)) result }
 {
     let program = program_of(alloc, trees, table)?;
-    judge_program(alloc, fin, program)
+    judge_from_finitization(alloc, fin, program)
 }
 
-fn judge_grown(alloc: Global, fin: &[u8], trees: Vec<Tree>) -> Result<Accepted, Stop>
-    requires few { length trees.items ≤ 16 }
-    requires small { All (λ tree. length tree.entries ≤ MOST_NODES) trees.items }
-    requires shaped { AreShaped trees.items }
-    ensures judged { Meets (from_grown fin.now (map root trees.items)) posed result }
-    ensures mode { IfOk result (λ found. (posed found).mode ≡ Listing) }
+fn judge_from_classes(alloc: Global, fin: &[u8], trees: Vec<Tree>) -> Result<Accepted, Stop>
+    requires { AreGrown trees.items }
+    ensures { Judges (from_grown fin.now (map root trees.items)) result }
 {
     let table = table_of_classes(alloc, trees.as_slice())?;
-    judge_table(alloc, fin, trees, table)
+    judge_from_typing(alloc, fin, trees, table)
 }
 
 /// Judges what was read.
-fn judge(alloc: Global, fin: &[u8], texts: &Texts) -> Result<Accepted, Stop>
+fn judge_from_parsing(alloc: Global, fin: &[u8], texts: &Texts) -> Result<Accepted, Stop>
     requires few { length texts.now ≤ 16 }
     requires short { All (λ text. length text ≤ LIMIT) texts.now }
-    ensures judged { Meets (from_texts fin.now texts.now) posed result }
-    ensures mode { IfOk result (λ found. (posed found).mode ≡ Listing) }
+    ensures { Judges (from_texts fin.now texts.now) result }
 {
     let trees = trees_of(alloc, texts)?;
-    judge_grown(alloc, fin, trees)
+    judge_from_classes(alloc, fin, trees)
 }
 
 /// Reads files, the finitization first, and judges them.
@@ -337,21 +329,28 @@ fn find_files<F: Files>(
 {
     let bytes = read(alloc, InputFile::Finitization, fin, files)?;
     match read_sources(alloc, sources, files) {
-        Ok(texts) => judge(alloc, &bytes, &texts),
+        Ok(texts) => judge_from_parsing(alloc, &bytes, &texts),
         Err(stop) => Err(stop),
     }
 }
 
-/// Judges the demo's texts, which no file holds.
-fn find_demo(alloc: Global, nodes: u32) -> Result<Accepted, Stop>
-    ensures judged { Meets (demonstrating nodes) posed result }
-    ensures mode { IfOk result (λ found. (posed found).mode ≡ Listing) }
+/// The demo's source.
+fn demo_texts(alloc: Global, nodes: u32) -> Result<Texts, NoMemory>
+    ensures { IfOk result (λ texts. texts ≡ source_text nodes ∷ []) }
 {
-    let fin = demo_finitization(alloc, nodes)?;
     let source = demo_source(alloc, nodes)?;
     let mut texts = Texts::new(alloc);
     texts.push(source)?;
-    judge(alloc, &fin, &texts)
+    Ok(texts)
+}
+
+/// Judges the demo's texts, which no file holds.
+fn find_demo(alloc: Global, nodes: u32) -> Result<Accepted, Stop>
+    ensures { Judges (demonstrating nodes) result }
+{
+    let texts = demo_texts(alloc, nodes)?;
+    let fin = demo_finitization(alloc, nodes)?;
+    judge_from_parsing(alloc, &fin, &texts)
 }
 
 /// Does the steps of a command, up to the problem.

@@ -10,7 +10,7 @@ use std::env::Args;
 use std::io;
 
 /// Why the program has no words.
-#[derive(Clone, Copy, Debug, PartialEq, Eq)]
+#[derive(Clone, Copy, PartialEq, Eq)]
 pub enum NoWords {
     /// One of them isn't text.
     NotText,

@@ -1,14 +1,16 @@
 // What a file of the call is refused with, and why the work for a command stops.
 ghost use Rattle.std.specs.Prelude.{◌≡◌, IfOk};
+ghost use Rattle.kr_type_rules.specs.Numbers.{rule_number};
 ghost use Rattle.korat_top.specs.Refusals.{at_place, of_finitization, refusal_of, type_code};
 ghost use Rattle.korat_top.specs.declared.refusal.Stop.TheVariants.{Memory};
 
 use itoa::Buffer;
 use kr_base::{NoMemory, Place};
+use kr_type_rules::TypingRule;
 use std::alloc::{AllocError, AllocFailed, Global};
 
 /// A file of the call.
-#[derive(Clone, Copy, Debug, PartialEq, Eq)]
+#[derive(Clone, Copy)]
 pub(crate) enum InputFile {
     Finitization,
     /// The source of this number, from 0.
@@ -16,7 +18,7 @@ pub(crate) enum InputFile {
 }
 
 /// A file breaks a rule: where in it, if there is a place, and of what item, if that isn't empty.
-#[derive(Debug, Drop)]
+#[derive(Drop)]
 pub(crate) struct Refusal {
     pub(crate) file: InputFile,
     pub(crate) place: Option<Place>,
@@ -37,13 +39,13 @@ impl Refusal {
         })
     }
 
-    /// A node at a place breaks the typing rule of a number.
-    pub(crate) fn of_node(alloc: Global, place: Place, rule: u32) -> Result<Refusal, NoMemory>
-        ensures { IfOk result (λ refusal. refusal_of refusal ≡ at_place place (type_code rule)) }
+    /// A node at a place breaks a typing rule.
+    pub(crate) fn of_node(alloc: Global, place: Place, rule: TypingRule) -> Result<Refusal, NoMemory>
+        ensures { IfOk result (λ refusal. refusal_of refusal ≡ at_place place (type_code (rule_number rule))) }
     {
         let mut digits = Buffer::new();
         let mut code = String::from_str(alloc, "T")?;
-        code.push_str(digits.format(rule))?;
+        code.push_str(digits.format(rule.number()))?;
         Ok(Refusal {
             file: InputFile::Source(place.file),
             place: Some(place),
@@ -70,7 +72,7 @@ impl Refusal {
 }
 
 /// Why the work for a command stops.
-#[derive(Debug, Drop)]
+#[derive(Drop)]
 pub(crate) enum Stop {
     /// The file was not read.
     Read(InputFile),

@@ -1,5 +1,5 @@
 // The call.
-ghost use Rattle.std.specs.Prelude.{◌≡◌, ◌<◌, ◌≤◌, Some, IfOk, OnErr, is_ok, if◌then◌else◌, length};
+ghost use Rattle.std.specs.Prelude.{◌≡◌, ◌<◌, ◌≤◌, Some, IfOk, OnErr, length};
 ghost use Rattle.kr_mean.specs.declared.mode.Mode.TheVariants.{List as Listing};
 ghost use Rattle.kr_report.specs.Endings.{EndsListing};
 ghost use Rattle.korat_top.specs.Answer.{asked_of, counts_of, inputs_of, listing_of, report_of, tally_of};
@@ -15,7 +15,7 @@ use kr_base::{Failed, NoMemory, Sink, Words};
 use kr_compiled::predicate_of;
 use kr_io::{Files, Gate};
 use kr_listing::put_subject;
-use kr_report::{put_checked, put_out_of_memory, put_read_fault, put_usage_fault};
+use kr_report::{once_written, put_checked, put_out_of_memory, put_read_fault, put_usage_fault};
 use kr_steps::Steps;
 use kr_subject::{Accepted, Prepared};
 use kr_tally::put_tally;
@@ -23,14 +23,40 @@ use std::alloc::Global;
 use std::marker::Brand;
 use std::sync::ledger::{Blank, Ledger};
 
-/// A status once its text is written, or that of a write fault.
-fn once_written(written: Result<(), Failed>, status: u8) -> u8
-    ensures { result ≡ (if is_ok written then status else 7) }
+/// A problem with what its search and its listing need.
+fn prepare(alloc: Global, found: Accepted) -> Result<Prepared, NoMemory>
+    requires mode { (posed found).mode ≡ Listing }
+    ensures { IfOk result (λ prepared. prepared ≡ found) }
 {
-    if written.is_ok() { status } else { 7 }
+    let predicate = predicate_of(alloc, found.problem())?;
+    Prepared::new(alloc, found, predicate)
 }
 
 /// Lists the entries of a problem in a range of keys. Where memory is refused before anything is searched, nothing is put.
+fn put_between<K: Sink, L: Ledger>(
+    alloc: Global,
+    prepared: &Prepared,
+    range: &Range,
+    out: &mut K,
+    runs: &mut Steps<L>,
+) -> Result<u8, NoMemory>
+    requires mode { (posed prepared.now).mode ≡ Listing }
+    ensures ends { IfOk result (λ status. EndsListing K.taken K.faults (listing_of (range_of range.now) (posed prepared.now)) out.old out.new status) }
+    ensures nothing { OnErr result (out.new ≡ out.old) }
+{
+    let upto = range.to.try_clone()?;
+    put_subject(
+        alloc,
+        prepared,
+        range.from.numbers(),
+        upto,
+        range.limit,
+        out,
+        runs,
+    )
+}
+
+/// The same of a problem that isn't prepared yet.
 fn put_range<K: Sink, L: Ledger>(
     alloc: Global,
     found: Accepted,
@@ -42,18 +68,8 @@ fn put_range<K: Sink, L: Ledger>(
     ensures ends { IfOk result (λ status. EndsListing K.taken K.faults (listing_of (range_of range.now) (posed found)) out.old out.new status) }
     ensures nothing { OnErr result (out.new ≡ out.old) }
 {
-    let upto = range.to.try_clone()?;
-    let predicate = predicate_of(alloc, found.problem())?;
-    let prepared = Prepared::new(alloc, found, predicate)?;
-    put_subject(
-        alloc,
-        &prepared,
-        range.from.numbers(),
-        upto,
-        range.limit,
-        out,
-        runs,
-    )
+    let prepared = prepare(alloc, found)?;
+    put_between(alloc, &prepared, range, out, runs)
 }
 
 /// Lists a problem.
@@ -89,8 +105,7 @@ fn put_valid<K: Sink, L: Ledger>(
     ensures ends { IfOk result (λ status. EndsListing K.taken K.faults (tally_of nodes (posed found)) out.old out.new status) }
     ensures nothing { OnErr result (out.new ≡ out.old) }
 {
-    let predicate = predicate_of(alloc, found.problem())?;
-    let prepared = Prepared::new(alloc, found, predicate)?;
+    let prepared = prepare(alloc, found)?;
     put_tally(alloc, &prepared, nodes, out, runs)
 }
 

@@ -147,9 +147,6 @@ pub record Starts (part : List ℕ) : Type 0 where
   pub in_line : is_line_end byte ≡ false
   pub begins : begins_character byte ≡ true
 
-pub starts_of : (part : List ℕ) (b : ℕ) → is_line_end b ≡ false → begins_character b ≡ true → (rest : List ℕ) → part ≡ b ∷ rest → Starts part
-starts_of part b l c rest e = record { byte = b; rest = rest; is = e; in_line = l; begins = c }
-
 abbrev pub Passes : List ℕ → List ℕ → Type 0
 Passes front longer = IsBefore (line_after front) (column_after front) (line_after longer) (column_after longer)
 

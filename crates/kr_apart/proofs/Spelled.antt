@@ -138,10 +138,6 @@ at_front p file front part e s =
     subst (λ (c : ℕ). IsBefore p.line c (line_after (front ++ part)) (column_after (front ++ part))) q.2
     (subst (λ (l : ℕ). IsBefore l (column_after front) (line_after (front ++ part)) (column_after (front ++ part))) q.1 (passes part front s))
 
-one_at_most : (b : Bool) → one_if b ≤ 1
-one_at_most true = omega arith
-one_at_most false = omega arith
-
 -- no two tokens of a file stand at one place
 pub once : {file : ℕ} {inside last : Bool} {front text end left : List ℕ} {list : List Lexeme} → Reaches file inside front text list last end left → (p : Place) → placed p list ≤ 1
 once here p = omega arith

@@ -100,9 +100,6 @@ pub record IsWalked (tree : Arena) (found left : List ℕ) : Type 0 where
   pub left_within : AreIn tree (reverse left)
   pub shown : map (tree_in tree) found ++ nodes_at tree (reverse left) ≡ nodes (root tree)
 
-pub walk_begins : (tree : Arena) → 0 < length tree.entries → IsWalked tree [] ((length tree.entries - 1) ∷ [])
-walk_begins tree h = record { within = All-nil _; left_within = (omega (arith, h), tt); shown = append-nil (nodes (root tree)) }
-
 turned : (ns : List ℕ) (n : ℕ) → reverse (ns ++ n ∷ []) ≡ n ∷ reverse ns
 turned ns n = reverse-append ns (n ∷ [])
 
@@ -174,9 +171,6 @@ walked_on tree found found' left left' rest ps i e h t l p f m w =
     subst (λ (ns : List ℕ). IsWalked tree ns left') (sym f)
     (subst (λ (ns : List ℕ). IsWalked tree (found ++ own e.node i) ns) (sym (m ∙ ap (λ (ns : List ℕ). rest ++ reverse ns) p))
     (walk_goes_on tree found rest i e h t (subst (λ (ns : List ℕ). IsWalked tree found ns) l w)))
-
-pub walk_ends : (tree : Arena) (found : List ℕ) → IsWalked tree found [] → map (tree_in tree) found ≡ nodes (root tree)
-walk_ends tree found w = sym (append-nil (map (tree_in tree) found)) ∙ w.shown
 
 -- ---- a walk ends: a node has at most four parts, which stand before it
 

@@ -1,5 +1,5 @@
 -- Trees while their text grows.
-use Rattle.std.proofs.Common.{◌≡◌, ℕ, ◌-◌, ◌≤◌, List, [], ◌∷◌, ◌++◌, length, take, drop, Some, refl, ap, ◌∙◌, arith, length-append, length-drop}
+use Rattle.std.proofs.Common.{◌≡◌, ℕ, ◌-◌, ◌≤◌, List, [], ◌∷◌, ◌++◌, length, take, drop, Some, refl, ap, ◌∙◌, arith, length-drop}
 use Rattle.std.specs.Prelude.{slice_get, slice_index_or, map}
 use Rattle.std.proofs.lemmas.List.{take-append-le, drop-append-le}
 use Rattle.kr_ast.specs.declared.node.Name.{Name}
@@ -13,10 +13,6 @@ pub name_in-append : (text more : List ℕ) (n : Name) → n.start ≤ n.end →
 name_in-append text more n ordered within =
     ap (take (n.end - n.start)) (drop-append-le n.start text more (omega arith))
     ∙ take-append-le (n.end - n.start) (drop n.start text) more (omega (arith, length-drop n.start text))
-
-pub names_append : (text more : List ℕ) (ns : List Name) → AreNamesIn text ns → AreNamesIn (text ++ more) ns
-names_append text more [] h = tt
-names_append text more (n ∷ ns) h = (h.0, omega (arith, h.1, length-append text more), names_append text more ns h.2)
 
 names_same : (text more : List ℕ) (ns : List Name) → AreNamesIn text ns → map (name_in (text ++ more)) ns ≡ map (name_in text) ns
 names_same text more [] h = refl

@@ -181,3 +181,8 @@ tree_in a i = tree_at a.text a.entries i
 -- the tree of the last node
 abbrev pub root : Arena → Tree
 root a = tree_in a (length a.entries - 1)
+
+-- numbers below a bound: parts that stand before their node
+abbrev pub AreBelow : ℕ → List ℕ → Type 0
+AreBelow n [] = Unit {0}
+AreBelow n (i ∷ is) = (i < n) × AreBelow n is

@@ -1,4 +1,5 @@
 pub mod Tree
 pub mod Grow
 pub mod Arena
+pub mod Files
 pub mod Forest

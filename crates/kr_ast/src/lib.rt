@@ -2,11 +2,13 @@
 //! it.
 #![tactic(auto)]
 
+mod files;
 mod forest;
 mod node;
 mod parts;
 mod tree;
 
+pub use files::{NodeAt, tree_of};
 pub use forest::Forest;
 pub use node::{BinaryOperator, Entry, Name, Node, Primitive, StepOperator, UnaryOperator};
 pub use parts::{Names, Parts};

@@ -34,13 +34,6 @@ not_above a b c p q =
       | false ↦ λ ca. refl
     ] refl
 
-pub less_not_above : (a b c : Bound) → less a b ≡ true → less c b ≡ false → less a c ≡ true
-less_not_above a b c p q =
-    elim (less a c) as (λ t. less a c ≡ t → t ≡ true) [
-      | true ↦ λ ac. refl
-      | false ↦ λ ac. sym (not_above b c a q ac) ∙ p
-    ] refl
-
 pub not_above_less : (a b c : Bound) → less b a ≡ false → less b c ≡ true → less a c ≡ true
 not_above_less a b c p q =
     elim (less a c) as (λ t. less a c ≡ t → t ≡ true) [

@@ -6,3 +6,4 @@ pub mod Insides
 pub mod Digits
 pub mod Stages
 pub mod Readings
+pub mod Added

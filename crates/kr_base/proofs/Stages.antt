@@ -164,16 +164,6 @@ one_fault text at later fault next = elim (trichotomy at later) [
 
 -- ---- one byte
 
-pub next_digit : (front done : List ℕ) (begun : Option ℕ) (kept : List ℕ) (count byte n : ℕ) → n < 2 ^ 32 → begun_text begun ++ byte ∷ [] ≡ decimal n → IsAt front done begun kept count
-    → IsAt (front ++ byte ∷ []) done (Some n) kept count
-next_digit front done begun kept count byte n small is at = record {
-  small = at.small;
-  fits = small;
-  text = ap (λ (t : List ℕ). t ++ byte ∷ []) at.text ∙ (append_assoc (flat_map ended done) (begun_text begun) (byte ∷ []) ∙ ap (λ (t : List ℕ). flat_map ended done ++ t) is);
-  kept_is = at.kept_is;
-  count_is = at.count_is;
-}
-
 pub next_dot : (front done : List ℕ) (begun : Option ℕ) (kept new : List ℕ) (count n byte : ℕ) → begun ≡ Some n → byte ≡ 46 → n < 2 ^ 32 → (kept ≡ take 4096 done → new ≡ take 4096 (done ++ n ∷ [])) → IsAt front done begun kept count
     → IsAt (front ++ byte ∷ []) (done ++ n ∷ []) None new (count + 1)
 next_dot front done begun kept new count n byte is dot small keeps at = record {

@@ -5,6 +5,7 @@
 mod cut;
 mod entry;
 mod laws;
+mod lists;
 mod memory;
 mod place;
 mod sink;
@@ -14,6 +15,7 @@ mod words;
 pub use cut::{Cut, CutRefusal};
 pub use entry::{Entry, Mark};
 pub use laws::{inside_law, order_law, reading_law, resumption_law};
+pub use lists::add_found;
 pub use memory::NoMemory;
 pub use place::Place;
 pub use sink::{Failed, Sink, put_all};

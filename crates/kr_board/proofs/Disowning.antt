@@ -50,11 +50,6 @@ one-there [] i g within is = absurd (omega arith)
 one-there (s ∷ ss) zero g within is = ap (λ (t : Segment). t ∷ []) (sym is)
 one-there (s ∷ ss) (suc i) g within is = one-there ss i g (omega (arith, within)) is
 
-whole-there : (ss : List Segment) (i : ℕ) (g : Segment) → i < length ss → g ≡ get_or ss i g → take i ss ++ (g ∷ drop (suc i) ss) ≡ ss
-whole-there [] i g within is = absurd (omega arith)
-whole-there (s ∷ ss) zero g within is = ap (λ (t : Segment). t ∷ ss) is
-whole-there (s ∷ ss) (suc i) g within is = ap (λ (xs : List Segment). s ∷ xs) (whole-there ss i g (omega (arith, within)) is)
-
 pub owner_fits : (seat n : ℕ) (ss : List Segment) (g : Segment) → segment_of n ss ≡ Some g → g.owner ≡ Some seat → may_give_up seat (segment_of n ss) ≡ true
 owner_fits seat n ss g found own = ap (may_give_up seat) found ∙ (ap (λ (o : Option ℕ). is_owned_by seat o) own ∙ eqb-self seat)
 
@@ -76,9 +71,6 @@ replay-append s (e ∷ xs) ys middle h =
 given-one : (one : List Segment) (seat : ℕ) (g : Segment) → one ≡ g ∷ [] → g.owner ≡ Some seat → given_up one ≡ GiveUp seat g.number ∷ []
 given-one one seat g is own = ap given_up is ∙ (append-nil (given_up_by g.owner g.number) ∙ ap (λ (o : Option ℕ). given_up_by o g.number) own)
 
-given-none : (one : List Segment) (g : Segment) → one ≡ g ∷ [] → g.owner ≡ None → given_up one ≡ []
-given-none one g is none = ap given_up is ∙ (append-nil (given_up_by g.owner g.number) ∙ ap (λ (o : Option ℕ). given_up_by o g.number) none)
-
 pub released_some : {R : Type 0} (old new : Held R) (i seat : ℕ) (g : Segment) → NumbersDiffer old.core.segments → i < length old.core.segments → g ≡ get_or old.core.segments i g → g.owner ≡ Some seat
     → Adds old (GiveUp seat g.number) Noted [] new → IsReleasedAt i old new
 released_some {R} old new i seat g differ within is own adds =
@@ -92,24 +84,6 @@ released_some {R} old new i seat g differ within is own adds =
       logged = adds.logged ∙ ap (λ (es : List Event). old.log ++ es) (sym (given-one (take 1 (drop i segs)) seat g one own));
       steps = ap (λ (es : List Event). replay old.core es) (given-one (take 1 (drop i segs)) seat g one own) ∙ replay-one old.core (GiveUp seat g.number) new.core adds.step.fit adds.step.new_is;
       stays = quiet_stays old (GiveUp seat g.number) Noted [] new tt adds;
-    }
-
-same-owner : (g : Segment) → g.owner ≡ None → owned None g ≡ g
-same-owner g h = λ j. record g { owner = sym h j }
-
-pub released_none : {R : Type 0} (old : Held R) (i : ℕ) (g : Segment) → i < length old.core.segments → g ≡ get_or old.core.segments i g → g.owner ≡ None → IsReleasedAt i old old
-released_none {R} old i g within is none =
-    let segs = old.core.segments in
-    let one : take 1 (drop i segs) ≡ g ∷ [] = one-there segs i g within is in
-    let there : take i segs ++ (disowned (take 1 (drop i segs)) ++ drop (i + 1) segs) ≡ segs =
-    ap (λ (ts : List Segment). take i segs ++ (disowned ts ++ drop (i + 1) segs)) one ∙ (ap (λ (t : Segment). take i segs ++ (t ∷ drop (i + 1) segs)) (same-owner g none)
-    ∙ (ap (λ (k : ℕ). take i segs ++ (g ∷ drop k segs)) (add-one i) ∙ whole-there segs i g within is)) in
-    record {
-      segments = ap (λ (ss : List Segment). record old.core { segments = ss }) (sym there);
-      kept = refl;
-      logged = sym (ap (λ (es : List Event). old.log ++ es) (given-none (take 1 (drop i segs)) g one none) ∙ append-nil old.log);
-      steps = ap (λ (es : List Event). replay old.core es) (given-none (take 1 (drop i segs)) g one none);
-      stays = λ all span cuts asc inside b. b;
     }
 
 -- so many segments were gone over

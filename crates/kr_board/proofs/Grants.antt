@@ -24,10 +24,6 @@ less_from_before : (j k : List ℕ) → Before j k → less (At j) (At k) ≡ tr
 unfolding less
 less_from_before j k h = test_from_before j k h
 
-and-left : (a b : Bool) → (a && b) ≡ true → a ≡ true
-and-left true b e = refl
-and-left false b e = cc
-
 and-both : (a b : Bool) → a ≡ true → b ≡ true → (a && b) ≡ true
 and-both a b p q = ap (λ (x : Bool). x && b) p ∙ q
 

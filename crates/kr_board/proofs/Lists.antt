@@ -1,5 +1,5 @@
 -- Lists of vectors, and the edits of what is kept.
-use Rattle.std.proofs.Common.{◌≡◌, ℕ, zero, suc, ◌+◌, ◌-◌, ◌<◌, ◌≤◌, List, [], ◌∷◌, ◌++◌, Bool, true, false, length, get_or, set, take, drop, refl, sym, ap, ◌∙◌, subst, arith, cond, add-one, Vec, Global, vec_len, vec_capacity, Result, Ok, Err, OnOk, IsOk, ◌==◌, Option, Some, None}
+use Rattle.std.proofs.Common.{◌≡◌, ℕ, zero, suc, ◌+◌, ◌-◌, ◌<◌, ◌≤◌, List, [], ◌∷◌, ◌++◌, Bool, true, false, length, get_or, set, take, refl, sym, ap, ◌∙◌, subst, arith, cond, add-one, Vec, Global, vec_len, vec_capacity, Result, Ok, Err, OnOk, IsOk, ◌==◌, Option, Some, None}
 use Rattle.std.specs.Prelude.{insert, if◌then◌else◌, ◌&&◌, nat_lt, ◌^◌}
 use Rattle.std.specs.Result.{is_ok}
 use Rattle.kr_base.specs.declared.span.Bound.{Bound}
@@ -20,20 +20,10 @@ pub length-lists : {R : Type 0} (ks : List (Vec R Global)) → length (lists ks)
 length-lists [] = refl
 length-lists (k ∷ ks) = omega (arith, length-lists ks)
 
-pub lists-set : {R : Type 0} (ks : List (Vec R Global)) (i : ℕ) (w : Vec R Global) → lists (set ks i w) ≡ set (lists ks) i w.items
-lists-set [] i w = refl
-lists-set (k ∷ ks) zero w = refl
-lists-set {R} (k ∷ ks) (suc i) w = ap (λ (ls : List (List R)). k.items ∷ ls) (lists-set ks i w)
-
 pub lists-take : {R : Type 0} (n : ℕ) (ks : List (Vec R Global)) → lists (take n ks) ≡ take n (lists ks)
 lists-take zero ks = refl
 lists-take (suc n) [] = refl
 lists-take {R} (suc n) (k ∷ ks) = ap (λ (ls : List (List R)). k.items ∷ ls) (lists-take n ks)
-
-pub lists-drop : {R : Type 0} (n : ℕ) (ks : List (Vec R Global)) → lists (drop n ks) ≡ drop n (lists ks)
-lists-drop zero ks = refl
-lists-drop (suc n) [] = refl
-lists-drop (suc n) (k ∷ ks) = lists-drop n ks
 
 pub lists-append : {R : Type 0} (ks ls : List (Vec R Global)) → lists (ks ++ ls) ≡ lists ks ++ lists ls
 lists-append [] ls = refl

@@ -24,9 +24,6 @@ use Rattle.kr_board.specs.Boards.{IsBoardOf}
 use Rattle.kr_board.specs.Rooms.{owned_count, IsSound}
 use Rattle.kr_board.proofs.Sound.{join, sizes}
 
-abbrev empties : {R : Type 0} → ℕ → List (List R)
-empties n = replicate n []
-
 open-length : (k : ℕ) (a e : Bound) (cuts : List (List ℕ)) → length (segments_at k a cuts e) ≡ suc (length cuts)
 open-length k a e [] = refl
 open-length k a e (c ∷ cs) = let h = open-length (k + 1) (At c) e cs in omega (arith, h)

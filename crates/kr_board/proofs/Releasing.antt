@@ -6,21 +6,12 @@ use Rattle.kr_core.specs.declared.segment.Segment.{Segment}
 use Rattle.kr_core.specs.declared.event.Event.{Event}
 use Rattle.kr_core.specs.declared.event.Event.TheVariants.{GiveUp}
 use Rattle.kr_core.specs.declared.event.Reply.{Reply}
-use Rattle.kr_core.specs.declared.event.Reply.TheVariants.{Noted}
 use Rattle.kr_core.specs.States.{State, is_owned, segment_of, change}
-use Rattle.kr_core.specs.Steps.{Step, fits, after, may_give_up, owned}
-use Rattle.kr_core.specs.Refusals.{IsRefused}
-use Rattle.kr_core.specs.declared.machine.CoreRefusal.{CoreRefusal}
-use Rattle.kr_core.specs.declared.machine.CoreRefusal.TheVariants.{Illegal, NoMemory}
+use Rattle.kr_core.specs.Steps.{Step, may_give_up, owned}
 use Rattle.kr_core.proofs.Bools.{owner_known}
 use Rattle.kr_board.specs.Rooms.{owned_count, IsSound}
 use Rattle.kr_board.proofs.Lists.{when_ok}
 use Rattle.kr_board.proofs.Sound.{moves}
-
--- an event that fits and takes no memory isn't refused
-pub not_refused : (old : State) (seat n : ℕ) (r : CoreRefusal) → fits old (GiveUp seat n) ≡ true → IsRefused old (GiveUp seat n) r → ⊥
-not_refused old seat n (Illegal back) fit h = h.1 Noted (after old (GiveUp seat n)) (record { fit = fit; new_is = refl; reply_is = refl })
-not_refused old seat n NoMemory fit h = h.0
 
 abbrev counted : Segment → ℕ
 counted s = cond (is_owned s.owner) 1 0

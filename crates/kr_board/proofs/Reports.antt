@@ -175,12 +175,6 @@ report_stays {R} old lease part reply new h adds all span cuts asc inside p boar
 pub look_stays : {R : Type 0} (old : Held R) (lease : Lease) (part : Part R) (seat : ℕ) (reply : Reply) (more : List R) (new : Held R) → Adds old (Look seat) reply more new → StaysWith lease.mark part old new
 look_stays old lease part seat reply more new adds all span cuts asc inside p board = quiet_stays old (Look seat) reply more new tt adds all span cuts asc inside board
 
--- which event it is
-pub taken_in : {R : Type 0} (core : State) (lease : Lease) (part : Part R) → refusal core lease part.reach ≡ None
-    → report_event core lease part ≡ Report lease.seat lease.segment part.reach (length part.rows) part.tried part.spent
-taken_in {R} core lease part h =
-    ap (λ (o : Option Reported). if is_none o then Report lease.seat lease.segment part.reach (length part.rows) part.tried part.spent else Look lease.seat) h
-
 pub looked : {R : Type 0} (core : State) (lease : Lease) (part : Part R) (r : Reported) → refusal core lease part.reach ≡ Some r → report_event core lease part ≡ Look lease.seat
 looked {R} core lease part r h =
     ap (λ (o : Option Reported). if is_none o then Report lease.seat lease.segment part.reach (length part.rows) part.tried part.spent else Look lease.seat) h

@@ -185,16 +185,6 @@ aligned {R} core kept log k =
     let b = map-length (λ (l : List R). capped (length l)) kept in
     omega (arith, a, b, ap length k.counted)
 
--- the same board, with more room
-pub sound-room : {R : Type 0} (core : State) (old new : List (List R)) (log more : Vec Event Global) → IsSound core old log → new ≡ old → vec_len more ≡ vec_len log → vec_capacity log ≤ vec_capacity more → IsSound core new more
-sound-room {R} core old new log more k same len cap =
-    record {
-      core_kept = k.core_kept;
-      counted = k.counted ∙ ap (λ (ks : List (List R)). sizes ks) (sym same);
-      few = subst (λ (ks : List (List R)). length (joined ks) ≤ 2 ^ 64 - 1) (sym same) k.few;
-      room = let r = k.room in omega (arith, r, len, cap);
-    }
-
 -- an event, but for the room
 pub record Moves {R : Type 0} (core : State) (kept : List (List R)) : Type 0 where
   pub core_kept : IsKept core

@@ -1,5 +1,5 @@
 -- What stands in a list that grows.
-use Rattle.std.proofs.Common.{◌≡◌, sym, ap, ◌∙◌, ℕ, zero, suc, ◌+◌, ◌-◌, ◌<◌, List, [], ◌∷◌, ◌++◌, length, length-append, map, take, drop, get_or, append_assoc, append-nil, add-one, arith}
+use Rattle.std.proofs.Common.{◌≡◌, sym, ap, ◌∙◌, ℕ, zero, suc, ◌+◌, ◌-◌, ◌<◌, List, [], ◌∷◌, ◌++◌, length, length-append, map, take, drop, get_or, append_assoc, add-one, arith}
 use Rattle.std.specs.Prelude.{slice_get, IfOk, Result, Ok, Err}
 use Rattle.std.specs.List.{range_with_len}
 use Rattle.std.proofs.Math.Seq.{drop-append_seam}
@@ -15,19 +15,12 @@ use Rattle.kr_resolver.specs.Sites.{Becomes}
 use Rattle.kr_resolver.proofs.Growth.{grown_on, take_grown}
 use Rattle.kr_bodies.specs.Made.{AddsInitialisers, AreThere}
 
-pub grown_by : {A : Type 0} (old new items : List A) → new ≡ old ++ items → IsGrown old new
-grown_by old new items e = record { more = items; items = e }
-
 -- the items behind those before them
 pub there_behind : {A : Type 0} (old new items : List A) (ns : Nodes) → new ≡ old ++ items → ns.first ≡ length old → ns.count ≡ length new - ns.first → AreThere new ns items
 there_behind old new items ns e f n more g =
     let k = ns.first in
     ap (λ (m : ℕ). take m (drop k more)) n ∙ take_grown k new more (omega (arith, f, ap length e, length-append old items)) g
     ∙ ap (drop k) e ∙ ap (λ (m : ℕ). drop m (old ++ items)) f ∙ drop-append_seam old items
-
--- also when there are more
-pub there_grown : {A : Type 0} (xs ys : List A) (ns : Nodes) (items : List A) → IsGrown xs ys → AreThere xs ns items → AreThere ys ns items
-there_grown xs ys ns items g h more k = h more (grown_on xs ys more g k)
 
 -- one item more
 pub items_step : {A B : Type 0} (f : A → B) (before kept new : List B) (x : B) (xs : List A) (i : ℕ) (d : A) → i < length xs → kept ≡ before ++ map f (take i xs) → new ≡ kept ++ x ∷ [] → x ≡ f (get_or xs i d) → new ≡ before ++ map f (take (i + 1) xs)
@@ -45,9 +38,6 @@ adds_on old mid new a b = record {
   added = a.added ++ b.added;
   items = b.items ∙ ap (λ (xs : List Node). xs ++ map nodes.Initialiser b.added) a.items ∙ append_assoc old (map nodes.Initialiser a.added) (map nodes.Initialiser b.added) ∙ ap (λ (xs : List Node). old ++ xs) (sym (map-append nodes.Initialiser a.added b.added));
 }
-
-pub adds_none : (old : List Node) → AddsInitialisers old old
-adds_none old = record { added = []; items = sym (append-nil old) }
 
 pub adds_grown : (old new : List Node) → AddsInitialisers old new → IsGrown old new
 adds_grown old new a = record { more = map nodes.Initialiser a.added; items = a.items }

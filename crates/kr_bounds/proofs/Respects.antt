@@ -147,12 +147,6 @@ module _ (program : Program) (MayStore : Field → Type 0) (MayPut : JavaType �
 
   -- ---- steps of steps
 
-  givens : (x y : Option Value) → OnOption l.R x y → l.Rel l.R (given x) (given y)
-  givens None None r = l.stops l.R Stuck
-  givens (Some v) (Some w) r = l.gives_ l.R v w r
-  givens None (Some w) r = absurd r
-  givens (Some v) None r = absurd r
-
   not_nulls : (x y : Option Class) → y ≡ x → l.Rel Same (not_null x) (not_null y)
   not_nulls None y e = rw e (l.stops Same (Trapped NullPointerException))
   not_nulls (Some c) y e = rw e (l.gives_ Same c c refl)

@@ -206,12 +206,6 @@ pub vector_long : (problem : Problem) (v : List ℕ) → IsVector (space_of prob
 unfolding space_of
 vector_long problem v j = j.long
 
--- an index that is there already
-pub set_own : (v : List ℕ) (s i : ℕ) → get_or v s 0 ≡ i → slice_set v s i ≡ v
-set_own [] s i e = refl
-set_own (x ∷ xs) zero i e = ap (λ (y : ℕ). y ∷ xs) (sym e)
-set_own (x ∷ xs) (suc s) i e = ap (λ (ys : List ℕ). x ∷ ys) (set_own xs s i e)
-
 -- one more index of another vector, behind the first ones
 pub front_more : (u v : List ℕ) (n : ℕ) → n < length u → ((s : ℕ) → s < n → get_or u s 0 ≡ get_or v s 0) → (s : ℕ) → s < n + 1 → get_or (slice_set u n (get_or v n 0)) s 0 ≡ get_or v s 0
 front_more u v n h f s l = go (cases_eq s n)

@@ -32,9 +32,6 @@ pub record IsWalked (problem : Problem) (v order : List ℕ) (met : List Bool) (
   pub marks : (o : DomainObject) → Valid problem o → get_or met (heap_number problem o) false ≡ is_in o os
   pub within : i ≤ length order
 
-pub start : (problem : Problem) (v : List ℕ) → IsWalked problem v (root_slots problem) [] 0 []
-start problem v = record { objects = refl; slots = sym (append-nil (root_slots problem)); begins = (all_met problem v, refl); marks = λ o h. refl; within = omega arith }
-
 -- the slots so far are the first of the walk
 whole : (problem : Problem) (v order : List ℕ) (met : List Bool) (i : ℕ) (os : List DomainObject) → (r : IsWalked problem v order met i os) → walked problem v (length (all_objects problem)) ≡ order ++ flat_map (slots_in problem v) r.begins.0
 whole problem v order met i os r =

@@ -1,29 +1,36 @@
 // Constants of two files: a quotient, and one with a zero divisor.
+ghost use Rattle.kr_members.specs.Kept.{AreMembers};
+ghost use Rattle.kr_names.specs.Shown.{AreHeads};
 
+use kr_ast::Tree;
 use kr_base::{NoMemory, Place};
 use kr_constants::Values;
 use kr_members::Members;
 use kr_names::Heads;
 use kr_operators::Constant;
-use kr_sources::tree_of;
 use std::alloc::Global;
 
 fn place(file: u32, col: u32) -> Place {
     Place { file, line: 1, col }
 }
 
-#[test]
-fn quotients(rt: HostRuntime) -> Result<(), NoMemory> {
-    let alloc = rt.alloc();
-    let mut trees = Vec::new(alloc);
-    trees.push(tree_of(alloc, 0, "class Half { static final int VALUE = 7 / 2; }")?)?;
-    trees.push(tree_of(alloc, 1, "class None { static final int VALUE = 7 / 0; }")?)?;
-    let heads = Heads::read(alloc, &trees)?;
-    let members = Members::read(alloc, &trees, &heads)?;
-    let values = Values::read(alloc, &trees, &heads, &members)?;
-    assert!(rt; values.value_at(place(0, 31)) == Some(Constant::Int(3)));
-    assert!(rt; values.value_at(place(1, 31)).is_none());
+fn values_fit(values: &Values, members: &Members) -> bool {
     let half = members.field_meant(0, b"VALUE");
-    assert!(rt; values.value_of(half) == Some(Constant::Int(3)));
-    Ok(())
+    values.value_at(place(0, 31)) == Some(Constant::Int(3))
+        && values.value_at(place(1, 31)).is_none()
+        && values.value_of(half) == Some(Constant::Int(3))
+}
+
+/// The half of 7, and 7 by 0.
+pub fn fit(
+    alloc: Global,
+    trees: &[Tree],
+    heads: &Heads,
+    members: &Members,
+) -> Result<bool, NoMemory>
+    requires heads { AreHeads trees.now heads.now }
+    requires members { AreMembers trees.now members.now }
+{
+    let values = Values::read(alloc, trees, heads, members)?;
+    Ok(values_fit(&values, members))
 }

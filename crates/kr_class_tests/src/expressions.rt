@@ -1,9 +1,10 @@
 // The creation of one array; a list of one value; calls and creations in a program without classes.
 ghost use Rattle.std.specs.Prelude.{◌≡◌, ◌<◌, length, IfOk};
 ghost use Rattle.kr_members.specs.Kept.{AreMembers};
+ghost use Rattle.kr_names.specs.Shown.{AreHeads};
 ghost use Rattle.kr_type_numbers.specs.Types.{TypeList, count};
 ghost use Rattle.kr_type_numbers.specs.Numbers.{AreNodeTypes};
-ghost use Rattle.kr_type_rules.specs.Shown.{HasNoRest, IsNoteWithin};
+ghost use Rattle.kr_type_rules.specs.Shown.{HasNoRest, IsKnownWithin, IsNoteWithin};
 ghost use Rattle.kr_expressions.specs.Notes.{AreNotesWithin, IsRestBelow};
 
 use kr_ast::Tree;
@@ -66,18 +67,26 @@ fn one_int(alloc: Global, types: &Types) -> Result<NoteList, NoMemory>
     Ok(notes)
 }
 
+/// An array of ints, one whose length is a boolean, and `this`.
+fn creations_fit(types: &mut Types) -> Result<bool, NoMemory> {
+    let here = Within::outside();
+    let int = value_note(types.int());
+    let array = array_creation_note(types, here, PLACE, int, int)?;
+    let boolean = value_note(types.boolean());
+    let other = array_creation_note(types, here, PLACE, boolean, boolean)?;
+    let this = this_note(types, here, PLACE, 0)?;
+    Ok(
+        array.known == Known::One(Typed::Value(5))
+            && broken(other) == 27
+            && this.known == Known::One(Typed::Value(7)),
+    )
+}
+
 #[test]
 fn types_that_are_new(rt: HostRuntime) -> Result<(), NoMemory> {
     let mut types = Types::new(rt.alloc())?;
-    let here = Within::outside();
-    let int = value_note(types.int());
-    let array = array_creation_note(&mut types, here, PLACE, int, int)?;
-    assert!(rt; array.known == Known::One(Typed::Value(5)));
-    let boolean = value_note(types.boolean());
-    let other = array_creation_note(&mut types, here, PLACE, boolean, boolean)?;
-    assert_eq!(rt; broken(other), 27);
-    let this = this_note(&mut types, here, PLACE, 0)?;
-    assert!(rt; this.known == Known::One(Typed::Value(7)));
+    let fit = creations_fit(&mut types)?;
+    assert!(rt; fit);
     Ok(())
 }
 
@@ -137,54 +146,85 @@ fn broken_creations(
     Ok((broken(created), broken(call), broken(through)))
 }
 
-/// All these, where the list has one int.
-fn broken_with_one_int(
+/// How many types the values of a list have, if all of them have one.
+fn types_given(
     alloc: Global,
-    trees: &[Tree],
     types: &Types,
-    members: &Members,
-    numbers: &NodeTypes,
-) -> Result<[u32; 5], NoMemory>
-    requires members { AreMembers trees.now members.now }
-    requires numbers { AreNodeTypes trees.now types.now numbers.now }
+    notes: &NoteList,
+    list: Known,
+) -> Result<usize, NoMemory>
+    requires notes { AreNotesWithin types.now notes.now }
+    requires list { IsKnownWithin types.now list }
+    requires below { IsRestBelow (length notes.now) list }
 {
-    let list = one_int(alloc, types)?;
-    let notes = &list;
-    let x = standing(types, notes, 1);
-    let (call, above) = broken_calls(alloc, trees, types, members, numbers, notes, x)?;
-    let (created, constructor, through) = broken_creations(
-        alloc, trees, types, members, numbers, notes, x,
-    )?;
-    Ok([call, above, created, constructor, through])
-}
-
-fn broken_rules(alloc: Global, trees: &[Tree]) -> Result<[u32; 5], NoMemory>
-    requires { length trees.now < 65 }
-{
-    let heads = Heads::read(alloc, trees)?;
-    let members = Members::read(alloc, trees, &heads)?;
-    let mut types = Types::new(alloc)?;
-    let numbers = NodeTypes::read(alloc, trees, &heads, &mut types)?;
-    broken_with_one_int(alloc, trees, &types, &members, &numbers)
-}
-
-/// How many types the values of a list of one int have.
-fn one_given(alloc: Global, types: &Types) -> Result<usize, NoMemory> {
-    let list = one_int(alloc, types)?;
-    let notes = &list;
-    let x = standing(types, notes, 1);
-    match value_types(alloc, types, notes, x.known)? {
+    match value_types(alloc, types, notes, list)? {
         None => Ok(0),
         Some(given) => Ok(given.len()),
     }
 }
 
-#[test]
-fn calls_without_methods(rt: HostRuntime) -> Result<(), NoMemory> {
-    let trees = Vec::new(rt.alloc());
-    let rules = broken_rules(rt.alloc(), &trees)?;
-    assert!(rt; rules == [24, 33, 26, 34, 24]);
-    let types = Types::new(rt.alloc())?;
-    assert_eq!(rt; one_given(rt.alloc(), &types)?, 1);
-    Ok(())
+/// All these, where the list has one int.
+fn rules_fit(
+    alloc: Global,
+    trees: &[Tree],
+    types: &Types,
+    members: &Members,
+    numbers: &NodeTypes,
+    notes: &NoteList,
+) -> Result<bool, NoMemory>
+    requires members { AreMembers trees.now members.now }
+    requires numbers { AreNodeTypes trees.now types.now numbers.now }
+    requires notes { AreNotesWithin types.now notes.now }
+    requires two { length notes.now ≡ 2 }
+{
+    let x = standing(types, notes, 1);
+    let given = types_given(alloc, types, notes, x.known)?;
+    let calls = broken_calls(alloc, trees, types, members, numbers, notes, x)?;
+    let creations = broken_creations(alloc, trees, types, members, numbers, notes, x)?;
+    Ok(given == 1 && calls == (24, 33) && creations == (26, 34, 24))
+}
+
+/// The list is read beside the members and the types.
+fn list_fits(
+    alloc: Global,
+    trees: &[Tree],
+    types: &Types,
+    members: &Members,
+    numbers: &NodeTypes,
+) -> Result<bool, NoMemory>
+    requires members { AreMembers trees.now members.now }
+    requires numbers { AreNodeTypes trees.now types.now numbers.now }
+{
+    let notes = one_int(alloc, types)?;
+    rules_fit(alloc, trees, types, members, numbers, &notes)
+}
+
+fn read_fits(
+    alloc: Global,
+    trees: &[Tree],
+    heads: &Heads,
+    members: &Members,
+    types: &mut Types,
+) -> Result<bool, NoMemory>
+    requires few { length trees.now < 65 }
+    requires heads { AreHeads trees.now heads.now }
+    requires members { AreMembers trees.now members.now }
+{
+    let numbers = NodeTypes::read(alloc, trees, heads, types)?;
+    list_fits(alloc, trees, types, members, &numbers)
+}
+
+/// Calls and creations in a program without classes.
+pub fn calls_fit(
+    alloc: Global,
+    trees: &[Tree],
+    heads: &Heads,
+    members: &Members,
+) -> Result<bool, NoMemory>
+    requires few { length trees.now < 65 }
+    requires heads { AreHeads trees.now heads.now }
+    requires members { AreMembers trees.now members.now }
+{
+    let mut types = Types::new(alloc)?;
+    read_fits(alloc, trees, heads, members, &mut types)
 }

@@ -1,61 +1,85 @@
-// The scopes of one small tree.
-ghost use Rattle.std.specs.Prelude.{◌≡◌, length, IfOk};
+// The scopes of `class A { void m() { int x = x; } }`.
+ghost use Rattle.std.specs.Prelude.{◌<◌, length};
+ghost use Rattle.kr_scopes.specs.Scoped.{AreScopes};
 
-use kr_ast::{Forest, Node, Primitive, Tree};
-use kr_base::{NoMemory, Place};
+use kr_ast::{Node, Primitive, Tree};
+use kr_base::NoMemory;
 use kr_scopes::{Scopes, judged_law, local_law};
+use kr_sources::tree_of;
 use std::alloc::Global;
 
-fn column(col: u32) -> Place {
-    Place {
-        file: 0,
-        line: 1,
-        col,
+/// Whether a node is the type `int`.
+fn is_int(tree: &Tree, node: Option<u32>) -> bool {
+    match node {
+        None => false,
+        Some(node) => {
+            node < tree.nodes()
+                && matches!(
+                    tree.entry(node).node,
+                    Node::PrimitiveType {
+                        primitive: Primitive::Int
+                    }
+                )
+        }
     }
 }
 
-/// `int x`, where the nodes are the end of the list, the absent initial value, the declarator, the list, the type and
-/// the declaration.
-fn declaration(alloc: Global) -> Result<Tree, NoMemory>
-    ensures { IfOk result (λ tree. length tree.entries ≡ 6) }
+/// Whether `x` is the first local where a node stands, with the type `int`, and `y` is none.
+fn has_local(tree: &Tree, scopes: &Scopes, node: u32) -> bool
+    requires scopes { AreScopes tree.now scopes.now.bindings.items scopes.now.within.items }
+    requires within { node < length tree.now.entries }
 {
-    let mut forest = Forest::new(alloc);
-    let name = forest.add_name(b"x")?;
-    let rest = forest.put(column(6), Node::Nil)?;
-    let initial = forest.put(column(6), Node::Nil)?;
-    let first = forest.put(column(5), Node::Declarator { name, initial })?;
-    let declarators = forest.put(column(5), Node::Cons { first, rest })?;
-    let declared = forest.put(
-        column(1),
+    match scopes.local(tree, node, b"x") {
+        None => false,
+        Some(local) => {
+            local.number == 0
+                && is_int(tree, local.declared)
+                && scopes.local(tree, node, b"y").is_none()
+        }
+    }
+}
+
+/// Whether a node is one of these three, with the scope that it should have: the declared type, where `x` isn't in scope yet; the
+/// declarator, which has that type; the initial value, where it is.
+fn is_scoped(tree: &Tree, scopes: &Scopes, node: u32) -> bool
+    requires scopes { AreScopes tree.now scopes.now.bindings.items scopes.now.within.items }
+    requires within { node < length tree.now.entries }
+    requires long { node < length scopes.now.within.items }
+{
+    match tree.entry(node).node {
         Node::PrimitiveType {
             primitive: Primitive::Int,
-        },
-    )?;
-    forest.put(
-        column(1),
-        Node::Local {
-            declared,
-            declarators,
-        },
-    )?;
-    Ok(forest.finish())
+        } => scopes.local(tree, node, b"x").is_none(),
+        Node::Declarator { .. } => is_int(tree, scopes.at(node).declared),
+        Node::Variable { .. } => has_local(tree, scopes, node),
+        _ => false,
+    }
+}
+
+/// How many nodes have their scope so.
+fn scoped_nodes(tree: &Tree, scopes: &Scopes) -> u32
+    requires { AreScopes tree.now scopes.now.bindings.items scopes.now.within.items }
+{
+    let mut count: u32 = 0;
+    for node in 0..tree.nodes() {
+        if is_scoped(tree, scopes, node) {
+            count = count.saturating_add(1);
+        }
+    }
+    count
+}
+
+/// The three nodes have their scopes, and nothing is in scope at the last node, the whole tree.
+fn scopes_fit(alloc: Global, tree: &Tree) -> Result<bool, NoMemory> {
+    let scopes = Scopes::of(alloc, tree)?;
+    Ok(scoped_nodes(tree, &scopes) == 3 && scopes.at(tree.nodes() - 1).top == 0)
 }
 
 #[test]
 fn a_local_is_in_scope_from_its_own_initial_value_on(rt: HostRuntime) -> Result<(), NoMemory> {
-    let tree = declaration(rt.alloc())?;
-    let scopes = Scopes::of(rt.alloc(), &tree)?;
-    assert_eq!(rt; scopes.at(5).top, 0);
-    assert_eq!(rt; scopes.at(2).declared, Some(4));
-    assert!(rt; scopes.local(&tree, 3, b"x").is_none());
-    assert!(rt; scopes.local(&tree, 1, b"y").is_none());
-    match scopes.local(&tree, 1, b"x") {
-        Some(local) => {
-            assert_eq!(rt; local.number, 0);
-            assert_eq!(rt; local.declared, Some(4));
-        }
-        None => assert!(rt; false),
-    }
+    let tree = tree_of(rt.alloc(), 0, "class A { void m() { int x = x; } }")?;
+    let fit = scopes_fit(rt.alloc(), &tree)?;
+    assert!(rt; fit);
     local_law();
     judged_law();
     Ok(())

@@ -1,10 +1,10 @@
-// `class A { int v = 7; }`, and the same with `boolean`.
+// `class A { int v = 7; }` is typed.
+ghost use Rattle.kr_types.specs.Programs.{IsProgram};
+ghost use Rattle.std.specs.Prelude.{◌≡◌, length};
 
 use kr_base::{NoMemory, Place};
-use kr_classes::classes;
-use kr_sources::tree_of;
-use kr_types::{TypeRefusal, check};
-use std::alloc::Global;
+use kr_sources::program_of;
+use kr_types::Program;
 
 fn column(col: u32) -> Place {
     Place {
@@ -14,46 +14,30 @@ fn column(col: u32) -> Place {
     }
 }
 
-#[test]
-fn an_int_field(rt: HostRuntime) -> Result<(), NoMemory> {
-    let alloc = rt.alloc();
-    let mut trees = Vec::new(alloc);
-    trees.push(tree_of(alloc, 0, "class A { int v = 7; }")?)?;
-    match classes(alloc, &trees) {
-        Err(_) => assert!(rt; false),
-        Ok(table) => match check(alloc, trees, table) {
-            Err(_) => assert!(rt; false),
-            Ok(program) => {
-                assert_eq!(rt; program.nodes(), 12);
-                let int = program.table.types.int();
-                let mut found = false;
-                for node in 0..program.trees[0].nodes() {
-                    if program.trees[0].entry(node).place == column(19) {
-                        assert!(rt; program.type_of(0, node) == Some(int));
-                        found = true;
-                    }
-                }
-                assert!(rt; found);
+/// How many nodes stand at the initial value, each of them an int.
+fn ints_at_value(program: &Program) -> u32
+    requires program { IsProgram program.now }
+    requires alone { length program.now.trees.items ≡ 1 }
+{
+    let int = program.table.types.int();
+    let mut count: u32 = 0;
+    for node in 0..program.trees[0].nodes() {
+        if program.trees[0].entry(node).place == column(19) {
+            if program.type_of(0, node) != Some(int) {
+                return 0;
             }
-        },
+            count = count.saturating_add(1);
+        }
     }
-    Ok(())
+    count
 }
 
 #[test]
-fn an_int_in_a_boolean_field(rt: HostRuntime) -> Result<(), NoMemory> {
-    let alloc = rt.alloc();
-    let mut trees = Vec::new(alloc);
-    trees.push(tree_of(alloc, 0, "class A { boolean v = 7; }")?)?;
-    match classes(alloc, &trees) {
-        Err(_) => assert!(rt; false),
-        Ok(table) => match check(alloc, trees, table) {
-            Err(TypeRefusal::Broken { place, rule }) => {
-                assert_eq!(rt; place, column(19));
-                assert_eq!(rt; rule, 35);
-            }
-            _ => assert!(rt; false),
-        },
-    }
+fn an_int_field(rt: HostRuntime) -> Result<(), NoMemory> {
+    let program = program_of(rt.alloc(), "class A { int v = 7; }")?;
+    let nodes = program.nodes();
+    let ints = ints_at_value(&program);
+    assert_eq!(rt; nodes, 12);
+    assert_eq!(rt; ints, 1);
     Ok(())
 }

@@ -1,6 +1,6 @@
 -- A class rule, class by class.
-use Rattle.std.proofs.Common.{◌≡◌, refl, sym, ap, ◌∙◌, ℕ, zero, suc, ◌+◌, ◌<◌, ◌≤◌, Bool, true, false, List, [], ◌∷◌, ◌++◌, length, map, take, get_or, append-nil, append_assoc, zero-add, if◌then◌else◌, arith}
-use Rattle.std.specs.Prelude.{Option, Some, None, flat_map, option_and_then, option_to_list, is_none}
+use Rattle.std.proofs.Common.{◌≡◌, refl, sym, ap, ◌∙◌, ℕ, zero, suc, ◌+◌, ◌<◌, ◌≤◌, List, [], ◌∷◌, ◌++◌, length, map, take, get_or, append-nil, append_assoc, zero-add, arith}
+use Rattle.std.specs.Prelude.{Option, Some, flat_map, option_and_then, option_to_list, is_none}
 use Rattle.std.proofs.lemmas.List.{length-map, take_more, take_all}
 use Rattle.std.proofs.Math.ListN.{get_or-map}
 use Rattle.kr_base.specs.declared.place.Place.{Place}
@@ -121,9 +121,3 @@ unknown files xs supers x i d place ext f a l n e o p =
     let s : superclass_at supers i ≡ c.super = sym (a.each i (omega (arith, l, n))) ∙ ap (option_and_then (λ (k : Class). k.super)) (at_index t.classes i d (omega (arith, l, n, a.count))) in
     p ∙ ap (λ ps. least (flat_map (break_if (is_none (superclass_at supers i)) 2) ps)) (o ∙ sym (ap (λ (k : Class). extended_at k.extended) same))
     ∙ ap (λ k. least (flat_map (break_if (is_none k) 2) (extended_at c.extended))) s
-
-pub by_choice : (b : Bool) (o : Option Place) → fault_at 2 (if b then o else None) ≡ least (flat_map (break_if b 2) (option_to_list o))
-by_choice true None = refl
-by_choice true (Some p) = refl
-by_choice false None = refl
-by_choice false (Some p) = refl

@@ -7,8 +7,7 @@ use Rattle.kr_ast.specs.Tree as trees
 use Rattle.kr_ast.specs.Tree.{Tree, Nil}
 use Rattle.kr_table.specs.Table.{Table, Class, Heading, class_at, class_named, headings_of, is_number, number_of, outer_of, super_of}
 use Rattle.kr_table.specs.Rules.{Fault, C1, C2, C3, C4, C5, C6, C7, C8, class_fault, first_of, least}
-use Rattle.kr_names.specs.declared.class_names.Heads.{Heads}
-use Rattle.kr_names.specs.Shown.{AreHeads, heading_shown, superclass_in}
+use Rattle.kr_names.specs.Shown.{superclass_in}
 use Rattle.kr_names.proofs.ClassNumbers.{some_below}
 use Rattle.kr_classes.specs.Faults.{AreBelow, AreSuperclasses, first_of_rule, no_class, table_in}
 use Rattle.kr_classes.specs.Refusals.{names_fault}
@@ -83,11 +82,6 @@ below_of files supers e c d s =
     let n : length supers ≡ length hs = ap length e ∙ length-map hs (superclass_in hs) in
     let b = inside hs hs c d (sym (ap (λ os. get_or os c None) e) ∙ s) in
     omega (arith, b, n)
-
-pub count_same : (files : List Arena) (heads : Heads) (supers : List (Option ℕ)) → AreHeads files heads → supers ≡ map (superclass_in (headings_of (map root files))) (headings_of (map root files)) → length supers ≡ length heads.headings.items
-count_same files heads supers h e =
-    let hs = headings_of (map root files) in
-    ap length e ∙ length-map hs (superclass_in hs) ∙ ap length (sym h.shown) ∙ length-map heads.headings.items (heading_shown files)
 
 past_classes : (ds : List Class) (c : ℕ) → length ds ≤ c → class_at ds c ≡ None
 past_classes [] c l = refl

@@ -86,9 +86,6 @@ first_of before after x =
     ∙ earlier_or_own (number_from 0 before n) (length before) (λ j e. let b = number_below 0 before n j e in omega (arith, b))
     ∙ is_there 0 before n
 
-named : Class → List ℕ × Place
-named d = (d.name, d.place)
-
 by_class : (t : Table) (before xs : List Heading) → t.headings ≡ before ++ xs
     → repeated 1 (onto collections (names before)) (map (λ d. (d.name, d.place)) (classes_from t.headings (length before) xs)) ≡ each_class (repeats t) (length before) (classes_from t.headings (length before) xs)
 unfolding names

@@ -1,10 +1,8 @@
 -- The first of several faults, part by part.
-use Rattle.std.proofs.Common.{◌≡◌, refl, sym, ap, ◌∙◌, ℕ, Bool, true, false, List, [], ◌∷◌, ◌++◌, nat_lt, if◌then◌else◌, rules, arith}
+use Rattle.std.proofs.Common.{◌≡◌, refl, sym, ap, ◌∙◌, Bool, true, false, List, [], ◌∷◌, ◌++◌, if◌then◌else◌}
 use Rattle.std.specs.Prelude.{Option, Some, None}
-use Rattle.kr_base.specs.declared.place.Place.{Place}
-use Rattle.kr_table.specs.Rules.{Fault, is_before, is_earlier, less_or, sooner, least, break_if}
+use Rattle.kr_table.specs.Rules.{Fault, is_before, sooner, least}
 use Rattle.kr_table.proofs.Order.{asymmetric, onwards}
-use Rattle.kr_classes.specs.Faults.{fault_at}
 
 no_rest : (b : Bool) (f g : Fault) → sooner (if b then Some g else Some f) None ≡ (if b then Some g else Some f)
 no_rest true f g = refl
@@ -39,17 +37,3 @@ grouped (Some f) (Some g) (Some h) = pull (is_before h g) f g h ∙ three f g h 
 pub least_append : (fs gs : List Fault) → least (fs ++ gs) ≡ sooner (least fs) (least gs)
 least_append [] gs = refl
 least_append (f ∷ fs) gs = ap (sooner (Some f)) (least_append fs gs) ∙ grouped (Some f) (least fs) (least gs)
-
-last : (a b : ℕ) → less_or a b false ≡ nat_lt a b
-last a b = grind (arith, rules)
-
-irreflexive : (r : ℕ) → nat_lt r r ≡ false
-irreflexive r = grind (arith, rules)
-
--- at one rule the place decides
-pub by_place : (p q : Place) (r : ℕ) → is_before (record { place = p; rule = r }) (record { place = q; rule = r }) ≡ is_earlier p q
-by_place p q r = ap (λ b. less_or p.file q.file (less_or p.line q.line (less_or p.col q.col b))) (irreflexive r) ∙ ap (λ b. less_or p.file q.file (less_or p.line q.line b)) (last p.col q.col)
-
-pub least_one : (b : Bool) (r : ℕ) (p : Place) → least (break_if b r p) ≡ fault_at r (if b then Some p else None)
-least_one true r p = refl
-least_one false r p = refl

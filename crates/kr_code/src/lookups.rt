@@ -1,10 +1,8 @@
 // Looking things up in code.
 ghost use Rattle.std.specs.Prelude.{◌≡◌, ◌∷◌, [], None, false, IfOk, MatchOption};
-ghost use Rattle.kr_code.specs.Tables.{node_at, expression_of, statement_of, declarator_of, initialiser_of, listed, values_in, method_at, class_at, row_items, cell, position_in, spot_in, method_in, is_instance};
+ghost use Rattle.kr_code.specs.Tables.{node_at, declarator_of, initialiser_of, listed, values_in, method_at, class_at, row_items, cell, position_in, spot_in, method_in, is_instance};
 
-use crate::{
-    ClassCode, Code, Declarator, Expression, Initialiser, MethodCode, Node, Nodes, Statement,
-};
+use crate::{ClassCode, Code, Declarator, Expression, Initialiser, MethodCode, Node, Nodes};
 use kr_base::NoMemory;
 use kr_value::{Class, Value};
 use std::alloc::Global;
@@ -40,26 +38,6 @@ impl Code {
         match self.nodes.get(node as usize) {
             Some(found) => *found,
             None => Node::Expression(Expression::Stuck),
-        }
-    }
-
-    /// The expression that is a node.
-    pub fn expression(&self, node: u32) -> Expression
-        ensures { result ≡ expression_of (node_at self.now node) }
-    {
-        match self.node(node) {
-            Node::Expression(expression) => expression,
-            _ => Expression::Stuck,
-        }
-    }
-
-    /// The statement that is a node.
-    pub fn statement(&self, node: u32) -> Statement
-        ensures { result ≡ statement_of (node_at self.now node) }
-    {
-        match self.node(node) {
-            Node::Statement(statement) => statement,
-            _ => Statement::Stuck,
         }
     }
 

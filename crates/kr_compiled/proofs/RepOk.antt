@@ -1,6 +1,6 @@
 -- The call of the root's `repOk`.
-use Rattle.std.proofs.Common.{◌≡◌, refl, sym, ap, ◌∙◌, ℕ, ◌<◌, Bool, true, false, cond, List, [], ◌∷◌, length, subst, take, drop, codes, Option, Some, None}
-use Rattle.std.specs.Prelude.{IfSome, option_and_then, slice_get}
+use Rattle.std.proofs.Common.{◌≡◌, refl, sym, ap, ◌∙◌, ℕ, Bool, true, false, cond, List, [], ◌∷◌, subst, take, drop, codes, Option, Some, None}
+use Rattle.std.specs.Prelude.{slice_get}
 use Rattle.std.proofs.lemmas.Option.{get_or_from_slice_get}
 use Rattle.kr_ast.specs.Tree.{This, Nil}
 use Rattle.kr_table.specs.Types.{JavaType, ClassType}
@@ -21,12 +21,8 @@ use Rattle.kr_types.specs.declared.program.Program.{Program}
 use Rattle.kr_posed.specs.Posed.{run_program, table}
 use Rattle.kr_resolver.specs.Origins.{numbering_of}
 use Rattle.kr_resolver.specs.Calls.{IsCalledOn, IsFound}
-use Rattle.kr_resolver.proofs.Called.{method_is, there}
+use Rattle.kr_resolver.proofs.Called.{method_is}
 use Rattle.kr_compiled.specs.Compiled.{CallsRepOk, no_arguments}
-
-pub found : (p : Program) (m : Option ℕ) (f : Option Method) → IfSome m (λ k. k < length (all_methods (table p))) → option_and_then (slice_get (all_methods (table p))) m ≡ f → IsFound p m f
-found p None f h e = sym e
-found p (Some k) f h e = let w = there (all_methods (table p)) k h in (w.0, sym e ∙ w.1, w.1)
 
 this_type : (p : Program) (arrays : List ℕ) (c : ℕ) → type_of (class_scope (run_program p arrays) c) (This nowhere) ≡ Some (ClassType c)
 unfolding judged

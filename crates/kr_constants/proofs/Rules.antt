@@ -1,11 +1,9 @@
 -- What an expression comes to, kind by kind.
-use Rattle.std.proofs.Common.{◌≡◌, refl, sym, ap, subst, ◌∙◌, ℕ, ◌+◌, ◌*◌, ◌<◌, ◌≤◌, Bool, true, false, ◌&&◌, List, [], ◌∷◌, ◌++◌, length, if◌then◌else◌, arith}
+use Rattle.std.proofs.Common.{◌≡◌, refl, sym, ap, subst, ◌∙◌, ℕ, ◌+◌, ◌<◌, Bool, true, false, ◌&&◌, List, [], ◌∷◌, ◌++◌, length, if◌then◌else◌, arith}
 use Rattle.std.specs.Prelude.{Option, Some, None, is_some, option_and_then, Result, Ok, Err, IfOk}
 use Rattle.kr_base.specs.declared.place.Place.{Place}
-use Rattle.kr_ast.specs.Tree.{Tree, Nil, size}
 use Rattle.kr_ast.specs.declared.node.Node.{Node}
 use Rattle.kr_ast.specs.declared.node.Node.TheVariants as nodes
-use Rattle.kr_ast.specs.declared.node.Name.{Name}
 use Rattle.kr_ast.specs.declared.node.Entry.{Entry}
 use Rattle.kr_ast.specs.declared.node.UnaryOperator.{UnaryOperator}
 use Rattle.kr_ast.specs.declared.node.BinaryOperator.{BinaryOperator}
@@ -19,7 +17,7 @@ use Rattle.kr_constants.specs.declared.frames.Frame.{Frame}
 use Rattle.kr_constants.specs.declared.frames.Task.{Task}
 use Rattle.kr_constants.specs.declared.frames.Task.TheVariants.{Look}
 use Rattle.kr_constants.specs.Kept.{Key, AreValues}
-use Rattle.kr_constants.specs.Frames.{Setting, setting, AreBelow, node_outcome, node_weight, outcome_at, resumed, tree_weight, whole}
+use Rattle.kr_constants.specs.Frames.{Setting, setting, AreBelow, node_outcome, outcome_at, resumed, whole}
 
 name_law : (o : Option ConstantValue) → outcome (is_some o) o ≡ known_outcome o
 name_law None = refl
@@ -69,31 +67,6 @@ node_law s p _ = refl
 -- of a node whose tree is made of those of its parts
 pub entry_law : (s : Setting) (i : ℕ) (e : Entry) → tree_in s.tree i ≡ tree_of s.tree.text (tree_in s.tree) e.place e.node → outcome_at s i ≡ node_outcome s e.node
 entry_law s i e h = ap (outcome_of s.table s.known s.class) h ∙ node_law s e.place e.node
-
-pub entry_weight : (a : Arena) (i : ℕ) (e : Entry) → tree_in a i ≡ tree_of a.text (tree_in a) e.place e.node → node_weight a i ≡ tree_weight a e.place e.node
-entry_weight a i e h = ap (λ t. 2 * size t) h
-
--- a node without a rule
-pub no_outcome : (s : Setting) (n : Node) → ((v : ℕ) → n ≡ nodes.Number v → ⊥) → ((b : Bool) → n ≡ nodes.Truth b → ⊥) → (n ≡ nodes.Null → ⊥) → ((x : Name) → n ≡ nodes.Variable x → ⊥)
-    → ((a : ℕ) (x : Name) → n ≡ nodes.FieldAccess a x → ⊥) → ((o : UnaryOperator) (a : ℕ) → n ≡ nodes.Unary o a → ⊥) → ((o : BinaryOperator) (a b : ℕ) → n ≡ nodes.Binary o a b → ⊥)
-    → ((a b c : ℕ) → n ≡ nodes.Conditional a b c → ⊥) → ((a b : ℕ) → n ≡ nodes.Cast a b → ⊥) → node_outcome s n ≡ None
-no_outcome s (nodes.Number v) h1 h2 h3 h4 h5 h6 h7 h8 h9 = absurd (h1 v refl)
-no_outcome s (nodes.Truth b) h1 h2 h3 h4 h5 h6 h7 h8 h9 = absurd (h2 b refl)
-no_outcome s nodes.Null h1 h2 h3 h4 h5 h6 h7 h8 h9 = absurd (h3 refl)
-no_outcome s (nodes.Variable x) h1 h2 h3 h4 h5 h6 h7 h8 h9 = absurd (h4 x refl)
-no_outcome s (nodes.FieldAccess a x) h1 h2 h3 h4 h5 h6 h7 h8 h9 = absurd (h5 a x refl)
-no_outcome s (nodes.Unary o a) h1 h2 h3 h4 h5 h6 h7 h8 h9 = absurd (h6 o a refl)
-no_outcome s (nodes.Binary o a b) h1 h2 h3 h4 h5 h6 h7 h8 h9 = absurd (h7 o a b refl)
-no_outcome s (nodes.Conditional a b c) h1 h2 h3 h4 h5 h6 h7 h8 h9 = absurd (h8 a b c refl)
-no_outcome s (nodes.Cast a b) h1 h2 h3 h4 h5 h6 h7 h8 h9 = absurd (h9 a b refl)
-no_outcome s _ h1 h2 h3 h4 h5 h6 h7 h8 h9 = refl
-
-size_some : (t : Tree) → 1 ≤ size t
-size_some Nil = omega arith
-size_some _ = omega arith
-
-pub weight_some : (a : Arena) (p : Place) (n : Node) → 2 ≤ tree_weight a p n
-weight_some a p n = omega (arith, size_some (tree_of a.text (tree_in a) p n))
 
 pub parts_below : (a : Arena) (i j : ℕ) (cs : List ℕ) → i < length a.entries → ArePartsFrom a.entries i j cs → AreBelow (length a.entries) cs
 parts_below a i j [] h k = tt

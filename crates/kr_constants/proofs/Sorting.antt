@@ -52,10 +52,6 @@ module _ {X : Type 0} (lt : X → X → Bool) (o : IsStrictWeakOrder lt) where
   no_tie : (x y : X) → lt x y ≡ true → ties lt x y ≡ false
   no_tie x y h = λ i. not (h i) && not (lt y x)
 
-  tied_left : (a b : Bool) → not a && not b ≡ true → a ≡ false
-  tied_left true b h = absurd (cc h)
-  tied_left false b h = refl
-
   tied_right : (a b : Bool) → not a && not b ≡ true → b ≡ false
   tied_right a false h = refl
   tied_right true true h = absurd (cc h)
@@ -98,9 +94,6 @@ module _ {X : Type 0} (lt : X → X → Bool) (o : IsStrictWeakOrder lt) where
   up_sorted : (fs : List X) → Up lt (sorted_by lt fs)
   up_sorted [] = tt
   up_sorted (f ∷ fs) = up_placed f (sorted_by lt fs) (up_sorted fs)
-
-  kept : (X → Bool) → X → List X
-  kept t f = cond (t f) (f ∷ []) []
 
   ties_placed : (x f : X) (gs : List X) → Up lt gs → filter (ties lt x) (placed_by lt f gs) ≡ filter (ties lt x) gs ++ cond (ties lt x f) (f ∷ []) []
   ties_placed x f [] u = refl

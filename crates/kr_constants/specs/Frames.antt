@@ -59,10 +59,6 @@ whole s task fs = resumed s fs (given s task)
 
 -- ---- each node is one of the tree
 
-abbrev pub AreBelow : ℕ → List ℕ → Type 0
-AreBelow n [] = Unit {0}
-AreBelow n (i ∷ is) = (i < n) × AreBelow n is
-
 abbrev pub IsWithin : ℕ → Task → Type 0
 IsWithin n (Look i) = i < n
 IsWithin n (Give v) = Unit {0}

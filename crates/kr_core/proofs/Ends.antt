@@ -15,8 +15,8 @@ use Rattle.kr_core.specs.declared.segment.Segment.{Segment}
 use Rattle.kr_core.specs.declared.event.Event.{Event}
 use Rattle.kr_core.specs.declared.event.Event.TheVariants.{Take, Steal, Report, GiveUp, Drain, StopAt, Look}
 use Rattle.kr_core.specs.States.{State, capped, has_remainder, is_owned, is_closed, Each}
-use Rattle.kr_core.specs.Openings.{end_of, AreInside, opening}
-use Rattle.kr_core.specs.Kept.{Runs, NumbersDiffer, Adjoin, beginning, IsLastClosed, IsKept, KeptLaw}
+use Rattle.kr_core.specs.Openings.{end_of}
+use Rattle.kr_core.specs.Kept.{NumbersDiffer, Adjoin, beginning, IsLastClosed, IsKept, KeptLaw}
 use Rattle.kr_core.specs.Counts.{IsSpentFlag, HonestRuns, counted, IsCounted, last_stop, AllClosed, IsListed, CountingLaw}
 use Rattle.kr_core.proofs.Spent.{within-append, within-none, flag-append, through_ends, through_all}
 use Rattle.kr_core.proofs.Chains.{IsLink, EndsAs, Chain}
@@ -200,9 +200,3 @@ counting_law {R} es span cuts events new asc inside runs =
       counted = is-counted (Unit {0}) es (At span.after) (end_of span) new tt k;
       listed = λ closed. is-listed (Unit {0}) es span events new tt asc k (end-runs es (end_of span) _ events new runs (λ q. refl)) closed;
     }
-
-pub kept_bounds : (span : Span) (cuts : List (List ℕ)) (events : List Event) (new : State) → AreInside cuts span → Runs (opening span cuts) events new
-    → (less (beginning new) (At span.after) ≡ false) × (less (end_of span) new.end ≡ false)
-kept_bounds span cuts events new inside runs =
-    let k = kept-runs (At span.after) (end_of span) _ events new runs (kept-opening ⊥ no_entries span cuts inside) in
-    (k.above, k.below)

@@ -1,37 +1,13 @@
 -- The closed segments at the front of a list.
-use Rattle.std.proofs.Common.{◌≡◌, ℕ, suc, ◌+◌, ◌-◌, ◌^◌, ◌<◌, ◌≤◌, List, [], ◌∷◌, Bool, true, false, length, drop, take, get_or, set, refl, sym, ap, ◌∙◌, arith, cond, drop-cons, add-one, length-drop}
+use Rattle.std.proofs.Common.{◌≡◌, ℕ, suc, ◌+◌, ◌-◌, ◌^◌, ◌<◌, ◌≤◌, List, [], ◌∷◌, true, false, length, drop, take, get_or, set, refl, ap, ◌∙◌, arith, cond, length-drop}
 use Rattle.std.specs.List.{sum_by}
 use Rattle.std.proofs.lemmas.List.{at_drop_all}
-use Rattle.std.proofs.lemmas.List.Sums.{sum_by-cons}
 use Rattle.kr_core.specs.declared.segment.Segment.{Segment}
 use Rattle.kr_core.specs.States.{capped, is_closed}
 use Rattle.kr_core.specs.Steps.{front, gone, left}
 
-pub drop_here : (i : ℕ) (ss : List Segment) (s : Segment) → i < length ss → s ≡ get_or ss i s → drop i ss ≡ s ∷ drop (i + 1) ss
-drop_here i ss s h is = rw add-one (drop-cons ss i s h ∙ ap (λ (x : Segment). x ∷ drop (suc i) ss) (sym is))
-
 abbrev pub rows_in : List Segment → ℕ
 rows_in ss = sum_by (λ s. s.rows) (front ss)
-
-front_closed : (s : Segment) (ss : List Segment) → is_closed s ≡ true → rows_in (s ∷ ss) ≡ s.rows + rows_in ss
-front_closed s ss h = rw h (sum_by-cons (λ s. s.rows) s (front ss))
-
-front_open : (s : Segment) (ss : List Segment) → is_closed s ≡ false → rows_in (s ∷ ss) ≡ s.rows
-front_open s ss h = rw h (omega (arith, sum_by-cons (λ s. s.rows) s []))
-
--- one closed segment more
-pub rows_more : (i rows n : ℕ) (ss : List Segment) (s : Segment) → i < length ss → s ≡ get_or ss i s → is_closed s ≡ true
-    → n ≡ capped (rows + rows_in (drop i ss)) → n ≡ capped (capped (rows + s.rows) + rows_in (drop (i + 1) ss))
-rows_more i rows n ss s h is closed before =
-    let e : rows_in (drop i ss) ≡ s.rows + rows_in (drop (i + 1) ss) = ap rows_in (drop_here i ss s h is) ∙ front_closed s (drop (i + 1) ss) closed in
-    omega (arith, e, before)
-
--- the first that isn't
-pub rows_last : (i rows n : ℕ) (ss : List Segment) (s : Segment) → i < length ss → s ≡ get_or ss i s → is_closed s ≡ false
-    → n ≡ capped (rows + rows_in (drop i ss)) → capped (rows + s.rows) ≡ n
-rows_last i rows n ss s h is unclosed before =
-    let e : rows_in (drop i ss) ≡ s.rows = ap rows_in (drop_here i ss s h is) ∙ front_open s (drop (i + 1) ss) unclosed in
-    omega (arith, e, before)
 
 -- all of them closed
 pub rows_all : (i rows : ℕ) (ss : List Segment) → length ss ≤ i → capped (rows_in ss) ≡ capped (rows + rows_in (drop i ss)) → rows ≤ 2 ^ 64 - 1 → rows ≡ capped (rows_in ss)
@@ -43,29 +19,6 @@ pub gone_short : (ss : List Segment) → length ss ≤ 1 → gone ss ≡ []
 gone_short [] h = refl
 gone_short (s ∷ []) h = refl
 gone_short (s ∷ t ∷ ss) h = absurd (omega (arith, h))
-
-gone_open : (s : Segment) (ss : List Segment) → is_closed s ≡ false → gone (s ∷ ss) ≡ []
-gone_open s [] h = refl
-gone_open s (t ∷ ss) h = ap (λ (b : Bool). cond b (s ∷ gone (t ∷ ss)) []) h
-
-gone_closed : (s : Segment) (ss : List Segment) → 0 < length ss → is_closed s ≡ true → gone (s ∷ ss) ≡ s ∷ gone ss
-gone_closed s [] r h = absurd (omega (arith, r))
-gone_closed s (t ∷ ss) r h = ap (λ (b : Bool). cond b (s ∷ gone (t ∷ ss)) []) h
-
-pub count_more : (i n : ℕ) (ss : List Segment) (s : Segment) → i + 1 < length ss → s ≡ get_or ss i s → is_closed s ≡ true
-    → n ≡ i + length (gone (drop i ss)) → n ≡ i + 1 + length (gone (drop (i + 1) ss))
-count_more i n ss s h is closed before =
-    let some : 0 < length (drop (i + 1) ss) = omega (arith, h, length-drop (i + 1) ss) in
-    let e : length (gone (drop i ss)) ≡ suc (length (gone (drop (i + 1) ss))) =
-    ap (λ (xs : List Segment). length (gone xs)) (drop_here i ss s (omega (arith, h)) is) ∙ ap (λ (xs : List Segment). length xs) (gone_closed s (drop (i + 1) ss) some closed) in
-    omega (arith, e, before)
-
-pub count_open : (i n : ℕ) (ss : List Segment) (s : Segment) → i + 1 < length ss → s ≡ get_or ss i s → is_closed s ≡ false
-    → n ≡ i + length (gone (drop i ss)) → i ≡ n
-count_open i n ss s h is unclosed before =
-    let e : length (gone (drop i ss)) ≡ 0 =
-    ap (λ (xs : List Segment). length (gone xs)) (drop_here i ss s (omega (arith, h)) is) ∙ ap (λ (xs : List Segment). length xs) (gone_open s (drop (i + 1) ss) unclosed) in
-    omega (arith, e, before)
 
 pub count_all : (i n : ℕ) (ss : List Segment) → length ss ≤ i + 1 → n ≡ i + length (gone (drop i ss)) → i ≡ n
 count_all i n ss h before =

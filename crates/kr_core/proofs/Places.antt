@@ -9,9 +9,6 @@ use Rattle.kr_core.specs.declared.segment.Segment.{Segment}
 pub place_of-next : (n : ℕ) (s : Segment) (ss : List Segment) → (s.number == n) ≡ false → place_of n (s ∷ ss) ≡ suc (place_of n ss)
 place_of-next n s ss h = ap (λ (b : Bool). cond b 0 (suc (place_of n ss))) h
 
-pub place_of-here : (n : ℕ) (s : Segment) (ss : List Segment) → (s.number == n) ≡ true → place_of n (s ∷ ss) ≡ 0
-place_of-here n s ss h = ap (λ (b : Bool). cond b 0 (suc (place_of n ss))) h
-
 pub segment_of_none : (n : ℕ) (ss : List Segment) → place_of n ss ≡ length ss → segment_of n ss ≡ None
 segment_of_none n [] h = refl
 segment_of_none n (s ∷ ss) h =
@@ -53,13 +50,6 @@ place_step n i p ss s h is other before =
     let cons : drop i ss ≡ s ∷ drop (suc i) ss = drop-cons ss i s h ∙ ap (λ (x : Segment). x ∷ drop (suc i) ss) (sym is) in
     let next : place_of n (drop i ss) ≡ suc (place_of n (drop (suc i) ss)) = ap (place_of n) cons ∙ place_of-next n s (drop (suc i) ss) (not-eq s.number n other) in
     rw add-one (omega (arith, next, before))
-
-pub place_here : (n i p : ℕ) (ss : List Segment) (s : Segment) → i < length ss → s ≡ get_or ss i s → s.number ≡ n → p ≡ i + place_of n (drop i ss) → i ≡ p
-place_here n i p ss s h is same before =
-    let cons : drop i ss ≡ s ∷ drop (suc i) ss = drop-cons ss i s h ∙ ap (λ (x : Segment). x ∷ drop (suc i) ss) (sym is) in
-    let e : (s.number == n) ≡ true = grind (arith, nat_tests) in
-    let next : place_of n (drop i ss) ≡ 0 = ap (place_of n) cons ∙ place_of-here n s (drop (suc i) ss) e in
-    omega (arith, next, before)
 
 pub place_nowhere : (n i : ℕ) (ss : List Segment) → length ss ≤ i → i ≤ length ss → place_of n ss ≡ i + place_of n (drop i ss) → segment_of n ss ≡ None
 place_nowhere n i ss past within before =

@@ -19,17 +19,9 @@ pub none_each : {X : Type 0} (f : X → List Fault) (xs : List X) → flat_map f
 none_each f [] e = tt
 none_each f (x ∷ xs) e = let parts = both_none (f x) (flat_map f xs) e in (parts.0, none_each f xs parts.1)
 
-pub each_in_both : {X : Type 0} (P : X → Type 0) (xs ys : List X) → AllByRecursion P (xs ++ ys) → AllByRecursion P xs × AllByRecursion P ys
-each_in_both P [] ys h = (tt, h)
-each_in_both P (x ∷ xs) ys h = let rest = each_in_both P xs ys h.1 in ((h.0, rest.0), rest.1)
-
 pub each_of_both : {X : Type 0} (P : X → Type 0) (xs ys : List X) → AllByRecursion P xs → AllByRecursion P ys → AllByRecursion P (xs ++ ys)
 each_of_both P [] ys a b = b
 each_of_both P (x ∷ xs) ys a b = (a.0, each_of_both P xs ys a.1 b)
-
-pub each_before : {X Y : Type 0} (P : Y → Type 0) (f : X → Y) (xs : List X) → AllByRecursion P (map f xs) → AllByRecursion (λ x. P (f x)) xs
-each_before P f [] h = tt
-each_before P f (x ∷ xs) h = (h.0, each_before P f xs h.1)
 
 pub each_mapped : {X Y : Type 0} (P : Y → Type 0) (f : X → Y) (xs : List X) → AllByRecursion (λ x. P (f x)) xs → AllByRecursion P (map f xs)
 each_mapped P f [] h = tt

@@ -22,7 +22,7 @@ use Rattle.kr_domains.specs.declared.refusal.Fault.{Fault}
 use Rattle.kr_domains.specs.declared.refusal.SpaceRule.TheVariants.{EmptyDomain, TooMany}
 use Rattle.kr_domains.specs.Order.{break_if}
 use Rattle.kr_domains.specs.Laws.{WellFormedLaw}
-use Rattle.kr_domains.proofs.Each.{both_none, unbroken, none_each, each_in_both, each_of_both, each_mapped, each_flat, each_weaker, each_always, each_at, each_number}
+use Rattle.kr_domains.proofs.Each.{both_none, unbroken, none_each, each_of_both, each_mapped, each_flat, each_weaker, each_always, each_at, each_number}
 use Rattle.kr_domains.proofs.Plain.{plain_values, plain_lengths, lengths_upto, length-element_spots, elements_in_order, fields_in_order}
 
 -- ---- the root

@@ -14,10 +14,6 @@ use Rattle.kr_type_rules.specs.Arguments.{arguments_go_into, listed_types}
 use Rattle.kr_type_rules.proofs.Walking.{asked}
 use Rattle.kr_expressions.specs.Constructors.{constructors_of, IsSingle}
 
-pub none_fit : (s : Scope) (ts : List JavaType) → arguments_fit s ts [] ≡ is_none_of ts
-none_fit s [] = refl
-none_fit s (t ∷ ts) = refl
-
 pub nothing_fits : (s : Scope) (ps : List Parameter) → arguments_fit s [] ps ≡ is_none_of ps
 nothing_fits s [] = refl
 nothing_fits s (p ∷ ps) = refl
@@ -26,10 +22,6 @@ one : {A : Type 0} (xs : List A) (x : A) → length xs < 2 → slice_get xs 0 �
 one [] x l e = absurd (cc)
 one (y ∷ []) x l e = let s : y ≡ x = cc in ap (λ z. z ∷ []) s
 one (y ∷ z ∷ xs) x l e = absurd (omega (arith, l))
-
--- without a constructor there are no parameters
-pub no_parameters : (t : Table) (c : ℕ) → constructors_of t c ≡ [] → constructor_parameters t c ≡ []
-no_parameters t c e = ap (flat_map (λ k. k.parameters)) e
 
 pub one_constructor : (files : List Arena) (t : Table) (c : ℕ) (ks : List Constructor) (k : Constructor) → map (constructor_shown files) ks ≡ constructors_of t c → IsSingle t c → slice_get ks 0 ≡ Some k
     → constructor_parameters t c ≡ parameters_in (headings_in files) (tree_in (file_at files k.file) k.parameters)

@@ -18,7 +18,7 @@ use kr_base::NoMemory;
 use kr_members::{Constructor, Members};
 use kr_scopes::Within;
 use kr_type_numbers::{NodeTypes, TypeForm, Types};
-use kr_type_rules::{Verdict, arguments_fit, is_code, is_int};
+use kr_type_rules::{TypingRule, Verdict, arguments_fit, is_code, is_int};
 
 /// T27: the length is an int; T39.
 pub fn array_creation_rule(
@@ -37,8 +37,8 @@ pub fn array_creation_rule(
     let array = types.number(TypeForm::Array(element))?;
     Ok(Verdict::ask(
         is_length,
-        27,
-        Verdict::value_if(is_code(here.part), 39, array),
+        TypingRule::ArrayLength,
+        Verdict::value_if(is_code(here.part), TypingRule::ContractWrite, array),
     ))
 }
 
@@ -124,7 +124,7 @@ pub fn creation_rule(
     ensures says { (g : Setting) (bs : List Binding) → g.table ≡ table_in trees.now → AreSingle g.table → verdict_shown types.now result ≡ rules.creation_rule (scope_in g bs here) (type_at types.now created) (map (type_at types.now) arguments.now) }
 {
     let fits = creation_fits(trees, types, members, node_types, created, arguments);
-    Verdict::ask(fits, 26, Verdict::value_if(is_code(here.part), 39, created))
+    Verdict::ask(fits, TypingRule::Creation, Verdict::value_if(is_code(here.part), TypingRule::ContractWrite, created))
 }
 
 /// Whether arguments fit the constructor of a class's superclass: there are none where it has none.
@@ -161,7 +161,7 @@ pub fn implied_rule(
     ensures says { (s : Scope) → s.table ≡ table_in trees.now → AreSingle s.table → s.class ≡ class → verdict_shown types.now result ≡ rules.implied_rule s }
 {
     let fits = fits_above(trees, types, members, node_types, class, &[]);
-    Verdict::fine_if(fits, 34)
+    Verdict::fine_if(fits, TypingRule::SuperConstructor)
 }
 
 /// T34: `super(..)` fits the superclass's constructor.
@@ -181,5 +181,5 @@ pub fn super_constructor_rule(
     ensures says { (g : Setting) (bs : List Binding) → g.table ≡ table_in trees.now → AreSingle g.table → class_there g here.class ≡ class → verdict_shown types.now result ≡ rules.super_constructor_rule (scope_in g bs here) (map (type_at types.now) arguments.now) }
 {
     let fits = fits_above(trees, types, members, node_types, class, arguments);
-    Verdict::fine_if(fits, 34)
+    Verdict::fine_if(fits, TypingRule::SuperConstructor)
 }

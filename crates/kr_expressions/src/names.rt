@@ -20,7 +20,7 @@ use kr_members::Members;
 use kr_names::{Heads, tree_of};
 use kr_scopes::{Scopes, Within};
 use kr_type_numbers::{NodeTypes, TypeForm, Types};
-use kr_type_rules::{Note, Verdict, conclude, field_name_rule, type_of_node, variable_of};
+use kr_type_rules::{TypingRule, Note, Verdict, conclude, field_name_rule, type_of_node, variable_of};
 
 /// The class whose code a scope is in; the first one outside of classes.
 pub fn class_of(trees: &[Tree], heads: &Heads, file: u32, node: Option<u32>) -> u32
@@ -71,7 +71,7 @@ pub fn variable_rule(
             variable_of(types, number)
         }
         None => match members.field_meant(class, name) {
-            None => Verdict::Breaks(3),
+            None => Verdict::Breaks(TypingRule::UnknownName),
             Some(field) => {
                 let here = scopes.at(node);
                 field_name_rule(trees, types, node_types, here, field)
@@ -115,7 +115,7 @@ fn this_rule(types: &mut Types, here: Within, class: u32) -> Result<Verdict, NoM
     ensures says { IfOk result (λ v. (g : Setting) (bs : List Binding) → class_there g here.class ≡ class → verdict_shown types.new v ≡ rules.this_rule (scope_in g bs here)) }
 {
     let number = types.number(TypeForm::Class(class))?;
-    Ok(Verdict::value_if(!here.is_static, 5, number))
+    Ok(Verdict::value_if(!here.is_static, TypingRule::StaticCode, number))
 }
 
 /// `this`

@@ -20,10 +20,6 @@ marked_few bs = omega (arith, sum_by-le one_if 1 bs (λ k d l. at_most (get_or b
     at_most true = omega arith
     at_most false = omega arith
 
-pub marked_none : (n : ℕ) → marked (Rattle.std.proofs.Common.replicate n false) ≡ 0
-marked_none zero = refl
-marked_none (suc n) = omega (arith, marked_none n)
-
 -- one mark more
 pub mark_more : (bs : List Bool) (i : ℕ) → i < length bs → get_or bs i false ≡ false → marked (set bs i true) ≡ marked bs + 1
 mark_more bs i l e = let w : one_if (get_or bs i false) ≡ 0 = ap one_if e in omega (arith, sum_by-set one_if bs i true false l, w)

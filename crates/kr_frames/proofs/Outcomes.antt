@@ -130,9 +130,6 @@ gave {A} out law seen new o a s h =
 pub gave_value : (code : Code) (d : Doing) (fs : List Frame) (seen new : List SlotPlace) (o : Outcome Value) (v : Value) (s : State) → noting seen o ≡ record { said = Ok v; after = s; reads = new } → noting seen (out_value code d fs o) ≡ noting new (out_value code d fs (give v s))
 gave_value code d fs seen new o v s h = gave (out_value code d fs) (value_reads code d fs) seen new o v s h
 
-pub gave_unit : (code : Code) (d : Doing) (fs : List Frame) (seen new : List SlotPlace) (o : Outcome (Unit {0})) (s : State) → noting seen o ≡ record { said = Ok tt; after = s; reads = new } → noting seen (out_unit code d fs o) ≡ noting new (out_unit code d fs (give tt s))
-gave_unit code d fs seen new o s h = gave (out_unit code d fs) (unit_reads code d fs) seen new o tt s h
-
 -- ---- a run that has ended
 
 -- the outcome has this end, heap, fuel and reads
@@ -232,13 +229,6 @@ value_halts code h fs gs w before o a = halts code h gs w before (λ d q. out_va
 
 pub unit_halts : (code : Code) (h : Halt) (fs gs : List Frame) (w before : World) (o : Others → Outcome (Unit {0})) → Agrees {A = Unit {0}} (Err h) w before o → Leads code (Err h) gs w before (λ d x. out_unit code d fs (o x))
 unit_halts code h fs gs w before o a = halts code h gs w before (λ d q. out_unit code d fs q) (λ d s heap fuel reads q y. unit_ends code d s heap fuel reads fs q y) o a
-
-pub flow_halts : (code : Code) (h : Halt) (fs gs : List Frame) (w before : World) (o : Others → Outcome meaning.Flow) → Agrees {A = meaning.Flow} (Err h) w before o → Leads code (Err h) gs w before (λ d x. out_flow code d fs (o x))
-flow_halts code h fs gs w before o a = halts code h gs w before (λ d q. out_flow code d fs q) (λ d s heap fuel reads q y. flow_ends code d s heap fuel reads fs q y) o a
-
--- a step that gives something leads on
-pub value_given : (code : Code) (fs : List Frame) (v : Value) (w before : World) (o : Others → Outcome Value) → Agrees {A = Value} (Ok v) w before o → (x : Others) → Allows w x → Keeps before w x × ((d : Doing) → noting before.reads (out_value code d fs (o x)) ≡ noting w.reads (out_value code d fs (give v (state_at w x))))
-value_given code fs v w before o a = λ x y. let r = a x y in (r.0, λ d. gave_value code d fs before.reads w.reads (o x) v (state_at w x) r.1)
 
 -- the same by another way, where that is allowed
 pub leads_same : (code : Code) (r : Result Task Halt) (fs : List Frame) (w middle before : World) (o o' : Doing → Others → Outcome Value)

@@ -126,13 +126,6 @@ impl Stack {
         self.top
     }
 
-    #[tactic(auto, using(crate::proofs::Stacks::how_many))]
-    pub fn is_empty(&self) -> bool
-        ensures { result ≡ (length self.now == 0) }
-    {
-        self.top == 0
-    }
-
     /// The topmost frame, if there is one.
     #[tactic(auto, using(crate::proofs::Stacks::is_on_top))]
     #[inline(always)]

@@ -1,41 +1,13 @@
 -- A path, read one step at a time.
-use Rattle.std.proofs.Common.{◌≡◌, ℕ, zero, suc, ◌+◌, ◌<◌, ◌≤◌, ◌∙◌, ◌⊎◌, inl, inr, List, [], ◌∷◌, length, drop, get_or, refl, sym, subst, arith, drop-cons, add-one, ap, Option, Some, None}
+use Rattle.std.proofs.Common.{◌≡◌, ℕ, zero, suc, ◌+◌, ◌<◌, ◌∙◌, inl, inr, List, [], ◌∷◌, length, drop, get_or, refl, sym, arith, drop-cons, add-one, ap, Option, Some, None}
 use Rattle.kr_mean.specs.Problem.{DomainObject}
 use Rattle.kr_mean.specs.Space.{Space}
-use Rattle.kr_mean.specs.Readings.{AllBelow}
 use Rattle.kr_iso.specs.Choices.{IsUsed}
 use Rattle.kr_iso.specs.Choices.{PathIn}
 use Rattle.kr_iso.specs.Unused.{IsNear, IsReached}
 
-pub drop_here : (path : List (ℕ × ℕ)) (i : ℕ) → i < length path → drop i path ≡ get_or path i (0, 0) ∷ drop (i + 1) path
-drop_here path i h = rw (add-one, drop-cons path i (0, 0)) refl
-
-pub in_here : (S : Space) (path : List (ℕ × ℕ)) (i : ℕ) → i < length path → PathIn S (drop i path) → ((get_or path i (0, 0)).0 < S.slots) × ((get_or path i (0, 0)).1 < S.size (get_or path i (0, 0)).0) × PathIn S (drop (i + 1) path)
-in_here S path i h p = subst (PathIn S) (drop_here path i h) p
-
-pub used_here : (S : Space) (path : List (ℕ × ℕ)) (i c k : ℕ) → i < length path → IsUsed S (drop i path) c k → (S.object_at (get_or path i (0, 0)).0 (get_or path i (0, 0)).1 ≡ Some (record { domain = c; number = k })) ⊎ IsUsed S (drop (i + 1) path) c k
-used_here S path i c k h u = subst (λ (l : List (ℕ × ℕ)). IsUsed S l c k) (drop_here path i h) u
-
-pub used_there : (S : Space) (path : List (ℕ × ℕ)) (i c k : ℕ) → i < length path → (S.object_at (get_or path i (0, 0)).0 (get_or path i (0, 0)).1 ≡ Some (record { domain = c; number = k })) ⊎ IsUsed S (drop (i + 1) path) c k → IsUsed S (drop i path) c k
-used_there S path i c k h u = subst (λ (l : List (ℕ × ℕ)). IsUsed S l c k) (sym (drop_here path i h)) u
-
-pub not_used_here : (S : Space) (path : List (ℕ × ℕ)) (i c k : ℕ) (x : Option DomainObject) → i < length path → S.object_at (get_or path i (0, 0)).0 (get_or path i (0, 0)).1 ≡ x → (x ≡ Some (record { domain = c; number = k }) → ⊥) → IsUsed S (drop i path) c k → IsUsed S (drop (i + 1) path) c k
-not_used_here S path i c k x h e n u = elim (used_here S path i c k h u) [ inl a ↦ absurd (n (sym e ∙ a)) | inr b ↦ b ]
-
-pub none_left : (S : Space) (path : List (ℕ × ℕ)) (i c k : ℕ) → length path ≤ i → IsUsed S (drop i path) c k → ⊥
-none_left S [] i c k h u = subst (λ (l : List (ℕ × ℕ)). IsUsed S l c k) (drop_nil i) u
-  where
-    drop_nil : (n : ℕ) → drop {A = ℕ × ℕ} n [] ≡ []
-    drop_nil zero = refl
-    drop_nil (suc n) = refl
-none_left S (p ∷ path) zero c k h u = omega arith
-none_left S (p ∷ path) (suc i) c k h u = none_left S path i c k (omega arith) u
-
 pub drop_number : (order : List ℕ) (i : ℕ) → i < length order → drop i order ≡ get_or order i 0 ∷ drop (i + 1) order
 drop_number order i h = rw (add-one, drop-cons order i 0) refl
-
-pub below_here : (n : ℕ) (order : List ℕ) (i : ℕ) → i < length order → AllBelow n (drop i order) → (get_or order i 0 < n) × AllBelow n (drop (i + 1) order)
-below_here n order i h p = subst (AllBelow n) (drop_number order i h) p
 
 -- ---- a step of a path
 

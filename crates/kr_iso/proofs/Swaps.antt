@@ -11,9 +11,6 @@ use Rattle.kr_iso.specs.Swap.{swap}
 swap_back : (c m k d j : ℕ) → swap c m k d (swap c m k d j) ≡ j
 swap_back c m k d j = grind (arith, nat_tests)
 
-pub swap_first : (c m k : ℕ) → swap c m k c m ≡ k
-swap_first c m k = grind (arith, nat_tests)
-
 pub swap_second : (c m k : ℕ) → swap c m k c k ≡ m
 swap_second c m k = grind (arith, nat_tests)
 

@@ -72,10 +72,6 @@ may_reached S path o some may = reached S path o.domain o.number some may
 
 -- ---- what may stand at an index
 
-pub plain_allowed : (S : Space) (path : List (ℕ × ℕ)) (x : Option DomainObject) → x ≡ None → MayStand S path x
-plain_allowed S path None e = tt
-plain_allowed S path (Some o) e = absurd (cc (e))
-
 -- an object that comes no later may stand too
 earlier_may : (S : Space) (path : List (ℕ × ℕ)) (d j k : ℕ) → AllowedPath S [] path → j ≤ k → IsUsed S path d k ⊎ ((i : ℕ) → i < k → IsUsed S path d i) → MayStand S path (Some (record { domain = d; number = j }))
 earlier_may S path d j k a le (inl used) =

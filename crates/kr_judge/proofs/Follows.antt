@@ -111,10 +111,6 @@ reverse_at accesses n other lt =
     ∙ append_assoc (reverse (drop (n + 1) accesses)) (b ∷ []) (reverse (take n accesses))))
 
 module _ (slots_of : SlotPlace → List ℕ) where
-  -- the last place goes, and its slots
-  pub gone : (front : List Access) (a : Access) (order : List ℕ) → AreOf slots_of (reverse (front ++ a ∷ [])) order → AreOf slots_of (reverse front) (take a.before order)
-  gone front a order h = (subst (λ (accesses : List Access). AreOf slots_of accesses order) (reverse-append front (a ∷ [])) h).0
-
   -- a place comes, and its slots
   pub come : (front : List Access) (p : Place) (order new : List ℕ) → AreOf slots_of (reverse front) order → new ≡ with_slots order (slots_of (place_of p))
       → AreOf slots_of (reverse (front ++ record { place = p; before = length order } ∷ [])) new

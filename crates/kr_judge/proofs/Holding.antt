@@ -1,5 +1,5 @@
 -- How conditions follow one another.
-use Rattle.std.proofs.Common.{◌≡◌, ℕ, Bool, true, false, List, [], ◌∷◌, ◌++◌, Result, Ok, Err, None, refl, sym, ap, ◌∙◌, subst}
+use Rattle.std.proofs.Common.{◌≡◌, ℕ, Bool, List, [], ◌∷◌, ◌++◌, Result, Ok, Err, None, refl, ap, ◌∙◌, subst}
 use Rattle.std.specs.Prelude.{map}
 use Rattle.std.proofs.lemmas.List.{append-nil}
 use Rattle.kr_value.specs.declared.value.Value.{Value}
@@ -82,21 +82,3 @@ halted code Written w before i a = tt
 -- what is left is what there was to look at
 abbrev pub LeadsOn : Code → List ℕ → State → List SlotPlace → List ℕ → State → List SlotPlace → Type 0
 LeadsOn code all s seen rest t new = (d : Doing) → IsMeaning code d → noting seen (hold_at d all s) ≡ noting new (hold_at d rest t)
-
--- one more condition holds
-pub one_more : (code : Code) (all rest : List ℕ) (i : ℕ) (s : State) (seen : List SlotPlace) (w v : World) → LeadsOn code all s seen (i ∷ rest) (state_of w) w.reads → OneAs code (Ok true) v w.reads i (state_of w) → LeadsOn code all s seen rest (state_of v) v.reads
-one_more code all rest i s seen w v l o = λ d m. l d m ∙ o d m (hold_at d rest)
-
--- one is false
-pub one_false : (code : Code) (all rest : List ℕ) (i : ℕ) (s : State) (seen : List SlotPlace) (w v : World) → LeadsOn code all s seen (i ∷ rest) (state_of w) w.reads → OneAs code (Ok false) v w.reads i (state_of w) → HoldsAs code (Ok false) v seen (λ d. hold_at d all s)
-one_false code all rest i s seen w v l o = λ d m. l d m ∙ o d m (hold_at d rest)
-
--- the run ends at one
-pub one_halted : (code : Code) (h : Halt) (all rest : List ℕ) (i : ℕ) (s : State) (seen : List SlotPlace) (w v : World) → LeadsOn code all s seen (i ∷ rest) (state_of w) w.reads → OneAs code (Err h) v w.reads i (state_of w) → HoldsAs code (Err h) v seen (λ d. hold_at d all s)
-one_halted code (Ended e) all rest i s seen w v l o = λ d m. subst (λ (x : Outcome Bool). IsEnded e v x) (sym (l d m)) (o d m (hold_at d rest))
-one_halted code Memory all rest i s seen w v l o = λ d m. tt
-one_halted code Written all rest i s seen w v l o = λ d m. tt
-
--- none is left
-pub none_left : (code : Code) (all : List ℕ) (s : State) (seen : List SlotPlace) (w : World) → LeadsOn code all s seen [] (state_of w) w.reads → HoldsAs code (Ok true) w seen (λ d. hold_at d all s)
-none_left code all s seen w l = l

@@ -20,12 +20,8 @@ use Rattle.kr_world.proofs.Calls.{collects_made}
 use Rattle.kr_world.proofs.Locals.{local_there}
 use Rattle.kr_known.specs.Knowing.{Shows, fuelled}
 use Rattle.kr_mean.specs.Places as places
-use Rattle.kr_world.specs.Noting.{is_read, noted_once, noting}
+use Rattle.kr_world.specs.Noting.{noted_once, noting}
 use Rattle.kr_world.specs.Shown.{local_of}
-
--- a parameter that was read
-pub read_again : (p : places.SlotPlace) (seen : List places.SlotPlace) → is_read p seen ≡ true → noted_once seen (p ∷ []) ≡ seen
-read_again p seen is = ap (λ (b : Bool). if b then seen else seen ++ p ∷ []) is
 
 -- a local that needs no read
 pub local_known : (w : World) (k : ℕ) (l : Local) → slice_get w.locals.items k ≡ Some l → noted_once w.reads (place_reads (option_map (λ i. places.Parameter i) l.parameter)) ≡ w.reads → Shows w l.value (read_local k)

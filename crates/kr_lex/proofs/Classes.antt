@@ -58,11 +58,6 @@ symbol_facts b t =
     let low : b < 128 = grind (arith, nat_tests) in
     (low, start_ascii b low ∙ grind (arith, nat_tests), grind (arith, nat_tests), grind (arith, nat_tests), λ e. grind (arith, nat_tests))
 
--- runs of characters that names go on with
-pub all_parts_append : (cs ds : List ℕ) → AllParts cs → AllParts ds → AllParts (cs ++ ds)
-all_parts_append [] ds h k = k
-all_parts_append (c ∷ cs) ds h k = (h.0, all_parts_append cs ds h.1 k)
-
 -- a run is not longer than one that the text doesn't go on with
 pub run_longest : (cs ds more rest : List ℕ) → AllParts cs → encode_utf8_all cs ++ more ≡ encode_utf8_all ds ++ rest → EndsWord rest
     → length (encode_utf8_all cs) ≤ length (encode_utf8_all ds)

@@ -1,23 +1,10 @@
 -- Comments that a star and a slash close.
-use Rattle.std.proofs.Common.{◌≡◌, ℕ, zero, suc, ◌+◌, ◌<◌, ◌≤◌, List, [], ◌∷◌, ◌++◌, length, slice_index, get_or, take, drop, refl, sym, ap, ◌∙◌, arith, length-append, append_assoc}
-use Rattle.std.proofs.lemmas.List.{drop_more, drop-drop, take_at, get_or_at, length-take-le, length-drop}
+use Rattle.std.proofs.Common.{◌≡◌, ℕ, zero, suc, ◌+◌, ◌<◌, ◌≤◌, List, [], ◌∷◌, ◌++◌, length, slice_index, take, drop, refl, sym, ap, ◌∙◌, arith, length-append, append_assoc}
+use Rattle.std.proofs.lemmas.List.{drop_more, drop-drop, take_at, length-take-le, length-drop}
 use Rattle.std.proofs.Math.Seq.{take-add}
 use Rattle.kr_lex.specs.Gaps.{IsGap, line, block}
 use Rattle.kr_lex.specs.ContractLines.{BeginsContract}
 use Rattle.kr_lex.specs.Pieces.{IsBodyLength, IsLineLength}
-
--- the two bytes behind a front
-pub bytes_at : (text other more : List ℕ) → text ≡ other ++ 42 ∷ 47 ∷ more
-    → (slice_index text (length other) ≡ 42) × (slice_index text (length other + 1) ≡ 47) × (length other + 2 ≤ length text)
-bytes_at text other more e =
-    let first : get_or (other ++ 42 ∷ 47 ∷ more) (length other) 0 ≡ 42 = get_or_at other 42 (47 ∷ more) 0 (length other) refl in
-    let split : other ++ 42 ∷ 47 ∷ more ≡ (other ++ 42 ∷ []) ++ 47 ∷ more = sym (append_assoc other (42 ∷ []) (47 ∷ more)) in
-    let long : length (other ++ 42 ∷ []) ≡ length other + 1 = length-append other (42 ∷ []) in
-    let second : get_or ((other ++ 42 ∷ []) ++ 47 ∷ more) (length other + 1) 0 ≡ 47 = get_or_at (other ++ 42 ∷ []) 47 more 0 (length other + 1) long in (
-      ap (λ t. get_or t (length other) 0) e ∙ first,
-      ap (λ t. get_or t (length other + 1) 0) (e ∙ split) ∙ second,
-      omega (arith, ap length e, length-append other (42 ∷ 47 ∷ more)),
-    )
 
 -- the first two bytes of a text
 pub two_front : (text : List ℕ) (a b : ℕ) → 1 < length text → slice_index text 0 ≡ a → slice_index text 1 ≡ b → text ≡ a ∷ b ∷ drop 2 text

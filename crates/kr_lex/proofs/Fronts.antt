@@ -6,7 +6,6 @@ use Rattle.std.specs.Str.{encode_utf8_all}
 use Rattle.std.proofs.lemmas.List.{drop_more, length-drop, nil_from_length, take_at, append-nil}
 use Rattle.std.proofs.Math.Seq.{take-add}
 use Rattle.std.proofs.lemmas.Bool.Decides.{nat_tests}
-use lib.Utf8.{low_scalar}
 use Rattle.std.proofs.lemmas.Str.{encode_same, encode_ascii, length-encode, len_utf8_bounds, char_from_byte, encodes-append}
 use Rattle.bstr.specs.Utf8.{decoded}
 use Rattle.bstr.proofs.lemmas.EncodeLemmas.{decoded-encode}
@@ -44,12 +43,6 @@ ascii_front text l a =
     let e : encode_utf8 (slice_index text 0) ≡ slice_index text 0 ∷ [] = encode_ascii (slice_index text 0) a in
     let d : text ≡ slice_index text 0 ∷ drop 1 text = drop_more text 0 0 l in
     d ∙ ap (λ front. front ++ drop 1 text) (sym e)
-
-ascii_scalar : (b : ℕ) → b < 128 → IsScalar b
-ascii_scalar b h = low_scalar b (omega arith)
-
-pub part_ascii : (text : List ℕ) → 0 < length text → slice_index text 0 < 128 → is_part (slice_index text 0) ≡ true → IsPart text 1
-part_ascii text l a p = record { char = slice_index text 0; scalar = ascii_scalar (slice_index text 0) a; part = p; spelled = ascii_front text l a; within = omega arith }
 
 pub no_part_ascii : (text : List ℕ) → 0 < length text → slice_index text 0 < 128 → is_part (slice_index text 0) ≡ false → EndsWord text
 no_part_ascii text l a p c more s e = rw (char_from_byte text more c e a l) p

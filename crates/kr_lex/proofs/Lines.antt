@@ -1,10 +1,10 @@
 -- The contract line that a text begins with, part by part.
-use Rattle.std.proofs.Common.{◌≡◌, ℕ, ◌+◌, ◌<◌, ◌≤◌, ◌⊎◌, inl, inr, true, false, ◌&&◌, ◌||◌, ◌==◌, cond, List, [], ◌∷◌, ◌++◌, length, slice_index, take, drop, refl, sym, ap, ◌∙◌, arith, length-append, append_assoc}
+use Rattle.std.proofs.Common.{◌≡◌, ℕ, ◌+◌, ◌<◌, ◌≤◌, ◌⊎◌, inl, inr, false, ◌&&◌, ◌==◌, List, [], ◌∷◌, ◌++◌, length, slice_index, take, drop, refl, sym, ap, ◌∙◌, arith, length-append, append_assoc}
 use Rattle.std.proofs.lemmas.List.{take-append-drop, drop-drop, drop_at, drop_more, length-drop, length-take-le}
-use Rattle.std.proofs.lemmas.Bool.{both_ways, cases_eq, cond-true, cond-false, false_from_ne_true, and_parts, eqb-true}
+use Rattle.std.proofs.lemmas.Bool.{both_ways, cases_eq, false_from_ne_true, and_parts, eqb-true}
 use Rattle.kr_lex.specs.declared.kind.Kind.{Kind}
 use Rattle.kr_lex.specs.declared.kind.Kind.TheVariants as kinds
-use Rattle.kr_lex.specs.Characters.{is_white, is_line_end, is_part, EndsWord}
+use Rattle.kr_lex.specs.Characters.{is_line_end, is_part, EndsWord}
 use Rattle.kr_lex.specs.ContractLines.{contract_spelling, BeginsContract, code_of, last_solid, has_block, head_of, IsContract}
 use Rattle.kr_lex.specs.Pieces.{IsBlankLength, IsPartLength, IsWordOf, IsWordAt, BeginsNoWord, IsHead, IsNoContract}
 use Rattle.kr_lex.proofs.Heads.{word_no_blank, same_word, blank_same}
@@ -87,26 +87,6 @@ module _ (text : List ℕ) (n : ℕ) (l : IsBlankLength (drop 3 text) n) where
           ap length w.stands.spelled ∙ length-append (contract_spelling kind) (drop len (drop n (drop 3 text))) in
           omega (arith, size, e, f, l.within, mark_long text b, length-drop n (drop 3 text), length-drop 3 text)
 
-  pub word_within : (kind : Kind) (end : ℕ) → BeginsContract text → IsWordAt (drop n (drop 3 text)) kind → end ≡ 3 + n + length (contract_spelling kind) → end ≤ length text
-  word_within kind end b w f =
-      let len = length (contract_spelling kind) in
-      let size : length (drop n (drop 3 text)) ≡ len + length (drop len (drop n (drop 3 text))) =
-      ap length w.stands.spelled ∙ length-append (contract_spelling kind) (drop len (drop n (drop 3 text))) in
-      omega (arith, size, f, l.within, mark_long text b, length-drop n (drop 3 text), length-drop 3 text)
-
--- the test whether a semicolon ends it, byte by byte
-pub code_ends : (text : List ℕ) (at : ℕ) → at < length text → (is_line_end (slice_index text at) || (slice_index text at == 47 && slice_index (drop (at + 1) text) 0 == 47)) ≡ true
-    → code_of (drop at text) ≡ []
-code_ends text at l t = ap code_of (drop_more text at 0 l) ∙ cond-true _ [] (slice_index text at ∷ code_of (drop (at + 1) text)) t
-
-pub code_goes_on : (text : List ℕ) (at : ℕ) → at < length text → (is_line_end (slice_index text at) || (slice_index text at == 47 && slice_index (drop (at + 1) text) 0 == 47)) ≡ false
-    → code_of (drop at text) ≡ slice_index text at ∷ code_of (drop (at + 1) text)
-code_goes_on text at l t = ap code_of (drop_more text at 0 l) ∙ cond-false _ [] (slice_index text at ∷ code_of (drop (at + 1) text)) t
-
-pub solid_goes_on : (text : List ℕ) (at last : ℕ) → at < length text → (is_line_end (slice_index text at) || (slice_index text at == 47 && slice_index (drop (at + 1) text) 0 == 47)) ≡ false
-    → last_solid last (code_of (drop at text)) ≡ last_solid (cond (is_white (slice_index text at)) last (slice_index text at)) (code_of (drop (at + 1) text))
-solid_goes_on text at last l t = ap (last_solid last) (code_goes_on text at l t)
-
 -- the test for two bytes side by side
 first_there : (text : List ℕ) (y : ℕ) → 0 < y → slice_index text 0 ≡ y → text ≡ y ∷ drop 1 text
 first_there [] y l e = absurd (omega (arith, l, e))
@@ -121,14 +101,6 @@ no_pair text at x y l some none =
     let second : slice_index (drop (at + 1) text) 0 ≡ y = eqb-true (slice_index (drop (at + 1) text) 0) y h.1 in
     let rest = drop (at + 1) text in
     none (drop 1 rest) (drop_more text at 0 l ∙ (ap (λ b. b ∷ rest) first ∙ ap (λ t. x ∷ t) (first_there rest y some second))))
-
--- the test for a slash and a star
-pub block_at_end : (text : List ℕ) (at : ℕ) → at < length text → is_line_end (slice_index text at) ≡ true → has_block (drop at text) ≡ false
-block_at_end text at l t = ap has_block (drop_more text at 0 l) ∙ rw t refl
-
-pub block_found : (text : List ℕ) (at : ℕ) → at < length text → is_line_end (slice_index text at) ≡ false → (slice_index text at == 47 && slice_index (drop (at + 1) text) 0 == 42) ≡ true
-    → has_block (drop at text) ≡ true
-block_found text at l t f = ap has_block (drop_more text at 0 l) ∙ rw (t, f) refl
 
 pub block_goes_on : (text : List ℕ) (at : ℕ) → at < length text → is_line_end (slice_index text at) ≡ false → (slice_index text at == 47 && slice_index (drop (at + 1) text) 0 == 42) ≡ false
     → has_block (drop at text) ≡ has_block (drop (at + 1) text)

@@ -14,7 +14,7 @@ use Rattle.kr_table.specs.Table.{Parameter, Method, applied, method_named, const
 use Rattle.kr_table.specs.Constants.{value_at}
 use Rattle.kr_typing.specs.Scopes.{Scope, Declaring, Locals, Fields, Constants, Role, AsValue, in_class, in_old, in_contract, Requiring, Ensuring, bind, bind_as, declaring, static_if, field_kind, after, value, statement, under_minus, in_loop, written, class_before, meant, method_meant, super_class}
 use Rattle.kr_typing.specs.Rules.{Typed, Value, Variable, Values, Untyped, Verdict, Fits, Breaks, fine, ask, takes, arguments_fit, type_rule, array_rule, element_rule, result_rule, arguments_rule, call_rule, static_rule, above_rule, super_rule, method_rule, object_call_rule, creation_fits, creation_rule, array_creation_rule, unary_rule, operator_rule, choice_rule, cast_rule, instance_rule, is_broken, written_rule, assignment_rule, compound_rule, step_rule, access_rule, constant_rule, old_rule, contract_rule, condition_rule, return_rule, jump_rule, declaration_rule, initial_fits, is_new, is_simple, parameter_rule, super_constructor_rule, implied_rule}
-use Rattle.kr_typing.specs.Typing.{Judged, judge, on_one, on_two, on_list, on_maybe, leaf, joined, field_of, method_of, operand, class_rule, judged, type_in}
+use Rattle.kr_typing.specs.Typing.{Judged, judge, on_one, on_two, on_list, on_maybe, leaf, joined, field_of, method_of, operand, judged, type_in}
 use Rattle.kr_loops.specs.Laws.{locals_only, local_type, elsewhere, running, AreSame, IsSameRunning}
 
 abbrev typed_by : Verdict → Typed
@@ -86,10 +86,6 @@ contract_bare s t = ask_bare (Rattle.kr_typing.specs.Rules.is_boolean t) 28 (ask
 parameter_bare : (s : Scope) (n : List ℕ) → Bare (parameter_rule s n)
 parameter_bare s n = ask_bare (is_new s n (meant s n)) 4 fine refl
 
-class_bare : (b : Bool) (s : Scope) → Bare (class_rule b s)
-class_bare true s = refl
-class_bare false s = implied_bare s
-
 -- two judgements of rules that give no type
 both_bare : (p q : Place) (v w : Verdict) (x y : List Fault) → Bare v → Bare w → (judge p v x).typed ≡ (judge q w y).typed
 both_bare p q v w x y h k = judge_typed p v x ∙ (h ∙ (sym k ∙ sym (judge_typed q w y)))
@@ -124,9 +120,6 @@ after_elsewhere b s _ = refl
 -- ---- rules that look at the scope
 
 module _ (b : Bool) (s : Scope) where
-  l : Scope
-  l = elsewhere b s
-
   arguments_same : (ts : List JavaType) (ps : List Parameter) → arguments_fit (elsewhere b s) ts ps ≡ arguments_fit s ts ps
   arguments_same [] [] = refl
   arguments_same (t ∷ ts) (p ∷ ps) = ap (λ (x : Bool). takes s p.type t && x) (arguments_same ts ps)

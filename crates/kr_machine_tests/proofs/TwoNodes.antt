@@ -1,7 +1,6 @@
 -- The problem of two nodes and an array is well formed, and its vector is one.
 use Rattle.std.proofs.Common.{ℕ, zero, suc, ◌<◌, refl, arith}
 use Rattle.kr_mean.specs.Space.{IsVector, space_of}
-use Rattle.kr_mean.specs.WellFormed.{IsWellFormed}
 use Rattle.kr_problem.specs.Bounds.{bare}
 use Rattle.kr_machine_tests.specs.TwoNodes.{two_nodes, from_second}
 
@@ -16,19 +15,6 @@ eight P a b c d e f g h (suc (suc (suc (suc (suc zero))))) l = f
 eight P a b c d e f g h (suc (suc (suc (suc (suc (suc zero)))))) l = g
 eight P a b c d e f g h (suc (suc (suc (suc (suc (suc (suc zero))))))) l = h
 eight P a b c d e f g h (suc (suc (suc (suc (suc (suc (suc (suc s)))))))) l = absurd (omega arith)
-
-two : (P : ℕ → Type 0) → P 0 → P 1 → (s : ℕ) → s < 2 → P s
-two P a b zero l = a
-two P a b (suc zero) l = b
-two P a b (suc (suc s)) l = absurd (omega arith)
-
-pub well_formed : IsWellFormed (bare two_nodes)
-well_formed = record {
-  root = omega arith;
-  filled = eight _ (omega arith) (omega arith) (omega arith) (omega arith) (omega arith) (omega arith) (omega arith) (omega arith);
-  plain = eight _ tt (tt, tt) (tt, tt) (tt, tt) (tt, tt) (tt, (tt, (tt, tt))) (tt, tt) (tt, tt);
-  spots = two _ (refl, (refl, tt)) (refl, (refl, (refl, tt)), (omega arith, (omega arith, (omega arith, tt))));
-}
 
 pub is_vector : IsVector (space_of (bare two_nodes)) from_second
 unfolding space_of

@@ -2,8 +2,6 @@
 use Rattle.std.proofs.Common.{◌≡◌, refl, sym, ap, ◌∙◌, subst, ℕ, zero, suc, ◌+◌, ◌<◌, false, List, [], ◌∷◌, ◌++◌, length, take, get_or, arith}
 use Rattle.std.specs.Prelude.{Option, Some, None, true, flat_map, is_some, option_to_list}
 use Rattle.std.specs.List.{AllZip}
-use Rattle.std.proofs.lemmas.List.{take_more}
-use Rattle.std.proofs.lemmas.Grind.{flat_map-append}
 use Rattle.kr_base.specs.declared.place.Place.{Place}
 use Rattle.kr_ast.specs.Tree as trees
 use Rattle.kr_ast.specs.Tree.{Tree}
@@ -75,11 +73,6 @@ module _ (p : Program) (program : IsProgram p) (f c i : ℕ) (member : IsMemberN
 
 -- ---- the first among members
 
--- none so far, and none here
-pub none_more : {A B : Type 0} (f : A → List B) (xs : List A) (i : ℕ) (d : A) → i < length xs → flat_map f (take i xs) ≡ [] → f (get_or xs i d) ≡ [] → flat_map f (take (i + 1) xs) ≡ []
-none_more f xs i d l h k =
-    ap (flat_map f) (take_more xs i d l) ∙ flat_map-append f (take i xs) (get_or xs i d ∷ []) ∙ ap (λ (bs : List _). bs ++ (f (get_or xs i d) ++ [])) h ∙ ap (λ (bs : List _). bs ++ []) k
-
 -- nothing in the first
 later : {A B : Type 0} (f : A → List B) (x : A) (xs : List A) (i : ℕ) (b : B) (ys : List B) → f x ≡ ys → f x ++ flat_map f (take i xs) ≡ [] → (flat_map f (take i xs) ≡ [] → first (flat_map f xs) ≡ Some b) → first (f x ++ flat_map f xs) ≡ Some b
 later f x xs i b [] e h g = ap (λ (zs : List _). first (zs ++ flat_map f xs)) e ∙ g (sym (ap (λ (zs : List _). zs ++ flat_map f (take i xs)) e) ∙ h)
@@ -89,11 +82,6 @@ pub first_there : {A B : Type 0} (f : A → List B) (xs : List A) (i : ℕ) (d :
 first_there f [] i d b bs l h k = absurd (omega (arith, l))
 first_there f (x ∷ xs) zero d b bs l h k = ap (λ (ys : List _). first (ys ++ flat_map f xs)) k
 first_there f (x ∷ xs) (suc i) d b bs l h k = later f x xs i b (f x) refl h (λ g. first_there f xs i d b bs (omega (arith, l)) g k)
-
--- what a list of one, or of none, stands for
-pub found_none : (p : Program) (c : ℕ) (ks : List Constructor) → AllZip (IsConstructorNode p c) ks [] → ks ≡ []
-found_none p c [] h = refl
-found_none p c (k ∷ ks) h = absurd h
 
 pub found_one : (p : Program) (c : ℕ) (ks : List Constructor) (n : ConstructorNode) → AllZip (IsConstructorNode p c) ks (n ∷ []) → (k : Constructor) × (ks ≡ k ∷ []) × IsConstructorNode p c k n
 found_one p c [] n h = absurd h

@@ -1,16 +1,13 @@
 -- The nodes of classes.
 use Rattle.std.proofs.Common.{◌≡◌, refl, sym, ap, ◌∙◌, subst, ℕ, true, false, ◌+◌, ◌-◌, ◌<◌, List, [], ◌∷◌, ◌++◌, length, map, take, get_or, append_assoc, append-nil, All}
 use Rattle.std.specs.Prelude.{Option, Some, None, flat_map, unwrap_or}
-use Rattle.std.specs.List.{AllZip}
 use Rattle.std.proofs.lemmas.List.{map-append, take_more}
 use Rattle.std.proofs.lemmas.List.Folds.{flat_map-map}
-use Rattle.kr_base.specs.declared.place.Place.{Place}
 use Rattle.kr_ast.specs.Tree as trees
 use Rattle.kr_ast.specs.Tree.{Tree}
-use Rattle.kr_ast.specs.Arena.{Arena, name_in, root, tree_in, tree_of}
+use Rattle.kr_ast.specs.Arena.{Arena, name_in, root, tree_in}
 use Rattle.kr_ast.specs.declared.node.Name.{Name}
 use Rattle.kr_ast.specs.declared.node.Entry.{Entry}
-use Rattle.kr_ast.specs.declared.node.Node.{Node}
 use Rattle.kr_ast.specs.declared.node.Node.TheVariants as nodes
 use Rattle.kr_table.specs.Table.{Heading, heading_of, headings_from, items, number_of, with_nested}
 use Rattle.kr_typing.specs.Scopes.{scope_of}
@@ -22,26 +19,15 @@ use Rattle.kr_names.proofs.Walks.{headings_append}
 use Rattle.kr_types.specs.declared.program.Program.{Program}
 use Rattle.kr_types.specs.Programs.{IsProgram}
 use Rattle.kr_member_nodes.specs.Nodes.{AreShaped, IsHere, IsMemberNode, arena_at, members_scope, node_scope, node_tree, table}
-use Rattle.kr_member_nodes.specs.Walk.{HasHeading, IsClassNode, IsIn, IsItem, IsMemberList, heading_numbered, members_of}
+use Rattle.kr_member_nodes.specs.Walk.{IsClassNode, IsIn, IsItem, IsMemberList, heading_numbered, members_of}
 use Rattle.kr_member_nodes.proofs.Scopes.{part_scope, part_there, parts_are, scope_table, tree_is}
 use Rattle.kr_member_nodes.proofs.Items.{each_class, each_member}
 use Rattle.kr_member_nodes.proofs.Zipped.{each_shown}
-
--- what is no class
-pub no_heading_of : (text : List ℕ) (look : ℕ → Tree) (pl : Place) (n : Node) → ((x : Name) (a b : ℕ) → n ≡ nodes.Class x a b → ⊥) → (o : Option ℕ) → heading_of o (tree_of text look pl n) ≡ []
-no_heading_of text look pl (nodes.Class x a b) h o = absurd (h x a b refl)
-no_heading_of text look pl _ h o = refl
 
 same_heading : (h k : Heading) → h ∷ [] ≡ k ∷ [] → h ≡ k
 same_heading h k e = cc
 
 module _ (p : Program) (f i : ℕ) (item : IsItem p f i) (e : Entry) (at : IsHere p f i e) where
-  pub no_class : ((x : Name) (a b : ℕ) → e.node ≡ nodes.Class x a b → ⊥) → (o : Option ℕ) → heading_of o (node_tree p f i) ≡ []
-  no_class h o = ap (heading_of o) at.tree ∙ no_heading_of (arena_at p f).text (tree_in (arena_at p f)) e.place e.node h o
-
-  pub no_class_node : ((x : Name) (a b : ℕ) → e.node ≡ nodes.Class x a b → ⊥) → (o : Option ℕ) → AllZip (HasHeading p) (heading_of o (node_tree p f i)) []
-  no_class_node h o = subst (λ (hs : List Heading). AllZip (HasHeading p) hs []) (sym (no_class h o)) tt
-
   module _ (x : Name) (a b : ℕ) (it : e.node ≡ nodes.Class x a b) where
     abbrev name : List ℕ
     name = name_in (arena_at p f).text x
@@ -57,12 +43,6 @@ module _ (p : Program) (f i : ℕ) (item : IsItem p f i) (e : Entry) (at : IsHer
 
     heads : (o : Option ℕ) → heading_of o (node_tree p f i) ≡ own o ∷ []
     heads o = ap (heading_of o) t
-
-    pub is_class_node : (o : Option ℕ) → AllZip (HasHeading p) (heading_of o (node_tree p f i)) (record { file = f; node = i } ∷ [])
-    is_class_node o =
-        let made : NodeAt = record { file = f; node = i } in
-        let has : HasHeading p (own o) made = record { there = item.there; heading = heads o; shape = item.shape } in
-        subst (λ (hs : List Heading). AllZip (HasHeading p) hs (made ∷ [])) (sym (heads o)) (has, tt)
 
     pub is_member_list : IsProgram p → IsMemberList p f i b
     is_member_list program = let part = (parts_are p f i e (nodes.Class x a b) at it).1.0 in record {

@@ -1,4 +1,3 @@
-pub mod Added
 pub mod Classes
 pub mod Upwards
 pub mod Names

@@ -4,13 +4,11 @@
 
 mod fields;
 mod lines;
-mod lists;
 mod meant;
 mod members;
 mod methods;
 mod queries;
 
 pub use fields::Field;
-pub use lists::add_found;
 pub use members::{ClassMembers, Members};
 pub use methods::{Constructor, Method};

@@ -6,7 +6,7 @@ ghost use Rattle.kr_members.specs.Shown.{IsField, IsMethod, field_shown, method_
 ghost use Rattle.kr_members.specs.Kept.{AreMembers};
 
 use crate::fields::Field;
-use crate::lists::add_found;
+use kr_base::add_found;
 use crate::members::Members;
 use crate::methods::Method;
 use kr_base::NoMemory;

@@ -6,7 +6,7 @@ ghost use Rattle.kr_names.specs.Listed.{IsIndexOf};
 ghost use Rattle.kr_names.specs.Shown.{file_at};
 ghost use Rattle.kr_members.specs.Shown.{IsConstructor, IsMethod, constructor_shown, headings_in, method_name, method_shown};
 
-use crate::lists::add_found;
+use kr_base::add_found;
 use kr_ast::{Name, Node, Tree};
 use kr_base::{NoMemory, Place};
 use kr_names::{Index, tree_of};

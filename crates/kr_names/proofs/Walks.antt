@@ -1,9 +1,8 @@
 -- Lists of a tree's nodes, walked item by item.
-use Rattle.std.proofs.Common.{◌≡◌, refl, sym, ap, ◌∙◌, ℕ, ◌+◌, ◌<◌, List, [], ◌∷◌, ◌++◌, length, map, take, get_or, append_assoc, append-nil, length-append, zero-add, ◌≤◌, arith}
+use Rattle.std.proofs.Common.{◌≡◌, refl, sym, ap, ◌∙◌, ℕ, ◌+◌, ◌<◌, List, [], ◌∷◌, ◌++◌, length, map, take, get_or, append_assoc, append-nil, length-append, zero-add, arith}
 use Rattle.std.specs.Prelude.{None, flat_map}
-use Rattle.std.proofs.lemmas.List.{map-append, take_more, take_all}
+use Rattle.std.proofs.lemmas.List.{map-append, take_more}
 use Rattle.std.proofs.lemmas.Grind.{flat_map-append}
-use Rattle.std.proofs.lemmas.List.Folds.{flat_map-map}
 use Rattle.kr_ast.specs.Tree.{Tree}
 use Rattle.kr_table.specs.Table.{Heading, headings_from, heading_of, with_nested}
 
@@ -15,17 +14,6 @@ headings_append k (t ∷ ts) us =
     let rest = headings_from (k + length own) ts in
     let e : k + length own + length rest ≡ k + length (own ++ rest) = omega (arith, length-append own rest) in
     ap (λ hs. own ++ hs) (headings_append (k + length own) ts us ∙ ap (λ n. rest ++ headings_from n us) e) ∙ sym (append_assoc own rest (headings_from (k + length (own ++ rest)) us))
-
--- one item more
-pub flat_step : {A B : Type 0} (f : A → List B) (before all more : List B) (xs : List A) (i : ℕ) (d : A) → i < length xs → all ≡ before ++ flat_map f (take i xs) → more ≡ f (get_or xs i d) → all ++ more ≡ before ++ flat_map f (take (i + 1) xs)
-flat_step f before all more xs i d l a m =
-    ap (λ ys. ys ++ more) a ∙ append_assoc before (flat_map f (take i xs)) more
-    ∙ ap (λ ys. before ++ (flat_map f (take i xs) ++ ys)) (m ∙ sym (append-nil (f (get_or xs i d))))
-    ∙ ap (λ ys. before ++ ys) (sym (flat_map-append f (take i xs) (get_or xs i d ∷ [])) ∙ ap (flat_map f) (sym (take_more xs i d l)))
-
--- all items, seen as trees
-pub flat_all : {A B C : Type 0} (f : B → List C) (v : A → B) (xs : List A) (n : ℕ) (ts : List B) → length xs ≤ n → map v xs ≡ ts → flat_map (λ x. f (v x)) (take n xs) ≡ flat_map f ts
-flat_all f v xs n ts l e = ap (flat_map (λ x. f (v x))) (take_all n xs l) ∙ sym (flat_map-map f v xs) ∙ ap (flat_map f) e
 
 pub headings_step : {A : Type 0} (v : A → Tree) (all more : List Heading) (k : ℕ) (xs : List A) (i : ℕ) (d : A) → i < length xs → all ≡ headings_from 0 (map v (take i xs)) → k ≡ length all → more ≡ with_nested k (heading_of None (v (get_or xs i d))) → all ++ more ≡ headings_from 0 (map v (take (i + 1) xs))
 headings_step v all more k xs i d l a e m =

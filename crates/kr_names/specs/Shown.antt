@@ -1,28 +1,13 @@
 -- What the code keeps of classes, as the class table has it.
 use Rattle.std.specs.Prelude.{◌≡◌, ℕ, ◌<◌, ◌^◌, List, [], ◌∷◌, length, map, All, Option, slice_index_or}
 use Rattle.kr_ast.specs.Arena.{Arena, AreNamesIn, name_in, root, tree_in}
+use Rattle.kr_ast.specs.Files.{file_at, tree_of_node}
 use Rattle.kr_ast.specs.Tree.{Tree}
 use Rattle.kr_table.specs.Table as table
 use Rattle.kr_table.specs.Table.{items, class_named, headings_of}
 use Rattle.kr_names.specs.Listed.{IsIndexOf}
-use Rattle.kr_names.specs.declared.headings.NodeAt.{NodeAt}
 use Rattle.kr_names.specs.declared.headings.Heading.{Heading}
 use Rattle.kr_names.specs.declared.class_names.Heads.{Heads}
-
--- a file that isn't there
-abbrev pub no_file : Arena
-no_file = record { text = []; entries = [] }
-
-abbrev pub file_at : List Arena → ℕ → Arena
-file_at files f = slice_index_or files f no_file
-
-abbrev pub tree_of_node : List Arena → NodeAt → Tree
-tree_of_node files n = tree_in (file_at files n.file) n.node
-
--- the node is there
-pub record IsNode (files : List Arena) (n : NodeAt) : Type 0 where
-  pub file : n.file < length files
-  pub node : n.node < length (file_at files n.file).entries
 
 abbrev pub heading_shown : List Arena → Heading → table.Heading
 heading_shown files h = let a = file_at files h.file in record {

@@ -5,9 +5,9 @@ ghost use Rattle.kr_table.specs.Table.{class_named, headings_of, number_of};
 ghost use Rattle.kr_names.specs.Listed.{IsIndexOf};
 ghost use Rattle.kr_names.specs.Shown.{count_of, file_at, heading_shown, name_shown, superclass_in, AreHeads, IsHeading};
 
-use crate::headings::{Heading, all_headings, tree_of};
+use crate::headings::{Heading, all_headings};
 use crate::names::Index;
-use kr_ast::{Node, Tree};
+use kr_ast::{Node, Tree, tree_of};
 use kr_base::NoMemory;
 use std::alloc::Global;
 

@@ -5,16 +5,9 @@ ghost use Rattle.kr_table.specs.Table.{items as listed, heading_of, headings_of,
 ghost use Rattle.kr_names.specs.Shown.{IsHeading, IsNode, file_at, heading_shown, tree_of_node};
 
 use crate::lists::items;
-use kr_ast::{Name, Node, Tree};
+use kr_ast::{Name, Node, NodeAt, Tree, tree_of};
 use kr_base::{NoMemory, Place};
 use std::alloc::Global;
-
-/// A node of one of the files.
-#[derive(Clone, Copy, Debug)]
-pub struct NodeAt {
-    pub file: u32,
-    pub node: u32,
-}
 
 /// What stands at the head of a class, by nodes of its file's tree: what it extends, and the list of its members.
 #[derive(Clone, Copy, Debug)]
@@ -25,14 +18,6 @@ pub struct Heading {
     pub outer: Option<u32>,
     pub extended: u32,
     pub members: u32,
-}
-
-/// The tree of a file.
-pub fn tree_of(trees: &[Tree], file: u32) -> &Tree
-    requires { file < length trees.now }
-    ensures { result.now ≡ file_at trees.now file }
-{
-    &trees[file as usize]
 }
 
 /// The head of the class that a node is.

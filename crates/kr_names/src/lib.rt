@@ -8,6 +8,6 @@ mod lists;
 mod names;
 
 pub use class_names::{Heads, superclasses};
-pub use headings::{Heading, NodeAt, tree_of};
+pub use headings::Heading;
 pub use lists::items;
 pub use names::Index;

@@ -68,6 +68,3 @@ covered_more spans new span s t a b e =
     ap covered e
     ∙ (flat_map-append (λ (x : Span). range_with_len x.start x.count) spans (span ∷ [])
     ∙ ap (λ (xs : List ℕ). covered spans ++ xs) (append-nil (range_with_len span.start span.count) ∙ (ap (λ (n : ℕ). range_with_len n span.count) a ∙ (ap (λ (n : ℕ). range_with_len (start_of s) n) b ∙ sym (choices_numbered s t)))))
-
-pub covered_as_before : (spans : List Span) (s : Stretch) → AreTold s → count_of s ≡ 0 → covered spans ≡ covered spans ++ numbers_of (choices_of s)
-covered_as_before spans s t e = sym (append-nil (covered spans)) ∙ ap (λ (xs : List ℕ). covered spans ++ xs) (sym (choices_numbered s t ∙ ap (λ (n : ℕ). range_with_len (start_of s) n) e))

@@ -97,12 +97,6 @@ flow_told code fs gs hs ks f a w z given value flow (Some v) h s e k p t g = λ 
     (h d i ∙ (ap (λ (xs : List Frame). comes code d xs w value) e ∙ (p d hs i ∙ ap (λ (xs : List Frame). flows code d xs z flow) (sym k))))
     (g d i))
 
--- no frame is left
-pub value_told : (code : Code) (fs gs : List Frame) (a w : World) (given value : Value) → ((d : Doing) → IsMeaning code d → comes code d fs a given ≡ comes code d gs w value) → IsSpent a w → gs ≡ [] → TellsFrom code fs a given value
-value_told code fs gs a w given value h s e = λ d i.
-    told_there value a w (comes code d fs a given) s
-    (told_as value w.reads (comes code d fs a given) (comes code d [] w value) (h d i ∙ ap (λ (xs : List Frame). comes code d xs w value) e) (record { said = refl; reads_are = refl }))
-
 -- one more frame is passed
 pub value_on : (code : Code) (fs gs hs ks : List Frame) (f : Frame) (a w z : World) (given value next : Value)
     → ((d : Doing) → IsMeaning code d → comes code d fs a given ≡ comes code d gs w value) → gs ≡ f ∷ hs → ks ≡ hs

@@ -1,9 +1,9 @@
 -- Choices along an order, one after another.
-use Rattle.std.proofs.Common.{◌≡◌, ℕ, zero, suc, ◌+◌, ◌<◌, ◌≤◌, List, [], ◌∷◌, ◌++◌, length, get_or, drop, inl, inr, Some, None, sym, subst, arith}
+use Rattle.std.proofs.Common.{◌≡◌, ℕ, zero, suc, ◌+◌, ◌<◌, List, [], ◌∷◌, ◌++◌, length, get_or, drop, inl, inr, Some, None, sym, subst, arith}
 use Rattle.std.specs.Prelude.{IsTrue, nat_eq, ◌↔◌}
 use Rattle.std.proofs.lemmas.Bool.{cases_eq}
 use Rattle.std.proofs.lemmas.Bool.Decides.{nat_tests}
-use Rattle.std.proofs.lemmas.List.{drop_more, drop_all}
+use Rattle.std.proofs.lemmas.List.{drop_more}
 use Rattle.kr_iso.specs.Choices.{AllowedPath, IsAllowed, PathIn}
 use Rattle.kr_mean.specs.Choices.{AllowedAlong, IsNextChoice}
 use Rattle.kr_mean.specs.Space.{Space}
@@ -26,9 +26,6 @@ pub record Goes (S : Space) (v : List ℕ) (path : List (ℕ × ℕ)) (rest all 
   pub left : AllowedAlong S v [] all → AllowedAlong S v path rest
   pub right : AllowedAlong S v path rest → AllowedAlong S v [] all
 
-pub begins : (S : Space) (v all : List ℕ) → Goes S v [] all all
-begins S v all = record { inside = tt; allowed = tt; left = λ a. a; right = λ a. a }
-
 module _ (S : Space) (v : List ℕ) (all : List ℕ) (k : ℕ) (path : List (ℕ × ℕ)) (h : k < length all) (g : Goes S v path (drop k all) all) where
   abbrev slot : ℕ
   slot = get_or all k 0
@@ -48,9 +45,6 @@ module _ (S : Space) (v : List ℕ) (all : List ℕ) (k : ℕ) (path : List (ℕ
   -- one that isn't allowed
   pub stops : (IsAllowed S path slot (get_or v slot 0) → ⊥) → AllowedAlong S v [] all → ⊥
   stops n x = n (subst (λ (ss : List ℕ). AllowedAlong S v path ss) rest_is (g.left x)).0
-
-pub ends : (S : Space) (v all : List ℕ) (k : ℕ) (path : List (ℕ × ℕ)) → length all ≤ k → Goes S v path (drop k all) all → AllowedAlong S v [] all
-ends S v all k path h g = g.right (subst (λ (ss : List ℕ). AllowedAlong S v path ss) (sym (drop_all k all h)) tt)
 
 -- what the next choice says of an index
 pub none_is : (S : Space) (path : List (ℕ × ℕ)) (s i : ℕ) → i < S.size s → IsNextChoice S path s i None → IsAllowed S path s i → ⊥

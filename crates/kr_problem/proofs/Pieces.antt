@@ -95,10 +95,6 @@ at_index ps size index k a h l = in_piece 0 ps size index k a.counted (omega ari
 pub object_at : (b : Block) (i : ℕ) → i < b.count → get_or (choices_of (Objects b)) i no_choice ≡ object_choice b i
 object_at b i h = get_or-map-range_with_len (object_choice b) 0 b.count i i no_choice h (omega arith)
 
-pub some_pieces : (ps : List Piece) (size index : ℕ) → ArePieces ps size → index < length (all_choices (stretches_of ps)) → (0 < length ps) × (start_at ps 0 ≤ index)
-some_pieces [] size index a h = absurd (omega arith)
-some_pieces (p ∷ ps) size index a h = let e = a.counted.0 in (omega arith, omega arith)
-
 pub fit_push : (ps : List Piece) (p : Piece) → All (λ q. Fits q.stretch) ps → Fits p.stretch → All (λ q. Fits q.stretch) (ps ++ p ∷ [])
 fit_push ps p a h = All-push (λ (q : Piece). Fits q.stretch) ps p a h
 

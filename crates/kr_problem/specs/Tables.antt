@@ -3,6 +3,7 @@ use Rattle.std.specs.Prelude.{ℕ, ◌+◌, List, [], ◌∷◌, ◌++◌, lengt
 use Rattle.std.specs.List.{range_with_len}
 use Rattle.std.proofs.Common.{get_or}
 use Rattle.kr_mean.specs.Places as places
+use Rattle.kr_mean.specs.Places.{place_of}
 use Rattle.kr_mean.specs.Problem.{Domain, Slot, Objects}
 use Rattle.kr_iso.specs.Objects.{shown}
 use Rattle.kr_problem.specs.declared.classes.Spotted.{Spotted}
@@ -52,11 +53,6 @@ starts_with n (b ∷ bs) [] = []
 starts_with n (b ∷ bs) (c ∷ cs) = n ∷ starts_with (n + length (class_entries b c.spots)) bs cs
 
 -- ---- a slot's place and a slot, as the problem has them
-
-abbrev pub place_of : SlotPlace → places.SlotPlace
-place_of This = places.This
-place_of (Parameter i) = places.Parameter i
-place_of (At o spot) = places.At o spot
 
 -- the domain of a number; of none it is all objects of the root
 abbrev pub domain_with : ℕ → List Domain → Option ℕ → Domain

@@ -1,15 +1,7 @@
 // The table of slots.
 
 use kr_iso::Object;
-use kr_value::{Obj, Spot};
-
-/// Where a candidate has a value: what `this` is, a parameter of the method under test, or a spot of an object of the heap.
-#[derive(Clone, Copy, Debug, PartialEq, Eq)]
-pub enum SlotPlace {
-    This,
-    Parameter(u32),
-    At(Obj, Spot),
-}
+use kr_value::SlotPlace;
 
 /// A slot: where it stands, whose it is, and the number of its domain.
 #[derive(Clone, Copy, Debug, PartialEq, Eq)]

@@ -12,7 +12,8 @@ ghost use Rattle.kr_problem.specs.Tables.{place_of};
 ghost use Rattle.kr_problem.specs.Layouts.{AnyProgramLaw, first_slot, stretches};
 
 use crate::classes::ClassDomain;
-use crate::entry::{Entry, SlotPlace};
+use crate::entry::Entry;
+use kr_value::SlotPlace;
 use crate::item::Item;
 use crate::shape::Shape;
 use crate::stretch::{Block, Chosen};

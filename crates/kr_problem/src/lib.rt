@@ -12,7 +12,6 @@ mod tables;
 mod values;
 
 pub use classes::{ClassDomain, Spotted};
-pub use entry::SlotPlace;
 pub use item::Item;
 pub use layout::{Layout, any_program_law};
 pub use stretch::{Block, Chosen, Stretch};

@@ -4,7 +4,8 @@ ghost use Rattle.kr_problem.specs.Stretches.{IsNumbered};
 ghost use Rattle.kr_problem.specs.Tables.{all_entries, blocks_from, class_entries, entries_with, object_entries, parameter_entries, starts_with, this_entry};
 
 use crate::classes::{ClassDomain, Spotted};
-use crate::entry::{Entry, SlotPlace};
+use crate::entry::Entry;
+use kr_value::SlotPlace;
 use crate::stretch::Block;
 use kr_base::NoMemory;
 use kr_iso::Object;

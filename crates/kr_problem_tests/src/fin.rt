@@ -1,22 +1,21 @@
 // Finitizations that are read, and ones that are refused, each by its first broken rule and the item.
 
 use kr_fin::{
-    FinRefusal, Item, Listed, MAX_FIN_BYTES, NamedDomain, is_too_long, item_law, least_law,
-    read_fin,
+    Fault, FinDoc, FinRefusal, Item, Listed, MAX_FIN_BYTES, NamedDomain, is_too_long, item_law,
+    least_law, read_fin,
 };
 use std::alloc::Global;
 use std::test::Fail;
 
-// `CODE ITEM` of the refusal, or `read`.
-fn answer(alloc: Global, bytes: &[u8]) -> Result<String, Fail> {
+fn is_fault(fault: &Fault, code: &str, item: &str) -> bool {
+    fault.rule.code() == code && fault.item.as_str() == item
+}
+
+// Whether the bytes are refused by that rule and item.
+fn is_refused(alloc: Global, bytes: &[u8], code: &str, item: &str) -> bool {
     match read_fin(alloc, bytes) {
-        Ok(_) => Ok(String::from_str(alloc, "read")?),
-        Err(FinRefusal::NoMemory) => Ok(String::from_str(alloc, "no memory")?),
-        Err(FinRefusal::Broken(fault)) => {
-            let code = fault.rule.code();
-            let item = fault.item.as_str();
-            Ok(format!(in alloc; "{code} {item}")?)
-        }
+        Err(FinRefusal::Broken(fault)) => is_fault(&fault, code, item),
+        _ => false,
     }
 }
 
@@ -42,24 +41,32 @@ fn put_domains(out: &mut String, domains: &Listed<NamedDomain>) -> Result<(), Fa
 }
 
 // The document in one line.
-fn line(alloc: Global, bytes: &[u8]) -> Result<String, Fail> {
-    let mut out = String::new(alloc);
-    match read_fin(alloc, bytes) {
-        Ok(document) => {
-            write!(out, "{} {}", document.root.as_str(), document.fuel)?;
-            for count in document.objects.as_slice() {
-                write!(out, "; {} {}", count.name.as_str(), count.count)?;
-            }
-            for bound in document.arrays.as_slice() {
-                write!(out, "; {} {}", bound.name.as_str(), bound.count)?;
-                put_domain(&mut out, &bound.lengths)?;
-            }
-            put_domains(&mut out, &document.fields)?;
-            put_domains(&mut out, &document.params)?;
-        }
-        Err(_) => write!(out, "refused")?,
+fn put_document(out: &mut String, document: &FinDoc) -> Result<(), Fail> {
+    write!(out, "{} {}", document.root.as_str(), document.fuel)?;
+    for count in document.objects.as_slice() {
+        write!(out, "; {} {}", count.name.as_str(), count.count)?;
     }
-    Ok(out)
+    for bound in document.arrays.as_slice() {
+        write!(out, "; {} {}", bound.name.as_str(), bound.count)?;
+        put_domain(out, &bound.lengths)?;
+    }
+    put_domains(out, &document.fields)?;
+    put_domains(out, &document.params)
+}
+
+// Whether a document is written so.
+fn is_written(alloc: Global, document: &FinDoc, wanted: &str) -> Result<bool, Fail> {
+    let mut out = String::new(alloc);
+    put_document(&mut out, document)?;
+    Ok(out.as_str() == wanted)
+}
+
+// Whether the bytes are read, and written so.
+fn is_read(alloc: Global, bytes: &[u8], wanted: &str) -> Result<bool, Fail> {
+    match read_fin(alloc, bytes) {
+        Ok(document) => is_written(alloc, &document, wanted),
+        Err(_) => Ok(false),
+    }
 }
 
 #[test]
@@ -91,210 +98,311 @@ fn reads(rt: HostRuntime) -> Result<(), Fail> {
             "R 7; R.f 1..2 3..4",
         ),
     ] {
-        let found = line(rt.alloc(), text.as_bytes())?;
-        assert_eq!(rt; found.as_str(), wanted, "{text}");
+        let is_read = is_read(rt.alloc(), text.as_bytes(), wanted)?;
+        assert!(rt; is_read, "{text}");
     }
     Ok(())
 }
 
 #[test]
-fn refuses(rt: HostRuntime) -> Result<(), Fail> {
-    for (text, wanted) in [
+fn refuses(rt: HostRuntime) {
+    for (text, code, item) in [
         // No TOML.
-        ("", "F5 fuel"),
-        ("=", "F1 toml"),
-        ("root = 'R'\nroot = 'R'\nfuel = 1", "F1 toml"),
-        ("fuel = 9223372036854775808\nroot = 'R'", "F1 toml"),
+        ("", "F5", "fuel"),
+        ("=", "F1", "toml"),
+        ("root = 'R'\nroot = 'R'\nfuel = 1", "F1", "toml"),
+        ("fuel = 9223372036854775808\nroot = 'R'", "F1", "toml"),
         // Unknown keys.
-        ("zed = 1\nalpha = 2", "F2 alpha"),
-        ("root = 'R'\nfuel = 1\nversion = 2", "F2 version"),
+        ("zed = 1\nalpha = 2", "F2", "alpha"),
+        ("root = 'R'\nfuel = 1\nversion = 2", "F2", "version"),
         (
             "root = 'R'\nfuel = 1\n'arrays-1' = 1\n[arrays]\nX = { count = 1, lengths = [], more = 1 }",
-            "F2 arrays-1",
+            "F2",
+            "arrays-1",
         ),
         (
             "root = 'R'\nfuel = 1\narrayt = 1\n[arrays]\nX = { count = 1, lengths = [], more = 1 }",
-            "F2 arrays.X",
+            "F2",
+            "arrays.X",
         ),
         (
             "root = 'R'\nfuel = 1\n[arrays]\nX = { count = 1, lengths = [{ from = 1, to = 2, by = 1 }] }",
-            "F2 arrays.X",
+            "F2",
+            "arrays.X",
         ),
         (
             "root = 1\nfuel = 1\n[fields]\n'A.b' = [{ from = 1, to = 2, by = 1 }]",
-            "F2 fields.A.b",
+            "F2",
+            "fields.A.b",
         ),
         (
             "root = 'R'\nfuel = 1\n[params]\nbare = [{ a = 1 }]",
-            "F2 params.bare",
+            "F2",
+            "params.bare",
         ),
         // Values of the wrong kind.
-        ("root = 1\nfuel = 0", "F3 root"),
-        ("root = 'R'\nfuel = 1.0", "F3 fuel"),
-        ("root.x = 1\nfuel = '1'", "F3 fuel"),
-        ("root = ['R']\nfuel = 1", "F3 root"),
-        ("root = 'R'\nfuel = 1979-05-27", "F3 fuel"),
+        ("root = 1\nfuel = 0", "F3", "root"),
+        ("root = 'R'\nfuel = 1.0", "F3", "fuel"),
+        ("root.x = 1\nfuel = '1'", "F3", "fuel"),
+        ("root = ['R']\nfuel = 1", "F3", "root"),
+        ("root = 'R'\nfuel = 1979-05-27", "F3", "fuel"),
         (
             "root = 'R'\nfuel = 1\nobjects = 1\narrays = []",
-            "F3 arrays",
+            "F3",
+            "arrays",
         ),
-        ("root = 'R'\nfuel = 1\nobjects = 1", "F3 objects"),
+        ("root = 'R'\nfuel = 1\nobjects = 1", "F3", "objects"),
         (
             "root = 'R'\nfuel = 1\nfields = 'A'\nparams = 1",
-            "F3 fields",
+            "F3",
+            "fields",
         ),
         (
             "root = 'R'\nfuel = 1\n[objects]\nR = '1'\nA = true",
-            "F3 objects.A",
+            "F3",
+            "objects.A",
         ),
-        ("root = 'R'\nfuel = 1\n[objects]\nA.B = 1", "F3 objects.A"),
-        ("root = 'R'\nfuel = 1\n[arrays]\nX = 1", "F3 arrays.X"),
+        (
+            "root = 'R'\nfuel = 1\n[objects]\nA.B = 1",
+            "F3",
+            "objects.A",
+        ),
+        ("root = 'R'\nfuel = 1\n[arrays]\nX = 1", "F3", "arrays.X"),
         (
             "root = 'R'\nfuel = 1\n[arrays]\nX = { count = 1, lengths = [true] }",
-            "F3 arrays.X",
+            "F3",
+            "arrays.X",
         ),
         (
             "root = 'R'\nfuel = 1\n[arrays]\nX = { count = 1, lengths = ['null'] }",
-            "F3 arrays.X",
+            "F3",
+            "arrays.X",
         ),
         (
             "root = 'R'\nfuel = 1\n[arrays]\nX = { count = 1, lengths = 1 }",
-            "F3 arrays.X",
+            "F3",
+            "arrays.X",
         ),
-        ("root = 'R'\nfuel = 1\n[fields]\nRv = [1]", "F3 fields.Rv"),
-        ("root = 'R'\nfuel = 1\n[fields]\nR.w = [1]", "F3 fields.R"),
-        ("root = 'R'\nfuel = 1\n[fields]\n'R.' = [1]", "F3 fields.R."),
-        ("root = 'R'\nfuel = 1\n[fields]\n'.w' = [1]", "F3 fields..w"),
+        (
+            "root = 'R'\nfuel = 1\n[fields]\nRv = [1]",
+            "F3",
+            "fields.Rv",
+        ),
+        (
+            "root = 'R'\nfuel = 1\n[fields]\nR.w = [1]",
+            "F3",
+            "fields.R",
+        ),
+        (
+            "root = 'R'\nfuel = 1\n[fields]\n'R.' = [1]",
+            "F3",
+            "fields.R.",
+        ),
+        (
+            "root = 'R'\nfuel = 1\n[fields]\n'.w' = [1]",
+            "F3",
+            "fields..w",
+        ),
         (
             "root = 'R'\nfuel = 1\n[fields]\n'R.w.x' = [1]",
-            "F3 fields.R.w.x",
+            "F3",
+            "fields.R.w.x",
         ),
-        ("root = 'R'\nfuel = 1\n[fields]\n'' = [1]", "F3 fields."),
-        ("root = 'R'\nfuel = 1\n[fields]\n'R.w' = 1", "F3 fields.R.w"),
+        ("root = 'R'\nfuel = 1\n[fields]\n'' = [1]", "F3", "fields."),
+        (
+            "root = 'R'\nfuel = 1\n[fields]\n'R.w' = 1",
+            "F3",
+            "fields.R.w",
+        ),
         (
             "root = 'R'\nfuel = 1\n[fields]\n'R.w' = { from = 1, to = 2 }",
-            "F3 fields.R.w",
+            "F3",
+            "fields.R.w",
         ),
         (
             "root = 'R'\nfuel = 1\n[fields]\n'R.w' = [1.0]",
-            "F3 fields.R.w",
+            "F3",
+            "fields.R.w",
         ),
         (
             "root = 'R'\nfuel = 1\n[fields]\n'R.w' = [[1]]",
-            "F3 fields.R.w",
+            "F3",
+            "fields.R.w",
         ),
         (
             "root = 'R'\nfuel = 1\n[params]\n'm.x' = [1979-05-27]",
-            "F3 params.m.x",
+            "F3",
+            "params.m.x",
         ),
         (
             "root = 'R'\nfuel = 0\n[fields]\n'R.w' = [{ from = true, to = 2 }]",
-            "F3 fields.R.w",
+            "F3",
+            "fields.R.w",
         ),
         // Numbers out of their limits.
-        ("root = 'R'\nfuel = 0", "F4 fuel"),
-        ("fuel = 0", "F4 fuel"),
-        ("root = 'R'\nfuel = -1", "F4 fuel"),
-        ("root = 'R'\nfuel = 1000000001", "F4 fuel"),
-        ("root = 'R'\nfuel = 1\n[objects]\nR = 65", "F4 objects.R"),
-        ("root = 'R'\nfuel = 1\n[objects]\nR = -1", "F4 objects.R"),
+        ("root = 'R'\nfuel = 0", "F4", "fuel"),
+        ("fuel = 0", "F4", "fuel"),
+        ("root = 'R'\nfuel = -1", "F4", "fuel"),
+        ("root = 'R'\nfuel = 1000000001", "F4", "fuel"),
+        ("root = 'R'\nfuel = 1\n[objects]\nR = 65", "F4", "objects.R"),
+        ("root = 'R'\nfuel = 1\n[objects]\nR = -1", "F4", "objects.R"),
         (
             "root = 'R'\nfuel = 1\n[arrays]\nX = { count = 65, lengths = [] }",
-            "F4 arrays.X",
+            "F4",
+            "arrays.X",
         ),
         (
             "root = 'R'\nfuel = 1\n[arrays]\nX = { count = 1, lengths = [65] }",
-            "F4 arrays.X",
+            "F4",
+            "arrays.X",
         ),
         (
             "root = 'R'\nfuel = 1\n[arrays]\nX = { count = 1, lengths = [{ from = 65, to = 0 }] }",
-            "F4 arrays.X",
+            "F4",
+            "arrays.X",
         ),
         (
             "root = 'R'\nfuel = 1\n[arrays]\nX = { count = 1, lengths = [{ from = 0, to = 65 }] }",
-            "F4 arrays.X",
+            "F4",
+            "arrays.X",
         ),
         (
             "root = 'R'\nfuel = 1\n[fields]\n'R.v' = [2147483648]",
-            "F4 fields.R.v",
+            "F4",
+            "fields.R.v",
         ),
         (
             "root = 'R'\nfuel = 1\n[fields]\n'R.v' = [-2147483649]",
-            "F4 fields.R.v",
+            "F4",
+            "fields.R.v",
         ),
         (
             "root = 'R'\nfuel = 1\n[params]\n'm.x' = [{ from = 0, to = 9223372036854775807 }]",
-            "F4 params.m.x",
+            "F4",
+            "params.m.x",
         ),
         (
             "root = 'R'\nfuel = 1\n[params]\n'm.x' = [{ from = 2147483648, to = 0 }]",
-            "F4 params.m.x",
+            "F4",
+            "params.m.x",
         ),
         // Missing keys.
-        ("fuel = 1", "F5 root"),
-        ("root = 'R'", "F5 fuel"),
+        ("fuel = 1", "F5", "root"),
+        ("root = 'R'", "F5", "fuel"),
         (
             "root = 'R'\nfuel = 1\n[arrays]\nX = { count = 1 }",
-            "F5 arrays.X",
+            "F5",
+            "arrays.X",
         ),
         (
             "root = 'R'\nfuel = 1\n[arrays]\nX = { lengths = [1] }",
-            "F5 arrays.X",
+            "F5",
+            "arrays.X",
         ),
         (
             "root = 'R'\nfuel = 1\n[arrays]\nX = { count = 1, lengths = [{}] }",
-            "F5 arrays.X",
+            "F5",
+            "arrays.X",
         ),
         (
             "root = 'R'\nfuel = 1\n[fields]\n'R.v' = [{ from = 1 }]",
-            "F5 fields.R.v",
+            "F5",
+            "fields.R.v",
         ),
-        ("fuel = 1\n[fields]\n'R.v' = [{ to = 1 }]", "F5 fields.R.v"),
+        (
+            "fuel = 1\n[fields]\n'R.v' = [{ to = 1 }]",
+            "F5",
+            "fields.R.v",
+        ),
         (
             "root = 'R'\nfuel = 1\n[fields]\n'R.v' = [{ to = 1 }]\n'A.v' = [{ to = 1 }]\n[arrays]\nX = {}",
-            "F5 arrays.X",
+            "F5",
+            "arrays.X",
         ),
     ] {
-        let found = answer(rt.alloc(), text.as_bytes())?;
-        assert_eq!(rt; found.as_str(), wanted, "{text}");
+        let is_refused = is_refused(rt.alloc(), text.as_bytes(), code, item);
+        assert!(rt; is_refused, "{text}");
     }
-    let found = answer(rt.alloc(), b"root = 'R\xff'\nfuel = 1".as_slice())?;
-    assert_eq!(rt; found.as_str(), "F1 toml");
-    Ok(())
+    let is_refused = is_refused(
+        rt.alloc(),
+        b"root = 'R\xff'\nfuel = 1".as_slice(),
+        "F1",
+        "toml",
+    );
+    assert!(rt; is_refused);
 }
 
-// The text so often, between the two others.
-fn many(alloc: Global, before: &str, text: &str, times: u32, after: &str) -> Result<String, Fail> {
-    let mut all = String::from_str(alloc, before)?;
+// Adds the text so often.
+fn repeat(out: &mut String, text: &str, times: u32) -> Result<(), Fail> {
     for _ in 0..times {
-        all.push_str(text)?;
+        out.push_str(text)?;
     }
-    all.push_str(after)?;
-    Ok(all)
+    Ok(())
+}
+
+// A text, then another so often, and a third so often.
+fn put_long(
+    out: &mut String,
+    head: &str,
+    first: &str,
+    firsts: u32,
+    second: &str,
+    seconds: u32,
+) -> Result<(), Fail> {
+    out.push_str(head)?;
+    repeat(out, first, firsts)?;
+    repeat(out, second, seconds)
+}
+
+const DOMAIN: &str = "root = 'R'\nfuel = 1\n[fields]\n'R.v' = [";
+
+const COMMENT: &str = "root = 'R'\nfuel = 1\n";
+
+#[test]
+fn brackets(rt: HostRuntime) -> Result<(), Fail> {
+    let mut text = String::new(rt.alloc());
+    put_long(&mut text, DOMAIN, "[", 10_000, "]", 10_001)?;
+    let is_refused = is_refused(rt.alloc(), text.as_bytes(), "F1", "toml");
+    assert!(rt; is_refused);
+    Ok(())
+}
+
+// Whether the bytes are read.
+fn is_some_document(alloc: Global, bytes: &[u8]) -> bool {
+    read_fin(alloc, bytes).is_ok()
 }
 
 #[test]
-fn hostile(rt: HostRuntime) -> Result<(), Fail> {
-    let alloc = rt.alloc();
-    let head = "root = 'R'\nfuel = 1\n[fields]\n'R.v' = [";
-    let nested = many(alloc, head, "[", 10_000, "")?;
-    let deep = many(alloc, nested.as_str(), "]", 10_000, "]")?;
-    assert_eq!(rt; answer(alloc, deep.as_bytes())?.as_str(), "F1 toml");
-    let long = many(alloc, head, "0,", 65_537, "]")?;
-    assert_eq!(rt; answer(alloc, long.as_bytes())?.as_str(), "read");
-    let comment = many(alloc, "root = 'R'\nfuel = 1\n", "#", 1_048_556, "")?;
-    assert_eq!(rt; comment.len(), MAX_FIN_BYTES);
-    assert!(rt; !is_too_long(comment.as_bytes()));
-    assert_eq!(rt; answer(alloc, comment.as_bytes())?.as_str(), "read");
-    let longer = many(alloc, comment.as_str(), "#", 1, "")?;
-    assert!(rt; is_too_long(longer.as_bytes()));
-    assert_eq!(rt; answer(alloc, longer.as_bytes())?.as_str(), "F6 size");
+fn many_numbers(rt: HostRuntime) -> Result<(), Fail> {
+    let mut text = String::new(rt.alloc());
+    put_long(&mut text, DOMAIN, "0,", 65_537, "]", 1)?;
+    let is_read = is_some_document(rt.alloc(), text.as_bytes());
+    assert!(rt; is_read);
+    Ok(())
+}
+
+// Whether so many bytes may be, and are read.
+fn is_greatest(alloc: Global, bytes: &[u8]) -> bool {
+    bytes.len() == MAX_FIN_BYTES && !is_too_long(bytes) && is_some_document(alloc, bytes)
+}
+
+// The size, and a byte more.
+#[test]
+fn sizes(rt: HostRuntime) -> Result<(), Fail> {
+    let mut text = String::new(rt.alloc());
+    put_long(&mut text, COMMENT, "#", 1_048_556, "", 0)?;
+    let is_greatest = is_greatest(rt.alloc(), text.as_bytes());
+    text.push_str("#")?;
+    let is_refused = is_refused(rt.alloc(), text.as_bytes(), "F6", "size");
+    let is_too_long = is_too_long(text.as_bytes());
+    assert!(rt; is_greatest);
+    assert!(rt; is_refused);
+    assert!(rt; is_too_long);
     Ok(())
 }
 
 #[test]
-fn laws(_rt: HostRuntime) -> Result<(), Fail> {
+fn laws(_rt: HostRuntime) {
     least_law();
     item_law();
-    Ok(())
 }

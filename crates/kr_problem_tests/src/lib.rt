@@ -1,32 +1,18 @@
-//! Tests of what stands between a typed program and its search: the finitization, the problem, the code of methods, what the predicate
-//! may run, and what is refused.
+//! Tests of the finitization and of the problem that it makes of a program. What a test looks at is borrowed by small functions that
+//! answer whether it is as it should be: a step that may fail while a program, a document or a layout is owned makes a proof long.
 #![tactic(auto)]
 
 #[cfg(test)]
-mod bodies;
+mod arrays;
 #[cfg(test)]
-mod compiled;
+mod files;
 #[cfg(test)]
 mod fin;
 #[cfg(test)]
-mod found;
-#[cfg(test)]
 mod meanings;
 #[cfg(test)]
-mod member_nodes;
-#[cfg(test)]
-mod places;
-#[cfg(test)]
 mod problem;
-#[cfg(test)]
-mod pure;
-#[cfg(test)]
-mod reach;
-#[cfg(test)]
-mod resolver;
 #[cfg(test)]
 mod space;
 #[cfg(test)]
 mod space_problems;
-#[cfg(test)]
-mod tables;

@@ -1,23 +1,24 @@
 // What names mean where there are no classes, and documents with names that nothing has.
+ghost use Rattle.std.specs.Prelude.{[]};
 ghost use Rattle.kr_names.specs.Shown.{AreHeads};
 
-use kr_ast::Tree;
-use kr_domains::ItemName;
+use kr_base::NoMemory;
 use kr_fin::{FinDoc, read_fin};
 use kr_meanings::{Least, Meaning, array_type, meaning_of, note_names, type_number};
 use kr_names::Heads;
 use kr_type_numbers::Types;
 use std::alloc::Global;
-use std::test::Fail;
 
 // What a text means: as a type, as an array type, and as a name in a domain.
-fn meanings(alloc: Global, text: &[u8]) -> Result<(bool, bool, &'static str), Fail> {
-    let trees: Vec<Tree> = Vec::new(alloc);
-    let heads = Heads::read(alloc, trees.as_slice())?;
-    let mut types = Types::new(alloc)?;
-    let number = type_number(alloc, &mut types, &heads, text)?;
-    let array = array_type(alloc, &mut types, &heads, text)?;
-    let word = match meaning_of(alloc, &mut types, &heads, text)? {
+fn meanings_of(
+    alloc: Global,
+    types: &mut Types,
+    heads: &Heads,
+    text: &[u8],
+) -> Result<(bool, bool, &'static str), NoMemory> {
+    let number = type_number(alloc, types, heads, text)?;
+    let array = array_type(alloc, types, heads, text)?;
+    let word = match meaning_of(alloc, types, heads, text)? {
         Meaning::Null => "null",
         Meaning::Objects(_) => "objects",
         Meaning::Arrays(_) => "arrays",
@@ -26,8 +27,18 @@ fn meanings(alloc: Global, text: &[u8]) -> Result<(bool, bool, &'static str), Fa
     Ok((number.is_some(), array.is_some(), word))
 }
 
-#[test]
-fn names(rt: HostRuntime) -> Result<(), Fail> {
+// The same among the types that are there at first.
+fn meanings(
+    alloc: Global,
+    heads: &Heads,
+    text: &str,
+) -> Result<(bool, bool, &'static str), NoMemory> {
+    let mut types = Types::new(alloc)?;
+    meanings_of(alloc, &mut types, heads, text.as_bytes())
+}
+
+// The first text that doesn't mean what it should, where there are these classes.
+fn wrong_meaning(alloc: Global, heads: &Heads) -> Result<Option<&'static str>, NoMemory> {
     for (text, is_type, is_array, word) in [
         ("int", true, false, "nothing"),
         ("boolean", true, false, "nothing"),
@@ -45,43 +56,72 @@ fn names(rt: HostRuntime) -> Result<(), Fail> {
         ("[]", false, false, "nothing"),
         ("", false, false, "nothing"),
     ] {
-        let found = meanings(rt.alloc(), text.as_bytes())?;
-        assert!(rt; found == (is_type, is_array, word), "{text}");
+        let found = meanings(alloc, heads, text)?;
+        if found != (is_type, is_array, word) {
+            return Ok(Some(text));
+        }
     }
-    Ok(())
-}
-
-// The item of the first name of a document that nothing has, or none.
-fn item_of(
-    alloc: Global,
-    trees: &[Tree],
-    heads: &Heads,
-    document: &FinDoc,
-) -> Result<ItemName, Fail>
-    requires { AreHeads trees.now heads.now }
-{
-    let mut types = Types::new(alloc)?;
-    let mut least = Least::new(alloc);
-    note_names(&mut least, &mut types, trees, heads, document)?;
-    match least.into_fault() {
-        Some(fault) => Ok(fault.item),
-        None => Ok(ItemName::of(alloc, b"none".as_slice())?),
-    }
-}
-
-// The same of a text, without classes.
-fn unknown_item(alloc: Global, text: &str) -> Result<ItemName, Fail> {
-    let Ok(document) = read_fin(alloc, text.as_bytes()) else {
-        return Err(Fail::new("no document"));
-    };
-    let trees: Vec<Tree> = Vec::new(alloc);
-    let heads = Heads::read(alloc, trees.as_slice())?;
-    item_of(alloc, trees.as_slice(), &heads, &document)
+    Ok(None)
 }
 
 #[test]
-fn unknown_names(rt: HostRuntime) -> Result<(), Fail> {
-    for (text, wanted) in [
+fn names(rt: HostRuntime) -> Result<(), NoMemory> {
+    let heads = Heads::read(rt.alloc(), &[])?;
+    let wrong = wrong_meaning(rt.alloc(), &heads)?;
+    assert_eq!(rt; wrong, None);
+    Ok(())
+}
+
+// Whether that is the item of the first broken rule, or none.
+fn is_least(least: Least, item: &str) -> bool {
+    match least.into_fault() {
+        Some(fault) => fault.item.as_bytes() == item.as_bytes(),
+        None => item == "none",
+    }
+}
+
+// Whether that is the item of the first name of a document that nothing has.
+fn is_unknown(
+    alloc: Global,
+    types: &mut Types,
+    heads: &Heads,
+    document: &FinDoc,
+    item: &str,
+) -> Result<bool, NoMemory>
+    requires { AreHeads [] heads.now }
+{
+    let mut least = Least::new(alloc);
+    note_names(&mut least, types, &[], heads, document)?;
+    Ok(is_least(least, item))
+}
+
+fn is_unknown_beside(
+    alloc: Global,
+    heads: &Heads,
+    document: &FinDoc,
+    item: &str,
+) -> Result<bool, NoMemory>
+    requires { AreHeads [] heads.now }
+{
+    let mut types = Types::new(alloc)?;
+    is_unknown(alloc, &mut types, heads, document, item)
+}
+
+// The same of a text.
+fn is_unknown_in(alloc: Global, heads: &Heads, text: &str, item: &str) -> Result<bool, NoMemory>
+    requires { AreHeads [] heads.now }
+{
+    match read_fin(alloc, text.as_bytes()) {
+        Err(_) => Ok(false),
+        Ok(document) => is_unknown_beside(alloc, heads, &document, item),
+    }
+}
+
+// The first text whose first unknown name has another item, where there are no classes.
+fn wrong_name(alloc: Global, heads: &Heads) -> Result<Option<&'static str>, NoMemory>
+    requires { AreHeads [] heads.now }
+{
+    for (text, item) in [
         ("root='R'\nfuel=1", "root"),
         ("root='R'\nfuel=1\n[objects]\nR=1\nA=1", "objects.A"),
         (
@@ -99,8 +139,18 @@ fn unknown_names(rt: HostRuntime) -> Result<(), Fail> {
         ),
         ("root='R'\nfuel=1\n[params]\n'm.x'=['M']", "params.m.x"),
     ] {
-        let found = unknown_item(rt.alloc(), text)?;
-        assert!(rt; found.as_bytes() == wanted.as_bytes(), "{text}");
+        let is_unknown = is_unknown_in(alloc, heads, text, item)?;
+        if !is_unknown {
+            return Ok(Some(text));
+        }
     }
+    Ok(None)
+}
+
+#[test]
+fn unknown_names(rt: HostRuntime) -> Result<(), NoMemory> {
+    let heads = Heads::read(rt.alloc(), &[])?;
+    let wrong = wrong_name(rt.alloc(), &heads)?;
+    assert_eq!(rt; wrong, None);
     Ok(())
 }

@@ -1,17 +1,28 @@
 // Small problems, worked by hand.
 
+use kr_base::NoMemory;
 use kr_fin::Listed;
 use kr_iso::{Object, Slots};
 use kr_mean::Mode;
 use kr_problem::{ClassDomain, Item, Layout, SlotPlace, Spotted, any_program_law};
 use kr_value::{Class, Spot, Value};
 use std::alloc::Global;
-use std::test::Fail;
 
-fn listed<T: Drop + Copy>(alloc: Global, items: &[T]) -> Result<Listed<T>, Fail> {
+fn listed<T: Drop + Copy>(alloc: Global, items: &[T]) -> Result<Listed<T>, NoMemory> {
     let mut list = Listed::new(alloc);
     for item in items {
         list.push(*item)?;
+    }
+    Ok(list)
+}
+
+fn spotted(alloc: Global, spots: &[(Spot, u32)]) -> Result<Listed<Spotted>, NoMemory> {
+    let mut list = Listed::new(alloc);
+    for (spot, domain) in spots {
+        list.push(Spotted {
+            spot: *spot,
+            domain: *domain,
+        })?;
     }
     Ok(list)
 }
@@ -22,19 +33,14 @@ fn class_domain(
     class: Class,
     count: u32,
     spots: &[(Spot, u32)],
-) -> Result<ClassDomain, Fail> {
-    let mut list = Listed::new(alloc);
-    for (spot, domain) in spots {
-        list.push(Spotted {
-            spot: *spot,
-            domain: *domain,
-        })?;
-    }
+) -> Result<ClassDomain, NoMemory> {
+    let name = listed(alloc, name.as_bytes())?;
+    let spots = spotted(alloc, spots)?;
     Ok(ClassDomain {
-        name: listed(alloc, name.as_bytes())?,
+        name,
         class,
         count,
-        spots: list,
+        spots,
     })
 }
 
@@ -92,44 +98,71 @@ fn domain_at(layout: &Layout, domain: u32) -> Option<(&[u8], Class, u32, usize)>
     }
 }
 
-// A list of up to two nodes with a number each, and an array of up to two nodes.
-fn lists(alloc: Global) -> Result<Layout, Fail> {
-    let mut domains = Listed::new(alloc);
-    domains.push(listed(
+fn add_domain(
+    alloc: Global,
+    domains: &mut Listed<Listed<Item>>,
+    items: &[Item],
+) -> Result<(), NoMemory> {
+    let domain = listed(alloc, items)?;
+    domains.push(domain)
+}
+
+fn add_domains(alloc: Global, domains: &mut Listed<Listed<Item>>) -> Result<(), NoMemory> {
+    add_domain(
         alloc,
+        domains,
         [Item::Plain(Value::Null), Item::Objects(1)].as_slice(),
-    )?)?;
-    domains.push(listed(
+    )?;
+    add_domain(
         alloc,
+        domains,
         [
             Item::Integers(-1, 1),
             Item::Integers(5, 4),
             Item::Plain(Value::Int(7)),
         ]
         .as_slice(),
-    )?)?;
-    domains.push(listed(
+    )?;
+    add_domain(
         alloc,
+        domains,
         [Item::Objects(0), Item::Objects(2), Item::Objects(9)].as_slice(),
-    )?)?;
-    domains.push(listed(alloc, [Item::Integers(0, 2)].as_slice())?)?;
-    let mut classes = Listed::new(alloc);
-    classes.push(class_domain(
+    )?;
+    add_domain(alloc, domains, [Item::Integers(0, 2)].as_slice())
+}
+
+fn add_class(
+    alloc: Global,
+    classes: &mut Listed<ClassDomain>,
+    name: &str,
+    class: Class,
+    count: u32,
+    spots: &[(Spot, u32)],
+) -> Result<(), NoMemory> {
+    let domain = class_domain(alloc, name, class, count, spots)?;
+    classes.push(domain)
+}
+
+fn add_classes(alloc: Global, classes: &mut Listed<ClassDomain>) -> Result<(), NoMemory> {
+    add_class(
         alloc,
+        classes,
         "List",
         Class::Object(0),
         1,
         [(Spot::Field(0), 0), (Spot::Field(1), 2)].as_slice(),
-    )?)?;
-    classes.push(class_domain(
+    )?;
+    add_class(
         alloc,
+        classes,
         "Node",
         Class::Object(1),
         2,
         [(Spot::Field(0), 1), (Spot::Field(1), 0)].as_slice(),
-    )?)?;
-    classes.push(class_domain(
+    )?;
+    add_class(
         alloc,
+        classes,
         "Node[]",
         Class::Array(0),
         1,
@@ -139,17 +172,26 @@ fn lists(alloc: Global) -> Result<Layout, Fail> {
             (Spot::Element(1), 0),
         ]
         .as_slice(),
-    )?)?;
+    )
+}
+
+fn class_domains(alloc: Global) -> Result<Listed<ClassDomain>, NoMemory> {
+    let mut classes = Listed::new(alloc);
+    add_classes(alloc, &mut classes)?;
+    Ok(classes)
+}
+
+fn layout_over(alloc: Global, domains: &[Listed<Item>]) -> Result<Layout, NoMemory> {
     let parameters = listed(alloc, [1, 8].as_slice())?;
-    Ok(Layout::new(
-        alloc,
-        0,
-        Mode::List,
-        100,
-        parameters,
-        classes,
-        domains.as_slice(),
-    )?)
+    let classes = class_domains(alloc)?;
+    Layout::new(alloc, 0, Mode::List, 100, parameters, classes, domains)
+}
+
+// A list of up to two nodes with a number each, and an array of up to two nodes.
+fn lists(alloc: Global) -> Result<Layout, NoMemory> {
+    let mut domains = Listed::new(alloc);
+    add_domains(alloc, &mut domains)?;
+    layout_over(alloc, domains.as_slice())
 }
 
 const ROOT: Object = Object {
@@ -172,14 +214,8 @@ const NODES: Object = Object {
     number: 0,
 };
 
-#[test]
-fn slots(rt: HostRuntime) -> Result<(), Fail> {
-    let layout = lists(rt.alloc())?;
-    assert_eq!(rt; Layout::slots(&layout), 12);
-    assert_eq!(rt; layout.parameters(), 2);
-    assert_eq!(rt; layout.root(), 0);
-    assert_eq!(rt; layout.fuel(), 100);
-    assert!(rt; matches!(layout.mode(), Mode::List));
+// The first slot that isn't as it should be.
+fn wrong_slot(layout: &Layout) -> Option<u32> {
     for (slot, place, owner, size) in [
         (0, SlotPlace::This, None, 1),
         (1, SlotPlace::Parameter(0), None, 4),
@@ -194,18 +230,24 @@ fn slots(rt: HostRuntime) -> Result<(), Fail> {
         (10, SlotPlace::At(3, Spot::Element(0)), Some(NODES), 3),
         (11, SlotPlace::At(3, Spot::Element(1)), Some(NODES), 3),
     ] {
-        assert!(rt;
-            slot_at(&layout, slot) == Some((place, owner, size)),
-            "{slot}"
-        );
+        if slot_at(layout, slot) != Some((place, owner, size)) {
+            return Some(slot);
+        }
     }
-    assert!(rt; slot_at(&layout, 12).is_none());
-    Ok(())
+    None
 }
 
-#[test]
-fn values(rt: HostRuntime) -> Result<(), Fail> {
-    let layout = lists(rt.alloc())?;
+fn numbers_fit(layout: &Layout) -> bool {
+    Layout::slots(layout) == 12
+        && slot_at(layout, 12).is_none()
+        && layout.parameters() == 2
+        && layout.root() == 0
+        && layout.fuel() == 100
+        && matches!(layout.mode(), Mode::List)
+}
+
+// The first slot and index whose value isn't as it should be.
+fn wrong_value(layout: &Layout) -> Option<(u32, u32)> {
     for (slot, index, value, object) in [
         (0, 0, Value::Ref(0), Some(ROOT)),
         (1, 0, Value::Int(-1), None),
@@ -218,28 +260,48 @@ fn values(rt: HostRuntime) -> Result<(), Fail> {
         (4, 1, Value::Ref(3), Some(NODES)),
         (9, 2, Value::Int(2), None),
     ] {
-        assert!(rt;
-            value_at(&layout, slot, index) == Some((value, object)),
-            "{slot} {index}"
-        );
+        if value_at(layout, slot, index) != Some((value, object)) {
+            return Some((slot, index));
+        }
     }
-    assert!(rt; value_at(&layout, 2, 0).is_none());
-    assert!(rt; first_object(&layout, 0) == Some(ROOT));
-    assert!(rt; first_object(&layout, 1).is_none());
-    assert!(rt; first_object(&layout, 2).is_none());
-    Ok(())
+    None
+}
+
+fn first_objects_fit(layout: &Layout) -> bool {
+    value_at(layout, 2, 0).is_none()
+        && first_object(layout, 0) == Some(ROOT)
+        && first_object(layout, 1).is_none()
+        && first_object(layout, 2).is_none()
+}
+
+fn domains_fit(layout: &Layout) -> bool {
+    layout.domains() == 3
+        && domain_at(layout, 1) == Some((b"Node".as_slice(), Class::Object(1), 2, 2))
+        && domain_at(layout, 2) == Some((b"Node[]".as_slice(), Class::Array(0), 1, 3))
+        && domain_at(layout, 3).is_none()
+}
+
+fn objects_fit(layout: &Layout) -> bool {
+    object_at(layout, ROOT) == Some((0, 3))
+        && object_at(layout, SECOND) == Some((2, 7))
+        && object_at(layout, NODES) == Some((3, 9))
 }
 
 #[test]
-fn objects(rt: HostRuntime) -> Result<(), Fail> {
+fn the_layout_of_lists(rt: HostRuntime) -> Result<(), NoMemory> {
     let layout = lists(rt.alloc())?;
-    assert_eq!(rt; layout.domains(), 3);
-    assert!(rt; domain_at(&layout, 1) == Some((b"Node".as_slice(), Class::Object(1), 2, 2)));
-    assert!(rt; domain_at(&layout, 2) == Some((b"Node[]".as_slice(), Class::Array(0), 1, 3)));
-    assert!(rt; domain_at(&layout, 3).is_none());
-    assert!(rt; object_at(&layout, ROOT) == Some((0, 3)));
-    assert!(rt; object_at(&layout, SECOND) == Some((2, 7)));
-    assert!(rt; object_at(&layout, NODES) == Some((3, 9)));
+    let slot = wrong_slot(&layout);
+    let value = wrong_value(&layout);
+    let numbers = numbers_fit(&layout);
+    let first = first_objects_fit(&layout);
+    let domains = domains_fit(&layout);
+    let objects = objects_fit(&layout);
+    assert_eq!(rt; slot, None);
+    assert_eq!(rt; value, None);
+    assert!(rt; numbers);
+    assert!(rt; first);
+    assert!(rt; domains);
+    assert!(rt; objects);
     any_program_law();
     Ok(())
 }

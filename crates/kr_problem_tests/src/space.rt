@@ -1,70 +1,118 @@
 // The least rule that small documents break beside a class without members.
-ghost use Rattle.std.specs.Prelude.{◌<◌, IfOk, length};
+ghost use Rattle.std.specs.Prelude.{◌<◌, length};
 ghost use Rattle.kr_domains.specs.Limits.{IsWithinLimits};
+ghost use Rattle.kr_fitting.specs.Classes.{AreClasses, AreTyped};
 ghost use Rattle.kr_members.specs.Kept.{AreMembers};
 ghost use Rattle.kr_names.specs.Shown.{AreHeads};
 
+use crate::files::one_file;
 use kr_ast::Tree;
-use kr_domains::{ItemName, SpaceRefusal};
-use kr_fin::{FinDoc, FinRefusal, read_fin};
+use kr_base::NoMemory;
+use kr_domains::{Fault, SpaceRefusal};
+use kr_fin::{FinDoc, read_fin};
 use kr_fitting::Classes;
 use kr_mean::Mode;
 use kr_members::Members;
 use kr_names::Heads;
-use kr_sources::tree_of;
-use kr_space::judge_space;
+use kr_space::{judge_space, limits_law};
 use kr_type_numbers::{NodeTypes, Types};
 use std::alloc::Global;
-use std::test::Fail;
 
-// A document.
-fn document_of(alloc: Global, text: &str) -> Result<FinDoc, FinRefusal>
-    ensures { IfOk result (λ document. IsWithinLimits document) }
-{
-    read_fin(alloc, text.as_bytes())
+fn is_fault(fault: &Fault, code: &str, item: &str) -> bool {
+    fault.rule.code() == code && fault.item.as_bytes() == item.as_bytes()
 }
 
-// The code of the least rule that a document breaks beside these files, and the item.
-fn judged_beside(
+// Whether that is the least rule that a document breaks, at that item.
+fn is_least(
+    alloc: Global,
+    classes: &Classes,
+    types: &mut Types,
+    document: &FinDoc,
+    code: &str,
+    item: &str,
+) -> bool
+    requires classes { AreClasses classes.now }
+    requires typed { AreTyped classes.now types.old }
+    requires limits { IsWithinLimits document.now }
+{
+    match judge_space(alloc, classes, types, document, &Mode::List) {
+        Err(SpaceRefusal::Broken(fault)) => is_fault(&fault, code, item),
+        _ => false,
+    }
+}
+
+// The same of a text.
+fn is_least_in(
+    alloc: Global,
+    classes: &Classes,
+    types: &mut Types,
+    text: &str,
+    code: &str,
+    item: &str,
+) -> bool
+    requires classes { AreClasses classes.now }
+    requires typed { AreTyped classes.now types.old }
+{
+    limits_law();
+    match read_fin(alloc, text.as_bytes()) {
+        Err(_) => false,
+        Ok(document) => is_least(alloc, classes, types, &document, code, item),
+    }
+}
+
+fn is_least_among(
     alloc: Global,
     trees: &[Tree],
     heads: &Heads,
     members: &Members,
-    document: &FinDoc,
-) -> Result<(&'static str, ItemName), Fail>
+    types: &mut Types,
+    text: &str,
+    code: &str,
+    item: &str,
+) -> Result<bool, NoMemory>
     requires few { length trees.now < 65 }
     requires heads { AreHeads trees.now heads.now }
     requires members { AreMembers trees.now members.now }
-    requires limits { IsWithinLimits document.now }
 {
-    let mut types = Types::new(alloc)?;
-    let numbers = NodeTypes::read(alloc, trees, heads, &mut types)?;
+    let numbers = NodeTypes::read(alloc, trees, heads, types)?;
     let classes = Classes {
         trees,
         heads,
         members,
         numbers: &numbers,
     };
-    match judge_space(alloc, &classes, &mut types, document, &Mode::List) {
-        Err(SpaceRefusal::Broken(fault)) => Ok((fault.rule.code(), fault.item)),
-        _ => Err(Fail::new("nothing is broken")),
-    }
+    Ok(is_least_in(alloc, &classes, types, text, code, item))
 }
 
-// The same beside a class without members.
-fn judged(alloc: Global, text: &str) -> Result<(&'static str, ItemName), Fail> {
-    let Ok(document) = document_of(alloc, text) else {
-        return Err(Fail::new("no document"));
-    };
-    let mut trees = Vec::new(alloc);
-    trees.push(tree_of(alloc, 0, "class N { }")?)?;
-    let heads = Heads::read(alloc, &trees)?;
-    let members = Members::read(alloc, &trees, &heads)?;
-    judged_beside(alloc, &trees, &heads, &members, &document)
+// Whether a text breaks that rule at that item first, beside these files.
+fn is_least_beside(
+    alloc: Global,
+    trees: &[Tree],
+    heads: &Heads,
+    members: &Members,
+    text: &str,
+    code: &str,
+    item: &str,
+) -> Result<bool, NoMemory>
+    requires few { length trees.now < 65 }
+    requires heads { AreHeads trees.now heads.now }
+    requires members { AreMembers trees.now members.now }
+{
+    let mut types = Types::new(alloc)?;
+    is_least_among(alloc, trees, heads, members, &mut types, text, code, item)
 }
 
-#[test]
-fn least_rules(rt: HostRuntime) -> Result<(), Fail> {
+// The first text that doesn't.
+fn wrong_row(
+    alloc: Global,
+    trees: &[Tree],
+    heads: &Heads,
+    members: &Members,
+) -> Result<Option<&'static str>, NoMemory>
+    requires few { length trees.now < 65 }
+    requires heads { AreHeads trees.now heads.now }
+    requires members { AreMembers trees.now members.now }
+{
     for (text, code, item) in [
         ("root='M'\nfuel=1", "S1", "root"),
         ("root='N'\nfuel=1\n[objects]\nN=1\nA=1", "S1", "objects.A"),
@@ -105,9 +153,37 @@ fn least_rules(rt: HostRuntime) -> Result<(), Fail> {
             "root",
         ),
     ] {
-        let (found, at) = judged(rt.alloc(), text)?;
-        assert!(rt; found == code, "{text}");
-        assert!(rt; at.as_bytes() == item.as_bytes(), "{text}");
+        let is_least = is_least_beside(alloc, trees, heads, members, text, code, item)?;
+        if !is_least {
+            return Ok(Some(text));
+        }
     }
+    Ok(None)
+}
+
+fn wrong_beside(
+    alloc: Global,
+    trees: &[Tree],
+    heads: &Heads,
+) -> Result<Option<&'static str>, NoMemory>
+    requires few { length trees.now < 65 }
+    requires heads { AreHeads trees.now heads.now }
+{
+    let members = Members::read(alloc, trees, heads)?;
+    wrong_row(alloc, trees, heads, &members)
+}
+
+fn wrong_in(alloc: Global, trees: &[Tree]) -> Result<Option<&'static str>, NoMemory>
+    requires { length trees.now < 65 }
+{
+    let heads = Heads::read(alloc, trees)?;
+    wrong_beside(alloc, trees, &heads)
+}
+
+#[test]
+fn least_rules(rt: HostRuntime) -> Result<(), NoMemory> {
+    let trees = one_file(rt.alloc(), "class N { }")?;
+    let wrong = wrong_in(rt.alloc(), &trees)?;
+    assert_eq!(rt; wrong, None);
     Ok(())
 }

@@ -88,14 +88,6 @@ module _ (problem : Problem) (w : IsWellFormed problem) (name : ℕ → ℕ → 
       go (is_spot d k j a b c z) =
           rw (z, on_spot d k j a b c) (ap (λ (x : Slot). x.domain) (object_slot problem d (name d k) j a (name_in d k b) c).1 ∙ sym (ap (λ (x : Slot). x.domain) (object_slot problem d k j a b c).1))
 
-  pub on_within : (s : ℕ) → s < length (slots problem) → on s < length (slots problem)
-  on_within s h = go (slot_case problem s h)
-    where
-      go : SlotCase problem s → on s < length (slots problem)
-      go (is_this z) = rw (z, on_this) (omega arith)
-      go (is_parameter i l z) = rw (z, on_parameter i l) (parameter_slot problem i l).0
-      go (is_spot d k j a b c z) = rw (z, on_spot d k j a b c) (object_slot problem d (name d k) j a (name_in d k b) c).0
-
   -- ---- values
 
   abbrev pub AgreeAt : (v u : List ℕ) → ℕ → Type 0

@@ -48,11 +48,6 @@ has_distinct {X} same eq x (y ∷ ys) (inr h) = go (bool_cases (same y x)) (has_
     go (inl e) r = inl (eq y x e)
     go (inr e) r = inr (has_filter (λ z. not (same y z)) x (distinct same ys) r (rw e refl))
 
-pub has_distinct_from : {X : Type 0} (same : X → X → Bool) (x : X) (xs : List X) → Has x (distinct same xs) → Has x xs
-has_distinct_from same x [] h = absurd h
-has_distinct_from same x (y ∷ ys) (inl e) = inl e
-has_distinct_from same x (y ∷ ys) (inr h) = inr (has_distinct_from same x ys (has_filter_from (λ z. not (same y z)) x (distinct same ys) h).0)
-
 pub apart_differ : (xs : List ℕ) → Apart xs → Differ xs
 apart_differ [] h = tt
 apart_differ (x ∷ xs) h = (no_lacks xs x h.0, apart_differ xs h.1)

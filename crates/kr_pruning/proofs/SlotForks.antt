@@ -35,10 +35,6 @@ pub all_distinct : {X : Type 0} (P : X → Type 0) (same : X → X → Bool) (xs
 all_distinct P same [] h = tt
 all_distinct P same (x ∷ xs) h = (h.0, all_filter P (λ y. not (same x y)) (distinct same xs) (all_distinct P same xs h.1))
 
-pub all_each : {X : Type 0} (P : X → Type 0) (xs : List X) → ((x : X) → P x) → AllOf P xs
-all_each P [] f = tt
-all_each P (x ∷ xs) f = (f x, all_each P xs f)
-
 pub all_has : {X : Type 0} (P : X → Type 0) (xs : List X) → AllOf P xs → (x : X) → Has x xs → P x
 all_has P [] h x i = absurd i
 all_has P (y ∷ ys) h x (inl e) = subst P e h.0

@@ -3,7 +3,7 @@ use Rattle.std.proofs.Common.{◌≡◌, refl, sym, ap, ◌∙◌, subst, ℕ, �
 use Rattle.std.specs.Prelude.{slice_get}
 use Rattle.kr_ast.specs.declared.node.Node.{Node}
 use Rattle.kr_ast.specs.declared.node.Entry.{Entry}
-use Rattle.kr_ast.specs.Arena.{Arena, ArePartsFrom, AreNamesIn, IsPart, names, parts, tree_in, tree_of}
+use Rattle.kr_ast.specs.Arena.{Arena, ArePartsFrom, IsPart, parts, tree_in, tree_of}
 use Rattle.kr_ast.specs.Tree as trees
 use Rattle.kr_ast.specs.Tree.{Tree}
 use Rattle.kr_value.specs.declared.object.Class.{Class}
@@ -30,9 +30,6 @@ module _ (a : Arena) (i : ℕ) (e : Entry) (n : Node) (at : IsEntry a i e) (is :
 
   pub parts_are : ArePartsFrom a.entries i 0 (parts n)
   parts_are = subst (λ (m : Node). ArePartsFrom a.entries i 0 (parts m)) is at.parts
-
-  pub names_are : AreNamesIn a.text (names n)
-  names_are = subst (λ (m : Node). AreNamesIn a.text (names m)) is at.names
 
 pub class_running : (s : Scope) (e : Tree) → class_before (running s) e ≡ class_before s e
 class_running s (trees.Variable p n) = refl

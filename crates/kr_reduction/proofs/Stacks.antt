@@ -56,15 +56,6 @@ are_short (x ∷ ss) [] (suc k) s p q = are_none ss k s p
 are_short (x ∷ ss) (y ∷ vs) zero s p q = cc
 are_short (x ∷ ss) (y ∷ vs) (suc k) s p q = are_short ss vs k s p q
 
-pub are_all : (ss : List Sort) (vs : List Kept) (k : ℕ) → length ss ≤ k → are (drop k ss) vs ≡ true
-are_all [] vs k h = rw (drop_none k) refl
-  where
-    drop_none : (k : ℕ) → drop {A = Sort} k [] ≡ []
-    drop_none zero = refl
-    drop_none (suc k) = refl
-are_all (x ∷ ss) vs zero h = absurd (omega arith)
-are_all (x ∷ ss) vs (suc k) h = are_all ss vs k (omega arith)
-
 pub none_behind : (vs : List Kept) (k : ℕ) → length vs ≤ k → slice_get vs k ≡ None
 none_behind [] k h = refl
 none_behind (v ∷ vs) zero h = absurd (omega arith)

@@ -8,6 +8,6 @@ mod row;
 mod structures;
 
 pub use lines::{put_checked, put_out_of_memory, put_read_fault, put_usage_fault};
-pub use listing::put_listing;
+pub use listing::{once_written, put_listing};
 pub use pieces::{add_bytes, add_number};
 pub use structures::Structures;

@@ -100,7 +100,7 @@ fn put_rows<R: Runner + Drop, S: Structures, K: Sink, L: Ledger>(
 }
 
 /// A status once its text is written, or that of a write fault.
-fn once_written(written: Result<(), Failed>, status: u8) -> u8
+pub fn once_written(written: Result<(), Failed>, status: u8) -> u8
     ensures { result ≡ (if is_ok written then status else 7) }
 {
     if written.is_ok() { status } else { 7 }

@@ -83,9 +83,6 @@ module _ (program : Program) (code : Code) (n : Numbering) (tables : AreTables p
   pub dispatched : (m : Method) (k : ℕ) → IsMethod code n m k → (o : Value) (vs : List Value) (class : Class) → Agree (run_numbered code d o vs (method_in code k class)) (means.run_method program p o vs (overriding program m class))
   dispatched m k h o vs class state = numbered_runs (overriding program (n.method k) class) (method_in code k class) (tables.dispatch k class) o vs state ∙ ap (λ (x : Method). means.run_method program p o vs (overriding program x class) state) h.is
 
-  pub super_runs : (m : Option Method) (k : Option ℕ) → IsMaybeMethod code n m k → (o : Value) (vs : List Value) → Agree (run_numbered code d o vs k) (means.run_method program p o vs m)
-  super_runs = numbered_runs
-
   -- ---- creation
 
   arguments_run : (s : Scope) (t : Tree) (ns : Option Nodes) → AreArguments code n s t ns → Agree (super_values code d ns) (super_arguments p s t)

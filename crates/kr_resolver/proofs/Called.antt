@@ -34,7 +34,7 @@ use Rattle.kr_resolver.specs.Calls.{IsFound, IsOwnCallee, IsStaticCallee}
 use Rattle.std.proofs.Common.{Bool, cond}
 use Rattle.kr_table.specs.Table.{Table, type_named}
 use Rattle.kr_table.specs.Types.{JavaType}
-use Rattle.kr_typing.specs.Scopes.{value, written}
+use Rattle.kr_typing.specs.Scopes.{written}
 use Rattle.kr_loops.proofs.Loops.{running_same}
 use Rattle.kr_mean.specs.Meaning.{method_of_type}
 use Rattle.kr_code.specs.declared.code.ClassCode.{ClassCode}
@@ -103,9 +103,6 @@ module _ (p : Program) (program : IsProgram p) (arrays : List ℕ) (s : Site) (e
 
   abbrev node : Node
   node = nodes.MethodCall o n a
-
-  pub object_scope : node_scope p s.file o ≡ value (scope_at p s)
-  object_scope = part_scope p program s at.site 0 o (parts_are p s e node at is).0 ∙ ap (λ (t : Tree). handed (scope_at p s) t 0) (tree_is p s e node at is)
 
   arguments : (final : Final) (code : Code) → Becomes p known linked final code → AreParts (numbering_of p final) (running (scope_at p s)) (items (node_tree p s.file a)) (listed code ns)
   arguments final code b = arguments_are p program known linked final code b s e node at is 1 a (parts_are p s e node at is).1.0 ns links (running (scope_at p s)) refl

@@ -1,13 +1,8 @@
 -- The kinds of nodes.
-use Rattle.std.proofs.Common.{◌≡◌, refl, ℕ, ◌+◌, true, false, List, [], ◌∷◌, subst, pos}
-use Rattle.kr_base.specs.declared.place.Place.{Place}
-use Rattle.kr_ast.specs.Tree.{Tree}
+use Rattle.std.proofs.Common.{◌≡◌, refl, ℕ, ◌+◌, true, List, [], ◌∷◌, subst, pos}
 use Rattle.kr_ast.specs.Arena.{ArePartsFrom, parts, tree_in, tree_of}
-use Rattle.kr_ast.specs.declared.node.Name.{Name}
 use Rattle.kr_ast.specs.declared.node.UnaryOperator.{UnaryOperator}
 use Rattle.kr_ast.specs.declared.node.UnaryOperator.TheVariants.{Plus, Minus, Complement, Not}
-use Rattle.kr_ast.specs.declared.node.BinaryOperator.{BinaryOperator}
-use Rattle.kr_ast.specs.declared.node.StepOperator.{StepOperator}
 use Rattle.kr_ast.specs.declared.node.Entry.{Entry}
 use Rattle.kr_ast.specs.declared.node.Node.{Node}
 use Rattle.kr_ast.specs.declared.node.Node.TheVariants as nodes
@@ -75,32 +70,3 @@ module _ (p : Program) (program : IsProgram p) (arrays : List ℕ) (s : Site) (e
 
   pub old_resolves : (a : ℕ) → e.node ≡ nodes.Old a → Resolves p arrays s known linked (expressions.Old e.place)
   old_resolves a is = resolves_at p arrays s e (nodes.Old a) at is known linked (expressions.Old e.place) (λ final code b. resolved.old e.place (node_tree p s.file a))
-
--- each kind is one of these
-pub no_other : (text : List ℕ) (look : ℕ → Tree) (pl : Place) (n : Node) → is_no_expression (tree_of text look pl n) ≡ false → is_operator n ≡ false
-    → ((v : ℕ) → n ≡ nodes.Number v → ⊥) → ((a : ℕ) → n ≡ nodes.Old a → ⊥) → ((x : Name) → n ≡ nodes.Variable x → ⊥) → ((a : ℕ) (x : Name) → n ≡ nodes.FieldAccess a x → ⊥) → ((x : Name) (a : ℕ) → n ≡ nodes.Call x a → ⊥)
-    → ((o : ℕ) (x : Name) (a : ℕ) → n ≡ nodes.MethodCall o x a → ⊥) → ((x : Name) (a : ℕ) → n ≡ nodes.SuperCall x a → ⊥) → ((t a : ℕ) → n ≡ nodes.ObjectCreation t a → ⊥) → ((t a : ℕ) → n ≡ nodes.ArrayCreation t a → ⊥) → ((a t : ℕ) → n ≡ nodes.InstanceOf a t → ⊥)
-    → ((t a : ℕ) → n ≡ nodes.Cast t a → ⊥) → ((a v : ℕ) → n ≡ nodes.Assignment a v → ⊥) → ((o : BinaryOperator) (a v : ℕ) → n ≡ nodes.CompoundAssignment o a v → ⊥) → ((o : StepOperator) (a : ℕ) → n ≡ nodes.Step o a → ⊥) → ⊥
-no_other text look pl (nodes.Number v) h k n o w f c m u t a i g s d q = n v refl
-no_other text look pl (nodes.Old x) h k n o w f c m u t a i g s d q = o x refl
-no_other text look pl (nodes.Variable x) h k n o w f c m u t a i g s d q = w x refl
-no_other text look pl (nodes.FieldAccess x y) h k n o w f c m u t a i g s d q = f x y refl
-no_other text look pl (nodes.Call x y) h k n o w f c m u t a i g s d q = c x y refl
-no_other text look pl (nodes.MethodCall x y z) h k n o w f c m u t a i g s d q = m x y z refl
-no_other text look pl (nodes.SuperCall x y) h k n o w f c m u t a i g s d q = u x y refl
-no_other text look pl (nodes.ObjectCreation x y) h k n o w f c m u t a i g s d q = t x y refl
-no_other text look pl (nodes.ArrayCreation x y) h k n o w f c m u t a i g s d q = a x y refl
-no_other text look pl (nodes.InstanceOf x y) h k n o w f c m u t a i g s d q = i x y refl
-no_other text look pl (nodes.Cast x y) h k n o w f c m u t a i g s d q = g x y refl
-no_other text look pl (nodes.Assignment x y) h k n o w f c m u t a i g s d q = s x y refl
-no_other text look pl (nodes.CompoundAssignment x y z) h k n o w f c m u t a i g s d q = d x y z refl
-no_other text look pl (nodes.Step x y) h k n o w f c m u t a i g s d q = q x y refl
-no_other text look pl (nodes.Truth x) h k n o w f c m u t a i g s d q = cc (k)
-no_other text look pl nodes.Null h k n o w f c m u t a i g s d q = cc (k)
-no_other text look pl nodes.This h k n o w f c m u t a i g s d q = cc (k)
-no_other text look pl nodes.Result h k n o w f c m u t a i g s d q = cc (k)
-no_other text look pl (nodes.ArrayAccess x y) h k n o w f c m u t a i g s d q = cc (k)
-no_other text look pl (nodes.Unary x y) h k n o w f c m u t a i g s d q = cc (k)
-no_other text look pl (nodes.Binary x y z) h k n o w f c m u t a i g s d q = cc (k)
-no_other text look pl (nodes.Conditional x y z) h k n o w f c m u t a i g s d q = cc (k)
-no_other text look pl _ h k n o w f c m u t a i g s d q = cc (h)

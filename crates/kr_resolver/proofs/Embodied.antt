@@ -68,10 +68,6 @@ body_scope t v c st q r ps cs h =
 same_head : (m k : Method) (ms ks : List Method) → m ∷ ms ≡ k ∷ ks → m ≡ k
 same_head m k ms ks e = cc
 
-pub no_signature : (text : List ℕ) (look : ℕ → Tree) (pl : Place) (n : Node) (q : Place) (r ps cs : Tree) → ((a b c : ℕ) → n ≡ nodes.Signature a b c → ⊥) → tree_of text look pl n ≡ trees.Signature q r ps cs → ⊥
-no_signature text look pl (nodes.Signature a b c) q r ps cs h e = h a b c refl
-no_signature text look pl _ q r ps cs h e = cc (e)
-
 module _ (p : Program) (program : IsProgram p) (s : Site) (e : Entry) (at : IsHere p s e) (known : List (List ℕ)) (linked : List ℕ) (st : Bool) (x : Name) (sg b : ℕ) (it : e.node ≡ nodes.Method st x sg b) where
   pub method_declares : (made : MethodCode) → AreLinked p (record s { node = b }) linked made.body
       → ((q : Place) (r ps cs : Tree) → node_tree p s.file sg ≡ trees.Signature q r ps cs → made.parameters ≡ length (items ps))

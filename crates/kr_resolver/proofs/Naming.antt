@@ -6,7 +6,7 @@ use Rattle.kr_value.specs.declared.value.Value.{Value}
 use Rattle.kr_ast.specs.Tree as trees
 use Rattle.kr_ast.specs.Tree.{Tree}
 use Rattle.kr_ast.specs.Arena as arenas
-use Rattle.kr_ast.specs.Arena.{ArePartsFrom, AreNamesIn, name_in, names, parts, tree_in, tree_of}
+use Rattle.kr_ast.specs.Arena.{ArePartsFrom, name_in, names, parts, tree_in, tree_of}
 use Rattle.kr_ast.specs.declared.node.Name.{Name}
 use Rattle.kr_ast.specs.declared.node.Entry.{Entry}
 use Rattle.kr_ast.specs.declared.node.Node.{Node}
@@ -52,9 +52,6 @@ parts_are p s e n at is = subst (λ (m : Node). ArePartsFrom (arena_at p s).entr
 pub part_small : (p : Program) → IsProgram p → (s : Site) (e : Entry) → IsHere p s e → (j c : ℕ) → arenas.IsPart (arena_at p s).entries s.node j c → s.first + c < 2 ^ 32
 part_small p is s e at j c part = small_number p is s at.site c (omega (arith, part.below, at.site.node))
 
-pub names_are : (p : Program) (s : Site) (e : Entry) (n : Node) → IsHere p s e → e.node ≡ n → AreNamesIn (arena_at p s).text (names n)
-names_are p s e n at is = subst (λ (m : Node). AreNamesIn (arena_at p s).text (names m)) is at.names
-
 pub resolves_at : (p : Program) (arrays : List ℕ) (s : Site) (e : Entry) (n : Node) → IsHere p s e → e.node ≡ n → (known : List (List ℕ)) (linked : List ℕ) (x : Expression)
     → ((final : Final) (code : Code) → Becomes p known linked final code → IsExpression (run_program p arrays) code (numbering_of p final) (running (scope_at p s)) (tree_of (arena_at p s).text (tree_in (arena_at p s)) e.place n) x)
     → Resolves p arrays s known linked x
@@ -94,12 +91,6 @@ field_named_there p f i x class k none c e h =
     let s = node_scope p f i in
     let g : field_meant s.table s.class x ≡ field_meant (table p) class x = ap (λ t. field_meant t s.class x) (scope_table p f i) ∙ ap (λ j. field_meant (table p) j x) c in
     none (field_meant s.table s.class x) ∙ ap field_or_none (g ∙ (sym e ∙ slice_get-get_or (all_fields (table p)) k (no_field (table p)) h))
-
-pub field_unnamed_there : (p : Program) (f i : ℕ) (x : List ℕ) (class : ℕ) → IsNoLocal (node_scope p f i) x → (node_scope p f i).class ≡ class → None ≡ field_meant (table p) class x → meant (node_scope p f i) x ≡ NoName
-field_unnamed_there p f i x class none c e =
-    let s = node_scope p f i in
-    let g : field_meant s.table s.class x ≡ field_meant (table p) class x = ap (λ t. field_meant t s.class x) (scope_table p f i) ∙ ap (λ j. field_meant (table p) j x) c in
-    none (field_meant s.table s.class x) ∙ ap field_or_none (g ∙ sym e)
 
 pub nothing_class : (s : Scope) (n : List ℕ) → is_nothing (meant s n) ≡ true → class_if_none s n (meant s n) ≡ number_of s.table.headings n
 nothing_class s n = go (meant s n)

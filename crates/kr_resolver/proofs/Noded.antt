@@ -58,9 +58,6 @@ expression_no_statement text look pl (nodes.Return a) h = absurd (cc (h))
 expression_no_statement text look pl _ h = refl
 
 module _ (p : Program) (program : IsProgram p) (arrays : List ℕ) (s : Site) (e : Entry) (at : IsHere p s e) (known : List (List ℕ)) (linked : List ℕ) where
-  k : ℕ
-  k = s.first + s.node
-
   -- from what it is where it stands
   placed : (node : Node) → Resolves p arrays s known linked (expression_of node) → Does p s known linked (statement_of node) → ((scope_at p s).declaring ≡ Locals → (final : Final) → IsDeclarator (numbering_of p final) (running (scope_at p s)) (tree_at p s) (declarator_of node))
       → IsNode p arrays known linked (s.first + s.node) node

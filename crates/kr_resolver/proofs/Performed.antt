@@ -49,10 +49,6 @@ partial_is p final r t i (Some k) h part = there t h.1 (subst (λ (j : ℕ). IsP
     there trees.Nil n q = absurd (n refl)
     there _ n q = q
 
-pub not_nil : (text : List ℕ) (look : ℕ → Tree) (pl : Place) (n : Node) → (n ≡ nodes.Nil → ⊥) → tree_of text look pl n ≡ trees.Nil → ⊥
-not_nil text look pl nodes.Nil h e = h refl
-not_nil text look pl _ h e = cc (e)
-
 -- ---- declarators
 
 after_locals : (s : Scope) (t : Tree) → s.declaring ≡ Locals → (after s t).declaring ≡ Locals

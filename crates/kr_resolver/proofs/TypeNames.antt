@@ -1,9 +1,8 @@
 -- Expressions that name types.
-use Rattle.std.proofs.Common.{◌≡◌, refl, sym, ap, ◌∙◌, ℕ, zero, suc, ◌+◌, ◌<◌, ◌≤◌, Bool, cond, List, [], ◌∷◌, length, map, drop, get_or, add-one, arith, subst, true, false, Option, Some, None}
-use Rattle.std.proofs.Math.Seq.{drop-cons}
+use Rattle.std.proofs.Common.{◌≡◌, refl, sym, ap, ◌∙◌, ℕ, ◌+◌, List, [], map, subst, true, false, Option}
 use Rattle.kr_value.specs.declared.value.Value.{Value}
-use Rattle.kr_table.specs.Types.{JavaType, ArrayType, is_same}
-use Rattle.kr_table.specs.Arrays.{array_number, array_number_from}
+use Rattle.kr_table.specs.Types.{JavaType, ArrayType}
+use Rattle.kr_table.specs.Arrays.{array_number}
 use Rattle.kr_mean.specs.Program.{default_of}
 use Rattle.kr_ast.specs.declared.node.Entry.{Entry}
 use Rattle.kr_ast.specs.declared.node.Node.TheVariants as nodes
@@ -20,21 +19,6 @@ use Rattle.kr_resolver.specs.Origins.{node_tree}
 use Rattle.kr_resolver.specs.Sites.{IsHere, Resolves, scope_at}
 use Rattle.kr_resolver.proofs.Parts.{part_in}
 use Rattle.kr_resolver.proofs.Naming.{parts_are, resolves_at}
-
--- an array type more
-pub number_step : (f : ℕ → JavaType) (xs : List ℕ) (n : ℕ) (t : JavaType) (b : Bool) → n < length xs → is_same t (f (get_or xs n 0)) ≡ b → array_number_from n (map f (drop n xs)) t ≡ cond b (Some n) (array_number_from (n + 1) (map f (drop (n + 1) xs)) t)
-number_step f xs n t b h e =
-    let d : drop n xs ≡ get_or xs n 0 ∷ drop (n + 1) xs = drop-cons xs n 0 h ∙ ap (λ k. get_or xs n 0 ∷ drop k xs) (sym (add-one n)) in
-    ap (λ ys. array_number_from n (map f ys) t) d ∙ ap (λ c. cond c (Some n) (array_number_from (n + 1) (map f (drop (n + 1) xs)) t)) e
-
-pub number_end : (f : ℕ → JavaType) (xs : List ℕ) (n : ℕ) (t : JavaType) → length xs ≤ n → array_number_from n (map f (drop n xs)) t ≡ None
-number_end f xs n t h = ap (λ ys. array_number_from n (map f ys) t) (none xs n h)
-  where
-    none : (ys : List ℕ) (k : ℕ) → length ys ≤ k → drop k ys ≡ []
-    none [] zero l = refl
-    none [] (suc k) l = refl
-    none (y ∷ ys) zero l = absurd (omega (arith, l))
-    none (y ∷ ys) (suc k) l = none ys k (omega (arith, l))
 
 module _ (p : Program) (program : IsProgram p) (arrays : List ℕ) (s : Site) (e : Entry) (at : IsHere p s e) (known : List (List ℕ)) (linked : List ℕ) (a t : ℕ) where
   pub instance_resolves : (k : ℕ) → e.node ≡ nodes.InstanceOf a t → IsTypeNumber p.table.types k (written (scope_at p s) (node_tree p s.file t)) → Resolves p arrays s known linked (expressions.InstanceOf (s.first + a) k)

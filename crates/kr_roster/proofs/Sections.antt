@@ -6,9 +6,6 @@ use Rattle.std.proofs.Math.Seq.{get_or-append_seam}
 use Rattle.kr_table.specs.Table.{Table, Class, class_at}
 use Rattle.kr_roster.specs.Rosters.{AreFirst, first_of}
 
-abbrev own_of : {A : Type 0} → (Class → List A) → List Class → ℕ → List A
-own_of part ks c = flat_map part (option_to_list (class_at ks c))
-
 -- with one class more
 pub one_more : {A : Type 0} (part : Class → List A) (ks : List Class) (c : ℕ) → flat_map part (take (c + 1) ks) ≡ flat_map part (take c ks) ++ flat_map part (option_to_list (class_at ks c))
 one_more part ks c = ap (λ n. flat_map part (take n ks)) (add-one c) ∙ go ks c
@@ -18,12 +15,6 @@ one_more part ks c = ap (λ n. flat_map part (take n ks)) (add-one c) ∙ go ks 
     go [] (suc c) = refl
     go (k ∷ ks) zero = refl
     go (k ∷ ks) (suc c) = ap (λ w. part k ++ w) (go ks c) ∙ sym (append_assoc (part k) (flat_map part (take c ks)) (flat_map part (option_to_list (class_at ks c))))
-
-pub take_whole : {A : Type 0} (xs : List A) (n : ℕ) → n ≡ length xs → take n xs ≡ xs
-take_whole [] zero e = refl
-take_whole [] (suc n) e = absurd (omega (arith, e))
-take_whole (x ∷ xs) zero e = absurd (omega (arith, e))
-take_whole (x ∷ xs) (suc n) e = ap (λ w. x ∷ w) (take_whole xs n (omega (arith, e)))
 
 pub first_push : {A : Type 0} (part : Class → List A) (t : Table) (ns more : List ℕ) (x : ℕ) → AreFirst part t ns → more ≡ ns ++ x ∷ [] → x ≡ first_of part t (length ns) → AreFirst part t more
 first_push part t ns more x first is e c h =

@@ -7,12 +7,11 @@ use Rattle.kr_value.specs.declared.value.Value.{Value}
 use Rattle.kr_ast.specs.declared.node.BinaryOperator.{BinaryOperator}
 use Rattle.kr_mean.specs.Places.{SlotPlace}
 use Rattle.kr_mean.specs.Steps as steps
-use Rattle.kr_mean.specs.Steps.{Stop, State, Outcome, Run, after_reads, go_on, bind, give, stop, Stuck, say, tick, within, entered, back_to, plain_local}
+use Rattle.kr_mean.specs.Steps.{Stop, State, Outcome, Run, after_reads, go_on, bind, give, stop, Stuck, say, within, entered, back_to, plain_local}
 use Rattle.kr_mean.specs.Operators.{operated}
 use Rattle.kr_mean.specs.Meaning.{Change, change_to}
 use Rattle.kr_code.specs.declared.code.Code.{Code}
-use Rattle.kr_code.specs.declared.statement.Statement.{Statement}
-use Rattle.kr_code.specs.Doing.{Doing, constructed, statement_done, flow_of}
+use Rattle.kr_code.specs.Doing.{Doing, constructed}
 use Rattle.kr_world.specs.declared.world.Local.{Local}
 use Rattle.kr_world.specs.declared.action.Cell.{Cell}
 use Rattle.kr_world.specs.Actions.{written}
@@ -32,10 +31,6 @@ pub locals_cut : (locals : List Local) (n : ℕ) → take n (map local_of locals
 locals_cut locals n = take-map local_of n locals
 
 -- ---- statements
-
--- a statement that declares nothing, by its kind
-pub done_by : (code : Code) (d : Doing) (t t' : Statement) (s : State) → t ≡ t' → statement_done code d t' s ≡ bind tick (λ u. flow_of code d t') s → statement_done code d t s ≡ bind tick (λ u. flow_of code d t) s
-done_by code d t t' s e h = subst (λ (q : Statement). statement_done code d q s ≡ bind tick (λ u. flow_of code d q) s) (sym e) h
 
 -- ---- changes
 

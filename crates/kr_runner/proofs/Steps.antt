@@ -5,7 +5,7 @@ use Rattle.std.proofs.Common.{inl, inr, append_assoc}
 use Rattle.std.proofs.Math.Seq.{take-append_seam}
 use Rattle.std.proofs.Common.{get_or}
 use Rattle.std.specs.List.{All, range_with_len}
-use Rattle.std.proofs.lemmas.List.{append-nil, get_or_append_left, get_or-append-add, length-append}
+use Rattle.std.proofs.lemmas.List.{append-nil, get_or-append-add, length-append}
 use Rattle.std.proofs.lemmas.List.Elements.{All-append, All-take}
 use Rattle.kr_value.specs.declared.value.Value.{Value}
 use Rattle.kr_value.specs.declared.value.Value.TheVariants.{Bool as Truth}
@@ -112,12 +112,6 @@ own_state w h same = ap (λ (c : Heap). record (state_of w) { heap = c ++ w.made
 pub all_map : {X : Type 0} (P Q : X → Type 0) → ((x : X) → P x → Q x) → (xs : List X) → All P xs → All Q xs
 all_map P Q f xs a = λ k d lt. f (get_or xs k d) (a k d lt)
 
-pub all_front : {X : Type 0} (P : X → Type 0) (xs : List X) (x : X) (ys : List X) → ys ≡ xs ++ x ∷ [] → All P ys → All P xs
-all_front P xs x ys e a = λ k d lt.
-    let h = subst (All P) e a in
-    let in_both : k < length (xs ++ x ∷ []) = omega (arith, lt, length-append xs (x ∷ [])) in
-    subst P (get_or_append_left xs (x ∷ []) d k lt) (h k d in_both)
-
 pub all_last : {X : Type 0} (P : X → Type 0) (xs : List X) (x : X) (ys : List X) → ys ≡ xs ++ x ∷ [] → All P ys → P x
 all_last P xs x ys e a =
     let h = subst (All P) e a in
@@ -166,9 +160,6 @@ drop_past (y ∷ ys) (suc k) e = drop_past ys k e
 -- ---- steps
 
 module _ (b : Bounds) (p : Predicate) (v : List ℕ) where
-  own : Heap
-  own = heap_of (bare b) v
-
   pub goes_on : (condition : ℕ) (fs fs' : List Frame) (task task' : Task) (w w' : World) → GoesOn b p v condition fs task w → Leads p.code (Ok task') fs' w' w (λ d x. resumed p.code d fs task (state_at w x)) → GoesOn b p v condition fs' task' w'
   goes_on condition fs fs' task task' w w' g l =
       let k = (l None tt).0 in
@@ -426,9 +417,6 @@ settled b p u v well i true fresh accesses old new w follow last alike front non
 -- ---- what the code answers
 
 module _ (b : Bounds) (p : Predicate) (v : List ℕ) (i : IsVector (space_of (bare b)) v) where
-  all : Doing → Outcome Bool
-  all d = hold_at d p.conditions.items (start (bare b) v)
-
   -- a step that doesn't lead on
   pub halts_on : (condition : ℕ) (fs fs' : List Frame) (task task' : Task) (halt : Halt) (w w' : World) → GoesOn b p v condition fs task w → StepsTo p.code (Err halt) task' fs' w' w (λ d x. resumed p.code d fs task (state_at w x)) → Gives b p v condition (Err halt) w'
   halts_on condition fs fs' task task' (Ended e) w w' g l = ends_on b p v condition fs task e w w' i g l
@@ -461,12 +449,6 @@ module _ (b : Bounds) (p : Predicate) (v : List ℕ) (i : IsVector (space_of (ba
   -- what has been read is what the run reads
   pub reads_of : (answer : Result Bool Halt) (j : Judgement) (w : World) → IsJudged answer (Ok j) → HoldsAs p.code answer w (This ∷ []) (λ d. hold_at d p.conditions.items (start (bare b) v)) → AreReads b p v w.reads
   reads_of answer j w q h = λ d m. (ran answer j w (hold_at d p.conditions.items (start (bare b) v)) q (h d m)).1
-
-  -- a condition that doesn't give a value
-  pub halted_so : (condition : ℕ) (halt : Halt) (w : World) → Gives b p v condition (Err halt) w → HoldsAs p.code (Err halt) w (This ∷ []) (λ d. hold_at d p.conditions.items (start (bare b) v))
-  halted_so condition (Ended e) w g = g
-  halted_so condition Memory w g = λ d m. tt
-  halted_so condition Written w g = λ d m. tt
 
   truth_is : (condition : ℕ) (given : Value) (truth t : Bool) (w : World) → given ≡ Truth truth → truth ≡ t → Gave b p v condition given w → Gave b p v condition (Truth t) w
   truth_is condition given truth t w e is g = subst (λ (x : Value). Gave b p v condition x w) (e ∙ ap (λ (x : Bool). Truth x) is) g

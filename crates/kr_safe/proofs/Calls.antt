@@ -140,9 +140,6 @@ module _ (program : Program) (fixed : Fixed) (facts : IsTypedProgram program) (p
 
   -- ---- bodies
 
-  abbrev pub GivesResult : List JavaType → JavaType → List JavaType → List JavaType → Value → Type 0
-  GivesResult ls r more after v = GivesAs program ls r more after v
-
   -- the end of a body gives what the method gives
   ended : (types : List JavaType) (this : Option ℕ) (ls before locals : List JavaType) (r : JavaType) (flow : Flow) → LeadsOn program.table r false before locals types ls flow → Safe program fixed types this ls (returned (is_void r) flow) (λ more after v. is_void r ≡ false → IsOf program.table more r v)
   ended types this ls before locals r flow h = go (is_void r) refl flow h

@@ -166,9 +166,6 @@ module _ (program : Program) (fixed : Fixed) where
   pub settle : (s : Scope) → IsScope program fixed s → settled s ≡ s
   settle s k = ap (λ (t : Table). record s { table = t; values = program.values }) (sym k.0) ∙ ap (λ (vs : List Rattle.kr_table.specs.Constants.Known). record s { values = vs }) (sym k.1)
 
-  pub settled_scope : (s : Scope) → IsScope program fixed s → IsScope program fixed (settled s)
-  settled_scope s k = (refl, refl, k.2, k.3, k.4)
-
   module _ (facts : IsTypedProgram program) where
     pub has_variables : HasVariables program.table
     has_variables = record { fields = λ c n f e. (facts.fields c n f e).type; results = λ c n m e. (facts.methods c n m e).0.result }

@@ -104,9 +104,6 @@ written_is s t u h e = go (is_known (written s t)) (ap type_in (sym (types_law s
     go true e = same_types (Some (written s t)) u (written s t) e refl
     go false e = absurd (cc (e))
 
-written_typed : (s : Scope) (t : Tree) → IsWritten t → is_known (written s t) ≡ true → type_in (judged s t).typed ≡ Some (written s t)
-written_typed s t h e = ap type_in (types_law s t (written_shaped t h)) ∙ ap (λ (b : Bool). type_in (if b then rules.Value (written s t) else Untyped)) e
-
 module _ (program : Program) (fixed : Fixed) (facts : IsTypedProgram program) (p : Parts) (q : PartsSafe program fixed p) where
   -- an expression used as a type
   abbrev pub Goal : Scope → Tree → Type 0

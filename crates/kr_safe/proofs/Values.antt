@@ -299,10 +299,6 @@ module _ (program : Program) (fixed : Fixed) (facts : IsTypedProgram program) (p
       same (ArrayType t) e = type_same (ListType (ArrayType t))
       same _ e = absurd (cc (e))
 
-  no_types : (ts : List JavaType) → is_none_of ts ≡ true → ts ≡ []
-  no_types [] e = refl
-  no_types (t ∷ ts) e = absurd (cc (e))
-
   pub creation : (s : Scope) (pl : Place) (w es : Tree) → IsScope program fixed (settled program fixed s) → IsCreated w → Coded program fixed Expressions (settled program fixed s) es → (judged (settled program fixed s) (trees.ObjectCreation pl w es)).faults ≡ [] → Goal program fixed facts p q (settled program fixed s) (trees.ObjectCreation pl w es)
   unfolding judged
   creation s pl w es k i h f types t u r g a =

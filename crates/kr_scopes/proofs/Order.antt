@@ -8,9 +8,6 @@ number a b c p q = grind (arith, rules)
 level : (a b c : ℕ) (r s t : Bool) → (r ≡ false → s ≡ false → t ≡ false) → less_or a b r ≡ false → less_or b c s ≡ false → less_or a c t ≡ false
 level a b c r s t k p q = grind (arith, rules, k)
 
-pub irreflexive : (f : Fault) → is_before f f ≡ false
-irreflexive f = grind (arith, rules)
-
 pub asymmetric : (f g : Fault) → is_before g f ≡ true → is_before f g ≡ false
 asymmetric f g b = grind (arith, rules)
 

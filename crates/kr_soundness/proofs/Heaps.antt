@@ -116,12 +116,6 @@ values_long table types (t ∷ ts) (v ∷ vs) h = ap suc (values_long table type
 values_long table types [] (v ∷ vs) h = absurd h
 values_long table types (t ∷ ts) [] h = absurd h
 
-pub values_append : (table : Table) (types ts us : List JavaType) (vs ws : List Value) → AreOf table types ts vs → AreOf table types us ws → AreOf table types (ts ++ us) (vs ++ ws)
-values_append table types [] us [] ws h k = k
-values_append table types (t ∷ ts) us (v ∷ vs) ws h k = (h.0, values_append table types ts us vs ws h.1 k)
-values_append table types [] us (v ∷ vs) ws h k = absurd h
-values_append table types (t ∷ ts) us [] ws h k = absurd h
-
 pub values_front : (table : Table) (types ts us : List JavaType) (vs : List Value) → AreOf table types (ts ++ us) vs → AreOf table types ts (Rattle.std.specs.Prelude.take (length ts) vs)
 values_front table types [] us vs h = tt
 values_front table types (t ∷ ts) us [] h = absurd h

@@ -4,4 +4,4 @@
 
 mod laws;
 
-pub use laws::{steps_law, vectors_law, worked_premises};
+pub use laws::{steps_law, vectors_law};

@@ -1,12 +1,11 @@
 -- Class domains as the code lays them out.
-use Rattle.std.proofs.Common.{◌≡◌, ℕ, zero, suc, ◌+◌, ◌-◌, ◌<◌, Bool, true, false, cond, List, [], ◌∷◌, ◌++◌, length, map, get_or, drop, Option, Some, refl, ap, sym, subst, ◌∙◌, append_assoc, arith}
+use Rattle.std.proofs.Common.{◌≡◌, ℕ, zero, suc, ◌+◌, ◌-◌, ◌<◌, List, [], ◌∷◌, ◌++◌, length, map, get_or, drop, Option, refl, ap, sym, subst, ◌∙◌, append_assoc, arith}
 use Rattle.std.specs.Prelude.{Result, IfOk, unwrap_or}
-use Rattle.std.proofs.lemmas.Bool.{cond-true, cond-false}
 use Rattle.std.proofs.lemmas.List.{drop_more, map-append}
 use Rattle.kr_ast.specs.Tree.{Tree}
-use Rattle.kr_table.specs.Types.{JavaType, is_same}
-use Rattle.kr_table.specs.Arrays.{array_number, array_number_from}
-use Rattle.kr_table.specs.Table.{Field, Heading, Table, fields_of, headings_of, table_of}
+use Rattle.kr_table.specs.Types.{JavaType}
+use Rattle.kr_table.specs.Arrays.{array_number}
+use Rattle.kr_table.specs.Table.{Field, Table, fields_of, headings_of, table_of}
 use Rattle.kr_type_numbers.specs.Types.{TypeList, Extends, type_at}
 use Rattle.kr_arrays.specs.Collected.{types_shown}
 use Rattle.kr_arrays.proofs.Collecting.{numbers_kept, shown_kept}
@@ -27,7 +26,7 @@ use Rattle.kr_domains.specs.Bounds.{Setting, array_class_domain, array_spots, cl
 use Rattle.kr_numbers.specs.declared.bounds.Bound.{Bound}
 use Rattle.kr_numbers.specs.Entries.{bound_shown, no_bound}
 use Rattle.kr_space.specs.Basis.{AreArrays, bounds_on}
-use Rattle.kr_space.specs.Headings.{heading_at, no_heading}
+use Rattle.kr_space.specs.Headings.{heading_at}
 use Rattle.kr_space.specs.Pools.{pool}
 use Rattle.kr_space.proofs.ClassFaults.{name_at}
 
@@ -80,27 +79,7 @@ class_domain_is files document ds c n name bytes spots h a b e s =
     ∙ (ap (λ (m : ℕ). record { name = (heading_at (headings_of files) c).name; class = Object c; count = m; spots = map (spotted ds) spots }) (e ∙ ap (count_named document.objects) own)
     ∙ ap (λ (ss : List problems.Spotted). record { name = (heading_at (headings_of files) c).name; class = Object c; count = count_named document.objects (heading_at (headings_of files) c).name; spots = ss }) s)
 
-pub classes_next : (setting : Setting) (ds : List Domain) (all : List problems.ClassDomain) (old new : List ClassDomain) (hs : List Heading) (c : ℕ) (d : ClassDomain) → c < length hs → shapes.class_domain ds d ≡ class_domain setting c (heading_at hs c) → new ≡ old ++ d ∷ []
-    → all ≡ map (shapes.class_domain ds) old ++ class_domains setting c (drop c hs) → all ≡ map (shapes.class_domain ds) new ++ class_domains setting (c + 1) (drop (c + 1) hs)
-classes_next setting ds all old new hs c d h s n a =
-    shown_next (shapes.class_domain ds) all (class_domains setting (c + 1) (drop (c + 1) hs)) old new d (class_domain setting c (heading_at hs c)) n s
-    (a ∙ ap (λ (ks : List Heading). map (shapes.class_domain ds) old ++ class_domains setting c ks) (drop_more hs c no_heading h))
-
 -- ---- arrays
-
-number_next : (l : TypeList) (t : JavaType) (ns : List ℕ) (i x : ℕ) → i < length ns → x ≡ get_or ns i x
-    → array_number_from i (types_shown l (drop i ns)) t ≡ cond (is_same t (type_at l x)) (Some i) (array_number_from (i + 1) (types_shown l (drop (i + 1) ns)) t)
-number_next l t ns i x h e =
-    ap (λ (ms : List ℕ). array_number_from i (types_shown l ms) t) (drop_more ns i x h)
-    ∙ ap (λ (n : ℕ). cond (is_same t (type_at l n)) (Some i) (array_number_from (i + 1) (types_shown l (drop (i + 1) ns)) t)) (sym e)
-
-pub number_here : (l : TypeList) (t : JavaType) (ns : List ℕ) (i x : ℕ) (all : Option ℕ) (b : Bool) → i < length ns → x ≡ get_or ns i x → all ≡ array_number_from i (types_shown l (drop i ns)) t → b ≡ is_same t (type_at l x) → b ≡ true → i ≡ unwrap_or all 0
-number_here l t ns i x all b h e k s r =
-    sym (ap (λ (o : Option ℕ). unwrap_or o 0) (k ∙ (number_next l t ns i x h e ∙ cond-true (is_same t (type_at l x)) (Some i) (array_number_from (i + 1) (types_shown l (drop (i + 1) ns)) t) (sym s ∙ r))))
-
-pub number_on : (l : TypeList) (t : JavaType) (ns : List ℕ) (i x : ℕ) (all : Option ℕ) (b : Bool) → i < length ns → x ≡ get_or ns i x → all ≡ array_number_from i (types_shown l (drop i ns)) t → b ≡ is_same t (type_at l x) → b ≡ false → all ≡ array_number_from (i + 1) (types_shown l (drop (i + 1) ns)) t
-number_on l t ns i x all b h e k s r =
-    k ∙ (number_next l t ns i x h e ∙ cond-false (is_same t (type_at l x)) (Some i) (array_number_from (i + 1) (types_shown l (drop (i + 1) ns)) t) (sym s ∙ r))
 
 elements_step : (at left : ℕ) (d : Domain) → left ≡ suc (left - 1) → element_spots at left d ≡ (record { spot = Element at; domain = d }) ∷ element_spots (at + 1) (left - 1) d
 elements_step at left d e = ap (λ (n : ℕ). element_spots at n d) e
@@ -142,13 +121,6 @@ array_domain_is files document ds l arrays b number count bytes spots k n e c s 
     ∙ (ap (λ (ss : List problems.Spotted). record { name = a.name; class = Array m; count = a.count; spots = ss }) s
     ∙ ap (λ (d : FinDoc). record { name = a.name; class = Array m; count = a.count; spots = array_spots (lengths_of setting a.lengths) (values_given setting d.fields (elements_key a.name)) }) (sym (document_is files document)))))
 
-pub arrays_next : {A B : Type 0} (f : B → problems.ClassDomain) (v : A → B) (g : ClassDomain → problems.ClassDomain) (all : List problems.ClassDomain) (old new : List ClassDomain) (xs : List A) (i : ℕ) (x : A) (d : ClassDomain) → i < length xs → x ≡ get_or xs i x → g d ≡ f (v x) → new ≡ old ++ d ∷ []
-    → all ≡ map g old ++ map f (map v (drop i xs)) → all ≡ map g new ++ map f (map v (drop (i + 1) xs))
-arrays_next {A = A} f v g all old new xs i x d h e s n a =
-    shown_next g all (map f (map v (drop (i + 1) xs))) old new d (f (v x)) n s
-    (a ∙ (ap (λ (ys : List A). map g old ++ map f (map v ys)) (drop_more xs i x h)
-    ∙ ap (λ (y : A). map g old ++ (f (v y) ∷ map f (map v (drop (i + 1) xs)))) (sym e)))
-
 pub arrays_kept : (a b : TypeList) (setting : Setting) (arrays : List ℕ) → Extends a b → AreArrays a setting arrays → AreArrays b setting arrays
 arrays_kept a b setting arrays e k = record { numbers = numbers_kept a b arrays e k.numbers; shown = shown_kept a b arrays e k.numbers ∙ k.shown; few = k.few }
 
@@ -157,19 +129,25 @@ arrays_kept a b setting arrays e k = record { numbers = numbers_kept a b arrays 
 pub ok_same : {T E : Type 0} (r : Result T E) (a b : T) → a ≡ b → IfOk r (λ x. x ≡ a) → IfOk r (λ x. x ≡ b)
 ok_same r a b e h = subst (λ (y : _). IfOk r (λ x. x ≡ y)) e h
 
-pub layout_is : (files : List Tree) (document : FinDoc) (l : TypeList) (mode : Mode) (class : Option ℕ) (root : ℕ) (parameters : List ℕ) (first all : List ClassDomain) (bounds : List Bound) (ds : List (List Item)) → map domain_of ds ≡ pool (setting_of files document) document
-    → class ≡ root_of (setting_of files document) → root ≡ unwrap_or class 0
-    → map (λ n. get_or (pool (setting_of files document) document) n []) parameters ≡ map (λ p. values_given (setting_of files document) document.params (parameter_key mode p)) (tested_parameters (setting_of files document) mode)
+pub domains_whole : (files : List Tree) (document : FinDoc) (l : TypeList) (first all : List ClassDomain) (bounds : List Bound)
     → map (shapes.class_domain (pool (setting_of files document) document)) first ≡ class_domains (setting_of files document) 0 (headings_of files)
     → map (shapes.class_domain (pool (setting_of files document) document)) all ≡ map (shapes.class_domain (pool (setting_of files document) document)) first ++ map (array_class_domain (setting_of files document)) (map (bound_shown l document.arrays) bounds)
-    → map (bound_shown l document.arrays) bounds ≡ (setting_of files document).arrays → bounds_of root mode document.fuel parameters all (map domain_of ds) ≡ bounds_on (setting_of files document) mode
+    → map (bound_shown l document.arrays) bounds ≡ (setting_of files document).arrays → map (shapes.class_domain (pool (setting_of files document) document)) all ≡ domains_of (setting_of files document)
 unfolding setting_of table_of
-layout_is files document l mode class root parameters first all bounds ds d c r p f a b =
+domains_whole files document l first all bounds f a b =
     let setting = setting_of files document in
-    let domains : map (shapes.class_domain (pool setting document)) all ≡ domains_of setting =
-    a ∙ (ap (λ (ks : List problems.ClassDomain). ks ++ map (array_class_domain setting) (map (bound_shown l document.arrays) bounds)) f ∙ ap (λ (bs : List (JavaType × ArrayBound)). class_domains setting 0 (headings_of files) ++ map (array_class_domain setting) bs) b) in
+    a ∙ (ap (λ (ks : List problems.ClassDomain). ks ++ map (array_class_domain setting) (map (bound_shown l document.arrays) bounds)) f ∙ ap (λ (bs : List (JavaType × ArrayBound)). class_domains setting 0 (headings_of files) ++ map (array_class_domain setting) bs) b)
+
+pub layout_is : (files : List Tree) (document : FinDoc) (mode : Mode) (class : Option ℕ) (root : ℕ) (parameters : List ℕ) (all : List ClassDomain) (ds : List (List Item)) → map domain_of ds ≡ pool (setting_of files document) document
+    → class ≡ root_of (setting_of files document) → root ≡ unwrap_or class 0
+    → map (λ n. get_or (pool (setting_of files document) document) n []) parameters ≡ map (λ p. values_given (setting_of files document) document.params (parameter_key mode p)) (tested_parameters (setting_of files document) mode)
+    → map (shapes.class_domain (pool (setting_of files document) document)) all ≡ domains_of (setting_of files document)
+    → bounds_of root mode document.fuel parameters all (map domain_of ds) ≡ bounds_on (setting_of files document) mode
+unfolding setting_of table_of
+layout_is files document mode class root parameters all ds d c r p a =
+    let setting = setting_of files document in
     let own : map (λ n. get_or (pool setting document) n []) parameters ≡ (bounds_on setting mode).parameters = p in
     ap (λ (ps : List Domain). bounds_of root mode document.fuel parameters all ps) d
     ∙ (ap (λ (n : ℕ). record { root = n; mode = mode; parameters = map (λ n. get_or (pool setting document) n []) parameters; fuel = document.fuel; domains = map (shapes.class_domain (pool setting document)) all }) (r ∙ ap (λ (o : Option ℕ). unwrap_or o 0) c)
     ∙ (ap (λ (ps : List Domain). record { root = unwrap_or (root_of setting) 0; mode = mode; parameters = ps; fuel = document.fuel; domains = map (shapes.class_domain (pool setting document)) all }) own
-    ∙ ap (λ (ks : List problems.ClassDomain). record { root = unwrap_or (root_of setting) 0; mode = mode; parameters = (bounds_on setting mode).parameters; fuel = document.fuel; domains = ks }) domains))
+    ∙ ap (λ (ks : List problems.ClassDomain). record { root = unwrap_or (root_of setting) 0; mode = mode; parameters = (bounds_on setting mode).parameters; fuel = document.fuel; domains = ks }) a))

@@ -17,6 +17,7 @@ use Rattle.kr_domains.specs.declared.refusal.SpaceRule.TheVariants.{EmptyDomain,
 use Rattle.kr_domains.specs.Bounds.{Setting, array_class_domain, bounded, class_domains, count_named, domains_of, problem_in, problem_of, program_in, root_of, setting_of, tested_parameters}
 use Rattle.kr_domains.specs.Faults.{S1, S2, S3_S5_S6, S4, S7, S8, S9, array_S2, classes_S2, faults_in, fields_unfit, no_fields, no_params, params_unfit, numbers_of, numbers_of_lengths, parameter_S2}
 use Rattle.kr_domains.specs.Order.{break_if, lesser}
+use Rattle.kr_space.specs.Refusals.{after_S1}
 use Rattle.kr_space.specs.Sizes.{class_counts, counts_of}
 
 pub headings_are : (files : List Tree) (document : FinDoc) → (setting_of files document).table.headings ≡ headings_of files
@@ -49,12 +50,13 @@ numbers_are problem setting old =
     five old (numbers_of problem setting (codes "fields.") setting.document.fields) (numbers_of problem setting (codes "params.") setting.document.params) (numbers_of_lengths problem setting setting.document.arrays)
     (break_if ((domain_at problem problem.root).count == 0) EmptyDomain (codes "this")) (break_if (nat_lt 4096 (length (slots problem))) TooMany (codes "slots"))
 
-pub faults_are : (problem : Problem) (setting : Setting) (mode : Mode) (old : Option Fault) → fold lesser old (faults_in problem setting mode)
-    ≡ fold lesser (fold lesser (fold lesser (fold lesser old (S1 setting)) (S2 setting mode)) (S3_S5_S6 problem setting)) (S4 setting ++ (S7 setting ++ (S8 setting mode ++ S9 setting)))
+pub faults_are : (problem : Problem) (setting : Setting) (mode : Mode) (old : Option Fault) → fold lesser old (faults_in problem setting mode) ≡ fold lesser (fold lesser old (S1 setting)) (after_S1 problem setting mode)
 unfolding faults_in
-faults_are problem setting mode old =
-    three old (S1 setting) (S2 setting mode) (S3_S5_S6 problem setting ++ (S4 setting ++ (S7 setting ++ (S8 setting mode ++ S9 setting))))
-    ∙ fold-append lesser (fold lesser (fold lesser old (S1 setting)) (S2 setting mode)) (S3_S5_S6 problem setting) (S4 setting ++ (S7 setting ++ (S8 setting mode ++ S9 setting)))
+faults_are problem setting mode old = fold-append lesser old (S1 setting) (after_S1 problem setting mode)
+
+pub after_names : (problem : Problem) (setting : Setting) (mode : Mode) (old : Option Fault) → fold lesser old (after_S1 problem setting mode)
+    ≡ fold lesser (fold lesser (fold lesser old (S2 setting mode)) (S3_S5_S6 problem setting)) (S4 setting ++ (S7 setting ++ (S8 setting mode ++ S9 setting)))
+after_names problem setting mode old = three old (S2 setting mode) (S3_S5_S6 problem setting) (S4 setting ++ (S7 setting ++ (S8 setting mode ++ S9 setting)))
 
 -- ---- the counts of class domains
 

@@ -33,12 +33,17 @@ domains_next {A = A} f all old new xs i x h e k n =
     ∙ (ap (λ (y : A). old ++ f y ∷ map f (drop (i + 1) xs)) (sym e)
     ∙ (sym (append_assoc old (f x ∷ []) (map f (drop (i + 1) xs))) ∙ ap (λ (ds : List Domain). ds ++ map f (drop (i + 1) xs)) (sym n))))
 
-pub pool_whole : (setting : Setting) (document : FinDoc) (none first second third : List (List Item)) → none ≡ [] → map domain_of first ≡ map domain_of none ++ all_values setting document.fields
-    → map domain_of second ≡ map domain_of first ++ all_values setting document.params → map domain_of third ≡ map domain_of second ++ all_lengths setting document.arrays → map domain_of third ≡ pool setting document
-pool_whole setting document none first second third n a b c =
-    let start : map domain_of first ≡ all_values setting document.fields = a ∙ ap (λ (ds : List (List Item)). map domain_of ds ++ all_values setting document.fields) n in
-    c ∙ (ap (λ (ds : List Domain). ds ++ all_lengths setting document.arrays) (b ∙ ap (λ (ds : List Domain). ds ++ all_values setting document.params) start)
-    ∙ append_assoc (all_values setting document.fields) (all_values setting document.params) (all_lengths setting document.arrays))
+pub pool_whole : (setting : Setting) (document : FinDoc) (old first second third : List (List Item)) → map domain_of first ≡ map domain_of old ++ all_values setting document.fields
+    → map domain_of second ≡ map domain_of first ++ all_values setting document.params → map domain_of third ≡ map domain_of second ++ all_lengths setting document.arrays → map domain_of third ≡ map domain_of old ++ pool setting document
+pool_whole setting document old first second third a b c =
+    let fields = all_values setting document.fields in
+    let params = all_values setting document.params in
+    let lengths = all_lengths setting document.arrays in
+    c ∙ (ap (λ (ds : List Domain). ds ++ lengths) (b ∙ ap (λ (ds : List Domain). ds ++ params) a)
+    ∙ (append_assoc (map domain_of old ++ fields) params lengths ∙ append_assoc (map domain_of old) fields (params ++ lengths)))
+
+pub pool_alone : (setting : Setting) (document : FinDoc) (none all : List (List Item)) → none ≡ [] → map domain_of all ≡ map domain_of none ++ pool setting document → map domain_of all ≡ pool setting document
+pool_alone setting document none all n a = a ∙ ap (λ (ds : List (List Item)). map domain_of ds ++ pool setting document) n
 
 -- ---- numbers
 

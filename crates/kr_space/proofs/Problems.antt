@@ -22,7 +22,6 @@ use Rattle.kr_problem.specs.Bounds.{Bounds, problem_with}
 use Rattle.kr_domains.specs.Bounds.{bounded, problem_in, problem_of, setting_of}
 use Rattle.kr_numbers.specs.declared.bounds.Bound.{Bound}
 use Rattle.kr_numbers.specs.Entries.{AreBounds, bound_shown}
-use Rattle.kr_numbers.proofs.Bounded.{bounds_kept}
 use Rattle.kr_space.specs.Basis.{AreArrays, bounds_on}
 use Rattle.kr_space.proofs.Parts.{arrays_are}
 
@@ -68,11 +67,10 @@ pub posed_here : (trees here : List Arena) (document : FinDoc) (mode : Mode) (l 
 posed_here trees here document mode l arrays bounds e a b =
     posed_is (map root trees) document mode l arrays bounds (subst (λ (ts : List Arena). AreArrays l (setting_of (map root ts) document) arrays) e a) (b ∙ ap (λ (ts : List Arena). bounds_on (setting_of (map root ts) document) mode) e)
 
--- the bounds of the document, after more types came
-pub bounds_here : (files : List Tree) (document : FinDoc) (a b : TypeList) (named : List ArrayBound) (bounds here : List Bound) → named ≡ document.arrays → here ≡ bounds → Extends a b → AreBounds a named bounds (bounded (headings_of files) named)
-    → AreBounds b document.arrays here (setting_of files document).arrays
-bounds_here files document a b named bounds here n h e k =
-    bounds_kept a b document.arrays here (setting_of files document).arrays e
-    (subst (λ (bs : List (JavaType × ArrayBound)). AreBounds a document.arrays here bs) (sym (arrays_are files document))
-    (subst (λ (bs : List Bound). AreBounds a document.arrays bs (bounded (headings_of files) document.arrays)) (sym h)
-    (subst (λ (as_named : List ArrayBound). AreBounds a as_named bounds (bounded (headings_of files) as_named)) n k)))
+-- the bounds of the document
+pub bounds_here : (files : List Tree) (document : FinDoc) (l : TypeList) (named : List ArrayBound) (bounds here : List Bound) → named ≡ document.arrays → here ≡ bounds → AreBounds l named bounds (bounded (headings_of files) named)
+    → AreBounds l document.arrays here (setting_of files document).arrays
+bounds_here files document l named bounds here n h k =
+    subst (λ (bs : List (JavaType × ArrayBound)). AreBounds l document.arrays here bs) (sym (arrays_are files document))
+    (subst (λ (bs : List Bound). AreBounds l document.arrays bs (bounded (headings_of files) document.arrays)) (sym h)
+    (subst (λ (as_named : List ArrayBound). AreBounds l as_named bounds (bounded (headings_of files) as_named)) n k))

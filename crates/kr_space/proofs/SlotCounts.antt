@@ -142,18 +142,6 @@ class_more files document all c total own next h o n e =
     capped : (all total left here rest own next : ℕ) → left ≡ here + rest → own ≡ min here (2 ^ 64 - 1) → next ≡ min (total + own) (2 ^ 64 - 1) → min all (2 ^ 64 - 1) ≡ min (total + left) (2 ^ 64 - 1) → min all (2 ^ 64 - 1) ≡ min (next + rest) (2 ^ 64 - 1)
     capped all total left here rest own next a b n e = omega (arith, a, b, n, e)
 
-pub array_more : (setting : Setting) (arrays : List (JavaType × ArrayBound)) (all i total own next : ℕ) (x : JavaType × ArrayBound) → i < length arrays
-    → own ≡ min ((get_or arrays i x).1.count * (greatest (lengths_of setting (get_or arrays i x).1.lengths) + 1)) (2 ^ 64 - 1) → next ≡ min (total + own) (2 ^ 64 - 1)
-    → min all (2 ^ 64 - 1) ≡ min (total + slots_of_arrays setting (drop i arrays)) (2 ^ 64 - 1) → min all (2 ^ 64 - 1) ≡ min (next + slots_of_arrays setting (drop (i + 1) arrays)) (2 ^ 64 - 1)
-array_more setting arrays all i total own next x h o n e =
-    let here = (get_or arrays i x).1.count * (greatest (lengths_of setting (get_or arrays i x).1.lengths) + 1) in
-    let rest = slots_of_arrays setting (drop (i + 1) arrays) in
-    let a : slots_of_arrays setting (drop i arrays) ≡ here + rest = ap (λ (bs : List (JavaType × ArrayBound)). slots_of_arrays setting bs) (drop_more arrays i x h) in
-    capped all total (slots_of_arrays setting (drop i arrays)) here rest own next a o n e
-  where
-    capped : (all total left here rest own next : ℕ) → left ≡ here + rest → own ≡ min here (2 ^ 64 - 1) → next ≡ min (total + own) (2 ^ 64 - 1) → min all (2 ^ 64 - 1) ≡ min (total + left) (2 ^ 64 - 1) → min all (2 ^ 64 - 1) ≡ min (next + rest) (2 ^ 64 - 1)
-    capped all total left here rest own next a b n e = omega (arith, a, b, n, e)
-
 -- no objects, no slots
 pub slots_none : (n w : ℕ) → n ≡ 0 → 0 ≡ min (n * w) (2 ^ 64 - 1)
 slots_none n w e = omega (arith, ap (λ (m : ℕ). m * w) e)

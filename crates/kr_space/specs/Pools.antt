@@ -1,10 +1,16 @@
 -- The domains that a document gives, by number: those of its fields, of its parameters, and of its lengths.
-use Rattle.std.specs.Prelude.{List, ◌++◌, map}
+use Rattle.std.specs.Prelude.{◌≡◌, List, ◌++◌, map}
 use Rattle.kr_mean.specs.Problem.{Domain}
 use Rattle.kr_fin.specs.declared.document.ArrayBound.{ArrayBound}
 use Rattle.kr_fin.specs.declared.document.FinDoc.{FinDoc}
 use Rattle.kr_fin.specs.declared.document.NamedDomain.{NamedDomain}
-use Rattle.kr_domains.specs.Bounds.{Setting, lengths_of, values_of}
+use Rattle.kr_problem.specs.declared.classes.ClassDomain.{ClassDomain}
+use Rattle.kr_problem.specs.declared.item.Item.{Item}
+use Rattle.kr_problem.specs.Bounds.{class_domain as domain_shown}
+use Rattle.kr_problem.specs.Items.{domain_of}
+use Rattle.kr_domains.specs.Bounds.{Setting, domains_of, lengths_of, values_of}
+use Rattle.kr_space.specs.Basis.{setting_on}
+use Rattle.kr_space.specs.declared.basis.Basis.{Basis}
 
 abbrev pub all_values : Setting → List NamedDomain → List Domain
 all_values setting domains = map (λ d. values_of setting d.domain) domains
@@ -14,3 +20,11 @@ all_lengths setting arrays = map (λ a. lengths_of setting a.lengths) arrays
 
 abbrev pub pool : Setting → FinDoc → List Domain
 pool setting document = all_values setting document.fields ++ (all_values setting document.params ++ all_lengths setting document.arrays)
+
+-- the class domains of the document's problem, whose domains go by their numbers in the pool
+abbrev pub AreDomainsOn : Basis → List ClassDomain → Type 0
+AreDomainsOn b domains = map (domain_shown (pool (setting_on b) b.document.now)) domains ≡ domains_of (setting_on b)
+
+-- the entries of the domains in the pool
+abbrev pub AreValuesOn : Basis → List (List Item) → Type 0
+AreValuesOn b values = map domain_of values ≡ pool (setting_on b) b.document.now

@@ -1,5 +1,9 @@
 -- Why a document is refused.
-use Rattle.std.specs.Prelude.{◌≡◌, Option, Some}
+use Rattle.std.specs.Prelude.{◌≡◌, List, ◌++◌, Option, Some}
+use Rattle.kr_mean.specs.declared.mode.Mode.{Mode}
+use Rattle.kr_mean.specs.Problem.{Problem}
+use Rattle.kr_domains.specs.Bounds.{Setting}
+use Rattle.kr_domains.specs.Faults.{S2, S3_S5_S6, S4, S7, S8, S9}
 use Rattle.kr_domains.specs.declared.refusal.Fault.{Fault}
 use Rattle.kr_domains.specs.declared.refusal.SpaceRefusal.{SpaceRefusal}
 use Rattle.kr_domains.specs.declared.refusal.SpaceRefusal.TheVariants.{Broken, NoMemory}
@@ -8,3 +12,7 @@ use Rattle.kr_domains.specs.declared.refusal.SpaceRefusal.TheVariants.{Broken, N
 abbrev pub Refuses : Option Fault → SpaceRefusal → Type 0
 Refuses wanted (Broken fault) = wanted ≡ Some fault
 Refuses wanted NoMemory = Unit {0}
+
+-- what breaks the rules after the first
+abbrev pub after_S1 : Problem → Setting → Mode → List Fault
+after_S1 problem setting mode = S2 setting mode ++ (S3_S5_S6 problem setting ++ (S4 setting ++ (S7 setting ++ (S8 setting mode ++ S9 setting))))

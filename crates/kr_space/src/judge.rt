@@ -7,7 +7,9 @@ ghost use Rattle.kr_domains.specs.Limits.{IsWithinLimits};
 ghost use Rattle.kr_domains.specs.Meaning.{faults_of};
 ghost use Rattle.kr_domains.specs.Order.{least as least_of, lesser};
 ghost use Rattle.kr_fitting.specs.Classes.{AreClasses, AreTyped, files_of};
-ghost use Rattle.kr_space.specs.Refusals.{Refuses};
+ghost use Rattle.kr_numbers.specs.Entries.{AreBounds};
+ghost use Rattle.kr_space.specs.Keys.{AreKeys};
+ghost use Rattle.kr_space.specs.Refusals.{Refuses, after_S1};
 
 use crate::given::note_given;
 use crate::keys::Keys;
@@ -19,7 +21,7 @@ use kr_fin::FinDoc;
 use kr_fitting::{Classes, note_method, note_predicate, note_slots, note_unfit};
 use kr_mean::Mode;
 use kr_meanings::{Least, note_names};
-use kr_numbers::bounds_of;
+use kr_numbers::{Bound, bounds_of};
 use kr_type_numbers::Types;
 use std::alloc::Global;
 
@@ -66,8 +68,32 @@ fn note_types(
     note_slots(least, classes, types, root, fields, params)
 }
 
-#[tactic(auto, using(crate::proofs::Parts::faults_are, crate::proofs::Parts::arrays_are, kr_meanings::proofs::Growing::node_types_kept, kr_numbers::proofs::Bounded::bounds_kept))]
+/// Notes what the document breaks of the rules after that on names.
+#[tactic(auto, using(crate::proofs::Parts::after_names, kr_numbers::proofs::Bounded::bounds_kept))]
+fn note_after_names(
+    least: &mut Least,
+    classes: &Classes,
+    types: &mut Types,
+    document: &FinDoc,
+    mode: &Mode,
+    keys: &Keys,
+    bounds: &[Bound],
+) -> Result<(), NoMemory>
+    requires classes { AreClasses classes.now }
+    requires typed { AreTyped classes.now types.old }
+    requires limits { IsWithinLimits document.now }
+    requires keys { AreKeys document.now keys.now }
+    requires bounds { AreBounds types.old document.now.arrays bounds.now (setting_of (files_of classes.now) document.now).arrays }
+    ensures noted { OnOk result (least.new ≡ fold lesser least.old (after_S1 (problem_of (files_of classes.now) document.now mode.now) (setting_of (files_of classes.now) document.now) mode.now)) }
+    ensures extends { Extends types.old types.new }
+{
+    note_given(least, classes, &*types, document, mode, keys, bounds)?;
+    note_numbers(least, classes, types, document, mode, keys, bounds)?;
+    note_types(least, classes, types, document, mode)
+}
+
 /// Notes all that the document breaks.
+#[tactic(auto, using(crate::proofs::Parts::faults_are, crate::proofs::Parts::arrays_are, kr_meanings::proofs::Growing::node_types_kept))]
 fn note_faults(
     least: &mut Least,
     classes: &Classes,
@@ -82,13 +108,11 @@ fn note_faults(
     ensures extends { Extends types.old types.new }
 {
     let alloc = least.alloc();
-    let keys = Keys::of(alloc, document)?;
     let arrays = document.arrays.as_slice();
     note_names(least, types, classes.trees, classes.heads, document)?;
+    let keys = Keys::of(alloc, document)?;
     let bounds = bounds_of(alloc, types, classes.trees, classes.heads, arrays)?;
-    note_given(least, classes, &*types, document, mode, &keys, &bounds)?;
-    note_numbers(least, classes, types, document, mode, &keys, &bounds)?;
-    note_types(least, classes, types, document, mode)
+    note_after_names(least, classes, types, document, mode, &keys, &bounds)
 }
 
 /// Whether a document breaks no rule beside a program; else the least of the rules that it breaks, and there the least item

@@ -2,6 +2,7 @@
 ghost use Rattle.std.specs.Prelude.{◌≡◌, IfOk, unwrap_or};
 ghost use Rattle.kr_type_numbers.specs.Types.{Extends};
 ghost use Rattle.kr_space.specs.Basis.{AreArrays, AreBoundsOn, IsBasis, bounds_on, setting_on};
+ghost use Rattle.kr_space.specs.Pools.{AreDomainsOn, AreValuesOn};
 
 use crate::array_domains::add_array_domains;
 use crate::basis::Basis;
@@ -10,8 +11,9 @@ use crate::parameters::parameter_domains;
 use crate::pool::pool_of;
 use crate::slots::root_number;
 use kr_base::NoMemory;
+use kr_fin::Listed;
 use kr_mean::Mode;
-use kr_problem::Layout;
+use kr_problem::{ClassDomain, Item, Layout};
 use kr_type_numbers::Types;
 use std::alloc::Global;
 
@@ -25,8 +27,72 @@ fn number_or_none(class: Option<u32>) -> u32
     }
 }
 
+/// The class domains of a document's problem.
+#[tactic(auto, using(crate::proofs::Laid::domains_whole))]
+fn all_domains(
+    alloc: Global,
+    types: &Types,
+    arrays: &[u32],
+    basis: &Basis,
+) -> Result<Listed<ClassDomain>, NoMemory>
+    requires basis { IsBasis basis.now }
+    requires bounds { AreBoundsOn types.now basis.now }
+    requires arrays { AreArrays types.now (setting_on basis.now) arrays.now }
+    ensures { IfOk result (λ domains. AreDomainsOn basis.now domains) }
+{
+    let mut domains = class_domains(alloc, basis)?;
+    add_array_domains(alloc, types, arrays, basis, &mut domains)?;
+    Ok(domains)
+}
+
+/// The layout over these class domains and the values of the domains that the document gives.
+#[tactic(auto, using(crate::proofs::Laid::layout_is))]
+fn layout_over(
+    alloc: Global,
+    basis: &Basis,
+    mode: Mode,
+    domains: Listed<ClassDomain>,
+    values: &[Listed<Item>],
+) -> Result<Layout, NoMemory>
+    requires basis { IsBasis basis.now }
+    requires domains { AreDomainsOn basis.now domains }
+    requires values { AreValuesOn basis.now values.now }
+    ensures { IfOk result (λ layout. layout ≡ bounds_on (setting_on basis.now) mode) }
+{
+    let root = root_number(basis.classes, basis.document);
+    let parameters = parameter_domains(alloc, basis, &mode, root)?;
+    Layout::new(
+        alloc,
+        number_or_none(root),
+        mode,
+        basis.document.fuel,
+        parameters,
+        domains,
+        values,
+    )
+}
+
+/// The layout over the values of the domains that the document gives.
+fn layout_with(
+    alloc: Global,
+    types: &Types,
+    arrays: &[u32],
+    basis: &Basis,
+    mode: Mode,
+    values: &[Listed<Item>],
+) -> Result<Layout, NoMemory>
+    requires basis { IsBasis basis.now }
+    requires bounds { AreBoundsOn types.now basis.now }
+    requires arrays { AreArrays types.now (setting_on basis.now) arrays.now }
+    requires values { AreValuesOn basis.now values.now }
+    ensures { IfOk result (λ layout. layout ≡ bounds_on (setting_on basis.now) mode) }
+{
+    let domains = all_domains(alloc, types, arrays, basis)?;
+    layout_over(alloc, basis, mode, domains, values)
+}
+
 /// The slots and domains of a document's problem.
-#[tactic(auto, using(crate::proofs::Laid::layout_is, crate::proofs::Laid::arrays_kept, kr_numbers::proofs::Bounded::bounds_kept))]
+#[tactic(auto, using(crate::proofs::Laid::arrays_kept, kr_numbers::proofs::Bounded::bounds_kept))]
 pub(crate) fn layout_of(
     alloc: Global,
     types: &mut Types,
@@ -40,18 +106,6 @@ pub(crate) fn layout_of(
     ensures layout { IfOk result (λ layout. layout ≡ bounds_on (setting_on basis.now) mode) }
     ensures extends { Extends types.old types.new }
 {
-    let pool = pool_of(alloc, types, basis)?;
-    let root = root_number(basis.classes, basis.document);
-    let parameters = parameter_domains(alloc, basis, &mode, root)?;
-    let mut domains = class_domains(alloc, basis)?;
-    add_array_domains(alloc, &*types, arrays, basis, &mut domains)?;
-    Layout::new(
-        alloc,
-        number_or_none(root),
-        mode,
-        basis.document.fuel,
-        parameters,
-        domains,
-        &pool,
-    )
+    let values = pool_of(alloc, types, basis)?;
+    layout_with(alloc, &*types, arrays, basis, mode, &values)
 }

@@ -101,8 +101,27 @@ fn add_lengths(
     Ok(())
 }
 
-/// The domains that a document gives.
+/// Adds the domains that a document gives.
 #[tactic(auto, using(kr_numbers::proofs::Bounded::bounds_kept, crate::proofs::Pooled::pool_whole))]
+fn add_pool(
+    alloc: Global,
+    types: &mut Types,
+    basis: &Basis,
+    domains: &mut Vec<Listed<Item>>,
+) -> Result<(), NoMemory>
+    requires basis { IsBasis basis.now }
+    requires bounds { AreBoundsOn types.old basis.now }
+    ensures added { OnOk result (map domain_of domains.new.items ≡ map domain_of domains.old.items ++ pool (setting_on basis.now) basis.now.document.now) }
+    ensures extends { Extends types.old types.new }
+{
+    let document = basis.document;
+    add_domains(alloc, types, basis, domains, document.fields.as_slice())?;
+    add_domains(alloc, types, basis, domains, document.params.as_slice())?;
+    add_lengths(alloc, types, basis, domains, document.arrays.as_slice())
+}
+
+/// The domains that a document gives.
+#[tactic(auto, using(crate::proofs::Pooled::pool_alone))]
 pub(crate) fn pool_of(
     alloc: Global,
     types: &mut Types,
@@ -113,28 +132,7 @@ pub(crate) fn pool_of(
     ensures pool { IfOk result (λ domains. map domain_of domains.items ≡ pool (setting_on basis.now) basis.now.document.now) }
     ensures extends { Extends types.old types.new }
 {
-    let document = basis.document;
     let mut domains = Vec::new(alloc);
-    add_domains(
-        alloc,
-        types,
-        basis,
-        &mut domains,
-        document.fields.as_slice(),
-    )?;
-    add_domains(
-        alloc,
-        types,
-        basis,
-        &mut domains,
-        document.params.as_slice(),
-    )?;
-    add_lengths(
-        alloc,
-        types,
-        basis,
-        &mut domains,
-        document.arrays.as_slice(),
-    )?;
+    add_pool(alloc, types, basis, &mut domains)?;
     Ok(domains)
 }

@@ -12,7 +12,9 @@ ghost use Rattle.kr_domains.specs.Limits.{IsWithinLimits};
 ghost use Rattle.kr_domains.specs.Meaning.{faults_of};
 ghost use Rattle.kr_domains.specs.Order.{least as least_of};
 ghost use Rattle.kr_fitting.specs.Classes.{AreClasses, AreTyped, files_of};
-ghost use Rattle.kr_space.specs.Basis.{AreArrays, HasFewDomains, bounds_on};
+ghost use Rattle.kr_numbers.specs.Entries.{AreBounds};
+ghost use Rattle.kr_space.specs.Basis.{AreArrays, AreBoundsOn, HasFewDomains, IsBasis, bounds_on, setting_on};
+ghost use Rattle.kr_space.specs.Keys.{AreKeys};
 ghost use Rattle.kr_space.specs.Refusals.{Refuses};
 
 use crate::arrays::arrays_of;
@@ -64,8 +66,57 @@ struct Laid {
     layout: Layout,
 }
 
+/// The array types and the layout of the problem that is made of these.
+#[tactic(auto, using(kr_numbers::proofs::Bounded::bounds_kept))]
+fn laid_on(alloc: Global, types: &mut Types, basis: &Basis, mode: Mode) -> Result<Laid, NoMemory>
+    requires few { length basis.now.classes.now.trees.now < 65 }
+    requires basis { IsBasis basis.now }
+    requires typed { AreTyped basis.now.classes.now types.old }
+    requires bounds { AreBoundsOn types.old basis.now }
+    ensures arrays { IfOk result (λ laid. AreArrays types.new (setting_on basis.now) laid.arrays.items) }
+    ensures layout { IfOk result (λ laid. laid.layout ≡ bounds_on (setting_on basis.now) mode) }
+    ensures extends { Extends types.old types.new }
+{
+    let arrays = arrays_of(alloc, types, basis)?;
+    let layout = layout_of(alloc, types, &arrays, basis, mode)?;
+    Ok(Laid { arrays, layout })
+}
+
+/// The same of classes and a document, by the keys of its tables and the array types that it bounds.
+#[tactic(auto, using(crate::proofs::Parts::arrays_are))]
+fn laid_by(
+    alloc: Global,
+    classes: &Classes,
+    types: &mut Types,
+    document: &FinDoc,
+    mode: Mode,
+    keys: &Keys,
+    bounds: &[Bound],
+) -> Result<Laid, NoMemory>
+    requires few { length classes.now.trees.now < 65 }
+    requires classes { AreClasses classes.now }
+    requires typed { AreTyped classes.now types.old }
+    requires limits { IsWithinLimits document.now }
+    requires keys { AreKeys document.now keys.now }
+    requires bounds { AreBounds types.old document.now.arrays bounds.now (setting_of (files_of classes.now) document.now).arrays }
+    ensures arrays { IfOk result (λ laid. AreArrays types.new (setting_of (files_of classes.now) document.now) laid.arrays.items) }
+    ensures layout { IfOk result (λ laid. laid.layout ≡ bounds_on (setting_of (files_of classes.now) document.now) mode) }
+    ensures extends { Extends types.old types.new }
+{
+    if !has_numbers(classes, document, bounds) {
+        return Err(NoMemory);
+    }
+    let basis = Basis {
+        classes,
+        document,
+        keys,
+        bounds,
+    };
+    laid_on(alloc, types, &basis, mode)
+}
+
 /// The array types and the layout of a document's problem.
-#[tactic(auto, using(crate::proofs::Parts::arrays_are, kr_meanings::proofs::Growing::node_types_kept, kr_numbers::proofs::Bounded::bounds_kept))]
+#[tactic(auto, using(crate::proofs::Parts::arrays_are, kr_meanings::proofs::Growing::node_types_kept))]
 fn lay(
     alloc: Global,
     classes: &Classes,
@@ -84,18 +135,34 @@ fn lay(
     let keys = Keys::of(alloc, document)?;
     let named = document.arrays.as_slice();
     let bounds = bounds_of(alloc, types, classes.trees, classes.heads, named)?;
-    if !has_numbers(classes, document, &bounds) {
-        return Err(NoMemory);
+    laid_by(alloc, classes, types, document, mode, &keys, &bounds)
+}
+
+/// What a document gives a program to be a problem; or the least of the rules that it breaks, and there the least item in
+/// the order of bytes.
+#[tactic(auto, using(kr_meanings::proofs::Growing::node_types_kept))]
+fn judge_and_lay(
+    alloc: Global,
+    classes: &Classes,
+    types: &mut Types,
+    document: &FinDoc,
+    mode: Mode,
+) -> Result<Laid, SpaceRefusal>
+    requires few { length classes.now.trees.now < 65 }
+    requires classes { AreClasses classes.now }
+    requires typed { AreTyped classes.now types.old }
+    requires limits { IsWithinLimits document.now }
+    ensures unbroken { IfOk result (λ laid. least_of (faults_of (files_of classes.now) document.now mode) ≡ None) }
+    ensures arrays { IfOk result (λ laid. AreArrays types.new (setting_of (files_of classes.now) document.now) laid.arrays.items) }
+    ensures layout { IfOk result (λ laid. laid.layout ≡ bounds_on (setting_of (files_of classes.now) document.now) mode) }
+    ensures extends { Extends types.old types.new }
+    ensures refused { IfErr result (Refuses (least_of (faults_of (files_of classes.now) document.now mode))) }
+{
+    judge_space(alloc, classes, types, document, &mode)?;
+    match lay(alloc, classes, types, document, mode) {
+        Ok(laid) => Ok(laid),
+        Err(NoMemory) => Err(SpaceRefusal::NoMemory),
     }
-    let basis = Basis {
-        classes,
-        document,
-        keys: &keys,
-        bounds: &bounds,
-    };
-    let arrays = arrays_of(alloc, types, &basis)?;
-    let layout = layout_of(alloc, types, &arrays, &basis, mode)?;
-    Ok(Laid { arrays, layout })
 }
 
 /// The problem of a program, a document and a mode; or the least of the rules that the document breaks, and there the least
@@ -135,10 +202,7 @@ pub fn problem(
         members: &members,
         numbers: &numbers,
     };
-    judge_space(alloc, &classes, &mut types, document, &mode)?;
-    let Ok(laid) = lay(alloc, &classes, &mut types, document, mode) else {
-        return Err(SpaceRefusal::NoMemory);
-    };
+    let laid = judge_and_lay(alloc, &classes, &mut types, document, mode)?;
     let table = ClassTable {
         heads,
         members,

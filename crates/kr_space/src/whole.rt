@@ -81,12 +81,12 @@ pub(crate) fn note_numbers(
 {
     let alloc = least.alloc();
     let objects = &keys.objects;
+    let slots = slot_count(alloc, classes, &*types, objects, document, mode, bounds)?;
     let counts = counts_of(alloc, classes, &*types, objects, document, bounds)?;
     if counts.len() >= 0xffff_ffff {
         return Err(NoMemory);
     }
     let blocks = blocks_of(alloc, &counts)?;
-    let slots = slot_count(alloc, classes, &*types, objects, document, mode, bounds)?;
     let objects_of_root = count_of_root(&counts, root_number(classes, document));
     let bounded = Bounded {
         classes,

@@ -27,7 +27,7 @@ use kr_members::Members;
 use kr_names::tree_of;
 use kr_scopes::{Declaring, Scopes};
 use kr_type_numbers::{NodeTypes, Types};
-use kr_type_rules::{
+use kr_type_rules::{TypingRule, 
     Note, Verdict, conclude, constant_initial_rule, field_initial_rule, local_rule, type_of_node,
 };
 
@@ -149,6 +149,6 @@ pub fn parameter_note(
     ensures no_rest { HasNoRest result.known }
     ensures shown { (known : List Known) (look : ℕ → rules.Typed) → let s = scope_at (setting (table_in trees.now) known (file_at trees.now file)) scopes.now.bindings.items scopes.now.within.items node in note_shown types.now look result ≡ concluded place (rules.parameter_rule s name.now) (note_shown types.now look x).least }
 {
-    let verdict = Verdict::fine_if(is_new(trees, scopes, file, node, name), 4);
+    let verdict = Verdict::fine_if(is_new(trees, scopes, file, node, name), TypingRule::RepeatedLocal);
     conclude(place, verdict, x.least)
 }

@@ -6,5 +6,4 @@ pub mod Nexts
 pub mod Seeks
 pub mod Firsts
 pub mod Turns
-pub mod Bases
 pub mod Keeps

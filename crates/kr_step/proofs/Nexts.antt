@@ -6,17 +6,12 @@ use Rattle.kr_base.specs.Cuts.{Before}
 use Rattle.kr_mean.specs.Readings.{Forks, AllBelow, Lacks, Differ, IsReading}
 use Rattle.kr_mean.specs.Runs.{key_along}
 use Rattle.kr_iso.specs.Choices.{IsAllowed, AllowedAlong}
-use Rattle.kr_base.specs.declared.entry.Entry.{Entry}
-use Rattle.kr_base.specs.declared.entry.Mark.{Mark}
-use Rattle.kr_mean.specs.Entries.{entry_of, IsAll, IsListed}
-use Rattle.kr_base.specs.Entries.{IsAmong}
-use Rattle.kr_step.specs.Steps.{above}
+use Rattle.kr_mean.specs.Entries.{IsListed}
 use Rattle.kr_iso.specs.Choices.{PathIn, AllowedPath, IsNextChoice}
 use Rattle.kr_step.specs.Steps.{path_of, slots_of, indices_of, OnPath, IsOf, NextIs, IsBeyond, IsFirst, IsStuck, IsMoved}
 use Rattle.kr_step.proofs.Orders.{before_not_self}
 use Rattle.kr_step.proofs.Keys.{forks_agree}
 use Rattle.kr_iso.proofs.Least.{least_is_allowed, allowed_is_least}
-use Rattle.kr_step.proofs.Spans.{above_first, above_none}
 use Rattle.kr_step.proofs.Paths.{on_front, on_last, on_more, next_shared, next_of, next_rest, next_below, next_allowed, AllZero, lacks_of, lacks_front, zero_rest, path_allowed, allowed_more, allowed_front, key_on, before_append, before_tails, zeros_first}
 
 module _ (S : Space) {M : Type 0} (order : List ℕ → List ℕ) (mark : List ℕ → M) (is : IsSpace S) (reading : IsReading S order mark) where
@@ -90,12 +85,6 @@ module _ (S : Space) {M : Type 0} (order : List ℕ → List ℕ) (mark : List �
       let op = on_front u path ((s, i) ∷ []) o in
       let e = on_last u path (s, i) o in
       not (subst (λ (x : ℕ). IsAllowed S path s x) e (chosen u lu path s (next_too v u iv lu.vector path s n op)).1)
-
-  -- nothing is left
-  pub beyond_all : {N : Type 0} (mk : List ℕ → Mark N) (es : List (Entry N)) → IsAll S order mk es → (c : List ℕ) → IsBeyond S order c [] → above c es ≡ []
-  beyond_all {N} mk es all c beyond = above_none c es (λ f m b.
-      let v = all.sound f m in
-      beyond v.0 v.1 (subst (λ (x : Entry N). Before c x.key) (sym v.2) b) tt)
 
   -- the vector of an allowed path is listed
   pub record Reached (path : List (ℕ × ℕ)) (w : List ℕ) : Type 0 where
@@ -200,15 +189,6 @@ module _ (S : Space) {M : Type 0} (order : List ℕ → List ℕ) (mark : List �
         where
           minimal : (x : List ℕ) → IsListed S order x → NextIs x path s (order x) → i < get_or x s 0 → j ≤ get_or x s 0
           minimal x lx nx lt = elim (cases_lt (get_or x s 0) j) [ inr ge ↦ ge | inl below ↦ absurd (choice.3 (get_or x s 0) (omega arith) below (chosen x lx path s nx).1) ]
-
-  -- the first entry above a cut, by its vector
-  pub first_entry : {N : Type 0} (mk : List ℕ → Mark N) (es : List (Entry N)) → IsAll S order mk es → (c w : List ℕ) → IsFirst S order c w → above c es ≡ entry_of order mk w ∷ above (key_along w (order w)) es
-  first_entry {N} mk es all c w first = above_first c (entry_of order mk w) es all.ascends (all.complete w first.listed) first.later least
-    where
-      least : (f : Entry N) → IsAmong f es → Before c f.key → Before f.key (key_along w (order w)) → ⊥
-      least f m b b' =
-          let u = all.sound f m in
-          first.least u.0 u.1 (subst (λ (x : Entry N). Before c x.key) (sym u.2) b) (subst (λ (x : Entry N). Before x.key (key_along w (order w))) (sym u.2) b')
 
   compare_front : (w u : List ℕ) (Q : Type 0) (path : List (ℕ × ℕ)) (ws us : List ℕ) → Forks w u Q (slots_of path ++ ws) us → OnPath w path → AllZero w ws →
       Before (indices_of path) (key_along u us) → Before (key_along u us) (key_along w (slots_of path ++ ws)) → ⊥

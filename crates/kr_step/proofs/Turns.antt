@@ -22,9 +22,6 @@ use Rattle.kr_step.proofs.Nexts.{Top, top, top_in, stuck_none, found_stuck}
 pub stuck_along : (S T : Space) (o p : List ℕ → List ℕ) (c v : List ℕ) (path : List (ℕ × ℕ)) → T ≡ S → p ≡ o → IsStuck S o c v path → IsStuck T p c v path
 stuck_along S T o p c v path e f k = subst (λ (x : Space). IsStuck x p c v path) (sym e) (subst (λ (x : List ℕ → List ℕ). IsStuck S x c v path) (sym f) k)
 
-pub front_along : (S T : Space) (o p : List ℕ → List ℕ) (v : List ℕ) (path : List (ℕ × ℕ)) → T ≡ S → p ≡ o → IsFront S o v path → IsFront T p v path
-front_along S T o p v path e f k = subst (λ (x : Space). IsFront x p v path) (sym e) (subst (λ (x : List ℕ → List ℕ). IsFront S x v path) (sym f) k)
-
 -- what is known of the slot at the end of a path
 pub record Popped (S : Space) (order : List ℕ → List ℕ) (v : List ℕ) (path : List (ℕ × ℕ)) (s i : ℕ) : Type 0 where
   pub slot : s < S.slots

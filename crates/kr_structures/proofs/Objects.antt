@@ -84,9 +84,6 @@ module _ (problem : Problem) (w : IsWellFormed problem) (v : List ℕ) where
     pub found_is : (o : DomainObject) → IsNumbered problem (get_or numbers k 0) o → o ≡ get_or (met problem v) k nobody
     found_is o n = let m = met_at k inside in one_object problem w o.domain o.number (get_or (met problem v) k nobody).domain (get_or (met problem v) k nobody).number n.domain n.inside m.0 m.1 (n.is ∙ number_at)
 
-    pub some_found : ((o : DomainObject) → IsNumbered problem (get_or numbers k 0) o → ⊥) → ⊥
-    some_found none = let m = met_at k inside in none (get_or (met problem v) k nobody) (record { domain = m.0; inside = m.1; is = sym number_at })
-
 -- parameters in their parentheses
 pub parenthesised : (a b c d : List ℕ) (ts : List (List ℕ)) → 0 < length ts → b ≡ a ++ codes "(" → c ≡ b ++ joined_by (codes ",") ts → d ≡ c ++ codes ") " → d ≡ a ++ in_parentheses ts
 parenthesised a b c d ts h e f g =

@@ -4,9 +4,9 @@ use Rattle.std.specs.Prelude.{◌||◌, codes, if◌then◌else◌}
 use Rattle.std.proofs.lemmas.List.{append-nil}
 use Rattle.kr_value.specs.declared.object.Class.{Class}
 use Rattle.kr_value.specs.declared.object.Class.TheVariants.{Object, Array, Set, List as ListClass}
-use Rattle.kr_value.specs.declared.object.Spot.TheVariants.{Field, Length, Element}
+use Rattle.kr_value.specs.declared.object.Spot.TheVariants.{Field, Element}
 use Rattle.kr_mean.specs.Heaps.{value_at}
-use Rattle.kr_mean.specs.Places.{SlotPlace, This, Parameter, At}
+use Rattle.kr_mean.specs.Places.{SlotPlace, At}
 use Rattle.kr_mean.specs.Problem.{Problem, slot_at}
 use Rattle.kr_problem.specs.Bounds.{Bounds, bare, problem_with}
 use Rattle.kr_report.specs.Texts.{field_names, in_brackets, part_text, value_text}
@@ -20,10 +20,6 @@ separated_one between false t = append-nil t
 pub some_any : (any : Bool) (t : List ℕ) → true ≡ (any || are_any (t ∷ []))
 some_any true t = refl
 some_any false t = refl
-
-pub none_any : (any : Bool) → any ≡ (any || false)
-none_any true = refl
-none_any false = refl
 
 pub nothing : (between : List ℕ) (any : Bool) → separated between any [] ≡ []
 nothing between true = refl
@@ -53,15 +49,6 @@ module _ (problem : Problem) (b : Bounds) (laid : problem ≡ problem_with probl
   pub of_element : (n i : ℕ) → At n (Element i) ≡ (slot_at (bare b) s).place → part_at problem v class s ≡ value_text (bare b) (value_at (bare b) v s) ∷ []
   unfolding value
   of_element n i e = part_is (At n (Element i)) e ∙ ap (λ (t : List ℕ). t ∷ []) value_is
-
-  pub of_length : (n : ℕ) → At n Length ≡ (slot_at (bare b) s).place → part_at problem v class s ≡ []
-  of_length n e = part_is (At n Length) e
-
-  pub of_this : This ≡ (slot_at (bare b) s).place → part_at problem v class s ≡ []
-  of_this e = part_is This e
-
-  pub of_parameter : (i : ℕ) → Parameter i ≡ (slot_at (bare b) s).place → part_at problem v class s ≡ []
-  of_parameter i e = part_is (Parameter i) e
 
 -- ---- texts put together
 

@@ -9,7 +9,7 @@ use Rattle.kr_value.specs.declared.value.Value.TheVariants.{Int, Bool as Truth, 
 use Rattle.kr_table.specs.Types.{JavaType, BooleanType, ClassType, is_void}
 use Rattle.kr_table.specs.Table.{Method, method_named}
 use Rattle.kr_typing.specs.Scopes.{Scope, in_contract, Requiring}
-use Rattle.kr_typing.specs.Typing.{judged, type_in}
+use Rattle.kr_typing.specs.Typing.{judged}
 use Rattle.kr_mean.specs.Program.{Program, class_scope, method_scope}
 use Rattle.kr_mean.specs.Places.{SlotPlace}
 use Rattle.kr_mean.specs.Problem.{Problem, DomainObject, all_objects, upto}
@@ -52,9 +52,6 @@ module _ (program : Program) (fixed : Fixed) where
   fine_said types this Q (Err OutOfFuel) t h e = cc (e)
   fine_said types this Q (Err Stuck) t h e = h
 
-  pub unstuck : (types : List JavaType) (this : Option ℕ) (ls : List JavaType) {A : Type 0} (m : Run A) (Q : List JavaType → List JavaType → A → Type 0) → Safe program fixed types this ls m Q → Unstuck program fixed types this ls m
-  unstuck types this ls m Q p = record { by = λ s h. fine_said types this Q (m s).said (m s).after (p.by s h) }
-
   -- one after another
   pub unstuck_then : (types : List JavaType) (this : Option ℕ) (ls : List JavaType) {A B : Type 0} (m : Run A) (f : A → Run B) (R : List JavaType → A → Type 0) → Safe program fixed types this ls m (λ more after a. (after ≡ ls) × R more a) → ((more : List JavaType) (a : A) → Extends types more → R more a → Unstuck program fixed more this ls (f a))
       → Unstuck program fixed types this ls (m >>= f)
@@ -83,10 +80,6 @@ module _ (program : Program) (fixed : Fixed) where
     this_run (suc n) types c ls =
         safe_keep program fixed types (Some c) ls tick _ _ (safe_tick program fixed types (Some c) ls)
         (λ more u x. safe_map program fixed more (Some c) ls get_this _ _ (safe_this program fixed more c ls) (λ others ms v h. (h.0, subst (λ (w : Value). IsOf program.table others (ClassType c) w) (sym h.1.1) h.1.2)))
-
-    typed_this : (c : ℕ) → type_in (judged (class_scope program c) (trees.This nowhere)).typed ≡ Some (ClassType c)
-    unfolding judged
-    typed_this c = refl
 
     predicate_run : (n : ℕ) (types : List JavaType) (c : ℕ) (ls : List JavaType) → IsPredicate program c → Safe program fixed types (Some c) ls (eval program n (class_scope program c) rep_ok) (Boolean ls)
     unfolding eval judged

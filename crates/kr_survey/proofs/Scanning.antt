@@ -3,7 +3,7 @@ use Rattle.std.proofs.Common.{◌≡◌, ◌⊎◌, inl, inr, ℕ, zero, suc, �
 use Rattle.std.specs.Prelude.{◌||◌, if◌then◌else◌}
 use Rattle.std.specs.List.{flat_map, list_any}
 use Rattle.std.proofs.lemmas.Bool.Decides.{nat_tests}
-use Rattle.std.proofs.lemmas.List.{take_more, append-nil, take-append-drop, drop_more, take_all}
+use Rattle.std.proofs.lemmas.List.{append-nil, take-append-drop, drop_more, take_all}
 use Rattle.std.proofs.lemmas.List.Concat.{flat_map-append}
 use Rattle.std.proofs.lemmas.List.Folds.{list_any-append}
 use Rattle.kr_base.specs.declared.span.Bound.{Bound}
@@ -37,30 +37,6 @@ pub record IsFront {R : Type 0} (a b : Bound) (most : ℕ) (es : List (Entry R))
   pub below : tried < most
   pub none_spent : any_spent (within a b es) ≡ false
 
-front_more : {R : Type 0} (es : List (Entry R)) (i : ℕ) (e : Entry R) → i < length es → e ≡ get_or es i e → take (i + 1) es ≡ take i es ++ e ∷ []
-front_more {R} es i e h is = take_more es i e h ∙ ap (λ (x : Entry R). take i es ++ x ∷ []) (sym is)
-
--- an entry that isn't in the span
-pub passed : {R : Type 0} (a b : Bound) (most : ℕ) (es : List (Entry R)) (i : ℕ) (e : Entry R) (rows : List R) (tried : ℕ) → i < length es → e ≡ get_or es i e
-    → is_within a b e.key ≡ false → IsFront a b most (take i es) rows tried → IsFront a b most (take (i + 1) es) rows tried
-passed {R} a b most es i e rows tried h is out f =
-    let same : within a b (take (i + 1) es) ≡ within a b (take i es) =
-    ap (λ (l : List (Entry R)). within a b l) (front_more es i e h is)
-    ∙ (within-append a b (take i es) (e ∷ []) ∙ (ap (λ (t : Bool). within a b (take i es) ++ cond t (e ∷ []) []) out ∙ append-nil (within a b (take i es)))) in
-    record {
-      rows_are = f.rows_are ∙ ap (λ (w : List (Entry R)). rows_of w) (sym same);
-      tried_are = f.tried_are ∙ ap (λ (w : List (Entry R)). length w) (sym same);
-      below = f.below;
-      none_spent = ap (λ (w : List (Entry R)). any_spent w) same ∙ f.none_spent;
-    }
-
--- one that is in it comes to those walked
-within-more : {R : Type 0} (a b : Bound) (es : List (Entry R)) (i : ℕ) (e : Entry R) → i < length es → e ≡ get_or es i e → is_within a b e.key ≡ true
-    → within a b (take (i + 1) es) ≡ within a b (take i es) ++ e ∷ []
-within-more {R} a b es i e h is inside =
-    ap (λ (l : List (Entry R)). within a b l) (front_more es i e h is)
-    ∙ (within-append a b (take i es) (e ∷ []) ∙ ap (λ (t : Bool). within a b (take i es) ++ cond t (e ∷ []) []) inside)
-
 rows-more : {R : Type 0} (w : List (Entry R)) (e : Entry R) → rows_of (w ++ e ∷ []) ≡ rows_of w ++ row_of e.mark
 rows-more {R} w e = flat_map-append (λ (x : Entry R). row_of x.mark) w (e ∷ []) ∙ ap (λ (l : List R). rows_of w ++ l) (append-nil (row_of e.mark))
 
@@ -71,20 +47,6 @@ spent-more {R} w e h =
 
 length-more : {R : Type 0} (w : List (Entry R)) (e : Entry R) → length (w ++ e ∷ []) ≡ length w + 1
 length-more w e = length-append w (e ∷ [])
-
--- an entry that doesn't stop the walk
-pub counted : {R : Type 0} (a b : Bound) (most : ℕ) (es : List (Entry R)) (i : ℕ) (e : Entry R) (old rows : List R) (before tried : ℕ) → i < length es → e ≡ get_or es i e
-    → is_within a b e.key ≡ true → IsFront a b most (take i es) old before → rows ≡ old ++ row_of e.mark → tried ≡ before + 1 → is_spent e.mark ≡ false → tried < most
-    → IsFront a b most (take (i + 1) es) rows tried
-counted {R} a b most es i e old rows before tried h is inside f grew more clean low =
-    let w = within a b (take i es) in
-    let same : within a b (take (i + 1) es) ≡ w ++ e ∷ [] = within-more a b es i e h is inside in
-    record {
-      rows_are = grew ∙ (ap (λ (l : List R). l ++ row_of e.mark) f.rows_are ∙ (sym (rows-more w e) ∙ ap (λ (l : List (Entry R)). rows_of l) (sym same)));
-      tried_are = more ∙ (ap (λ (n : ℕ). n + 1) f.tried_are ∙ (sym (length-more w e) ∙ ap (λ (l : List (Entry R)). length l) (sym same)));
-      below = low;
-      none_spent = ap (λ (l : List (Entry R)). any_spent l) same ∙ (spent-more w e f.none_spent ∙ clean);
-    }
 
 last-more : {R : Type 0} (b : Bound) (w : List (Entry R)) (e : Entry R) → last_key b (w ++ e ∷ []) ≡ At e.key
 last-more b [] e = refl
@@ -98,9 +60,6 @@ take-here {A} [] e (suc m) rest h (inr o) = let z : m ≡ 0 = omega arith in ap 
 take-here (x ∷ w) e zero rest h o = absurd (omega arith)
 take-here {A} (x ∷ w) e (suc m) rest h (inl o) = ap (λ (l : List A). x ∷ l) (take-here w e m rest (omega arith) (inl o))
 take-here {A} (x ∷ w) e (suc m) rest h (inr o) = ap (λ (l : List A). x ∷ l) (take-here w e m rest (omega arith) (inr (omega arith)))
-
-eqb-eq : (a b : ℕ) → (a == b) ≡ true → a ≡ b
-eqb-eq a b h = grind (arith, nat_tests)
 
 eq-eqb : (a b : ℕ) → a ≡ b → (a == b) ≡ true
 eq-eqb a b h = grind (arith, nat_tests)

@@ -47,23 +47,6 @@ module _ (files : List Arena) (arrays : List JavaType) (t : JavaType) where
   pub no_class_row : (l : TypeList) (f : TypeForm) → t ≡ type_of_form l f → ((d : ℕ) → f ≡ forms.Class d → ⊥) → (c : ℕ) → IsInstance files arrays t c false
   no_class_row l f e other c = subst (λ (u : JavaType). IsInstance files arrays u c false) (sym e) (other_row l f other c)
 
-  -- nor are arrays
-  other_array_row : (l : TypeList) (f : TypeForm) → ((u : ℕ) → f ≡ forms.Array u → ⊥) → (k : ℕ) → IsArrayInstance files arrays (type_of_form l f) k false
-  other_array_row l (forms.Array u) other k = absurd (other u refl)
-  other_array_row l forms.Int other k = refl
-  other_array_row l forms.Boolean other k = refl
-  other_array_row l forms.Null other k = refl
-  other_array_row l forms.Void other k = refl
-  other_array_row l forms.Inferred other k = refl
-  other_array_row l (forms.Class d) other k = refl
-  other_array_row l (forms.Set u) other k = refl
-  other_array_row l (forms.List u) other k = refl
-  other_array_row l (forms.Unknown o n) other k = refl
-  other_array_row l (forms.Applied h u) other k = refl
-
-  pub no_array_row : (l : TypeList) (f : TypeForm) → t ≡ type_of_form l f → ((u : ℕ) → f ≡ forms.Array u → ⊥) → (k : ℕ) → IsArrayInstance files arrays t k false
-  no_array_row l f e other k = subst (λ (u : JavaType). IsArrayInstance files arrays u k false) (sym e) (other_array_row l f other k)
-
   pub void_row : t ≡ VoidType → (c : ℕ) → IsInstance files arrays t c false
   void_row e c = subst (λ (u : JavaType). IsInstance files arrays u c false) (sym e) refl
 

@@ -46,15 +46,9 @@ no_row none P row e behind = whole_row none P 0 row (no_columns none P row e) (�
 
 -- ---- tables
 
-abbrev rows_of : {A : Type 0} → List (Vec A Global) → List (List A)
-rows_of rows = map row_items rows
-
 -- the first rows of a table
 abbrev pub AreFront : {A : Type 0} → A → (ℕ → ℕ → A → Type 0) → ℕ → List (Vec A Global) → Type 0
 AreFront {A} none P n rows = IsFront {A = List A} [] (λ k row. IsRow none (P k) row) n (map row_items rows)
-
-pub no_rows : {A : Type 0} (none : A) (P : ℕ → ℕ → A → Type 0) (rows : List (Vec A Global)) → rows ≡ [] → AreFront none P 0 rows
-no_rows {A = A} none P rows e = no_columns {A = List A} [] (λ k row. IsRow none (P k) row) (map row_items rows) (ap (map row_items) e)
 
 pub row_more : {A : Type 0} (none : A) (P : ℕ → ℕ → A → Type 0) (n : ℕ) (rows new : List (Vec A Global)) (row : Vec A Global) → AreFront none P n rows → new ≡ rows ++ row ∷ [] → IsRow none (P n) row.items → AreFront none P (n + 1) new
 row_more {A = A} none P n rows new row front e h =

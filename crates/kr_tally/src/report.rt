@@ -1,5 +1,5 @@
 // What is reported of a subject whose structures are counted.
-ghost use Rattle.std.specs.Prelude.{◌≡◌, [], IfOk, OnErr, is_ok, if◌then◌else◌};
+ghost use Rattle.std.specs.Prelude.{◌≡◌, [], IfOk, OnErr};
 ghost use Rattle.kr_base.specs.declared.span.Bound.TheVariants.{At, End};
 ghost use Rattle.kr_base.specs.Entries.{entries_in};
 ghost use Rattle.kr_mean.specs.Entries.{all_entries};
@@ -7,7 +7,8 @@ ghost use Rattle.kr_report.specs.Endings.{EndsListing};
 ghost use Rattle.kr_tally.specs.Tallies.{Tallies, tally_answer};
 
 use crate::tally::{Tally, tally_of};
-use kr_base::{Bound, Failed, NoMemory, Sink};
+use kr_report::once_written;
+use kr_base::{Bound, NoMemory, Sink};
 use kr_candidates::{Candidates, Subject};
 use kr_scan::Scan;
 use kr_steps::Steps;
@@ -31,13 +32,6 @@ fn tally_all<S: Subject, L: Ledger>(
         Err(NoMemory) => return Err(NoMemory),
     };
     tally_of(alloc, subject, &mut scan, runs)
-}
-
-/// A status once its text is written, or that of a write fault.
-fn once_written(written: Result<(), Failed>, status: u8) -> u8
-    ensures { result ≡ (if is_ok written then status else 7) }
-{
-    if written.is_ok() { status } else { 7 }
 }
 
 /// Counts the valid entries of a subject, and puts one line: how many, for so many nodes, or the key of the first spent one.

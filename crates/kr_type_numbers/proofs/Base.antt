@@ -4,34 +4,9 @@ use Rattle.std.specs.Prelude.{slice_get}
 use Rattle.kr_ast.specs.Grow.{grow}
 use Rattle.kr_type_numbers.specs.declared.form.TypeForm.{TypeForm}
 use Rattle.kr_type_numbers.specs.declared.form.TypeForm.TheVariants.{Int, Boolean, Null, Void, Inferred}
-use Rattle.kr_type_numbers.specs.Listed.{AreApart, IsAbsent}
+use Rattle.kr_type_numbers.specs.Listed.{AreApart}
 use Rattle.kr_type_numbers.specs.Types.{AreTypes, IsMadeBelow, types_of}
 use Rattle.kr_type_numbers.proofs.Made.{list_of}
-
-pub absent_int : IsAbsent Int []
-absent_int i e = cc
-
-pub absent_boolean : IsAbsent Boolean (Int ∷ [])
-absent_boolean zero e = cc
-absent_boolean (suc i) e = cc
-
-pub absent_null : IsAbsent Null (Int ∷ Boolean ∷ [])
-absent_null zero e = cc
-absent_null (suc zero) e = cc
-absent_null (suc (suc i)) e = cc
-
-pub absent_void : IsAbsent Void (Int ∷ Boolean ∷ Null ∷ [])
-absent_void zero e = cc
-absent_void (suc zero) e = cc
-absent_void (suc (suc zero)) e = cc
-absent_void (suc (suc (suc i))) e = cc
-
-pub absent_inferred : IsAbsent Inferred (Int ∷ Boolean ∷ Null ∷ Void ∷ [])
-absent_inferred zero e = cc
-absent_inferred (suc zero) e = cc
-absent_inferred (suc (suc zero)) e = cc
-absent_inferred (suc (suc (suc zero))) e = cc
-absent_inferred (suc (suc (suc (suc i)))) e = cc
 
 ordered : (i : ℕ) (f : TypeForm) → slice_get (Int ∷ Boolean ∷ Null ∷ Void ∷ Inferred ∷ []) i ≡ Some f → IsMadeBelow i 0 f
 ordered i Int e = tt

@@ -4,9 +4,6 @@ use Rattle.kr_type_numbers.specs.declared.form.TypeForm.{TypeForm}
 use Rattle.kr_type_numbers.specs.declared.form.TypeForm.TheVariants.{Int, Boolean, Null, Void, Inferred, Class, Array, Set, List, Unknown, Applied}
 use Rattle.kr_type_numbers.specs.contracts.form.TypeFormPartialEq.TheImpl
 
-pub exact : (x y : TypeForm) → (TheImpl.ghosts).eq x y ≡ true → x ≡ y
-exact x y e = grind (arith, rules)
-
 pub itself : (x : TypeForm) → (TheImpl.ghosts).eq x x ≡ true
 itself Int = refl
 itself Boolean = refl

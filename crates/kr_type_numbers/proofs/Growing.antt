@@ -2,7 +2,6 @@
 use Rattle.std.proofs.Common.{◌≡◌, refl, sym, ap, ◌∙◌, subst, ℕ, zero, suc, ◌<◌, ◌≤◌, ◌⊎◌, inl, inr, Bool, List, [], ◌∷◌, ◌++◌, length, map, get_or, Some, arith, length-append}
 use Rattle.std.specs.Prelude.{slice_get}
 use Rattle.std.proofs.lemmas.List.{get_or_append_left, map-append, length-map}
-use Rattle.std.proofs.Math.Seq.{get_or-append_seam}
 use Rattle.kr_table.specs.Types.{JavaType, VoidType, ArrayType, SetType, ListType, AppliedType, is_known}
 use Rattle.kr_type_numbers.specs.declared.form.TypeForm.{TypeForm}
 use Rattle.kr_type_numbers.specs.declared.form.TypeForm.TheVariants as forms
@@ -94,13 +93,6 @@ extends_on a b c p q = record { more = let x = p.more in let y = q.more in omega
 
 pub number_kept : (a b : TypeList) (n : ℕ) (t : JavaType) → Extends a b → IsTypeNumber a n t → IsTypeNumber b n t
 number_kept a b n t x i = record { within = let p = x.more in let q = i.within in omega (arith, p, q); type_is = x.same n i.within ∙ i.type_is }
-
--- a new form stands behind the others
-pub pushed_at : (names : List (List ℕ)) (fs : List TypeForm) (f : TypeForm) → type_at (list_of names (fs ++ f ∷ [])) (length fs) ≡ type_of_form (list_of names fs) f
-pushed_at names fs f =
-    ap (λ ts. get_or ts (length fs) VoidType) (types_pushed names fs f)
-    ∙ ap (λ n. get_or (types_of (list_of names fs) ++ type_of_form (list_of names fs) f ∷ []) n VoidType) (sym (types_count names fs))
-    ∙ get_or-append_seam (types_of (list_of names fs)) (type_of_form (list_of names fs) f) [] VoidType
 
 pub made_there : (l : TypeList) (known : List Bool) → AreTypes l known → (i : ℕ) (f : TypeForm) → slice_get l.forms i ≡ Some f → IsMadeOf l f
 made_there l known k i f e = weaker i (length l.forms) (length l.names) f (let b = got_below l.forms i f e in omega (arith, b)) (k.ordered i f e)

@@ -15,6 +15,7 @@ use Rattle.kr_members.specs.Shown.{table_in}
 use Rattle.kr_members.specs.Kept.{AreMembers}
 use Rattle.kr_members.specs.declared.members.Members.{Members}
 use Rattle.kr_type_numbers.specs.Types.{TypeList, type_at, count}
+use Rattle.kr_type_rules.specs.Numbers.{rule_number}
 use Rattle.kr_type_rules.specs.declared.known.Typed.{Typed}
 use Rattle.kr_type_rules.specs.declared.known.Typed.TheVariants as typed
 use Rattle.kr_type_rules.specs.declared.known.Known.{Known}
@@ -31,7 +32,7 @@ typed_shown l (typed.Variable n) = rules.Variable (type_at l n)
 
 abbrev pub verdict_shown : TypeList → Verdict → rules.Verdict
 verdict_shown l (verdicts.Fits t) = rules.Fits (typed_shown l t)
-verdict_shown l (verdicts.Breaks r) = rules.Breaks r
+verdict_shown l (verdicts.Breaks r) = rules.Breaks (rule_number r)
 
 -- a list's values, of which the rest's are known
 abbrev pub known_shown : TypeList → (ℕ → rules.Typed) → Known → rules.Typed
@@ -40,7 +41,7 @@ known_shown l look known.Absent = rules.Values []
 known_shown l look (known.More first rest) = joined (rules.Value (type_at l first)) (look rest)
 
 abbrev pub fault_shown : Fault → table.Fault
-fault_shown f = record { place = f.place; rule = f.rule }
+fault_shown f = record { place = f.place; rule = rule_number f.rule }
 
 abbrev pub least_shown : Option Fault → Option table.Fault
 least_shown None = None

@@ -12,6 +12,7 @@ ghost use Rattle.kr_type_rules.specs.Shown.{IsVerdictWithin, verdict_shown};
 
 use crate::arguments::arguments_fit;
 use crate::known::Verdict;
+use crate::rules::TypingRule;
 use crate::members::value_of;
 use crate::relations::is_void;
 use kr_ast::Tree;
@@ -58,7 +59,7 @@ fn result_rule(
     ensures says { (g : Setting) (bs : List Binding) → verdict_shown types.now result ≡ rules.result_rule (scope_in g bs here) (method_shown trees.now method) }
 {
     let number = result_type(trees, types, node_types, method);
-    Verdict::ask(may_stand(types, number, here), 32, value_of(types, number))
+    Verdict::ask(may_stand(types, number, here), TypingRule::NoResult, value_of(types, number))
 }
 
 /// T24: the arguments fit.
@@ -87,7 +88,7 @@ fn arguments_rule(
         method.file,
         method.parameters,
     );
-    Verdict::ask(fit, 24, result_rule(trees, types, node_types, here, method))
+    Verdict::ask(fit, TypingRule::Call, result_rule(trees, types, node_types, here, method))
 }
 
 /// T24: there is the method; T5: no instance method in static code.
@@ -108,10 +109,10 @@ pub fn call_rule(
     ensures says { (g : Setting) (bs : List Binding) → g.table ≡ table_in trees.now → verdict_shown types.now result ≡ rules.call_rule (scope_in g bs here) (option_map (method_shown trees.now) found) (map (type_at types.now) arguments.now) }
 {
     match found {
-        None => Verdict::Breaks(24),
+        None => Verdict::Breaks(TypingRule::Call),
         Some(method) => Verdict::ask(
             method.is_static || !here.is_static,
-            5,
+            TypingRule::StaticCode,
             arguments_rule(trees, types, members, node_types, here, method, arguments),
         ),
     }
@@ -135,10 +136,10 @@ pub fn static_rule(
     ensures says { (g : Setting) (bs : List Binding) → g.table ≡ table_in trees.now → verdict_shown types.now result ≡ rules.static_rule (scope_in g bs here) (option_map (method_shown trees.now) found) (map (type_at types.now) arguments.now) }
 {
     match found {
-        None => Verdict::Breaks(24),
+        None => Verdict::Breaks(TypingRule::Call),
         Some(method) => Verdict::ask(
             method.is_static,
-            24,
+            TypingRule::Call,
             arguments_rule(trees, types, members, node_types, here, method, arguments),
         ),
     }
@@ -162,10 +163,10 @@ pub(crate) fn above_rule(
     ensures says { (g : Setting) (bs : List Binding) → g.table ≡ table_in trees.now → verdict_shown types.now result ≡ rules.above_rule (scope_in g bs here) (option_map (method_shown trees.now) found) (map (type_at types.now) arguments.now) }
 {
     match found {
-        None => Verdict::Breaks(33),
+        None => Verdict::Breaks(TypingRule::SuperCall),
         Some(method) => {
             if method.is_static {
-                return Verdict::Breaks(33);
+                return Verdict::Breaks(TypingRule::SuperCall);
             }
             arguments_rule(trees, types, members, node_types, here, method, arguments)
         }
@@ -190,7 +191,7 @@ pub fn method_rule(
     ensures says { (g : Setting) (bs : List Binding) → g.table ≡ table_in trees.now → verdict_shown types.now result ≡ rules.method_rule (scope_in g bs here) (option_map (method_shown trees.now) found) (map (type_at types.now) arguments.now) }
 {
     match found {
-        None => Verdict::Breaks(24),
+        None => Verdict::Breaks(TypingRule::Call),
         Some(method) => arguments_rule(trees, types, members, node_types, here, method, arguments),
     }
 }

@@ -11,6 +11,7 @@ ghost use Rattle.kr_type_numbers.specs.Types.{count, type_at};
 ghost use Rattle.kr_type_rules.specs.Shown.{IsVerdictWithin, Says, verdict_shown};
 
 use crate::known::Verdict;
+use crate::rules::TypingRule;
 use crate::relations::is_assignable;
 use kr_members::Members;
 use kr_scopes::Within;
@@ -36,7 +37,7 @@ fn plain_call_rule(types: &Types, is_list: bool, member: u32, name: &[u8]) -> Ve
     if name == b"isEmpty".as_slice() {
         return Verdict::value(types.boolean());
     }
-    Verdict::value_if(removes_first(types, is_list, member, name), 25, member)
+    Verdict::value_if(removes_first(types, is_list, member, name), TypingRule::CollectionCall, member)
 }
 
 /// Whether it looks for a member, which may be null or of any class or array type.
@@ -66,11 +67,11 @@ fn member_call_rule(
     if name == b"add".as_slice() {
         return Verdict::value_if(
             is_assignable(types, members, argument, member),
-            25,
+            TypingRule::CollectionCall,
             types.boolean(),
         );
     }
-    Verdict::value_if(looks_for(types, name, argument), 25, types.boolean())
+    Verdict::value_if(looks_for(types, name, argument), TypingRule::CollectionCall, types.boolean())
 }
 
 /// T25: a call of a collection.
@@ -91,6 +92,6 @@ pub fn collection_rule(
     match arguments {
         [] => plain_call_rule(types, is_list, member, name),
         [argument] => member_call_rule(types, members, here, member, name, *argument),
-        _ => Verdict::Breaks(25),
+        _ => Verdict::Breaks(TypingRule::CollectionCall),
     }
 }

@@ -13,6 +13,7 @@ ghost use Rattle.kr_type_numbers.specs.Numbers.{AreNodeTypes};
 ghost use Rattle.kr_type_rules.specs.Shown.{IsVerdictWithin, constant_says, initial_goes_into, returned, verdict_shown};
 
 use crate::known::Verdict;
+use crate::rules::TypingRule;
 use crate::members::value_of;
 use crate::relations::{is_boolean, is_int, is_void, takes};
 use crate::statements::is_ensuring;
@@ -65,8 +66,8 @@ pub fn local_rule(
 {
     Verdict::ask(
         is_new,
-        4,
-        Verdict::fine_if(initial_fits(types, members, declared, initial), 29),
+        TypingRule::RepeatedLocal,
+        Verdict::fine_if(initial_fits(types, members, declared, initial), TypingRule::LocalValue),
     )
 }
 
@@ -82,7 +83,7 @@ pub fn field_initial_rule(
     ensures within { IsVerdictWithin types.now result }
     ensures says { (files : List Arena) → AreMembers files members.now → verdict_shown types.now result ≡ rules.ask (initial_goes_into (table_in files) (type_at types.now declared) (option_map (type_at types.now) initial)) 35 rules.fine }
 {
-    Verdict::fine_if(initial_fits(types, members, declared, initial), 35)
+    Verdict::fine_if(initial_fits(types, members, declared, initial), TypingRule::FieldValue)
 }
 
 /// Whether it is `int` or `boolean`.
@@ -111,9 +112,9 @@ pub fn constant_initial_rule(
     if !types.is_known(declared) {
         return Verdict::fine();
     }
-    let kind = Verdict::fine_if(is_final && is_simple(types, declared), 37);
-    let valued = Verdict::ask(has_value, 36, kind);
-    Verdict::ask(initial_fits(types, members, declared, initial), 35, valued)
+    let kind = Verdict::fine_if(is_final && is_simple(types, declared), TypingRule::StaticField);
+    let valued = Verdict::ask(has_value, TypingRule::ConstantValue, kind);
+    Verdict::ask(initial_fits(types, members, declared, initial), TypingRule::FieldValue, valued)
 }
 
 /// Whether a method may return without a value: it has none, or a result type of which rule T1 is broken.
@@ -137,8 +138,8 @@ pub fn return_rule(
     ensures says { (files : List Arena) → AreMembers files members.now → verdict_shown types.now result ≡ rules.ask (returned (table_in files) (type_at types.now result_type) (option_map (type_at types.now) value)) 30 rules.fine }
 {
     match value {
-        None => Verdict::fine_if(returns_nothing(types, result_type), 30),
-        Some(from) => Verdict::fine_if(takes(types, members, result_type, from), 30),
+        None => Verdict::fine_if(returns_nothing(types, result_type), TypingRule::Return),
+        Some(from) => Verdict::fine_if(takes(types, members, result_type, from), TypingRule::Return),
     }
 }
 
@@ -158,7 +159,7 @@ pub fn result_value_rule(types: &Types, here: Within, result_type: u32) -> Verdi
 {
     Verdict::ask(
         has_result(types, here, result_type),
-        38,
+        TypingRule::ContractValue,
         value_of(types, result_type),
     )
 }

@@ -1,10 +1,11 @@
 // What is known of a node, and what a rule says of it.
-ghost use Rattle.std.specs.Prelude.{◌≡◌, ◌<◌, ℕ, MatchOption};
+ghost use Rattle.std.specs.Prelude.{◌≡◌, ◌<◌};
 ghost use Rattle.kr_typing.specs.Rules as rules;
-ghost use Rattle.kr_typing.specs.Typing.{on_one};
 ghost use Rattle.kr_type_numbers.specs.Types.{TypeList, count, type_at};
-ghost use Rattle.kr_table.specs.Types.{JavaType};
-ghost use Rattle.kr_type_rules.specs.Shown.{IsVerdictWithin, known_shown, verdict_shown};
+ghost use Rattle.kr_type_rules.specs.Numbers.{rule_number};
+ghost use Rattle.kr_type_rules.specs.Shown.{IsVerdictWithin, verdict_shown};
+
+use crate::rules::TypingRule;
 
 /// What is known of an expression: nothing, a value of a type, or a variable of a type; by the type's number.
 #[derive(Clone, Copy, Debug, PartialEq, Eq)]
@@ -23,11 +24,11 @@ pub enum Known {
     More { first: u32, rest: u32 },
 }
 
-/// What a rule says: what is known of the node, or the number of the rule that it breaks.
+/// What a rule says: what is known of the node, or the rule that it breaks.
 #[derive(Clone, Copy, Debug, PartialEq, Eq)]
 pub enum Verdict {
     Fits(Typed),
-    Breaks(u32),
+    Breaks(TypingRule),
 }
 
 impl Verdict {
@@ -48,17 +49,17 @@ impl Verdict {
     }
 
     /// What is left, where the test holds; else this rule is broken.
-    pub fn ask(test: bool, rule: u32, rest: Verdict) -> Verdict
+    pub fn ask(test: bool, rule: TypingRule, rest: Verdict) -> Verdict
         ensures within { (l : TypeList) → IsVerdictWithin l rest → IsVerdictWithin l result }
-        ensures says { (l : TypeList) → verdict_shown l result ≡ rules.ask test rule (verdict_shown l rest) }
+        ensures says { (l : TypeList) → verdict_shown l result ≡ rules.ask test (rule_number rule) (verdict_shown l rest) }
     {
         if test { rest } else { Verdict::Breaks(rule) }
     }
 
     /// A value of a type where the test holds; else this rule is broken.
-    pub fn value_if(test: bool, rule: u32, number: u32) -> Verdict
+    pub fn value_if(test: bool, rule: TypingRule, number: u32) -> Verdict
         ensures within { (l : TypeList) → number < count l → IsVerdictWithin l result }
-        ensures says { (l : TypeList) → verdict_shown l result ≡ rules.ask test rule (rules.Fits (rules.Value (type_at l number))) }
+        ensures says { (l : TypeList) → verdict_shown l result ≡ rules.ask test (rule_number rule) (rules.Fits (rules.Value (type_at l number))) }
     {
         if test {
             Verdict::Fits(Typed::Value(number))
@@ -68,27 +69,14 @@ impl Verdict {
     }
 
     /// Nothing where the test holds; else this rule is broken.
-    pub fn fine_if(test: bool, rule: u32) -> Verdict
+    pub fn fine_if(test: bool, rule: TypingRule) -> Verdict
         ensures within { (l : TypeList) → IsVerdictWithin l result }
-        ensures says { (l : TypeList) → verdict_shown l result ≡ rules.ask test rule rules.fine }
+        ensures says { (l : TypeList) → verdict_shown l result ≡ rules.ask test (rule_number rule) rules.fine }
     {
         if test {
             Verdict::Fits(Typed::Untyped)
         } else {
             Verdict::Breaks(rule)
-        }
-    }
-}
-
-impl Known {
-    /// The type of a value.
-    pub fn type_number(self) -> Option<u32>
-        ensures { (l : TypeList) (look : ℕ → rules.Typed) (f : JavaType → rules.Verdict) → MatchOption result (on_one f (known_shown l look self) ≡ rules.fine) (λ t. on_one f (known_shown l look self) ≡ f (type_at l t)) }
-    {
-        match self {
-            Known::One(Typed::Value(number)) => Some(number),
-            Known::One(Typed::Variable(number)) => Some(number),
-            _ => None,
         }
     }
 }

@@ -11,6 +11,7 @@ mod notes;
 mod objects;
 mod operators;
 mod relations;
+mod rules;
 mod statements;
 mod writes;
 
@@ -32,5 +33,6 @@ pub use operators::{
     unary_rule,
 };
 pub use relations::{are_related, is_assignable, is_int, takes};
+pub use rules::TypingRule;
 pub use statements::{condition_rule, contract_rule, jump_rule, old_rule};
 pub use writes::{assignment_rule, compound_rule, is_code, step_rule};

@@ -11,6 +11,7 @@ ghost use Rattle.kr_type_numbers.specs.Numbers.{AreNodeTypes};
 ghost use Rattle.kr_type_rules.specs.Shown.{IsVerdictWithin, verdict_shown};
 
 use crate::known::{Typed, Verdict};
+use crate::rules::TypingRule;
 use crate::relations::is_int;
 use kr_ast::Tree;
 use kr_members::{Field, Members};
@@ -67,7 +68,7 @@ pub fn field_name_rule(
     if field.is_static {
         return value_of(types, number);
     }
-    Verdict::ask(!here.is_static, 5, variable_of(types, number))
+    Verdict::ask(!here.is_static, TypingRule::StaticCode, variable_of(types, number))
 }
 
 /// T22: an instance field.
@@ -82,10 +83,10 @@ fn field_rule(
     ensures says { verdict_shown types.now result ≡ rules.field_rule (option_map (field_shown trees.now) found) }
 {
     match found {
-        None => Verdict::Breaks(22),
+        None => Verdict::Breaks(TypingRule::FieldAccess),
         Some(field) => {
             let number = field_type(trees, types, node_types, field);
-            Verdict::ask(!field.is_static, 22, variable_of(types, number))
+            Verdict::ask(!field.is_static, TypingRule::FieldAccess, variable_of(types, number))
         }
     }
 }
@@ -102,10 +103,10 @@ pub fn constant_rule(
     ensures says { verdict_shown types.now result ≡ rules.constant_rule (option_map (field_shown trees.now) found) }
 {
     match found {
-        None => Verdict::Breaks(22),
+        None => Verdict::Breaks(TypingRule::FieldAccess),
         Some(field) => {
             let number = field_type(trees, types, node_types, field);
-            Verdict::ask(field.is_static, 22, value_of(types, number))
+            Verdict::ask(field.is_static, TypingRule::FieldAccess, value_of(types, number))
         }
     }
 }
@@ -131,8 +132,8 @@ pub fn access_rule(
             let found = members.field_named(class, name);
             field_rule(trees, types, node_types, found)
         }
-        TypeForm::Array(_) => { Verdict::value_if(name == b"length".as_slice(), 22, types.int()) }
-        _ => Verdict::Breaks(22),
+        TypeForm::Array(_) => { Verdict::value_if(name == b"length".as_slice(), TypingRule::FieldAccess, types.int()) }
+        _ => Verdict::Breaks(TypingRule::FieldAccess),
     }
 }
 
@@ -146,9 +147,9 @@ pub fn element_rule(types: &Types, array: u32, index: u32) -> Verdict
     match types.form(array) {
         TypeForm::Array(element) => Verdict::ask(
             is_int(types, index),
-            23,
+            TypingRule::ElementAccess,
             Verdict::Fits(Typed::Variable(element)),
         ),
-        _ => Verdict::Breaks(23),
+        _ => Verdict::Breaks(TypingRule::ElementAccess),
     }
 }

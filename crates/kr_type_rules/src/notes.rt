@@ -7,13 +7,14 @@ ghost use Rattle.kr_type_numbers.specs.Types.{TypeList};
 ghost use Rattle.kr_type_rules.specs.Shown.{HasNoRest, IsNoteWithin, IsVerdictWithin, fault_shown, least_shown, note_shown, verdict_shown};
 
 use crate::known::{Known, Typed, Verdict};
+use crate::rules::TypingRule;
 use kr_base::Place;
 
 /// A broken rule and its place.
 #[derive(Clone, Copy, Debug, PartialEq, Eq)]
 pub struct Fault {
     pub place: Place,
-    pub rule: u32,
+    pub rule: TypingRule,
 }
 
 /// What is kept of a node.
@@ -36,7 +37,7 @@ fn is_before(f: Fault, g: Fault) -> bool
     if f.place.col != g.place.col {
         return f.place.col < g.place.col;
     }
-    f.rule < g.rule
+    f.rule.number() < g.rule.number()
 }
 
 /// The first of two.

@@ -15,6 +15,7 @@ ghost use Rattle.kr_type_rules.specs.Shown.{IsVerdictWithin, verdict_shown};
 use crate::calls::{above_rule, method_rule};
 use crate::collections::collection_rule;
 use crate::known::Verdict;
+use crate::rules::TypingRule;
 use kr_ast::Tree;
 use kr_members::{Members, Method};
 use kr_scopes::Within;
@@ -66,7 +67,7 @@ pub fn super_rule(
     let found = method_above(members, class, name);
     Verdict::ask(
         !here.is_static,
-        5,
+        TypingRule::StaticCode,
         above_rule(trees, types, members, node_types, here, found, arguments),
     )
 }
@@ -100,6 +101,6 @@ pub fn object_call_rule(
         TypeForm::List(member) => {
             collection_rule(types, members, here, true, member, name, arguments)
         }
-        _ => Verdict::Breaks(24),
+        _ => Verdict::Breaks(TypingRule::Call),
     }
 }

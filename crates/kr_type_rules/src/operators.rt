@@ -5,6 +5,7 @@ ghost use Rattle.kr_type_numbers.specs.Types.{count, type_at};
 ghost use Rattle.kr_type_rules.specs.Shown.{IsVerdictWithin, Says, verdict_shown};
 
 use crate::known::Verdict;
+use crate::rules::TypingRule;
 use crate::relations::{
     are_comparable, both_boolean, both_int, cast_fits, choice_fits, instance_fits, is_boolean,
     is_int, wider,
@@ -20,7 +21,7 @@ pub fn type_rule(types: &Types, number: u32) -> Verdict
     ensures within { IsVerdictWithin types.now result }
     ensures says { verdict_shown types.now result ≡ rules.type_rule (type_at types.now number) }
 {
-    Verdict::value_if(types.is_known(number), 1, number)
+    Verdict::value_if(types.is_known(number), TypingRule::UnknownType, number)
 }
 
 /// T1 of `C<>`.
@@ -34,9 +35,9 @@ pub fn diamond_rule(types: &Types, number: u32) -> Verdict
         TypeForm::List(_) => Verdict::value(number),
         TypeForm::Applied(head, _) => match types.form(head) {
             TypeForm::Class(_) => Verdict::value(number),
-            _ => Verdict::Breaks(1),
+            _ => Verdict::Breaks(TypingRule::UnknownType),
         },
-        _ => Verdict::Breaks(1),
+        _ => Verdict::Breaks(TypingRule::UnknownType),
     }
 }
 
@@ -49,7 +50,7 @@ pub fn number_rule(types: &Types, members: &Members, here: Within, value: u32) -
         Role::UnderMinus => true,
         _ => false,
     };
-    Verdict::value_if(value < 2147483648 || under_minus, 6, types.int())
+    Verdict::value_if(value < 2147483648 || under_minus, TypingRule::NumberTooLarge, types.int())
 }
 
 /// T13, T14.
@@ -59,10 +60,10 @@ pub fn unary_rule(types: &Types, operator: UnaryOperator, a: u32) -> Verdict
     ensures says { verdict_shown types.now result ≡ rules.unary_rule operator (type_at types.now a) }
 {
     match operator {
-        UnaryOperator::Not => Verdict::value_if(is_boolean(types, a), 13, types.boolean()),
-        UnaryOperator::Plus => Verdict::value_if(is_int(types, a), 14, types.int()),
-        UnaryOperator::Minus => Verdict::value_if(is_int(types, a), 14, types.int()),
-        UnaryOperator::Complement => Verdict::value_if(is_int(types, a), 14, types.int()),
+        UnaryOperator::Not => Verdict::value_if(is_boolean(types, a), TypingRule::Negation, types.boolean()),
+        UnaryOperator::Plus => Verdict::value_if(is_int(types, a), TypingRule::Sign, types.int()),
+        UnaryOperator::Minus => Verdict::value_if(is_int(types, a), TypingRule::Sign, types.int()),
+        UnaryOperator::Complement => Verdict::value_if(is_int(types, a), TypingRule::Sign, types.int()),
     }
 }
 
@@ -81,41 +82,41 @@ pub fn operator_rule(
     ensures says { Says members.now types.now here result (λ s. rules.operator_rule s operator (type_at types.now a) (type_at types.now b)) }
 {
     match operator {
-        BinaryOperator::Multiply => Verdict::value_if(both_int(types, a, b), 7, types.int()),
-        BinaryOperator::Divide => Verdict::value_if(both_int(types, a, b), 7, types.int()),
-        BinaryOperator::Remainder => Verdict::value_if(both_int(types, a, b), 7, types.int()),
-        BinaryOperator::Add => Verdict::value_if(both_int(types, a, b), 7, types.int()),
-        BinaryOperator::Subtract => Verdict::value_if(both_int(types, a, b), 7, types.int()),
-        BinaryOperator::ShiftLeft => Verdict::value_if(both_int(types, a, b), 8, types.int()),
-        BinaryOperator::ShiftRight => Verdict::value_if(both_int(types, a, b), 8, types.int()),
+        BinaryOperator::Multiply => Verdict::value_if(both_int(types, a, b), TypingRule::Arithmetic, types.int()),
+        BinaryOperator::Divide => Verdict::value_if(both_int(types, a, b), TypingRule::Arithmetic, types.int()),
+        BinaryOperator::Remainder => Verdict::value_if(both_int(types, a, b), TypingRule::Arithmetic, types.int()),
+        BinaryOperator::Add => Verdict::value_if(both_int(types, a, b), TypingRule::Arithmetic, types.int()),
+        BinaryOperator::Subtract => Verdict::value_if(both_int(types, a, b), TypingRule::Arithmetic, types.int()),
+        BinaryOperator::ShiftLeft => Verdict::value_if(both_int(types, a, b), TypingRule::Shift, types.int()),
+        BinaryOperator::ShiftRight => Verdict::value_if(both_int(types, a, b), TypingRule::Shift, types.int()),
         BinaryOperator::ShiftRightUnsigned => {
-            Verdict::value_if(both_int(types, a, b), 8, types.int())
+            Verdict::value_if(both_int(types, a, b), TypingRule::Shift, types.int())
         }
-        BinaryOperator::Less => Verdict::value_if(both_int(types, a, b), 9, types.boolean()),
-        BinaryOperator::Greater => Verdict::value_if(both_int(types, a, b), 9, types.boolean()),
+        BinaryOperator::Less => Verdict::value_if(both_int(types, a, b), TypingRule::Comparison, types.boolean()),
+        BinaryOperator::Greater => Verdict::value_if(both_int(types, a, b), TypingRule::Comparison, types.boolean()),
         BinaryOperator::LessOrEqual => {
-            Verdict::value_if(both_int(types, a, b), 9, types.boolean())
+            Verdict::value_if(both_int(types, a, b), TypingRule::Comparison, types.boolean())
         }
         BinaryOperator::GreaterOrEqual => {
-            Verdict::value_if(both_int(types, a, b), 9, types.boolean())
+            Verdict::value_if(both_int(types, a, b), TypingRule::Comparison, types.boolean())
         }
         BinaryOperator::Equal => {
-            Verdict::value_if(are_comparable(types, members, a, b), 10, types.boolean())
+            Verdict::value_if(are_comparable(types, members, a, b), TypingRule::Equality, types.boolean())
         }
         BinaryOperator::NotEqual => {
-            Verdict::value_if(are_comparable(types, members, a, b), 10, types.boolean())
+            Verdict::value_if(are_comparable(types, members, a, b), TypingRule::Equality, types.boolean())
         }
         BinaryOperator::BitAnd => {
-            Verdict::value_if(both_int(types, a, b) || both_boolean(types, a, b), 11, a)
+            Verdict::value_if(both_int(types, a, b) || both_boolean(types, a, b), TypingRule::Bitwise, a)
         }
         BinaryOperator::BitXor => {
-            Verdict::value_if(both_int(types, a, b) || both_boolean(types, a, b), 11, a)
+            Verdict::value_if(both_int(types, a, b) || both_boolean(types, a, b), TypingRule::Bitwise, a)
         }
         BinaryOperator::BitOr => {
-            Verdict::value_if(both_int(types, a, b) || both_boolean(types, a, b), 11, a)
+            Verdict::value_if(both_int(types, a, b) || both_boolean(types, a, b), TypingRule::Bitwise, a)
         }
-        BinaryOperator::And => Verdict::value_if(both_boolean(types, a, b), 12, types.boolean()),
-        BinaryOperator::Or => Verdict::value_if(both_boolean(types, a, b), 12, types.boolean()),
+        BinaryOperator::And => Verdict::value_if(both_boolean(types, a, b), TypingRule::Logical, types.boolean()),
+        BinaryOperator::Or => Verdict::value_if(both_boolean(types, a, b), TypingRule::Logical, types.boolean()),
     }
 }
 
@@ -135,7 +136,7 @@ pub fn choice_rule(
     ensures says { Says members.now types.now here result (λ s. rules.choice_rule s (type_at types.now test) (type_at types.now a) (type_at types.now b)) }
 {
     let fits = choice_fits(types, members, test, a, b);
-    Verdict::value_if(fits, 15, wider(types, members, a, b))
+    Verdict::value_if(fits, TypingRule::Conditional, wider(types, members, a, b))
 }
 
 /// T20: int to int, boolean to boolean, or related references that are no collections.
@@ -146,7 +147,7 @@ pub fn cast_rule(types: &Types, members: &Members, here: Within, to: u32, from: 
     ensures says { Says members.now types.now here result (λ s. rules.cast_rule s (type_at types.now to) (type_at types.now from)) }
 {
     let fits = cast_fits(types, members, to, from);
-    Verdict::value_if(fits, 20, to)
+    Verdict::value_if(fits, TypingRule::Cast, to)
 }
 
 /// T21: a reference, and a related class or array type.
@@ -157,5 +158,5 @@ pub fn instance_rule(types: &Types, members: &Members, here: Within, from: u32, 
     ensures says { Says members.now types.now here result (λ s. rules.instance_rule s (type_at types.now from) (type_at types.now to)) }
 {
     let fits = instance_fits(types, members, from, to);
-    Verdict::value_if(fits, 21, types.boolean())
+    Verdict::value_if(fits, TypingRule::InstanceOf, types.boolean())
 }

@@ -6,6 +6,7 @@ ghost use Rattle.kr_type_numbers.specs.Types.{count, type_at};
 ghost use Rattle.kr_type_rules.specs.Shown.{IsVerdictWithin, Says, verdict_shown};
 
 use crate::known::Verdict;
+use crate::rules::TypingRule;
 use crate::relations::is_boolean;
 use kr_members::Members;
 use kr_scopes::{Part, Within};
@@ -27,7 +28,7 @@ pub fn condition_rule(types: &Types, test: u32) -> Verdict
     ensures within { IsVerdictWithin types.now result }
     ensures says { verdict_shown types.now result ≡ rules.condition_rule (type_at types.now test) }
 {
-    Verdict::fine_if(is_boolean(types, test), 28)
+    Verdict::fine_if(is_boolean(types, test), TypingRule::Condition)
 }
 
 /// T28: boolean; T40: before instance methods only.
@@ -38,8 +39,8 @@ pub fn contract_rule(types: &Types, members: &Members, here: Within, test: u32) 
 {
     Verdict::ask(
         is_boolean(types, test),
-        28,
-        Verdict::fine_if(!here.is_static, 40),
+        TypingRule::Condition,
+        Verdict::fine_if(!here.is_static, TypingRule::ContractPlace),
     )
 }
 
@@ -48,7 +49,7 @@ pub fn jump_rule(types: &Types, members: &Members, here: Within) -> Verdict
     ensures within { IsVerdictWithin types.now result }
     ensures says { Says members.now types.now here result (λ s. rules.jump_rule s) }
 {
-    Verdict::fine_if(here.is_in_loop, 31)
+    Verdict::fine_if(here.is_in_loop, TypingRule::Jump)
 }
 
 /// T38: `\old` only in `ensures`, and not in `\old`.
@@ -57,5 +58,5 @@ pub fn old_rule(types: &Types, members: &Members, here: Within, whole: u32) -> V
     ensures within { IsVerdictWithin types.now result }
     ensures says { Says members.now types.now here result (λ s. rules.old_rule s (type_at types.now whole)) }
 {
-    Verdict::value_if(is_ensuring(here.part) && !here.is_in_old, 38, whole)
+    Verdict::value_if(is_ensuring(here.part) && !here.is_in_old, TypingRule::ContractValue, whole)
 }

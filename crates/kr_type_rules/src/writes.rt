@@ -6,6 +6,7 @@ ghost use Rattle.kr_type_numbers.specs.Types.{count, type_at};
 ghost use Rattle.kr_type_rules.specs.Shown.{IsVerdictWithin, Says, typed_shown, verdict_shown};
 
 use crate::known::{Typed, Verdict};
+use crate::rules::TypingRule;
 use crate::operators::operator_rule;
 use crate::relations::{is_assignable, is_int};
 use kr_ast::BinaryOperator;
@@ -52,8 +53,8 @@ fn written_rule(types: &Types, members: &Members, here: Within, target: Typed, t
     let in_code = is_code(here.part);
     Verdict::ask(
         is_variable(types, target),
-        19,
-        Verdict::ask(in_code, 39, Verdict::value(to)),
+        TypingRule::Target,
+        Verdict::ask(in_code, TypingRule::ContractWrite, Verdict::value(to)),
     )
 }
 
@@ -73,7 +74,7 @@ pub fn assignment_rule(
 {
     Verdict::ask(
         is_assignable(types, members, from, to),
-        16,
+        TypingRule::Assignment,
         written_rule(types, members, here, target, to),
     )
 }
@@ -96,7 +97,7 @@ pub fn compound_rule(
     let operated = operator_rule(types, members, here, operator, to, from);
     Verdict::ask(
         !is_broken(types, operated),
-        17,
+        TypingRule::CompoundAssignment,
         written_rule(types, members, here, target, to),
     )
 }
@@ -109,7 +110,7 @@ pub fn step_rule(types: &Types, members: &Members, here: Within, target: Typed, 
 {
     Verdict::ask(
         is_int(types, to),
-        18,
+        TypingRule::Step,
         written_rule(types, members, here, target, to),
     )
 }

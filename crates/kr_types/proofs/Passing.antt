@@ -23,7 +23,7 @@ use Rattle.kr_type_numbers.specs.Types.{TypeList, Extends}
 use Rattle.kr_type_numbers.proofs.Growing.{number_kept}
 use Rattle.kr_type_rules.specs.declared.notes.Note.{Note}
 use Rattle.kr_expressions.specs.Notes.{shown_notes}
-use Rattle.kr_expressions.proofs.Notes.{notes_same, shown_before, shown_last, within_kept, within_none, within_pushed}
+use Rattle.kr_expressions.proofs.Notes.{notes_same, shown_before, shown_last, within_kept, within_pushed}
 use Rattle.kr_types.specs.declared.site.Site.{Site}
 use Rattle.kr_types.specs.Programs.{setting_in}
 use Rattle.kr_types.specs.Sites.{IsSite, IsNoteOf, AreNoted, scope_of, tree_there}
@@ -49,9 +49,6 @@ parts_below es i j (c ∷ cs) h = (h.0.below, parts_below es i (j + 1) cs h.1)
 near : (ns ms : List noting.Note) (i : ℕ) (cs : List ℕ) → ((k : ℕ) → k < i → noting.note_at ns k ≡ noting.note_at ms k) → AreBelow i cs → map (noting.note_at ns) cs ≡ map (noting.note_at ms) cs
 near ns ms i [] h b = refl
 near ns ms i (c ∷ cs) h b = cc (h c b.0, near ns ms i cs h b.1)
-
-pub none_noted : (s : Site) (l : TypeList) → AreNoted s l []
-none_noted s l = record { within = within_none l; noted = λ i e lt is. absurd (omega (arith, lt)) }
 
 pub site_kept : (s : Site) (a b : TypeList) → Extends a b → IsSite s a → IsSite s b
 site_kept s a b x h = record {

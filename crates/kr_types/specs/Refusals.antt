@@ -6,12 +6,13 @@ use Rattle.kr_table.specs.Rules.{Fault}
 use Rattle.kr_typing.specs.Typing.{judged, outside, type_fault}
 use Rattle.kr_names.specs.Shown.{file_at}
 use Rattle.kr_members.specs.Shown.{table_in}
+use Rattle.kr_type_rules.specs.Numbers.{rule_number}
 use Rattle.kr_types.specs.declared.refusal.TypeRefusal.{TypeRefusal}
 use Rattle.kr_types.specs.declared.refusal.TypeRefusal.TheVariants.{Broken, NoMemory}
 
 -- the place and the rule are those of the first broken node; want of memory is free
 abbrev pub IsRefusal : List Arena → TypeRefusal → Type 0
-IsRefusal files (Broken p r) = type_fault (map root files) ≡ Some (record { place = p; rule = r })
+IsRefusal files (Broken p r) = type_fault (map root files) ≡ Some (record { place = p; rule = rule_number r })
 IsRefusal files NoMemory = Unit {0}
 
 -- the broken nodes of a tree that is one of these files

@@ -3,11 +3,12 @@ ghost use Rattle.std.specs.Prelude.{◌≡◌};
 ghost use Rattle.kr_types.specs.declared.refusal.TypeRefusal.TheVariants.{NoMemory as Lacking};
 
 use kr_base::{NoMemory, Place};
+use kr_type_rules::TypingRule;
 
-/// The program was refused: a node breaks a typing rule, by its number (T1 to T40), or memory was refused.
+/// The program was refused: a node breaks a typing rule, or memory was refused.
 #[derive(Clone, Copy, Debug, PartialEq, Eq)]
 pub enum TypeRefusal {
-    Broken { place: Place, rule: u32 },
+    Broken { place: Place, rule: TypingRule },
     NoMemory,
 }
 

@@ -1,8 +1,8 @@
 -- A heap: its objects by their numbers.
-use Rattle.std.specs.Prelude.{ℕ, nat_lt, pos, Bool, true, false, List, [], length, Option, Some, None}
+use Rattle.std.specs.Prelude.{ℕ, nat_lt, pos, Bool, true, false, List, [], length}
 use Rattle.std.proofs.Common.{get_or}
 use Rattle.kr_value.specs.declared.value.Value.{Value}
-use Rattle.kr_value.specs.declared.value.Value.TheVariants.{Int, Null, Ref}
+use Rattle.kr_value.specs.declared.value.Value.TheVariants.{Int, Null}
 use Rattle.kr_value.specs.declared.object.Class.{Class}
 use Rattle.kr_value.specs.declared.object.Class.TheVariants.{Object, Array}
 use Rattle.kr_value.specs.declared.object.Spot.{Spot}
@@ -39,8 +39,3 @@ abbrev pub value_of_spot : HeapObject → Spot → Value
 value_of_spot object (Field f) = get_or object.values f Null
 value_of_spot object Length = Int (pos (length object.values))
 value_of_spot object (Element i) = get_or object.values i Null
-
--- a member of a collection: an object or null
-abbrev pub member_value : Option ℕ → Value
-member_value (Some o) = Ref o
-member_value None = Null

@@ -3,7 +3,9 @@
 #![tactic(auto)]
 
 mod object;
+mod place;
 mod value;
 
 pub use object::{Class, Spot};
+pub use place::SlotPlace;
 pub use value::{Obj, Value};

@@ -310,10 +310,6 @@ module _ (frozen : Bool) (own : Heap) where
   )
   puts_candidate seen new made (Some others) o at v s free is lt a = absurd (cc (free, a.unwritten))
 
--- a step that leaves the candidates as they are
-pub kept : (w w' : World) (x : Others) → Allows w x → w'.is_frozen ≡ w.is_frozen → w'.candidates ≡ w.candidates → Keeps w w' x
-kept w w' x a frozen same = record { allowed = a; frozen = λ e. frozen ∙ e; same = λ e. same }
-
 pub kept_same : (w : World) (x : Others) → Allows w x → Keeps w w x
 kept_same w x a = record { allowed = a; frozen = λ e. e; same = λ e. refl }
 

@@ -15,10 +15,6 @@ grown seen p = go (is_read p seen)
     go true = ([], sym (append-nil seen))
     go false = (p ∷ [], refl)
 
--- nothing more
-pub only_same : (w : World) → OnlyReads w w
-only_same w = record { rest = refl; grows = ([], sym (append-nil w.reads)) }
-
 -- a place that is noted, or not where memory runs out
 pub only_noted : {E : Type 0} (w : World) (p : SlotPlace) (new : List SlotPlace) (r : Result (Unit {0}) E) → OnOk r (new ≡ with_read w.reads p) → OnErr r (new ≡ w.reads) → OnlyReads w (record w { reads = new })
 only_noted w p new (Ok u) noted unchanged =

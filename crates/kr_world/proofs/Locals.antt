@@ -14,10 +14,6 @@ local_there [] k = refl
 local_there (l ∷ ls) zero = refl
 local_there (l ∷ ls) (suc k) = local_there ls k
 
--- the state with other locals
-pub with_locals : State → List steps.Local → State
-with_locals s locals = record s { locals = locals }
-
 pub assigned : (s : State) (locals : List Local) (k : ℕ) (v given : Value) → s.locals ≡ map local_of locals → k < length locals
     → bind (assign k v) (λ u. give given) s ≡ record { said = Ok given; after = record s { locals = map local_of (slice_set locals k (record { value = v; parameter = None })) }; reads = [] }
 unfolding bind

@@ -1,17 +1,10 @@
 -- Collections of a heap.
 use Rattle.std.specs.Prelude.{◌++◌, ◌==◌, not, if◌then◌else◌}
-use Rattle.std.proofs.Common.{◌≡◌, ℕ, zero, suc, ◌<◌, Bool, true, false, List, [], ◌∷◌, length, refl, arith}
+use Rattle.std.proofs.Common.{◌≡◌, Bool, true, false, List, [], ◌∷◌, length, refl, arith}
 use Rattle.kr_value.specs.declared.value.Value.{Value}
 use Rattle.kr_value.specs.declared.value.Value.TheVariants.{Bool as Truth}
-use Rattle.kr_value.specs.Heaps.{HeapObject, object_in}
-use Rattle.kr_mean.specs.Collections.{is_collection, is_empty, has_member, gives, added_once}
+use Rattle.kr_mean.specs.Collections.{is_empty, has_member, gives, added_once}
 use Rattle.kr_coll.specs.Identities.{with_member}
-
--- where no object is there is no collection
-pub is_there : (heap : List HeapObject) (o : ℕ) → is_collection (object_in heap o).class ≡ true → o < length heap
-is_there [] o e = absurd (cc (e))
-is_there (x ∷ heap) zero e = omega arith
-is_there (x ∷ heap) (suc o) e = omega (arith, is_there heap o e)
 
 -- what a set has after `add`, and what that answers
 pub set_adds : (v : Value) (ms : List Value) → added_once (has_member v ms) v ms ≡ gives (Truth (not (has_member v ms))) (with_member v ms)

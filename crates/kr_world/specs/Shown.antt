@@ -1,18 +1,11 @@
 -- What the code's types stand for.
 use Rattle.std.specs.Prelude.{option_map}
-use Rattle.kr_mean.specs.Places.{SlotPlace, This, Parameter, At}
+use Rattle.kr_mean.specs.Places.{Parameter}
 use Rattle.kr_mean.specs.Steps as steps
-use Rattle.kr_world.specs.declared.reads.SlotPlace as code
-use Rattle.kr_world.specs.declared.reads.SlotPlace.TheVariants as places
 use Rattle.kr_world.specs.declared.world.Local.{Local}
 use Rattle.kr_world.specs.declared.world.Old.{Old}
 use Rattle.kr_world.specs.declared.world.End.{End}
 use Rattle.kr_world.specs.declared.world.End.TheVariants as ends
-
-abbrev pub place_of : code.SlotPlace → SlotPlace
-place_of places.This = This
-place_of (places.Parameter i) = Parameter i
-place_of (places.At o s) = At o s
 
 abbrev pub local_of : Local → steps.Local
 local_of l = record { value = l.value; place = option_map Parameter l.parameter }

@@ -17,5 +17,5 @@ pub use memory::{
 };
 pub use names::{assign, declare, tick};
 pub use operators::{alone, binary, operated, operated_alone};
-pub use reads::{Reads, SlotPlace};
+pub use reads::Reads;
 pub use world::{End, Halt, Local, Old, World};

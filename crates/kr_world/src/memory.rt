@@ -10,7 +10,8 @@ ghost use Rattle.kr_code.specs.Doing.{array_of, new_array as new_array_step};
 ghost use Rattle.kr_world.specs.Reading.{OnlyReads};
 ghost use Rattle.kr_world.specs.Worlds.{state_at, Agrees, Allows, is_fixed, candidates_of, Others, IsKept, IsArray};
 
-use crate::{End, Halt, SlotPlace, World};
+use crate::{End, Halt, World};
+use kr_value::SlotPlace;
 use kr_code::{Code, Nodes};
 use kr_mean::Kind;
 use kr_value::{Class, Spot, Value};

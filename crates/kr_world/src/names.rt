@@ -8,7 +8,8 @@ ghost use Rattle.kr_world.specs.Shown.{local_of};
 ghost use Rattle.kr_value.specs.declared.value.Value.TheVariants.{Null};
 ghost use Rattle.kr_world.specs.Worlds.{state_at, Agrees};
 
-use crate::{End, Halt, Local, SlotPlace, World};
+use crate::{End, Halt, Local, World};
+use kr_value::SlotPlace;
 use kr_base::Place;
 use kr_heap::append;
 use kr_value::Value;

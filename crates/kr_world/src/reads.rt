@@ -8,17 +8,9 @@ ghost use Rattle.kr_world.specs.Shown.{place_of};
 
 use kr_base::NoMemory;
 use kr_heap::{append, refill};
-use kr_value::{Obj, Spot};
+use kr_value::{Obj, SlotPlace, Spot};
 use std::alloc::Global;
 use std::marker::Model;
-
-/// Where a candidate has a value: what `this` is, a parameter of the method under test, or a spot of an object.
-#[derive(Clone, Copy, Debug)]
-pub enum SlotPlace {
-    This,
-    Parameter(u32),
-    At(Obj, Spot),
-}
 
 /// The places that were read, each once, in the order of their first reads. Contracts see the list.
 #[derive(Debug, Drop)]

@@ -3,11 +3,11 @@ use Rattle.korat_top.specs.Refusals.{Inputs}
 use Rattle.korat_top.proofs.Told.{as_many, all_short, sources_stopped, judged_found}
 use Rattle.korat_top.proofs.find.find_files.Goals as goal
 
-pub judge-requires-clause-few : goal.judge-requires-clause-few
-judge-requires-clause-few g c = omega (arith, c.requires.few, as_many (g.F.Files.held c.read.new.files) 0 c.args.sources.now c.in-Ok.texts c.in-Ok.ensures.read)
+pub judge_from_parsing-requires-clause-few : goal.judge_from_parsing-requires-clause-few
+judge_from_parsing-requires-clause-few g c = omega (arith, c.requires.few, as_many (g.F.Files.held c.read.new.files) 0 c.args.sources.now c.in-Ok.texts c.in-Ok.ensures.read)
 
-pub judge-requires-clause-short : goal.judge-requires-clause-short
-judge-requires-clause-short g c = all_short (g.F.Files.held c.read.new.files) 0 c.args.sources.now c.in-Ok.texts c.in-Ok.ensures.read
+pub judge_from_parsing-requires-clause-short : goal.judge_from_parsing-requires-clause-short
+judge_from_parsing-requires-clause-short g c = all_short (g.F.Files.held c.read.new.files) 0 c.args.sources.now c.in-Ok.texts c.in-Ok.ensures.read
 
 pub returns-clause-found : goal.returns-clause-found
 returns-clause-found g c =
@@ -18,5 +18,5 @@ returns-clause-found g c =
 pub returns-in-Ok-clause-found : goal.returns-in-Ok-clause-found
 returns-in-Ok-clause-found g c =
     let inputs : Inputs = record { fin = c.args.fin.now; sources = c.args.sources.now } in
-    judged_found g.F.Files.held g.F.Files.faults g.F.Files.last inputs c.args.files.now c.read.new.files c.read_sources.new.files c.in_ok-bytes.bytes.items c.in-Ok.texts c.judge.result
-    c.in_ok-bytes.ensures.read c.in_ok-bytes.ensures.later.constant c.in-Ok.ensures.read (rw c.deref.ensures.value at c.judge.ensures.judged)
+    judged_found g.F.Files.held g.F.Files.faults g.F.Files.last inputs c.args.files.now c.read.new.files c.read_sources.new.files c.in_ok-bytes.bytes.items c.in-Ok.texts c.judge_from_parsing.result
+    c.in_ok-bytes.ensures.read c.in_ok-bytes.ensures.later.constant c.in-Ok.ensures.read (rw c.deref.ensures.value at c.judge_from_parsing.ensures.judged)

@@ -1,0 +1,14 @@
+use Rattle.std.specs.Prelude.{map}
+use Rattle.kr_ast.specs.Arena.{root}
+use Rattle.kr_table.specs.Table.{table_of}
+use Rattle.kr_posed.specs.Posed.{posed}
+use Rattle.korat_top.specs.Steps.{classing, from_table}
+use Rattle.korat_top.proofs.Outcomes.{meets_next}
+use Rattle.korat_top.proofs.find.judge_from_classes.Goals as goal
+
+pub returns : goal.returns
+returns c = record {
+  judged = meets_next (classing (map root c.args.trees.items)) (λ table. from_table c.args.fin.now (map root c.args.trees.items)) posed (table_of (map root c.args.trees.items)) c.judge_from_typing.result
+      (rw c.as_slice.ensures.value at c.in_ok-table.ensures.judged) c.judge_from_typing.ensures.judged;
+  listing = c.judge_from_typing.ensures.listing;
+}

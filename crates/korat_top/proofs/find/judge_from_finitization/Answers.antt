@@ -1,0 +1,17 @@
+use Rattle.std.specs.Prelude.{map}
+use Rattle.kr_ast.specs.Arena.{root}
+use Rattle.kr_posed.specs.Posed.{posed}
+use Rattle.korat_top.specs.Steps.{stating, from_document}
+use Rattle.korat_top.proofs.Outcomes.{meets_next}
+use Rattle.korat_top.proofs.find.judge_from_finitization.Goals as goal
+
+pub judge_from_posing-requires-clause-limits : goal.judge_from_posing-requires-clause-limits
+judge_from_posing-requires-clause-limits c = c.limits_law.ensures c.args.fin.now c.in_ok-document.document c.in_ok-document.ensures
+
+pub returns : goal.returns
+returns c =
+    let trees = map root c.args.program.trees.items in
+    record {
+      judged = meets_next (stating c.args.fin.now) (λ document. from_document trees document) posed c.in_ok-document.document c.judge_from_posing.result c.in_ok-document.ensures c.judge_from_posing.ensures.judged;
+      listing = c.judge_from_posing.ensures.listing;
+    }

@@ -1,6 +1,0 @@
-use Rattle.std.proofs.Common.{sym, ap}
-use Rattle.kr_posed.specs.Posed.{posed}
-use Rattle.korat_top.proofs.find.judge_problem.Goals as goal
-
-pub returns-clause-judged : goal.returns-clause-judged
-returns-clause-judged c = (tt, c.in_ok-purity.ensures, ap posed (sym c.new.ensures))

@@ -1,0 +1,144 @@
+// `class A { int v = 7; }`: where its members stand, the code of its nodes, and the code of its members.
+ghost use Rattle.std.specs.Prelude.{◌≡◌};
+ghost use Rattle.kr_member_nodes.specs.Nodes.{AreMemberNodes, AreShaped};
+ghost use Rattle.kr_roster.specs.Rosters.{IsRoster};
+ghost use Rattle.kr_types.specs.Programs.{IsProgram};
+
+use kr_base::{NoMemory, Place};
+use kr_bodies::{Bodies, bodies_of};
+use kr_code::{Expression, Node};
+use kr_member_nodes::{ClassNodes, FieldNode, MemberNodes, member_nodes};
+use kr_resolver::{Links, resolve_nodes};
+use kr_roster::Roster;
+use kr_sources::program_of;
+use kr_types::Program;
+use kr_value::Value;
+use std::alloc::Global;
+
+/// Whether a node is the initial value, by its place.
+fn is_initial(program: &Program, node: u32) -> bool
+    requires { IsProgram program.now }
+{
+    let place = Place {
+        file: 0,
+        line: 1,
+        col: 19,
+    };
+    node < program.nodes() && program.place_of(node) == place
+}
+
+fn fields_fit(program: &Program, fields: &[FieldNode]) -> bool
+    requires { IsProgram program.now }
+{
+    match fields {
+        [field] => is_initial(program, field.initial),
+        _ => false,
+    }
+}
+
+fn classes_fit(program: &Program, classes: &[ClassNodes]) -> bool
+    requires { IsProgram program.now }
+{
+    match classes {
+        [class] => class.constructor.is_none() && fields_fit(program, class.fields.as_slice()),
+        _ => false,
+    }
+}
+
+fn member_nodes_fit(program: &Program, nodes: &MemberNodes) -> bool
+    requires { IsProgram program.now }
+{
+    nodes.methods.is_empty() && classes_fit(program, nodes.classes.as_slice())
+}
+
+/// Whether a node is the literal of an int.
+fn is_literal(node: Option<&Node>, number: i32) -> bool {
+    match node {
+        Some(Node::Expression(Expression::Literal(value))) => *value == Value::Int(number),
+        _ => false,
+    }
+}
+
+/// Of twelve nodes the initial value alone is a literal, of 7.
+fn resolved_fit(program: &Program, nodes: &[Node]) -> bool
+    requires { IsProgram program.now }
+{
+    for node in 0..12 {
+        if is_literal(nodes.get(node as usize), 7) != is_initial(program, node) {
+            return false;
+        }
+    }
+    nodes.len() == 12
+}
+
+fn is_initialiser(program: &Program, nodes: &[Node]) -> bool
+    requires { IsProgram program.now }
+{
+    match nodes {
+        [Node::Initialiser(initial)] => is_initial(program, initial.value),
+        _ => false,
+    }
+}
+
+fn bodies_fit(made: &Bodies) -> bool {
+    made.methods.is_empty()
+        && made.classes.len() == 1
+        && made.values.as_slice() == [Value::Int(0)].as_slice()
+}
+
+/// The code of the members.
+fn made_fits(
+    alloc: Global,
+    program: &Program,
+    roster: &Roster,
+    members: &MemberNodes,
+) -> Result<bool, NoMemory>
+    requires program { IsProgram program.now }
+    requires roster { IsRoster program.now.trees.items roster.now }
+    requires members { AreMemberNodes program.now members.now }
+{
+    let mut nodes = Vec::new(alloc);
+    let mut links = Links::new(alloc);
+    let made = bodies_of(alloc, program, roster, members, &mut nodes, &mut links)?;
+    Ok(links.len() == 2 && bodies_fit(&made) && is_initialiser(program, nodes.as_slice()))
+}
+
+/// Where the members stand, and their code.
+fn members_fit(alloc: Global, program: &Program, roster: &Roster) -> Result<(bool, bool), NoMemory>
+    requires program { IsProgram program.now }
+    requires shaped { AreShaped program.now }
+    requires roster { IsRoster program.now.trees.items roster.now }
+{
+    let members = member_nodes(alloc, program)?;
+    let made = made_fits(alloc, program, roster, &members)?;
+    Ok((member_nodes_fit(program, &members), made))
+}
+
+fn nodes_fit(alloc: Global, program: &Program, roster: &Roster) -> Result<bool, NoMemory>
+    requires program { IsProgram program.now }
+    requires roster { IsRoster program.now.trees.items roster.now }
+{
+    let resolved = resolve_nodes(alloc, program, roster, &[])?;
+    Ok(resolved_fit(program, resolved.nodes.as_slice()))
+}
+
+/// All three.
+fn program_fits(alloc: Global, program: &Program) -> Result<(bool, bool, bool), NoMemory>
+    requires program { IsProgram program.now }
+    requires shaped { AreShaped program.now }
+{
+    let roster = Roster::read(alloc, &program.table.members)?;
+    let nodes = nodes_fit(alloc, program, &roster)?;
+    let (members, made) = members_fit(alloc, program, &roster)?;
+    Ok((nodes, members, made))
+}
+
+#[test]
+fn a_field_with_an_initial_value(rt: HostRuntime) -> Result<(), NoMemory> {
+    let program = program_of(rt.alloc(), "class A { int v = 7; }")?;
+    let (nodes, members, made) = program_fits(rt.alloc(), &program)?;
+    assert!(rt; nodes);
+    assert!(rt; members);
+    assert!(rt; made);
+    Ok(())
+}

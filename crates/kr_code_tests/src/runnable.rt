@@ -1,0 +1,30 @@
+// `class A { int m() { } }`: a call of its method may run that one, and its creation the code of `A`.
+ghost use Rattle.kr_members.specs.Kept.{AreMembers};
+
+use kr_ast::Tree;
+use kr_base::NoMemory;
+use kr_members::Members;
+use kr_runnable::{created_classes, runnable_methods};
+use kr_type_numbers::{TypeForm, Types};
+use std::alloc::Global;
+
+/// A call of the method may run one.
+pub fn methods_fit(alloc: Global, trees: &[Tree], members: &Members) -> Result<bool, NoMemory>
+    requires { AreMembers trees.now members.now }
+{
+    let meant = members.method_named(0, b"m");
+    let found = runnable_methods(alloc, trees, members, meant)?;
+    Ok(found.len() == 1)
+}
+
+fn created_fit(alloc: Global, types: &mut Types, members: &Members) -> Result<bool, NoMemory> {
+    let own = types.number(TypeForm::Class(0))?;
+    let classes = created_classes(alloc, types, members, own)?;
+    Ok(classes.len() == 1)
+}
+
+/// A creation runs code of one class.
+pub fn classes_fit(alloc: Global, members: &Members) -> Result<bool, NoMemory> {
+    let mut types = Types::new(alloc)?;
+    created_fit(alloc, &mut types, members)
+}
