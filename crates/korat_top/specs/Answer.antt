@@ -1,4 +1,4 @@
--- What a call answers over what its files hold.
+-- To be believed: what a call answers over what its files hold.
 use Rattle.std.specs.Prelude.{ℕ, Bool, List, [], ◌∷◌, length, nat_le, Option, Some, None, IsSome, Result, Ok, Err, codes, if◌then◌else◌}
 use Rattle.kr_base.specs.declared.span.Bound.TheVariants.{At, End}
 use Rattle.kr_base.specs.Entries.{entries_in}

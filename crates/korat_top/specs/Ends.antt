@@ -1,4 +1,4 @@
--- How a call ends: by its status, what was written and why.
+-- To be believed: how a call ends: by its status, what was written and why.
 use Rattle.std.specs.Prelude.{◌≡◌, ℕ, ◌<◌, ◌≤◌, ◌⊎◌, List, [], ◌++◌, Option, Some, None}
 use Rattle.kr_base.specs.Causes.{Rose}
 use Rattle.kr_base.specs.Told.{Added, Stopped}

@@ -1,4 +1,4 @@
--- The lines and reports of small problems, and what is served of some words, worked by hand.
+-- Between crates: the lines and reports of small problems, and what is served of some words, worked by hand.
 use Rattle.std.specs.Prelude.{◌≡◌, ℕ, true, false, List, [], ◌∷◌, map, codes, Some, None}
 use Rattle.kr_base.specs.declared.span.Bound.TheVariants.{At, End}
 use Rattle.kr_base.specs.Entries.{entries_in}

@@ -1,4 +1,4 @@
--- What the work for a command finds, before anything is written.
+-- Between crates: what the work for a command finds, before anything is written.
 use Rattle.std.specs.Prelude.{◌≡◌, ℕ, ◌<◌, ◌≤◌, List, [], length, All, Option, Some, IfSome, Result, Ok, Err, IfOk, Vec, slice_index_or}
 use Rattle.std.specs.declared.alloc.Global.{Global}
 use Rattle.kr_base.specs.Causes.{Rose}

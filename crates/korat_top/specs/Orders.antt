@@ -1,4 +1,4 @@
--- Which command an order is.
+-- Between crates: which command an order is.
 use Rattle.std.specs.Prelude.{string_bytes}
 use Rattle.kr_args.specs.Reading.{Range}
 use Rattle.korat_top.specs.Refusals.{Inputs}

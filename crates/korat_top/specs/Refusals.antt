@@ -1,4 +1,4 @@
--- What a file of a call is refused with.
+-- To be believed: what a file of a call is refused with.
 use Rattle.std.specs.Prelude.{ℕ, List, [], ◌++◌, Option, Some, None, codes, decimal, string_bytes, slice_index_or}
 use Rattle.kr_base.specs.declared.place.Place.{Place}
 use Rattle.kr_args.specs.Reading.{Files}

@@ -1,4 +1,4 @@
--- What the program does with what it was given for words.
+-- Between crates: what the program does with what it was given for words.
 use Rattle.std.specs.Prelude.{◌≡◌, ℕ, List, [], Option, Result, Ok, Err, drop, map, string_bytes}
 use Rattle.std.specs.declared.alloc.Global.{Global}
 use Rattle.std.specs.declared.io.Error.{Error}

@@ -1,4 +1,4 @@
--- The steps that the files of a command go through, in their order. The first that refuses a file decides.
+-- To be believed: the steps that the files of a command go through, in their order. The first that refuses a file decides.
 use Rattle.std.specs.Prelude.{◌≡◌, ℕ, ◌+◌, ◌<◌, ◌≤◌, ◌⊎◌, List, [], ◌∷◌, length, Option, Some, None, Result, Ok, Err, IfSome, IsSome, codes}
 use Rattle.kr_base.specs.declared.place.Place.{Place}
 use Rattle.kr_lex.specs.declared.refusal.LexRule.{LexRule}

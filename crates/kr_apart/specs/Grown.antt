@@ -1,4 +1,4 @@
--- Files that were read: trees of the tokens that spell them.
+-- Between crates: files that were read: trees of the tokens that spell them.
 use Rattle.std.specs.Prelude.{ℕ, ◌+◌, List, [], ◌∷◌}
 use Rattle.kr_lex.specs.Lexemes.{Lexeme}
 use Rattle.kr_lex.specs.Spells.{Spells}

@@ -1,4 +1,4 @@
--- Declarators, fields and `\old`s have places of their own.
+-- Between crates: declarators, fields and `\old`s have places of their own.
 use Rattle.std.specs.Prelude.{◌≡◌, ◌≤◌, ◌+◌, ℕ, Bool, true, false, List, [], ◌∷◌, flat_map, bytes_eq, codes}
 use Rattle.std.specs.List.{AllByRecursion}
 use Rattle.kr_base.specs.declared.place.Place.{Place}

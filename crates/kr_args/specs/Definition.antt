@@ -1,4 +1,4 @@
--- The definition of the command line, in clap's words.
+-- To be believed: the definition of the command line, in clap's words.
 use Rattle.std.specs.Prelude.{true, Some, codes}
 use Rattle.clap.specs.Words.{App, Rule, Text, new_app, new_rule, with_rule, with_subcommand}
 use Rattle.clap.specs.Simple.{on_top}

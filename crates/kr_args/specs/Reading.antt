@@ -1,4 +1,4 @@
--- What words mean: clap's matches of them, read.
+-- To be believed: what words mean: clap's matches of them, read.
 use Rattle.std.specs.Prelude.{◌&&◌, ℕ, List, [], map, Option, Some, None, codes, decimal, if◌then◌else◌, option_map, option_and_then, nat_le, string_bytes}
 use Rattle.std.specs.Borrow.{Bor}
 use Rattle.std.specs.Str.{bytes_eq}

@@ -1,4 +1,4 @@
--- Some words with what they mean, worked by hand.
+-- Between crates: some words with what they mean, worked by hand.
 use Rattle.std.specs.Prelude.{◌≡◌, ℕ, List, [], ◌∷◌, Option, Some, None, codes}
 use Rattle.clap.specs.Words.{Text}
 use Rattle.kr_base.specs.declared.span.Bound.{Bound}

@@ -1,4 +1,4 @@
--- Lists of types that grow by what isn't among them yet.
+-- Between crates: lists of types that grow by what isn't among them yet.
 use Rattle.std.specs.Prelude.{◌≡◌, ℕ, true, ◌+◌, ◌<◌, List, [], ◌∷◌, ◌++◌, map, fold, All, if◌then◌else◌}
 use Rattle.kr_table.specs.Types.{JavaType, ArrayType, SetType, ListType}
 use Rattle.kr_table.specs.Arrays.{arrays_in, is_listed}

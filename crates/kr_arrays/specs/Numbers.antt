@@ -1,4 +1,4 @@
--- Numbers, each once, and marks at those that are there.
+-- Between crates: numbers, each once, and marks at those that are there.
 use Rattle.std.specs.Prelude.{◌≡◌, ℕ, Bool, true, false, ◌==◌, ◌||◌, List, [], ◌∷◌, ◌++◌, if◌then◌else◌}
 use Rattle.std.proofs.Common.{get_or}
 

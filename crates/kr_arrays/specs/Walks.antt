@@ -1,4 +1,4 @@
--- Nodes that only hold lists together, and those that are nodes of their own.
+-- Between crates: nodes that only hold lists together, and those that are nodes of their own.
 use Rattle.std.specs.Prelude.{ℕ, Bool, true, false, List, [], ◌∷◌, if◌then◌else◌}
 use Rattle.kr_ast.specs.declared.node.Node.{Node}
 use Rattle.kr_ast.specs.declared.node.Node.TheVariants.{Nil, Cons}

@@ -1,4 +1,4 @@
--- The nodes of an arena, and the trees that they stand for.
+-- Between crates: the nodes of an arena, and the trees that they stand for.
 use Rattle.std.specs.Prelude.{ℕ, ◌+◌, ◌-◌, ◌≤◌, ◌<◌, ◌≡◌, List, [], ◌∷◌, length, take, drop, Some, slice_get, slice_index_or}
 use Rattle.kr_base.specs.declared.place.Place.{Place}
 use Rattle.kr_ast.specs.declared.node.Name.{Name}

@@ -1,4 +1,4 @@
--- The files of a program as lists of nodes, and the nodes in them.
+-- Between crates: the files of a program as lists of nodes, and the nodes in them.
 use Rattle.std.specs.Prelude.{◌<◌, ℕ, List, [], length, slice_index_or}
 use Rattle.kr_ast.specs.Arena.{Arena, tree_in}
 use Rattle.kr_ast.specs.Tree.{Tree}

@@ -1,4 +1,4 @@
--- Nodes while they are put together.
+-- Between crates: nodes while they are put together.
 use Rattle.std.specs.Prelude.{ℕ, ◌+◌, ◌<◌, ◌≡◌, ◌⊎◌, List, [], ◌∷◌, length, Some, slice_get, slice_set, slice_index_or}
 use Rattle.kr_ast.specs.declared.node.Entry.{Entry}
 

@@ -1,6 +1,6 @@
--- Syntax trees. Names are bytes. Each tree but those of lists has the place of its first token; a class, a method with its
--- signature, a constructor, a parameter and a declarator have that of their name. Modifiers are no part of a tree: a local
--- and a field stand at the first token of their type, behind `final`, `static` and what else stands before it.
+-- To be believed: syntax trees. Names are bytes. Each tree but those of lists has the place of its first token; a class, a
+-- method with its signature, a constructor, a parameter and a declarator have that of their name. Modifiers are no part of a
+-- tree: a local and a field stand at the first token of their type, behind `final`, `static` and what else stands before it.
 use Rattle.std.specs.Prelude.{ℕ, ◌+◌, Bool, List, [], ◌∷◌, sum}
 use Rattle.kr_base.specs.declared.place.Place.{Place}
 use Rattle.kr_ast.specs.declared.node.Primitive.{Primitive}

@@ -1,4 +1,4 @@
--- Bounds in their order: cuts as they stand, and the end above all.
+-- To be believed: bounds in their order: cuts as they stand, and the end above all.
 use Rattle.std.specs.Prelude.{Bool, true, false}
 use Rattle.kr_base.specs.declared.span.Bound.{Bound}
 use Rattle.kr_base.specs.declared.span.Bound.TheVariants.{At, End}

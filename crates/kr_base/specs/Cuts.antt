@@ -1,4 +1,4 @@
--- Cuts: lists of numbers, in their order, and their text.
+-- To be believed: cuts: lists of numbers, in their order, and their text.
 use Rattle.std.specs.Prelude.{◌≡◌, ℕ, ◌<◌, ◌⊎◌, List, [], ◌∷◌, ◌++◌, Bool, true, false, codes, decimal, flat_map}
 use Rattle.std.specs.Ordering.{nat_cmp, is_lt}
 use Rattle.std.specs.Cmp.Lexicographic.{slice_cmp}

@@ -1,4 +1,5 @@
--- Where the rest of a span is cut in two: behind the mark up to which it is done, before the bound at which it ends.
+-- Between crates: where the rest of a span is cut in two: behind the mark up to which it is done, before the bound at which it
+-- ends.
 use Rattle.std.specs.Prelude.{◌≡◌, ℕ, ◌+◌, ◌^◌, List, [], ◌∷◌, ◌++◌, Bool, true, false, map, nat_lt, Option, Some, if◌then◌else◌}
 use Rattle.std.specs.List.{find}
 use Rattle.kr_base.specs.declared.span.Bound.{Bound}

@@ -1,4 +1,4 @@
--- How far the reading of a cut's text has come: the numbers that have ended, and the one that may go on.
+-- Between crates: how far the reading of a cut's text has come: the numbers that have ended, and the one that may go on.
 use Rattle.std.specs.Prelude.{◌≡◌, ℕ, ◌^◌, ◌<◌, List, [], ◌∷◌, ◌++◌, Bool, true, false, All, length, take, codes, decimal, flat_map, Option, Some, None, IfSome}
 use Rattle.kr_base.specs.declared.cut.reading.Step.{Step}
 use Rattle.kr_base.specs.declared.cut.reading.Step.TheVariants.{Digit, Dot, Dead}

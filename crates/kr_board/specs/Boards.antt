@@ -1,4 +1,4 @@
--- What a board is of a survey, and how a call moves it.
+-- Between crates: what a board is of a survey, and how a call moves it.
 use Rattle.std.specs.Prelude.{◌≡◌, ℕ, List, [], ◌∷◌, ◌++◌, Some, length, drop, take}
 use Rattle.kr_base.specs.declared.span.Bound.{Bound}
 use Rattle.kr_base.specs.declared.span.Bound.TheVariants.{At}

@@ -1,4 +1,4 @@
--- Giving up, draining, stopping, closing.
+-- Between crates: giving up, draining, stopping, closing.
 use Rattle.std.specs.Prelude.{◌≡◌, ℕ, ◌+◌, List, [], ◌∷◌, Bool, true, false, Option, Some, None, length, drop, if◌then◌else◌}
 use Rattle.std.specs.List.{sum_by, list_all}
 use Rattle.kr_base.specs.declared.span.Bound.{Bound}

@@ -1,4 +1,4 @@
--- The lists of rows as code edits them.
+-- Between crates: the lists of rows as code edits them.
 use Rattle.std.specs.Prelude.{◌≡◌, ℕ, zero, suc, ◌+◌, List, [], ◌∷◌, ◌++◌, Bool, take, insert, if◌then◌else◌}
 use Rattle.kr_core.specs.declared.segment.Segment.{Segment}
 use Rattle.kr_core.specs.declared.event.Event.{Event}

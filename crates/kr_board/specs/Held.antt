@@ -1,4 +1,4 @@
--- What contracts see of a board.
+-- Between crates: what contracts see of a board.
 use Rattle.std.specs.Prelude.{List}
 use Rattle.kr_core.specs.declared.event.Event.{Event}
 use Rattle.kr_core.specs.States.{State}

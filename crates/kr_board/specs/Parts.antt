@@ -1,4 +1,4 @@
--- What is handed to a board: parts of a survey.
+-- Between crates: what is handed to a board: parts of a survey.
 use Rattle.std.specs.Prelude.{◌≡◌, ℕ, ◌^◌, ◌<◌, ◌≤◌, List, true, length}
 use Rattle.kr_base.specs.declared.span.Bound.{Bound}
 use Rattle.kr_base.specs.declared.span.Bound.TheVariants.{At}

@@ -1,4 +1,4 @@
--- Room for what is written later, and what every board keeps.
+-- Between crates: room for what is written later, and what every board keeps.
 use Rattle.std.specs.Prelude.{◌≡◌, ℕ, zero, suc, ◌+◌, ◌-◌, ◌^◌, ◌<◌, ◌≤◌, List, [], ◌∷◌, vec_len, vec_capacity, map, length}
 use Rattle.std.specs.List.{count_by}
 use Rattle.std.proofs.Common.{Vec, Global}

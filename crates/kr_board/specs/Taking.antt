@@ -1,4 +1,4 @@
--- What a seat that wants work is given.
+-- Between crates: what a seat that wants work is given.
 use Rattle.std.specs.Prelude.{◌≡◌, ℕ, ◌-◌, ◌^◌, List, [], Bool, true, ◌&&◌, not, nat_lt, Option, Some, None, is_some, unwrap_or, if◌then◌else◌}
 use Rattle.std.specs.List.{find, list_any}
 use Rattle.kr_base.specs.declared.span.Bound.{Bound}

@@ -1,4 +1,4 @@
--- The code of methods and classes, in whatever code it becomes.
+-- Between crates: the code of methods and classes, in whatever code it becomes.
 use Rattle.std.specs.Prelude.{◌≡◌, ℕ, List, [], ◌++◌, take, drop, map, All, IsSome, Option, Some}
 use Rattle.kr_value.specs.declared.value.Value.{Value}
 use Rattle.kr_table.specs.Table as tables

@@ -1,4 +1,4 @@
--- The meaning without a bound: what a node does, by what its parts do.
+-- Between crates: the meaning without a bound: what a node does, by what its parts do.
 use Rattle.std.specs.Prelude.{◌≡◌, ℕ, ◌≤◌, List, Some}
 use Rattle.kr_ast.specs.Tree.{Tree}
 use Rattle.kr_value.specs.declared.value.Value.{Value}

@@ -1,4 +1,4 @@
--- How many slots an object has in a candidate's heap.
+-- Between crates: how many slots an object has in a candidate's heap.
 use Rattle.std.specs.Prelude.{ℕ, suc, Bool, true, false}
 use Rattle.kr_value.specs.declared.object.Class.{Class}
 use Rattle.kr_value.specs.declared.object.Class.TheVariants.{Object, Array, Set, List}

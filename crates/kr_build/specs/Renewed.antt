@@ -1,4 +1,4 @@
--- A heap that is a vector's but for one slot, and vectors that are the same but for some slots.
+-- Between crates: a heap that is a vector's but for one slot, and vectors that are the same but for some slots.
 use Rattle.std.specs.Prelude.{◌≡◌, ◌⊎◌, ◌<◌, ◌≤◌, ℕ, List, slice_set}
 use Rattle.std.proofs.Common.{get_or}
 use Rattle.kr_value.specs.Heaps.{Heap}

@@ -1,4 +1,4 @@
--- One step of the walk.
+-- Between crates: one step of the walk.
 use Rattle.std.specs.Prelude.{◌≡◌, ℕ, ◌==◌, Bool, true, false, List, ◌++◌, Option, Some, None, if◌then◌else◌}
 use Rattle.std.proofs.Common.{get_or}
 use Rattle.kr_mean.specs.Problem.{Problem, DomainObject, heap_number}

@@ -1,4 +1,4 @@
--- What the builder's values and nodes are.
+-- Between crates: what the builder's values and nodes are.
 use Rattle.std.specs.Prelude.{◌≡◌, List, [], ◌∷◌, length}
 use Rattle.kr_base.specs.declared.place.Place.{Place}
 use Rattle.kr_ast.specs.declared.node.Node.{Node}

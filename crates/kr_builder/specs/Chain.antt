@@ -1,4 +1,4 @@
--- Names with `<` between them.
+-- Between crates: names with `<` between them.
 use Rattle.std.specs.Prelude.{◌≡◌, ℕ, ◌<◌, ◌≤◌, Bool, true, false, List, ◌∷◌, Option, Some, None, length, take, drop, slice_get, slice_set}
 use Rattle.kr_base.specs.declared.place.Place.{Place}
 use Rattle.kr_ast.specs.Tree.{Tree, Nil, Variable, FieldAccess, Binary, InstanceOf}

@@ -1,4 +1,4 @@
--- Whose predicate code runs, and what callers see of its candidates.
+-- Between crates: whose predicate code runs, and what callers see of its candidates.
 use Rattle.std.specs.Prelude.{◌≡◌, ℕ, List}
 use Rattle.kr_code.specs.Resolved.{Numbering}
 use Rattle.kr_mean.specs.Problem.{Problem}

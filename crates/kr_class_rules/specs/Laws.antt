@@ -1,4 +1,4 @@
--- What the class rules give of a program where none is broken.
+-- Between crates: what the class rules give of a program where none is broken.
 use Rattle.std.specs.Prelude.{◌≡◌, ℕ, true, false, List, Some, None}
 use Rattle.kr_ast.specs.Tree.{Tree}
 use Rattle.kr_value.specs.declared.object.Class.TheVariants.{Object}

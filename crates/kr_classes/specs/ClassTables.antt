@@ -1,4 +1,4 @@
--- The class table that the code keeps of files that break no class rule.
+-- Between crates: the class table that the code keeps of files that break no class rule.
 use Rattle.std.specs.Prelude.{◌≡◌, List, None}
 use Rattle.kr_ast.specs.Arena.{Arena}
 use Rattle.kr_table.specs.Rules.{class_fault}

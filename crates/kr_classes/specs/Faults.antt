@@ -1,4 +1,4 @@
--- The first place at which a class rule on names is broken.
+-- Between crates: the first place at which a class rule on names is broken.
 use Rattle.std.specs.Prelude.{◌≡◌, ℕ, ◌-◌, ◌<◌, ◌||◌, not, List, [], ◌∷◌, length, map, take, flat_map, codes, Option, Some, None, slice_index_or}
 use Rattle.kr_base.specs.declared.place.Place.{Place}
 use Rattle.kr_ast.specs.Arena.{Arena, root}

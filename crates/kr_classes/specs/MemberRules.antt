@@ -1,4 +1,4 @@
--- The class rules on members, C4 to C8, one after another.
+-- Between crates: the class rules on members, C4 to C8, one after another.
 use Rattle.std.specs.Prelude.{◌≡◌, ℕ, List, [], ◌∷◌, map, Option, Some, None}
 use Rattle.kr_table.specs.Table.{Table}
 use Rattle.kr_table.specs.Rules.{Fault, C4, C5, C6, C7, C8, first_of}

@@ -1,4 +1,4 @@
--- What an overriding method has to share with the one that it overrides.
+-- Between crates: what an overriding method has to share with the one that it overrides.
 use Rattle.std.specs.Prelude.{ℕ, ◌&&◌, not, Bool, true, false, List, [], ◌∷◌, if◌then◌else◌}
 use Rattle.kr_table.specs.Types.{JavaType, is_same}
 use Rattle.kr_table.specs.Table.{Method, Table}

@@ -1,4 +1,4 @@
--- What a refusal says of the class rules.
+-- To be believed: what a refusal says of the class rules.
 use Rattle.std.specs.Prelude.{◌≡◌, ℕ, List, [], ◌∷◌, Option, Some, None, codes}
 use Rattle.kr_ast.specs.Arena.{Arena}
 use Rattle.kr_table.specs.Table.{Table}

@@ -1,4 +1,4 @@
--- The calls of the collections by their names, and a new collection.
+-- Between crates: the calls of the collections by their names, and a new collection.
 use Rattle.std.specs.Prelude.{ℕ, List, [], ◌∷◌, codes, bytes_eq, if◌then◌else◌}
 use Rattle.kr_value.specs.declared.value.Value.{Value}
 use Rattle.kr_value.specs.declared.object.Class.{Class}

@@ -1,5 +1,5 @@
--- When code is that of a program: each node is the resolved form of a tree in its scope, and the tables say what the program
--- does.
+-- Between crates: when code is that of a program: each node is the resolved form of a tree in its scope, and the tables say what
+-- the program does.
 use Rattle.std.specs.Prelude.{◌≡◌, ℕ, Bool, true, false, List, [], ◌∷◌, length, map, codes, bytes_eq, nat_eq, Option, Some, None, option_and_then, option_map, pos, All, IsSome, flat_map}
 use Rattle.kr_base.specs.declared.place.Place.{Place}
 use Rattle.kr_ast.specs.declared.node.UnaryOperator.{UnaryOperator}

@@ -1,4 +1,4 @@
--- The steps of the meaning that look something up by an object's class, by the tables.
+-- Between crates: the steps of the meaning that look something up by an object's class, by the tables.
 use Rattle.std.specs.Prelude.{ℕ, Bool, true, false, Option, Some, None, nat_eq, nat_lt, if◌then◌else◌}
 use Rattle.kr_value.specs.declared.value.Value.{Value}
 use Rattle.kr_value.specs.declared.value.Value.TheVariants.{Int, Bool as Truth, Null, Ref as Reference}

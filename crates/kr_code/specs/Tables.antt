@@ -1,4 +1,4 @@
--- What code has at an index, and what its tables say of an object's class. What isn't there is stuck, or none.
+-- Between crates: what code has at an index, and what its tables say of an object's class. What isn't there is stuck, or none.
 use Rattle.std.specs.Prelude.{ℕ, Bool, false, List, [], map, take, drop, Option, Some, None}
 use Rattle.std.specs.Prelude.{slice_get}
 use Rattle.std.proofs.Common.{get_or}

@@ -1,4 +1,5 @@
--- Members of sets. They are told apart as the meaning does it: by identity (Java Language Specification 15.21.3).
+-- Between crates: members of sets. They are told apart as the meaning does it: by identity (Java Language Specification
+-- 15.21.3).
 use Rattle.std.specs.Prelude.{◌≡◌, false, List, [], ◌∷◌, ◌++◌, if◌then◌else◌}
 use Rattle.kr_value.specs.declared.value.Value.{Value}
 use Rattle.kr_mean.specs.Collections.{has_member}

@@ -1,4 +1,5 @@
--- What makes lists of members sets: they stay without repetition, and hold exactly what was added and not taken away.
+-- Between crates: what makes lists of members sets: they stay without repetition, and hold exactly what was added and not taken
+-- away.
 use Rattle.std.specs.Prelude.{◌≡◌, List, ◌||◌, ◌&&◌, not}
 use Rattle.kr_value.specs.declared.value.Value.{Value}
 use Rattle.kr_mean.specs.Collections.{is_same_value, has_member, without}

@@ -1,4 +1,4 @@
--- Where a member stands first.
+-- Between crates: where a member stands first.
 use Rattle.std.specs.Prelude.{◌≡◌, ℕ, ◌<◌, true, false, List, length}
 use Rattle.std.specs.List.{remove}
 use Rattle.kr_value.specs.declared.value.Value.{Value}

@@ -1,4 +1,4 @@
--- The code of a problem's program with the call of the root's `repOk`, which stands in no file.
+-- Between crates: the code of a problem's program with the call of the root's `repOk`, which stands in no file.
 use Rattle.std.specs.Prelude.{◌≡◌, ℕ, ◌+◌, List, [], ◌∷◌, ◌++◌, length}
 use Rattle.kr_ast.specs.Tree.{This}
 use Rattle.kr_mean.specs.Code as meaning

@@ -1,4 +1,4 @@
--- The preconditions of the method under test, by the numbers of their nodes.
+-- Between crates: the preconditions of the method under test, by the numbers of their nodes.
 use Rattle.std.specs.Prelude.{◌≡◌, ℕ, ◌<◌, List, ◌∷◌, map, flat_map}
 use Rattle.kr_ast.specs.Tree.{Tree}
 use Rattle.kr_table.specs.Table.{items}

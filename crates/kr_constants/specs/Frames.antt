@@ -1,4 +1,4 @@
--- What an expression comes to, with what is still to be done on the way.
+-- Between crates: what an expression comes to, with what is still to be done on the way.
 use Rattle.std.specs.Prelude.{ℕ, ◌+◌, ◌*◌, ◌<◌, pos, List, [], ◌∷◌, if◌then◌else◌, Some, None}
 use Rattle.kr_base.specs.declared.place.Place.{Place}
 use Rattle.kr_ast.specs.Tree.{size}

@@ -1,4 +1,4 @@
--- Values by the places of their constants' names.
+-- Between crates: values by the places of their constants' names.
 use Rattle.std.specs.Prelude.{◌≡◌, ℕ, Bool, ◌&&◌, nat_eq, List, [], ◌∷◌, if◌then◌else◌, Option, Some, None}
 use Rattle.kr_base.specs.declared.place.Place.{Place}
 use Rattle.kr_operators.specs.declared.constant.Constant.{Constant}

@@ -1,4 +1,4 @@
--- What an expression comes to as a constant's initial value, from what its operands come to.
+-- Between crates: what an expression comes to as a constant's initial value, from what its operands come to.
 use Rattle.std.specs.Prelude.{ℕ, Bool, List, ◌++◌, if◌then◌else◌, Option, Some, None, option_and_then, option_to_list}
 use Rattle.kr_base.specs.declared.place.Place.{Place}
 use Rattle.kr_ast.specs.Tree.{Tree}

@@ -1,4 +1,4 @@
--- The contracts of a well typed program are typed.
+-- Between crates: the contracts of a well typed program are typed.
 use Rattle.std.specs.Prelude.{◌≡◌, ◌≤◌, ◌++◌, ℕ, List, flat_map, Some, None}
 use Rattle.kr_base.specs.declared.place.Place.{Place}
 use Rattle.kr_ast.specs.Tree.{Tree}

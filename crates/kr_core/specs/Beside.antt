@@ -1,5 +1,5 @@
--- What is kept beside the segments, a piece for each of them, and how events move it. Pieces are joined by an operation,
--- and one of them is nothing.
+-- Between crates: what is kept beside the segments, a piece for each of them, and how events move it. Pieces are joined by an
+-- operation, and one of them is nothing.
 use Rattle.std.specs.Prelude.{◌≡◌, ℕ, List, [], ◌∷◌, Bool, ◌==◌, if◌then◌else◌}
 use Rattle.kr_base.specs.declared.span.Bound.{Bound}
 use Rattle.kr_base.specs.declared.entry.Entry.{Entry}

@@ -1,4 +1,4 @@
--- What the machine counts, where its events say what the entries are: every interleaving counts each entry once.
+-- Between crates: what the machine counts, where its events say what the entries are: every interleaving counts each entry once.
 use Rattle.std.specs.Prelude.{ℕ, ◌+◌, ◌≡◌, List, [], ◌∷◌, ◌++◌, Bool, true, false, Option, Some, None, length}
 use Rattle.std.specs.List.{sum_by, count_by, flat_map}
 use Rattle.kr_base.specs.declared.span.Bound.{Bound}

@@ -1,5 +1,5 @@
--- One run, worked by hand: two segments, a theft, a spent entry, a segment given up and taken again, a drain, a stop; what
--- fits nowhere on the way; and a whole listing by one seat.
+-- Between crates: one run, worked by hand: two segments, a theft, a spent entry, a segment given up and taken again, a drain, a
+-- stop; what fits nowhere on the way; and a whole listing by one seat.
 use Rattle.std.specs.Prelude.{◌≡◌, ℕ, List, [], ◌∷◌, Bool, true, false, Option, Some, None, take}
 use Rattle.kr_base.specs.declared.span.Bound.{Bound}
 use Rattle.kr_base.specs.declared.span.Bound.TheVariants.{At, End}

@@ -1,4 +1,4 @@
--- What every run of the machine keeps, whatever its events say.
+-- Between crates: what every run of the machine keeps, whatever its events say.
 use Rattle.std.specs.Prelude.{ℕ, ◌<◌, ◌≡◌, ◌≢◌, List, [], ◌∷◌, true, false}
 use Rattle.kr_base.specs.declared.span.Bound.{Bound}
 use Rattle.kr_base.specs.declared.span.Span.{Span}

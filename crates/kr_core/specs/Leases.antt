@@ -1,4 +1,5 @@
--- Leases: who holds a segment and up to where, told by the log alone, and what a lease says of the segment that it is of.
+-- Between crates: leases: who holds a segment and up to where, told by the log alone, and what a lease says of the segment that
+-- it is of.
 use Rattle.std.specs.Prelude.{ℕ, ◌≡◌, ◌≢◌, List, [], ◌∷◌, Bool, true, false, ◌&&◌, ◌==◌, nat_lt, nat_le, if◌then◌else◌, Option, Some, None}
 use Rattle.kr_base.specs.declared.span.Bound.{Bound}
 use Rattle.kr_base.specs.declared.span.Bound.TheVariants.{At, End}

@@ -1,4 +1,4 @@
--- Logs: what their events lead to, and how they grow.
+-- Between crates: logs: what their events lead to, and how they grow.
 use Rattle.std.specs.Prelude.{◌≡◌, List, [], ◌∷◌, ◌++◌, Some}
 use Rattle.kr_base.specs.declared.entry.Entry.{Entry}
 use Rattle.kr_core.specs.declared.event.Event.{Event}

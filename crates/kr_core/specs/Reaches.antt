@@ -1,4 +1,4 @@
--- A segment that a report reaches into.
+-- Between crates: a segment that a report reaches into.
 use Rattle.std.specs.Prelude.{ℕ, ◌≡◌, Bool, true, not, Option, Some, None, if◌then◌else◌}
 use Rattle.kr_base.specs.declared.span.Bound.{Bound}
 use Rattle.kr_base.specs.declared.span.Bound.TheVariants.{At}

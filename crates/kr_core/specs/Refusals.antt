@@ -1,4 +1,4 @@
--- When the machine refuses an event.
+-- Between crates: when the machine refuses an event.
 use Rattle.std.specs.Prelude.{◌≡◌, true}
 use Rattle.kr_core.specs.declared.event.Event.{Event}
 use Rattle.kr_core.specs.declared.event.Event.TheVariants.{Take, Steal, Report, GiveUp, Drain, StopAt, Look}

@@ -1,4 +1,4 @@
--- Rows: those drained and those that the segments keep are the rows of the entries counted.
+-- Between crates: rows: those drained and those that the segments keep are the rows of the entries counted.
 use Rattle.std.specs.Prelude.{ℕ, ◌+◌, ◌≡◌, List, [], ◌∷◌}
 use Rattle.std.specs.List.{sum_by, count_by}
 use Rattle.kr_base.specs.declared.span.Bound.{Bound}

@@ -1,4 +1,4 @@
--- The steps of the machine: of each event, where it fits, the new state and the reply.
+-- Between crates: the steps of the machine: of each event, where it fits, the new state and the reply.
 use Rattle.std.specs.Prelude.{ℕ, ◌+◌, ◌-◌, ◌^◌, ◌≡◌, List, [], ◌∷◌, Bool, true, false, ◌&&◌, ◌||◌, not, ◌==◌, nat_lt, nat_le, if◌then◌else◌, Option, Some, None, length}
 use Rattle.std.specs.List.{sum_by}
 use Rattle.std.specs.Option.{option_map}

@@ -1,4 +1,4 @@
--- What a run costs.
+-- Between crates: what a run costs.
 use Rattle.std.specs.Prelude.{◌≡◌, ℕ, ◌+◌, ◌<◌, ◌≤◌, List, Err}
 use Rattle.kr_value.specs.declared.value.Value.{Value}
 use Rattle.kr_table.specs.Table.{Method}

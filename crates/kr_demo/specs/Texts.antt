@@ -1,4 +1,4 @@
--- The texts of the demo, line by line.
+-- To be believed: the texts of the demo, line by line.
 use Rattle.std.specs.Prelude.{ℕ, List, ◌++◌, codes, decimal}
 
 -- the source, before and behind the number of nodes

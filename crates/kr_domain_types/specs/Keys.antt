@@ -1,4 +1,4 @@
--- When the keys of a finitization mean the fields and parameters that they are made of.
+-- Between crates: when the keys of a finitization mean the fields and parameters that they are made of.
 use Rattle.std.specs.Prelude.{◌≡◌, ℕ, true, false, List, find, bytes_eq, codes, Some}
 use Rattle.std.specs.List.{AllByRecursion}
 use Rattle.kr_table.specs.Table.{Table, Field, Parameter, Method, own_fields, fields_of, method_named, number_of}

@@ -1,4 +1,4 @@
--- The domains of a problem have values of their slots' types.
+-- Between crates: the domains of a problem have values of their slots' types.
 use Rattle.std.specs.Prelude.{◌≡◌, List, []}
 use Rattle.kr_ast.specs.Tree.{Tree}
 use Rattle.kr_table.specs.Table.{table_of}

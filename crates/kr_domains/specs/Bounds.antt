@@ -1,5 +1,5 @@
--- The problem of a program, a document and a mode: class domains in the order of the class table, and then the array types
--- in the document's; of an object the inherited fields first.
+-- To be believed: the problem of a program, a document and a mode: class domains in the order of the class table, and then the
+-- array types in the document's; of an object the inherited fields first.
 use Rattle.std.specs.Prelude.{ℕ, zero, suc, ◌+◌, pos, List, [], ◌∷◌, ◌++◌, length, map, flat_map, max, bytes_eq, codes, Option, Some, None, option_map, unwrap_or, slice_get, if◌then◌else◌}
 use Rattle.kr_ast.specs.Tree.{Tree}
 use Rattle.kr_table.specs.Types.{JavaType, is_same}

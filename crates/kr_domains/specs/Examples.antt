@@ -1,4 +1,4 @@
--- Small sources with finitizations, their problems, and the rules that others break, worked by hand.
+-- Between crates: small sources with finitizations, their problems, and the rules that others break, worked by hand.
 use Rattle.std.specs.Prelude.{◌≡◌, ◌++◌, ℕ, pos, negsuc, Bool, true, false, List, [], ◌∷◌, Option, Some, None, codes, map}
 use Rattle.kr_base.specs.declared.place.Place.{Place}
 use Rattle.kr_ast.specs.declared.node.BinaryOperator.TheVariants.{Equal}

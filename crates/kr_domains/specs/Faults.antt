@@ -1,5 +1,5 @@
--- Which rules a document breaks for a program and a mode, each with the item that breaks it: all of them, in no order that
--- matters. A domain is judged where it is given, whether a slot has it or not.
+-- To be believed: which rules a document breaks for a program and a mode, each with the item that breaks it: all of them, in no
+-- order that matters. A domain is judged where it is given, whether a slot has it or not.
 use Rattle.std.specs.Prelude.{ℕ, ◌+◌, ◌==◌, Bool, true, false, not, ◌&&◌, ◌||◌, List, [], ◌∷◌, ◌++◌, length, flat_map, find, nat_eq, nat_lt, bytes_eq, codes, Option, Some, None, option_map, option_and_then, is_none, if◌then◌else◌}
 use Rattle.std.specs.Int.Signed.{le_z}
 use Rattle.std.specs.Ordering.{int_eq}

@@ -1,4 +1,5 @@
--- What holds of the problems of documents that break no rule, and of the rule that is named where some are broken.
+-- Between crates: what holds of the problems of documents that break no rule, and of the rule that is named where some are
+-- broken.
 use Rattle.std.specs.Prelude.{◌≡◌, false, List, [], All, Contains, MatchOption}
 use Rattle.kr_ast.specs.Tree.{Tree}
 use Rattle.kr_mean.specs.declared.mode.Mode.{Mode}

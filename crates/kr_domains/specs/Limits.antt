@@ -1,4 +1,4 @@
--- The limits of the numbers in a document that was read.
+-- Between crates: the limits of the numbers in a document that was read.
 use Rattle.std.specs.Prelude.{ℤ, IsTrue, All}
 use Rattle.kr_fin.specs.declared.document.FinDoc.{FinDoc}
 use Rattle.kr_fin.specs.declared.document.Item.{Item}

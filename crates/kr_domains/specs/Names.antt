@@ -1,5 +1,5 @@
--- What the names of a finitization mean: classes by their simple names, and array types as they are written without
--- spaces.
+-- To be believed: what the names of a finitization mean: classes by their simple names, and array types as they are written
+-- without spaces.
 use Rattle.std.specs.Prelude.{ℕ, zero, suc, ◌+◌, ◌-◌, Bool, ◌&&◌, List, length, take, drop, nat_eq, bytes_eq, codes, Option, Some, None, option_map, if◌then◌else◌}
 use Rattle.std.specs.List.{starts_with, ends_with}
 use Rattle.kr_table.specs.Types.{JavaType, IntType, BooleanType, ClassType, ArrayType, SetType, ListType, is_element}

@@ -1,4 +1,4 @@
--- Which of some broken rules is named: the least rule, and of one rule the least item in the order of bytes.
+-- To be believed: which of some broken rules is named: the least rule, and of one rule the least item in the order of bytes.
 use Rattle.std.specs.Prelude.{ℕ, Bool, List, [], ◌∷◌, fold, Option, Some, None, codes, if◌then◌else◌}
 use Rattle.std.specs.Ordering.{nat_cmp, is_lt}
 use Rattle.std.specs.Cmp.Lexicographic.{slice_cmp}

@@ -1,4 +1,4 @@
--- What is answered of the machine's end.
+-- Between crates: what is answered of the machine's end.
 use Rattle.std.specs.Prelude.{◌≡◌, Bool, Result, Ok, Err}
 use Rattle.kr_base.specs.declared.memory.NoMemory.{NoMemory}
 use Rattle.kr_value.specs.declared.value.Value.{Value}

@@ -1,4 +1,4 @@
--- What it costs to run a method on values.
+-- Between crates: what it costs to run a method on values.
 use Rattle.std.specs.Prelude.{◌≡◌, ℕ, ◌+◌, ◌<◌, ◌≤◌, List}
 use Rattle.kr_value.specs.declared.value.Value.{Value}
 use Rattle.kr_value.specs.Heaps.{Heap}

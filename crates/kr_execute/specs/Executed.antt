@@ -1,5 +1,5 @@
--- What it means to run a method on values, in a heap and with some fuel: how the run ends, and the heap and the fuel that it
--- leaves.
+-- Between crates: what it means to run a method on values, in a heap and with some fuel: how the run ends, and the heap and the
+-- fuel that it leaves.
 use Rattle.std.specs.Prelude.{◌≡◌, ℕ, Bool, true, false, List, [], ◌∷◌, Option, Some, None, Result, Ok, Err}
 use Rattle.kr_value.specs.declared.value.Value.{Value}
 use Rattle.kr_value.specs.declared.value.Value.TheVariants.{Null}

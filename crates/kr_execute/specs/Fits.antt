@@ -1,4 +1,4 @@
--- When a call is one that typing accepts: then its run isn't stuck.
+-- Between crates: when a call is one that typing accepts: then its run isn't stuck.
 use Rattle.std.specs.Prelude.{◌≡◌, ℕ, Bool, true, false, List, [], ◌∷◌, Some}
 use Rattle.kr_value.specs.declared.value.Value.{Value}
 use Rattle.kr_value.specs.Heaps.{Heap}

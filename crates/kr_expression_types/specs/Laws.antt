@@ -1,4 +1,4 @@
--- Which types expressions have.
+-- Between crates: which types expressions have.
 use Rattle.std.specs.Prelude.{◌≡◌, Bool, true, false, Option, Some, List, []}
 use Rattle.kr_base.specs.declared.place.Place.{Place}
 use Rattle.kr_ast.specs.Tree as trees

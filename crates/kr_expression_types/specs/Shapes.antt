@@ -1,4 +1,4 @@
--- Code as the grammar derives it: where expressions stand and where statements do.
+-- Between crates: code as the grammar derives it: where expressions stand and where statements do.
 use Rattle.std.specs.Prelude.{◌≡◌, ℕ, Bool, true, false, Option, Some, List}
 use Rattle.kr_base.specs.declared.place.Place.{Place}
 use Rattle.kr_ast.specs.Tree as trees

@@ -1,4 +1,4 @@
--- The types that variables, expressions and methods have.
+-- Between crates: the types that variables, expressions and methods have.
 use Rattle.std.specs.Prelude.{◌≡◌, ℕ, Bool, true, false, ◌&&◌, ◌||◌, Some, List, [], ◌∷◌}
 use Rattle.kr_table.specs.Types.{JavaType, IntType, BooleanType, NullType, ClassType, ArrayType, SetType, ListType, InferredType, is_element, is_void}
 use Rattle.kr_table.specs.Table.{Table, Field, Method, field_named, method_named}

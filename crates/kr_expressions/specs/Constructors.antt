@@ -1,4 +1,4 @@
--- Classes with at most one constructor, as class rule C4 asks.
+-- Between crates: classes with at most one constructor, as class rule C4 asks.
 use Rattle.std.specs.Prelude.{ℕ, ◌<◌, List, length, flat_map, option_to_list}
 use Rattle.kr_table.specs.Table.{Table, Constructor, class_at}
 

@@ -1,4 +1,4 @@
--- Lists of values, by the links that are kept of them.
+-- Between crates: lists of values, by the links that are kept of them.
 use Rattle.std.specs.Prelude.{◌≡◌, ℕ, List}
 use Rattle.kr_table.specs.Types.{JavaType}
 use Rattle.kr_typing.specs.Rules as rules

@@ -1,4 +1,5 @@
--- The notes of a file's nodes. What is known of a list is spelled with the node of its rest, which stands before it.
+-- Between crates: the notes of a file's nodes. What is known of a list is spelled with the node of its rest, which stands before
+-- it.
 use Rattle.std.specs.Prelude.{◌≡◌, ℕ, ◌<◌, List, [], ◌++◌, None, Some, map, slice_get}
 use Rattle.kr_ast.specs.Grow.{grow}
 use Rattle.kr_typing.specs.Rules as rules

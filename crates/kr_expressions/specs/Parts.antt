@@ -1,4 +1,4 @@
--- A rule is looked at where the parts that it speaks of have types.
+-- Between crates: a rule is looked at where the parts that it speaks of have types.
 use Rattle.std.specs.Prelude.{List, Option, Some, None}
 use Rattle.kr_table.specs.Types.{JavaType}
 use Rattle.kr_typing.specs.Rules as rules

@@ -21,7 +21,7 @@ use kr_type_numbers::{NodeTypes, TypeForm, Types};
 use kr_type_rules::{TypingRule, Verdict, arguments_fit, is_code, is_int};
 
 /// T27: the length is an int; T39.
-pub fn array_creation_rule(
+pub(crate) fn array_creation_rule(
     types: &mut Types,
     here: Within,
     element: u32,
@@ -107,7 +107,7 @@ fn creation_fits(
 }
 
 /// T26: the arguments fit the constructor, and a collection takes none; `<>` only on collections; T39.
-pub fn creation_rule(
+pub(crate) fn creation_rule(
     trees: &[Tree],
     types: &Types,
     members: &Members,
@@ -165,7 +165,7 @@ pub fn implied_rule(
 }
 
 /// T34: `super(..)` fits the superclass's constructor.
-pub fn super_constructor_rule(
+pub(crate) fn super_constructor_rule(
     trees: &[Tree],
     types: &Types,
     members: &Members,

@@ -1,4 +1,4 @@
--- The finitization that a table states, where it breaks no rule. What breaks one is left out, or counts as none.
+-- To be believed: the finitization that a table states, where it breaks no rule. What breaks one is left out, or counts as none.
 use Rattle.std.specs.Prelude.{ℕ, ℤ, pos, negsuc, List, [], ◌∷◌, ◌++◌, Option, Some, None, codes, if◌then◌else◌, option_and_then, unwrap_or}
 use Rattle.toml.specs.Data.{Data, string, integer, float, boolean, datetime, array, table, Items, no_items, item, Members, no_members, member, get_member, as_integer, as_str, as_array, as_table}
 use Rattle.kr_fin.specs.declared.document.Item.{Item}

@@ -1,5 +1,5 @@
--- Which rules a table breaks as a finitization, each with the item that breaks it: all of them, in the order of the text
--- below, which means nothing (`least` of the order names one).
+-- To be believed: which rules a table breaks as a finitization, each with the item that breaks it: all of them, in the order of
+-- the text below, which means nothing (`least` of the order names one).
 use Rattle.std.specs.Prelude.{ℕ, ℤ, List, [], ◌++◌, Option, Some, None, codes, if◌then◌else◌}
 use Rattle.toml.specs.Data.{Data, string, integer, float, boolean, datetime, array, table, Items, no_items, item, Members, no_members, member, get_member, as_integer, as_str, as_array, as_table}
 use Rattle.kr_fin.specs.declared.refusal.Fault.{Fault}

@@ -1,4 +1,4 @@
--- What holds of the definitions, in other words than theirs.
+-- Between crates: what holds of the definitions, in other words than theirs.
 use Rattle.std.specs.Prelude.{◌≡◌, ℕ, false, List, [], length, All, Contains, MatchOption}
 use Rattle.toml.specs.Data.{Data}
 use Rattle.kr_fin.specs.declared.refusal.Fault.{Fault}

@@ -1,4 +1,4 @@
--- What bytes are as a finitization: its document, or the rule that they break first.
+-- To be believed: what bytes are as a finitization: its document, or the rule that they break first.
 use Rattle.std.specs.Prelude.{◌≡◌, ℕ, Bool, List, length, nat_le, codes, Option, Some, None, Result, Ok, Err, if◌then◌else◌}
 use Rattle.std.specs.Str.{is_utf8}
 use Rattle.toml.specs.Data.{Members}

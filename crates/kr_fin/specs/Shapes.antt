@@ -1,4 +1,4 @@
--- The tables of a finitization: which keys they have, and the limits of the numbers there.
+-- To be believed: the tables of a finitization: which keys they have, and the limits of the numbers there.
 use Rattle.std.specs.Prelude.{◌&&◌, ◌||◌, ◌==◌, ℕ, ℤ, pos, negsuc, Bool, not, List, ◌++◌, length, codes}
 use Rattle.std.specs.Int.Signed.{le_z}
 use Rattle.std.specs.List.{list_all, before_first, after_first}

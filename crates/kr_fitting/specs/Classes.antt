@@ -1,4 +1,4 @@
--- What is known of the classes of some files.
+-- Between crates: what is known of the classes of some files.
 use Rattle.std.specs.Prelude.{List, map}
 use Rattle.kr_ast.specs.Arena.{root}
 use Rattle.kr_ast.specs.Tree.{Tree}

@@ -1,4 +1,4 @@
--- Parameters, as the class table has them.
+-- Between crates: parameters, as the class table has them.
 use Rattle.std.specs.Prelude.{◌<◌, List, [], ◌∷◌, length}
 use Rattle.kr_ast.specs.Arena.{Arena, AreNamesIn, name_in, tree_in}
 use Rattle.kr_table.specs.Table as table

@@ -12,6 +12,6 @@ mod unfit;
 
 pub use classes::Classes;
 pub use method_rules::{note_method, note_predicate};
-pub use parameters::{Parameter, method_at, parameters_of};
+pub use parameters::{Parameter, parameters_of};
 pub use slots::note_slots;
 pub use unfit::note_unfit;

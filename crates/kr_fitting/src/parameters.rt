@@ -25,7 +25,7 @@ pub struct Parameter {
 }
 
 /// The method of a name that a class has, if there is a class.
-pub fn method_at(classes: &Classes, class: Option<u32>, name: &[u8]) -> Option<Method>
+pub(crate) fn method_at(classes: &Classes, class: Option<u32>, name: &[u8]) -> Option<Method>
     requires { AreClasses classes.now }
     ensures stands { IfSome result (IsMethod classes.now.trees.now) }
     ensures shown { option_map (method_shown classes.now.trees.now) result ≡ method_of (table_of classes.now) class name.now }

@@ -1,4 +1,4 @@
--- Nodes of files that are found one after another, each once.
+-- Between crates: nodes of files that are found one after another, each once.
 use Rattle.std.specs.Prelude.{◌≡◌, flat_map, ℕ, ◌+◌, Bool, true, false, List, length, take, All, Contains, Some, slice_get, slice_index_or, sum_by, cond, ◌⊎◌}
 use Rattle.kr_ast.specs.declared.node.Entry.{Entry}
 use Rattle.kr_ast.specs.Arena.{Arena}

@@ -1,4 +1,4 @@
--- Stacks that are copies of each other.
+-- Between crates: stacks that are copies of each other.
 use Rattle.std.specs.Prelude.{◌≡◌, List}
 use Rattle.kr_value.specs.declared.value.Value.{Value}
 use Rattle.kr_mean.specs.Steps.{Outcome}

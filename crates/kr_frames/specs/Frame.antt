@@ -1,4 +1,4 @@
--- A frame: what waits for a value, for a statement's end, or for something that gives nothing.
+-- Between crates: a frame: what waits for a value, for a statement's end, or for something that gives nothing.
 use Rattle.std.specs.Prelude.{ℕ, Bool, List}
 use Rattle.kr_value.specs.declared.value.Value as v
 use Rattle.kr_code.specs.declared.expression.Nodes.{Nodes}

@@ -1,4 +1,4 @@
--- The outcome of the whole run, from what a part of it has come to and the frames that wait.
+-- Between crates: the outcome of the whole run, from what a part of it has come to and the frames that wait.
 use Rattle.std.specs.Prelude.{ℕ, true, false, List, [], ◌∷◌, map, take, reverse}
 use Rattle.kr_value.specs.declared.value.Value.{Value}
 use Rattle.kr_value.specs.declared.value.Value.TheVariants.{Bool as Truth, Null}

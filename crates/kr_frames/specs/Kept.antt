@@ -1,4 +1,4 @@
--- The frames that a stack stands for: it keeps the lists of all frames one behind another.
+-- Between crates: the frames that a stack stands for: it keeps the lists of all frames one behind another.
 use Rattle.std.specs.Prelude.{ℕ, ◌≡◌, List, [], ◌∷◌, take, drop, length}
 use Rattle.kr_value.specs.declared.value.Value.{Value}
 use Rattle.kr_world.specs.declared.world.Local.{Local}

@@ -1,4 +1,4 @@
--- What a step of the machine leaves to do is what there was to do.
+-- Between crates: what a step of the machine leaves to do is what there was to do.
 use Rattle.std.specs.Prelude.{◌≡◌, List, ◌++◌, Result, Ok, Err}
 use Rattle.kr_value.specs.declared.value.Value.{Value}
 use Rattle.kr_mean.specs.Steps.{Outcome}

@@ -1,5 +1,5 @@
--- The grammar, one case per production (Java Language Specification 4, 7, 8, 14 and 15, for this language). `Der C i t r`:
--- the tokens i begin with a C, whose tree is t, and the tokens r are left.
+-- To be believed: the grammar, one case per production (Java Language Specification 4, 7, 8, 14 and 15, for this language). `Der
+-- C i t r`: the tokens i begin with a C, whose tree is t, and the tokens r are left.
 use Rattle.std.specs.Prelude.{ℕ, ◌≡◌, ◌≢◌, ◌≤◌, ◌<◌, Bool, true, false, List, [], ◌∷◌, Some}
 use Rattle.kr_base.specs.declared.place.Place.{Place}
 use Rattle.kr_lex.specs.Lexemes.{Lexeme, number_value}

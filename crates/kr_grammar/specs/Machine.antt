@@ -1,4 +1,4 @@
--- The machine: from a stack of symbols and the values behind it, it takes tokens, looking at one token.
+-- Between crates: the machine: from a stack of symbols and the values behind it, it takes tokens, looking at one token.
 use Rattle.std.specs.Prelude.{◌≡◌, ℕ, zero, suc, ◌+◌, Bool, true, false, if◌then◌else◌, nat_lt, List, [], ◌∷◌, ◌++◌, Option, Some, None}
 use Rattle.kr_lex.specs.Lexemes.{Lexeme}
 use Rattle.kr_grammar.specs.declared.terminal.Terminal.{Terminal}

@@ -1,4 +1,4 @@
--- What is made of the values on top. Where they are no such values, nothing is.
+-- Between crates: what is made of the values on top. Where they are no such values, nothing is.
 use Rattle.std.specs.Prelude.{ℕ, true, false, List, ◌∷◌}
 use Rattle.kr_base.specs.declared.place.Place.{Place}
 use Rattle.kr_lex.specs.Lexemes.{Lexeme, number_value}

@@ -1,4 +1,4 @@
--- What the code answers where a rule is looked up.
+-- Between crates: what the code answers where a rule is looked up.
 use Rattle.std.specs.Prelude.{◌≡◌, List, [], Option, Some, None}
 use Rattle.std.specs.Borrow.{Bor}
 use Rattle.kr_grammar.specs.declared.goal.Symbol.{Symbol}

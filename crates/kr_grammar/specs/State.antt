@@ -1,4 +1,4 @@
--- The state of a parse: what the tokens so far leave to be taken.
+-- Between crates: the state of a parse: what the tokens so far leave to be taken.
 use Rattle.std.specs.Prelude.{◌≡◌, ℕ, ◌+◌, ◌≤◌, Bool, true, false, List, [], ◌∷◌, ◌++◌, Option, Some, None, length, take, drop}
 use Rattle.kr_lex.specs.Lexemes.{Lexeme}
 use Rattle.kr_grammar.specs.declared.terminal.Terminal.{Terminal}

@@ -1,4 +1,4 @@
--- What the grammar tells apart among the kinds of tokens.
+-- Between crates: what the grammar tells apart among the kinds of tokens.
 use Rattle.kr_lex.specs.declared.kind.Kind.{Kind}
 use Rattle.kr_lex.specs.declared.kind.Kind.TheVariants as kinds
 use Rattle.kr_grammar.specs.declared.terminal.Terminal.{Terminal}

@@ -1,4 +1,4 @@
--- What tokens mean for the grammar: the operators that they are and how tightly these bind.
+-- To be believed: what tokens mean for the grammar: the operators that they are and how tightly these bind.
 use Rattle.std.specs.Prelude.{ℕ, List, Bool, true, false, Option, Some, None, codes}
 use Rattle.kr_lex.specs.declared.kind.Kind.{Kind}
 use Rattle.kr_lex.specs.declared.kind.Kind.TheVariants as kinds

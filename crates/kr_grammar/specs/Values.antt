@@ -1,4 +1,4 @@
--- What the machine keeps of the tokens behind it.
+-- To be believed: what the machine keeps of the tokens behind it.
 use Rattle.std.specs.Prelude.{ℕ, Bool, true, false, ◌&&◌, not, if◌then◌else◌, List, [], ◌∷◌}
 use Rattle.std.specs.Str.{bytes_eq}
 use Rattle.kr_base.specs.declared.place.Place.{Place}

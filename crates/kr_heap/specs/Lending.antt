@@ -1,4 +1,4 @@
--- A heap whose members of one collection are lent.
+-- Between crates: a heap whose members of one collection are lent.
 use Rattle.std.specs.Prelude.{ℕ, List}
 use Rattle.std.specs.Borrow.{Lends, MutBor, Fml}
 use Rattle.kr_value.specs.declared.value.Value.{Value}

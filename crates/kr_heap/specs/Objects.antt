@@ -1,4 +1,4 @@
--- What an object has, and heaps in which one object has other values.
+-- Between crates: what an object has, and heaps in which one object has other values.
 use Rattle.std.specs.Prelude.{ℕ, List, slice_set, Option, Some, None, if◌then◌else◌}
 use Rattle.kr_value.specs.declared.value.Value.{Value}
 use Rattle.kr_value.specs.declared.object.Spot.{Spot}

@@ -1,4 +1,4 @@
--- What files and sinks in memory hold, and what they count.
+-- Between crates: what files and sinks in memory hold, and what they count.
 use Rattle.std.specs.Prelude.{◌≡◌, ℕ, ◌+◌, ◌-◌, ◌^◌, ◌==◌, min, length, List, Bool, not, ◌||◌, ◌&&◌, Option, option_map, string_bytes}
 use Rattle.std.specs.List.{list_any}
 use Rattle.std.specs.Option.{is_none}

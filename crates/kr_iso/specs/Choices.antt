@@ -1,4 +1,5 @@
--- Allowed choices: of each class domain an index takes an object that stands on the path already, or the next unused one.
+-- Between crates: allowed choices: of each class domain an index takes an object that stands on the path already, or the next
+-- unused one.
 use Rattle.std.specs.Prelude.{◌≡◌, ℕ, ◌<◌, ◌≤◌, ◌⊎◌, List, [], ◌∷◌, ◌++◌, Option, Some, None}
 use Rattle.std.proofs.Common.{get_or}
 use Rattle.kr_mean.specs.Problem.{DomainObject}

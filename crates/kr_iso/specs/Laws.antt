@@ -1,4 +1,4 @@
--- What makes a candidate the least of its class.
+-- Between crates: what makes a candidate the least of its class.
 use Rattle.std.specs.Prelude.{ℕ, List, []}
 use Rattle.kr_mean.specs.Space.{Space, IsVector, IsSpace}
 use Rattle.kr_mean.specs.Readings.{IsReading}

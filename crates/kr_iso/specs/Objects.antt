@@ -1,4 +1,4 @@
--- Objects as the program has them.
+-- Between crates: objects as the program has them.
 use Rattle.std.specs.Prelude.{Option, Some, None}
 use Rattle.kr_mean.specs.Problem.{DomainObject}
 use Rattle.kr_iso.specs.declared.object.Object.{Object}

@@ -1,4 +1,4 @@
--- Which objects of a class domain may stand next: those up to the one behind the last that stands on the path.
+-- Between crates: which objects of a class domain may stand next: those up to the one behind the last that stands on the path.
 use Rattle.std.specs.Prelude.{◌≡◌, ℕ, ◌+◌, ◌≤◌, List, Option, Some, None}
 use Rattle.kr_mean.specs.Problem.{DomainObject}
 use Rattle.kr_mean.specs.Space.{Space}

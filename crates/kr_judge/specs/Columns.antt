@@ -1,4 +1,4 @@
--- Which of an object's slots stands for a spot.
+-- Between crates: which of an object's slots stands for a spot.
 use Rattle.std.specs.Prelude.{◌≡◌, ℕ, zero, suc, ◌<◌}
 use Rattle.kr_value.specs.declared.object.Class.{Class}
 use Rattle.kr_value.specs.declared.object.Class.TheVariants.{Object, Array, Set, List}

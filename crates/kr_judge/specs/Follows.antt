@@ -1,4 +1,4 @@
--- Places in the order in which a run has read them, and the slots that came with them.
+-- Between crates: places in the order in which a run has read them, and the slots that came with them.
 use Rattle.std.specs.Prelude.{◌≡◌, ℕ, true, List, [], ◌∷◌, reverse, take}
 use Rattle.kr_mean.specs.Places.{SlotPlace}
 use Rattle.kr_mean.specs.Runs.{contains_number}

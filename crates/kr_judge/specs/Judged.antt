@@ -1,4 +1,4 @@
--- What is answered of conditions.
+-- Between crates: what is answered of conditions.
 use Rattle.std.specs.Prelude.{◌≡◌, ℕ, Bool, true, List, [], ◌∷◌, ◌++◌, Result, Ok, Err}
 use Rattle.kr_mean.specs.Places.{SlotPlace}
 use Rattle.kr_mean.specs.Steps.{Outcome, Run, give, ◌>>=◌}

@@ -1,4 +1,4 @@
--- What is answered of one condition: going on from it is going on from the answer, whatever follows.
+-- Between crates: what is answered of one condition: going on from it is going on from the answer, whatever follows.
 use Rattle.std.specs.Prelude.{◌≡◌, ℕ, Bool, List, Result, Ok, Err}
 use Rattle.kr_value.specs.declared.value.Value.TheVariants.{Bool as Truth}
 use Rattle.kr_mean.specs.Places.{SlotPlace}

@@ -1,4 +1,4 @@
--- Slots, each once, where it comes first.
+-- Between crates: slots, each once, where it comes first.
 use Rattle.std.specs.Prelude.{◌≡◌, ℕ, Bool, false, List, [], ◌∷◌, ◌++◌, if◌then◌else◌}
 use Rattle.std.proofs.Common.{get_or}
 use Rattle.kr_mean.specs.Runs.{contains_number}

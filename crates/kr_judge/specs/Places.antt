@@ -1,4 +1,4 @@
--- Objects by their numbers in the heap.
+-- Between crates: objects by their numbers in the heap.
 use Rattle.std.specs.Prelude.{◌≡◌, ℕ, ◌<◌, length, Option, Some, None}
 use Rattle.kr_iso.specs.Objects.{object_of}
 use Rattle.kr_iso.specs.declared.object.Object.{Object as Numbered}

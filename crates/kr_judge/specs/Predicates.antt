@@ -1,4 +1,4 @@
--- Code that runs the predicate of a problem.
+-- Between crates: code that runs the predicate of a problem.
 use Rattle.std.specs.Prelude.{◌≡◌, map}
 use Rattle.kr_code.specs.Resolved.{Numbering, IsCodeOf}
 use Rattle.kr_mean.specs.Problem.{Problem}

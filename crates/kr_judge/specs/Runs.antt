@@ -1,4 +1,4 @@
--- What is said of a run.
+-- Between crates: what is said of a run.
 use Rattle.std.specs.Prelude.{◌≡◌, ℕ, Bool, List, [], Result, Ok, Err}
 use Rattle.kr_base.specs.declared.memory.NoMemory.{NoMemory}
 use Rattle.kr_mean.specs.Problem.{Problem}

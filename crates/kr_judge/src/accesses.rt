@@ -217,7 +217,7 @@ impl Accesses {
     }
 
     /// Nothing was read; the room stays.
-    pub fn forget(&mut self)
+    pub(crate) fn forget(&mut self)
         ensures { (slots_of : Place → List ℕ) → Follow slots_of self.new }
     {
         self.order.clear();

@@ -51,7 +51,7 @@ impl Judge {
     }
 
     /// The order of a candidate whose run has ended so and has read these places.
-    pub fn take_order(
+    pub(crate) fn take_order(
         &mut self,
         layout: &Layout,
         vector: &Vector,

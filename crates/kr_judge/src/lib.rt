@@ -18,4 +18,4 @@ pub use order::Order;
 pub use places::object_numbered;
 pub use predicate::Predicate;
 pub use run::{Judgement, Ran, judged, run_predicate};
-pub use start::{begin, world_of};
+pub use start::begin;

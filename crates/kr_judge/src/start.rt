@@ -55,7 +55,7 @@ fn this_read(alloc: Global) -> Result<Reads, NoMemory>
 }
 
 /// The world in which a candidate's run begins, once `this` is read. Frozen candidates aren't written.
-pub fn world_of(
+pub(crate) fn world_of(
     alloc: Global,
     layout: &Layout,
     vector: &Vector,

@@ -1,4 +1,4 @@
--- What is known of an expression at once.
+-- Between crates: what is known of an expression at once.
 use Rattle.std.specs.Prelude.{◌≡◌, ℕ, Ok}
 use Rattle.kr_value.specs.declared.value.Value.{Value}
 use Rattle.kr_mean.specs.Steps.{State, Run}

@@ -29,10 +29,10 @@ pub trait Look {
 }
 
 /// Below all levels: nothing is known.
-pub struct Below;
+pub(crate) struct Below;
 
 /// One level above another.
-pub struct Above<L> {
+pub(crate) struct Above<L> {
     below: L,
 }
 

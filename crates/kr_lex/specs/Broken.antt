@@ -1,4 +1,4 @@
--- The lexical rules, and which one a source breaks first.
+-- To be believed: the lexical rules, and which one a source breaks first.
 use Rattle.std.specs.Prelude.{◌≡◌, ℕ, ◌<◌, ◌≤◌, ◌⊎◌, Bool, true, false, List, [], ◌∷◌, ◌++◌, length, slice_index}
 use Rattle.std.specs.Char.{IsScalar, is_ascii_digit, encode_utf8}
 use Rattle.std.specs.Str.{encode_utf8_all, IsValidUpTo}

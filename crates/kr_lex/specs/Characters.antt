@@ -1,4 +1,4 @@
--- Characters of names (Java Language Specification 3.8), white space (3.6) and line ends (3.4).
+-- To be believed: characters of names (Java Language Specification 3.8), white space (3.6) and line ends (3.4).
 use Rattle.std.specs.Prelude.{◌≡◌, ℕ, Bool, true, false, not, ◌||◌, ◌==◌, nat_lt, List, [], ◌∷◌, ◌++◌}
 use Rattle.std.specs.Char.{IsScalar, encode_utf8}
 use Rattle.unicode_ident.specs.Ident.{is_xid_start, is_xid_continue}

@@ -1,5 +1,5 @@
--- Contract lines, as the Java Modeling Language writes them: two slashes and `@`, a word, and an expression up to a
--- semicolon, which ends what the line has before its comment.
+-- To be believed: contract lines, as the Java Modeling Language writes them: two slashes and `@`, a word, and an expression up
+-- to a semicolon, which ends what the line has before its comment.
 use Rattle.std.specs.Prelude.{◌≡◌, ℕ, ◌⊎◌, Bool, true, false, not, ◌&&◌, ◌||◌, ◌==◌, cond, List, [], ◌∷◌, ◌++◌, codes, slice_index}
 use Rattle.std.specs.List.{AllByRecursion}
 use Rattle.kr_lex.specs.declared.kind.Kind.{Kind}

@@ -1,4 +1,4 @@
--- What a cursor says of the text before it.
+-- Between crates: what a cursor says of the text before it.
 use Rattle.std.specs.Prelude.{◌≡◌, ℕ, Bool, ◌+◌, ◌-◌, ◌≤◌, List, length, take, slice_index, cond, ◌==◌}
 use Rattle.kr_lex.specs.declared.cursor.Cursor.{Cursor}
 use Rattle.kr_lex.specs.Places.{line_after, column_after}

@@ -1,4 +1,4 @@
--- The entries that keep a token list, and the tokens that they stand for.
+-- Between crates: the entries that keep a token list, and the tokens that they stand for.
 use Rattle.std.specs.Prelude.{◌≡◌, ℕ, ◌≤◌, ◌-◌, List, length, take, drop, map}
 use Rattle.std.specs.List.{All}
 use Rattle.kr_base.specs.declared.place.Place.{Place}

@@ -1,4 +1,4 @@
--- What stands between tokens: white space and comments (Java Language Specification 3.6 and 3.7).
+-- To be believed: what stands between tokens: white space and comments (Java Language Specification 3.6 and 3.7).
 use Rattle.std.specs.Prelude.{◌≡◌, ℕ, ◌≤◌, ◌≢◌, ◌⊎◌, true, false, List, [], ◌∷◌, ◌++◌, length, slice_index}
 use Rattle.std.specs.List.{AllByRecursion}
 use Rattle.kr_lex.specs.Characters.{is_line_end, is_white}

@@ -1,4 +1,4 @@
--- Tokens with their spelling and their place, as contracts see them.
+-- To be believed: tokens with their spelling and their place, as contracts see them.
 use Rattle.std.specs.Prelude.{ℕ, List, [], slice_index_or}
 use Rattle.std.specs.Str.Parse.{digits_value}
 use Rattle.kr_base.specs.declared.place.Place.{Place}

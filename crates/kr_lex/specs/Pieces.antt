@@ -1,5 +1,5 @@
--- What stands at the front of a text: the lengths of words and comments, the piece as a whole, and the parts of a contract
--- line.
+-- Between crates: what stands at the front of a text: the lengths of words and comments, the piece as a whole, and the parts of
+-- a contract line.
 use Rattle.std.specs.Prelude.{◌≡◌, ℕ, ◌+◌, ◌<◌, ◌≤◌, ◌⊎◌, Bool, true, false, List, ◌∷◌, ◌++◌, length, take, drop, slice_index}
 use Rattle.std.specs.Char.{IsScalar, is_ascii_digit, encode_utf8}
 use Rattle.std.specs.Str.{encode_utf8_all}

@@ -1,5 +1,5 @@
--- Lines and columns (Java Language Specification 3.4): both are counted from 1, columns in characters. LF, CR, and CR LF
--- together, end a line.
+-- To be believed: lines and columns (Java Language Specification 3.4): both are counted from 1, columns in characters. LF, CR,
+-- and CR LF together, end a line.
 use Rattle.std.specs.Prelude.{ℕ, ◌+◌, Bool, false, not, ◌&&◌, ◌||◌, ◌==◌, cond, List, [], ◌∷◌}
 use Rattle.kr_base.specs.declared.place.Place.{Place}
 use Rattle.kr_lex.specs.Characters.{is_line_end, begins_character}

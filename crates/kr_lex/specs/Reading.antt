@@ -1,4 +1,4 @@
--- How far a source has been read.
+-- Between crates: how far a source has been read.
 use Rattle.std.specs.Prelude.{◌≡◌, ℕ, ◌+◌, ◌-◌, ◌<◌, ◌≤◌, ◌⊎◌, false, List, [], ◌∷◌, ◌++◌, length, take, drop, map}
 use Rattle.std.specs.Str.{IsUtf8, IsValidUpTo}
 use Rattle.kr_lex.specs.declared.contract.Head.{Head}

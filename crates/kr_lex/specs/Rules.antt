@@ -1,4 +1,4 @@
--- The codes of the lexical rules.
+-- To be believed: the codes of the lexical rules.
 use Rattle.std.specs.Prelude.{ℕ, List, codes}
 use Rattle.kr_lex.specs.declared.refusal.LexRule.{LexRule}
 use Rattle.kr_lex.specs.declared.refusal.LexRule.TheVariants as rules

@@ -1,5 +1,5 @@
--- How tokens are written that have one spelling: keywords, the literals that are words, separators and operators (Java
--- Language Specification 3.9 to 3.12).
+-- To be believed: how tokens are written that have one spelling: keywords, the literals that are words, separators and operators
+-- (Java Language Specification 3.9 to 3.12).
 use Rattle.std.specs.Prelude.{List, ℕ, [], codes, Bool, true, false}
 use Rattle.kr_lex.specs.declared.kind.Kind.{Kind}
 use Rattle.kr_lex.specs.declared.kind.Kind.TheVariants as kinds

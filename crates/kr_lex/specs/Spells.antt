@@ -1,4 +1,4 @@
--- Which tokens spell a source (Java Language Specification 3.2 and 3.5), with the contract lines in it.
+-- To be believed: which tokens spell a source (Java Language Specification 3.2 and 3.5), with the contract lines in it.
 use Rattle.std.specs.Prelude.{◌≡◌, ℕ, ◌≤◌, Bool, true, false, not, ◌&&◌, List, [], ◌∷◌, ◌++◌, length, slice_index}
 use Rattle.std.specs.Str.{IsUtf8}
 use Rattle.kr_lex.specs.declared.kind.Kind.{Kind}

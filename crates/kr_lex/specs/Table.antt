@@ -1,4 +1,4 @@
--- The tokens of one spelling by their first byte, longer ones first.
+-- Between crates: the tokens of one spelling by their first byte, longer ones first.
 use Rattle.std.specs.Prelude.{ℕ, List, [], ◌∷◌, cond, ◌==◌, nat_lt}
 use Rattle.kr_lex.specs.declared.kind.Kind.{Kind}
 use Rattle.kr_lex.specs.declared.kind.Kind.TheVariants as kinds

@@ -1,4 +1,4 @@
--- Names and numbers (Java Language Specification 3.8 and 3.10.1).
+-- To be believed: names and numbers (Java Language Specification 3.8 and 3.10.1).
 use Rattle.std.specs.Prelude.{◌≡◌, ℕ, ◌<◌, ◌≤◌, List, ◌++◌, length, slice_index, true}
 use Rattle.std.specs.Char.{IsScalar, encode_utf8}
 use Rattle.std.specs.Str.{encode_utf8_all}

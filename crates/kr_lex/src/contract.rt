@@ -10,23 +10,23 @@ use crate::words::part_len;
 
 /// How a contract line begins: its word, where that begins, and where it ends.
 #[derive(Clone, Copy, Debug)]
-pub struct Head {
-    pub kind: Kind,
-    pub word: usize,
-    pub end: usize,
+pub(crate) struct Head {
+    pub(crate) kind: Kind,
+    pub(crate) word: usize,
+    pub(crate) end: usize,
 }
 
 /// A contract line that is well formed: how it begins, and up to which byte of the source no slash and star stand side
 /// by side in a line from there.
 #[derive(Clone, Copy, Debug)]
-pub struct Line {
-    pub head: Head,
-    pub clear: usize,
+pub(crate) struct Line {
+    pub(crate) head: Head,
+    pub(crate) clear: usize,
 }
 
 /// How a kind is spelled that stands in contract lines alone; empty for all others.
 #[tactic(auto, unfolding(crate::specs::ContractLines::contract_spelling))]
-pub fn contract_spelling(kind: Kind) -> &'static [u8]
+pub(crate) fn contract_spelling(kind: Kind) -> &'static [u8]
     ensures { result.now ≡ contract_spelling kind }
 {
     match kind {
@@ -40,7 +40,7 @@ pub fn contract_spelling(kind: Kind) -> &'static [u8]
 }
 
 /// The contract line at two slashes and `@`, if it is well formed. No slash and star stand side by side in the line.
-pub fn contract_head(text: &[u8]) -> Option<Head>
+pub(crate) fn contract_head(text: &[u8]) -> Option<Head>
     requires begins { BeginsContract text.now }
     requires clear { has_block text.now ≡ false }
     ensures found { IfSome result (IsHead text.now) }
@@ -116,7 +116,7 @@ fn is_closed(text: &[u8]) -> bool
 }
 
 /// How many bytes there are up to the line's end, unless a slash and a star stand side by side before it.
-pub fn clear_len(text: &[u8]) -> Option<usize>
+pub(crate) fn clear_len(text: &[u8]) -> Option<usize>
     ensures within { IfSome result (λ len. len ≤ length text.now) }
     ensures found { IfSome result (IsClear text.now) }
     ensures none { IfNone result (has_block text.now ≡ true) }
@@ -133,7 +133,7 @@ pub fn clear_len(text: &[u8]) -> Option<usize>
 }
 
 /// The token at the front that contract lines alone have, in one.
-pub fn contract_token(text: &[u8], inside: bool) -> Option<Kind>
+pub(crate) fn contract_token(text: &[u8], inside: bool) -> Option<Kind>
     ensures inside { IfSome result (λ kind. inside ≡ true) }
     ensures found { IfSome result (IsContractTokenAt text.now) }
     ensures none { IfNone result (BeginsNoContractToken inside text.now) }

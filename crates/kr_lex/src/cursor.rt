@@ -60,7 +60,7 @@ impl Cursor {
     }
 
     /// The cursor at an index further on.
-    pub fn advance(self, bytes: &[u8], to: usize) -> Cursor
+    pub(crate) fn advance(self, bytes: &[u8], to: usize) -> Cursor
         requires room { length bytes.now < 2 ^ 30 }
         requires stands { Stands bytes.now self }
         requires onward { self.at ≤ to }

@@ -7,7 +7,7 @@ use crate::Kind;
 use crate::table::{beginning_with, spelling};
 
 /// The kind that has exactly this spelling.
-pub fn fixed_word(word: &[u8]) -> Option<Kind>
+pub(crate) fn fixed_word(word: &[u8]) -> Option<Kind>
     requires { 0 < length word.now }
     ensures found { IfSome result (λ kind. word.now ≡ spelling kind) }
     ensures none { IfNone result (IsNoFixed word.now) }
@@ -22,7 +22,7 @@ pub fn fixed_word(word: &[u8]) -> Option<Kind>
 }
 
 /// The longest token of one spelling at the front.
-pub fn longest_fixed(text: &[u8]) -> Option<Kind>
+pub(crate) fn longest_fixed(text: &[u8]) -> Option<Kind>
     requires { 0 < length text.now }
     ensures found { IfSome result (IsLongestFixed text.now) }
     ensures none { IfNone result (BeginsNoFixed text.now) }

@@ -5,7 +5,7 @@ ghost use Rattle.kr_lex.specs.Pieces.{IsLineLength, IsBodyLength, IsNeverClosed}
 use crate::characters::is_line_end;
 
 /// How many bytes there are up to the line's end.
-pub fn line_len(text: &[u8]) -> usize
+pub(crate) fn line_len(text: &[u8]) -> usize
     ensures { IsLineLength text.now result }
 {
     let mut len = 0;
@@ -19,7 +19,7 @@ pub fn line_len(text: &[u8]) -> usize
 }
 
 /// How many bytes there are up to the first star and slash.
-pub fn body_len(text: &[u8]) -> Option<usize>
+pub(crate) fn body_len(text: &[u8]) -> Option<usize>
     ensures found { IfSome result (IsBodyLength text.now) }
     ensures none { IfNone result (IsNeverClosed text.now) }
 {

@@ -15,7 +15,7 @@ use crate::{Kind, LexRule};
 
 /// What stands at the front of a text.
 #[derive(Clone, Copy, Debug)]
-pub enum Piece {
+pub(crate) enum Piece {
     /// White space or a comment of this length.
     Gap(usize),
     /// A token of this length.
@@ -24,14 +24,14 @@ pub enum Piece {
 }
 
 /// Whether two slashes and `@` stand at the front.
-pub fn begins_contract(text: &[u8]) -> bool
+pub(crate) fn begins_contract(text: &[u8]) -> bool
     ensures { IsTrue result ↔ BeginsContract text.now }
 {
     text.starts_with(b"//@")
 }
 
 /// What stands at the front of a text, in a contract line or outside of them, where none begins.
-pub fn first_piece(text: &[u8], inside: bool) -> Piece
+pub(crate) fn first_piece(text: &[u8], inside: bool) -> Piece
     requires character { BeginsCharacter text.now }
     requires no_contract { BeginsContract text.now → ⊥ }
     ensures { IsPiece inside text.now result }

@@ -246,7 +246,7 @@ fn from_l(first: u8) -> &'static [Kind]
 
 /// The kinds of one spelling that begin with a byte, longer ones first.
 #[tactic(auto, unfolding(crate::specs::Table::beginning_with))]
-pub fn beginning_with(first: u8) -> &'static [Kind]
+pub(crate) fn beginning_with(first: u8) -> &'static [Kind]
     ensures { result.now ≡ beginning_with first }
 {
     if first < b';' {

@@ -7,7 +7,7 @@ ghost use Rattle.kr_lex.specs.Pieces.{IsPartLength, IsWordLength};
 use crate::characters::is_part;
 
 /// The length of the character at the front, if a name may go on with it, else 0.
-pub fn part_len(text: &[u8]) -> usize
+pub(crate) fn part_len(text: &[u8]) -> usize
     ensures { IsPartLength text.now result }
 {
     if text.is_empty() {
@@ -24,7 +24,7 @@ pub fn part_len(text: &[u8]) -> usize
 }
 
 /// The length of the longest run of characters at the front that a name may go on with.
-pub fn word_len(text: &[u8]) -> usize
+pub(crate) fn word_len(text: &[u8]) -> usize
     ensures { IsWordLength text.now result }
 {
     let mut len = 0;
@@ -39,7 +39,7 @@ pub fn word_len(text: &[u8]) -> usize
 }
 
 /// Whether the bytes are a number.
-pub fn is_number(word: &[u8]) -> bool
+pub(crate) fn is_number(word: &[u8]) -> bool
     ensures { IsTrue result ↔ IsNumber word.now }
 {
     if word.is_empty() || (word[0] == b'0' && word.len() > 1) {
@@ -59,7 +59,7 @@ pub fn is_number(word: &[u8]) -> bool
 }
 
 /// The value of a number.
-pub fn number_value(word: &[u8]) -> u32
+pub(crate) fn number_value(word: &[u8]) -> u32
     requires { IsNumber word.now }
     ensures { result ≡ number_value word.now }
 {

@@ -1,4 +1,4 @@
--- What is nothing to types: whether code stands in a loop, and which field its value is the initial one of.
+-- Between crates: what is nothing to types: whether code stands in a loop, and which field its value is the initial one of.
 use Rattle.std.specs.Prelude.{◌≡◌, Bool}
 use Rattle.kr_ast.specs.Tree.{Tree}
 use Rattle.kr_typing.specs.Scopes.{Scope, after}

@@ -1,4 +1,4 @@
--- A class of one field, worked by hand.
+-- Between crates: a class of one field, worked by hand.
 use Rattle.std.specs.Prelude.{ℕ, pos, [], ◌∷◌, codes}
 use Rattle.kr_value.specs.declared.value.Value.TheVariants.{Int}
 use Rattle.kr_value.specs.declared.object.Class.TheVariants.{Object}

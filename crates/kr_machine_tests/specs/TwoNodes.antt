@@ -1,4 +1,4 @@
--- Two nodes and an array, worked by hand.
+-- Between crates: two nodes and an array, worked by hand.
 use Rattle.std.specs.Prelude.{ℕ, pos, List, [], ◌∷◌, codes}
 use Rattle.kr_value.specs.declared.value.Value.TheVariants.{Int, Null}
 use Rattle.kr_value.specs.declared.object.Class.TheVariants.{Object, Array}

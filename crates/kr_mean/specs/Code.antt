@@ -1,5 +1,5 @@
--- The nodes of code with their scopes, each before those of its parts: the scopes are handed down as the meaning does.
--- What only holds lists together is no node, and types aren't code.
+-- To be believed: the nodes of code with their scopes, each before those of its parts: the scopes are handed down as the meaning
+-- does. What only holds lists together is no node, and types aren't code.
 use Rattle.std.specs.Prelude.{ℕ, List, [], ◌∷◌, ◌++◌, flat_map, length, if◌then◌else◌, Option, Some, None, option_and_then, option_to_list}
 use Rattle.std.specs.List.{range_with_len}
 use Rattle.kr_ast.specs.Tree as trees

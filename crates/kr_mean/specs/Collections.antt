@@ -1,5 +1,5 @@
--- The two collections of the library: members are compared by identity, and null is one. A list keeps them in the order in
--- which they were added; a set has each once.
+-- To be believed: the two collections of the library: members are compared by identity, and null is one. A list keeps them in
+-- the order in which they were added; a set has each once.
 use Rattle.std.specs.Prelude.{ℕ, pos, Bool, true, false, not, ◌||◌, List, [], ◌∷◌, ◌++◌, length, min, nat_eq, bytes_eq, codes, if◌then◌else◌, Option, Some, None, Result, Ok, Err}
 use Rattle.std.specs.Ordering.{int_eq}
 use Rattle.kr_value.specs.declared.value.Value.{Value}

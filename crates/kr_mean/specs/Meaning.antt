@@ -1,6 +1,6 @@
--- What expressions and statements do (the Java Language Specification, 15 and 14). Each node takes one unit of fuel before
--- all else; what only holds others together takes none: a list, and the group of a declaration. The scope says what names
--- and types mean where a node stands; the locals are the scope's, by their numbers.
+-- To be believed: what expressions and statements do (the Java Language Specification, 15 and 14). Each node takes one unit of
+-- fuel before all else; what only holds others together takes none: a list, and the group of a declaration. The scope says what
+-- names and types mean where a node stands; the locals are the scope's, by their numbers.
 use Rattle.std.specs.Prelude.{ℕ, zero, suc, Bool, true, false, List, [], ◌∷◌, length, map, replicate, Option, Some, None, option_and_then, option_map, pos, negsuc, nat_lt, if◌then◌else◌}
 use Rattle.kr_ast.specs.declared.node.BinaryOperator.{BinaryOperator}
 use Rattle.kr_ast.specs.declared.node.BinaryOperator.TheVariants.{And, Or}

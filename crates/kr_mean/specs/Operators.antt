@@ -1,5 +1,5 @@
--- Operators on values (Java Language Specification 15.15 to 15.24). On numbers and booleans they are those by which
--- constants are evaluated.
+-- To be believed: operators on values (Java Language Specification 15.15 to 15.24). On numbers and booleans they are those by
+-- which constants are evaluated.
 use Rattle.std.specs.Prelude.{ℤ, pos, Bool, true, false, not, int_lt, Option, Some, None, Result, Ok, Err}
 use Rattle.kr_ast.specs.declared.node.BinaryOperator.{BinaryOperator}
 use Rattle.kr_ast.specs.declared.node.BinaryOperator.TheVariants.{Less, LessOrEqual, Greater, GreaterOrEqual, Equal, NotEqual, Add, Subtract, Divide, Remainder}

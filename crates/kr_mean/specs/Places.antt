@@ -1,4 +1,4 @@
--- Where a candidate has a value.
+-- To be believed: where a candidate has a value.
 use Rattle.std.specs.Prelude.{ℕ}
 use Rattle.kr_value.specs.declared.object.Spot.{Spot}
 use Rattle.kr_value.specs.declared.place.SlotPlace as code

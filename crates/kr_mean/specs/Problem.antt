@@ -1,5 +1,5 @@
--- Problems: a program with its finitization, which gives each class a finite list of objects, its class domain, and
--- each field an ordered finite list of values (the Korat paper, section on finitization).
+-- To be believed: problems: a program with its finitization, which gives each class a finite list of objects, its class domain,
+-- and each field an ordered finite list of values (the Korat paper, section on finitization).
 use Rattle.std.specs.Prelude.{ℕ, zero, suc, ◌+◌, List, [], ◌∷◌, ◌++◌, map, flat_map, Option, Some, None}
 use Rattle.std.specs.List.{range_with_len}
 use Rattle.std.proofs.Common.{get_or}

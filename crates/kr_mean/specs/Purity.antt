@@ -1,5 +1,5 @@
--- Pure problems: the predicate leaves the candidates alone. No node of its code creates an object that the finitization
--- counts, or writes a field or element of one.
+-- To be believed: pure problems: the predicate leaves the candidates alone. No node of its code creates an object that the
+-- finitization counts, or writes a field or element of one.
 use Rattle.std.specs.Prelude.{◌≡◌, ℕ, ◌<◌, ◌⊎◌, Bool, true, false, List, [], ◌∷◌, ◌++◌, flat_map, option_to_list, codes, nat_eq}
 use Rattle.kr_base.specs.declared.place.Place.{Place}
 use Rattle.kr_ast.specs.Tree as trees

@@ -1,4 +1,4 @@
--- The predicate run on a vector, the order of the slots that decide it, and the key that they give.
+-- To be believed: the predicate run on a vector, the order of the slots that decide it, and the key that they give.
 use Rattle.std.specs.Prelude.{◌≡◌, ℕ, ◌+◌, ◌==◌, Bool, true, false, ◌&&◌, ◌||◌, List, [], ◌∷◌, ◌++◌, length, map, flat_map, filter, Option, Some, None, option_to_list, Result, Ok, Err, codes, if◌then◌else◌}
 use Rattle.std.proofs.Common.{get_or}
 use Rattle.kr_base.specs.declared.place.Place.{Place}

@@ -1,5 +1,5 @@
--- The steps that runs are made of, and how one follows another: a step gives a value or ends the run, may change the
--- state, and tells which places of candidates it read, in order.
+-- To be believed: the steps that runs are made of, and how one follows another: a step gives a value or ends the run, may change
+-- the state, and tells which places of candidates it read, in order.
 use Rattle.std.specs.Prelude.{ℕ, zero, suc, Bool, true, false, List, [], ◌∷◌, ◌++◌, length, take, map, slice_set, Option, Some, None, Result, Ok, Err, ℤ, pos, negsuc, codes, nat_eq, nat_lt, bytes_eq, if◌then◌else◌}
 use Rattle.kr_base.specs.declared.place.Place.{Place}
 use Rattle.kr_value.specs.declared.value.Value.{Value}

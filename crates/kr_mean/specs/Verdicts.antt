@@ -1,5 +1,5 @@
--- What a test says of the method under test on a structure, by its contract: the values of its `\old`s, its body,
--- `this.repOk()` and its postconditions, with one fresh fuel for all.
+-- To be believed: what a test says of the method under test on a structure, by its contract: the values of its `\old`s, its
+-- body, `this.repOk()` and its postconditions, with one fresh fuel for all.
 use Rattle.std.specs.Prelude.{ℕ, ◌+◌, true, false, List, [], ◌∷◌, map, flat_map, Option, Some, None, Result, Ok, Err}
 use Rattle.kr_base.specs.declared.place.Place.{Place}
 use Rattle.kr_ast.specs.Tree as trees

@@ -1,4 +1,4 @@
--- Well formed problems: what candidates, their heaps and their walks rely on.
+-- To be believed: well formed problems: what candidates, their heaps and their walks rely on.
 use Rattle.std.specs.Prelude.{◌≡◌, ℕ, ◌+◌, ◌<◌, ◌≤◌, pos, List, [], ◌∷◌, length}
 use Rattle.kr_mean.specs.Problem.{Problem, Plain, Objects, Domain, Spotted, slots, slot_at, choices_at, domain_at}
 use Rattle.kr_value.specs.declared.object.Class.{Class}

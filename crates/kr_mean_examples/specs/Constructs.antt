@@ -1,4 +1,4 @@
--- Expressions in the code of a class, with what they give, the fuel that is left, and the places that they read.
+-- Between crates: expressions in the code of a class, with what they give, the fuel that is left, and the places that they read.
 use Rattle.std.specs.Prelude.{◌≡◌, ℕ, pos, negsuc, List, [], ◌∷◌, true, false, codes, None, Result, Ok, Err}
 use Rattle.kr_base.specs.declared.place.Place.{Place}
 use Rattle.kr_ast.specs.declared.node.Primitive.TheVariants as primitives

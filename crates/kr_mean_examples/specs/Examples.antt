@@ -1,4 +1,4 @@
--- Small problems, and the entries that the definitions give them, worked by hand.
+-- Between crates: small problems, and the entries that the definitions give them, worked by hand.
 use Rattle.std.specs.Prelude.{◌≡◌, ℕ, pos, List, [], ◌∷◌, ◌++◌, map, Bool, true, false, codes, None}
 use Rattle.kr_base.specs.declared.entry.Entry.{Entry}
 use Rattle.kr_base.specs.declared.span.Bound.TheVariants.{At, End}

@@ -1,4 +1,4 @@
--- Small problems, and the entries that the definitions give them, worked by hand.
+-- Between crates: small problems, and the entries that the definitions give them, worked by hand.
 use Rattle.std.specs.Prelude.{◌≡◌, ℕ, pos, List, [], ◌∷◌, map, Bool, true, false, codes}
 use Rattle.kr_base.specs.declared.entry.Entry.{Entry}
 use Rattle.kr_base.specs.Entries.{is_valid, is_spent}

@@ -1,4 +1,4 @@
--- What tests say of a small method, by its contract and its body, and how objects are made; worked by hand.
+-- Between crates: what tests say of a small method, by its contract and its body, and how objects are made; worked by hand.
 use Rattle.std.specs.Prelude.{◌≡◌, ℕ, pos, List, [], ◌∷◌, map, true, false, codes, Option, Some, Ok}
 use Rattle.kr_ast.specs.declared.node.Primitive.TheVariants as primitives
 use Rattle.kr_ast.specs.declared.node.BinaryOperator.TheVariants.{Equal, Add, Divide, And}

@@ -1,4 +1,4 @@
--- What names stand for, with types by their numbers.
+-- Between crates: what names stand for, with types by their numbers.
 use Rattle.std.specs.Prelude.{◌≡◌, Bool, true, false}
 use Rattle.kr_domains.specs.Names.{Meant, NoReference, Unknown as Nothing, Arrays as ArraysOf}
 use Rattle.kr_domains.specs.Names as names

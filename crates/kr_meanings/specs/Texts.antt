@@ -1,4 +1,4 @@
--- The types of texts.
+-- Between crates: the types of texts.
 use Rattle.std.specs.Prelude.{ℕ, List, [], ◌∷◌, Option, Some, None, option_map}
 use Rattle.kr_table.specs.Types.{JavaType, ArrayType, SetType, ListType}
 use Rattle.kr_domains.specs.Names.{Written, ArrayOf, SetOf, ListOf, of_elements}

@@ -16,5 +16,4 @@ pub use least::Least;
 pub use meaning::{Meaning, meaning_of};
 pub use names::item_of;
 pub use unknown::note_names;
-pub use wrapping::Wrapping;
 pub use written::{array_type, type_number};

@@ -3,7 +3,7 @@ ghost use Rattle.std.specs.Prelude.{◌≡◌, ◌≤◌, ◌+◌, IsTrue, Match
 ghost use Rattle.kr_domains.specs.Names as names;
 ghost use Rattle.kr_meanings.specs.Texts.{peeled};
 
-use crate::Wrapping;
+use crate::wrapping::Wrapping;
 
 /// The text without so many bytes at its front and at its end.
 fn inside(text: &[u8], front: usize, end: usize) -> &[u8]

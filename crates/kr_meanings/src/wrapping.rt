@@ -9,7 +9,7 @@ use kr_type_numbers::{TypeForm, Types};
 
 /// An array type, or one of the two collections, of a type.
 #[derive(Clone, Copy, Debug, PartialEq, Eq)]
-pub enum Wrapping {
+pub(crate) enum Wrapping {
     Array,
     Set,
     List,

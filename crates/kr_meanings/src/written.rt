@@ -8,9 +8,8 @@ ghost use Rattle.kr_domains.specs.Names.{array_or_none, array_type as array_type
 ghost use Rattle.kr_type_numbers.specs.Types.{Extends};
 ghost use Rattle.kr_meanings.specs.Texts.{Stands};
 
-use crate::Wrapping;
 use crate::peeling::peel;
-use crate::wrapping::wrap_all;
+use crate::wrapping::{Wrapping, wrap_all};
 use kr_base::NoMemory;
 use kr_names::Heads;
 use kr_type_numbers::{TypeForm, Types};

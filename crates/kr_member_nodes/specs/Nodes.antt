@@ -1,4 +1,4 @@
--- Where the members of classes stand: the nodes of their parts, and the scopes that these have.
+-- Between crates: where the members of classes stand: the nodes of their parts, and the scopes that these have.
 use Rattle.std.specs.Prelude.{◌≡◌, ℕ, ◌<◌, false, List, [], ◌∷◌, length, All, Option, Some, None, slice_get}
 use Rattle.std.specs.List.{AllZip}
 use Rattle.kr_ast.specs.Arena.{Arena, ArePartsFrom, parts, root, tree_in, tree_of}

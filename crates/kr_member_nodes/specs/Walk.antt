@@ -1,4 +1,4 @@
--- The way from a file to the members of its classes.
+-- Between crates: the way from a file to the members of its classes.
 use Rattle.std.specs.Prelude.{◌≡◌, ◌<◌, ℕ, Option, true, false, List, [], ◌∷◌, flat_map, Some, None, slice_index_or}
 use Rattle.kr_base.specs.declared.place.Place.{Place}
 use Rattle.kr_ast.specs.Tree.{Tree, Nil}

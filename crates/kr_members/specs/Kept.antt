@@ -1,4 +1,4 @@
--- The classes that the code keeps, with their members: the class table.
+-- Between crates: the classes that the code keeps, with their members: the class table.
 use Rattle.std.specs.Prelude.{◌≡◌, ℕ, List, length, map, All, Option, Some, None, if◌then◌else◌}
 use Rattle.kr_ast.specs.Arena.{Arena}
 use Rattle.kr_table.specs.Table as table

@@ -1,4 +1,4 @@
--- What the code keeps of fields, methods and constructors, as the class table has them.
+-- Between crates: what the code keeps of fields, methods and constructors, as the class table has them.
 use Rattle.std.specs.Prelude.{ℕ, ◌<◌, List, [], ◌∷◌, length, map}
 use Rattle.kr_ast.specs.Arena.{Arena, AreNamesIn, name_in, root, tree_in}
 use Rattle.kr_table.specs.Table as table

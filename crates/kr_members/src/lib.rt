@@ -10,5 +10,5 @@ mod methods;
 mod queries;
 
 pub use fields::Field;
-pub use members::{ClassMembers, Members};
+pub use members::Members;
 pub use methods::{Constructor, Method};

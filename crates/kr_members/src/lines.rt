@@ -6,10 +6,9 @@ ghost use Rattle.kr_members.specs.Shown.{IsField, IsMethod, field_shown, method_
 ghost use Rattle.kr_members.specs.Kept.{AreMembers};
 
 use crate::fields::Field;
-use kr_base::add_found;
 use crate::members::Members;
 use crate::methods::Method;
-use kr_base::NoMemory;
+use kr_base::{NoMemory, add_found};
 use std::alloc::Global;
 
 /// A field that every object has.

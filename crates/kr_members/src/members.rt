@@ -15,7 +15,7 @@ use std::alloc::Global;
 
 /// A class with what it declares itself, each in source order.
 #[derive(Drop)]
-pub struct ClassMembers {
+pub(crate) struct ClassMembers {
     pub(crate) heading: Heading,
     pub(crate) superclass: Option<u32>,
     pub(crate) fields: Vec<Field>,

@@ -6,9 +6,8 @@ ghost use Rattle.kr_names.specs.Listed.{IsIndexOf};
 ghost use Rattle.kr_names.specs.Shown.{file_at};
 ghost use Rattle.kr_members.specs.Shown.{IsConstructor, IsMethod, constructor_shown, headings_in, method_name, method_shown};
 
-use kr_base::add_found;
 use kr_ast::{Name, Node, Tree};
-use kr_base::{NoMemory, Place};
+use kr_base::{NoMemory, Place, add_found};
 use kr_names::{Index, tree_of};
 use std::alloc::Global;
 

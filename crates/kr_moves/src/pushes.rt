@@ -49,7 +49,7 @@ pub fn write(stack: &mut Stack, frame: WriteFrame) -> Result<(), Halt>
 }
 
 #[inline(always)]
-pub fn test(stack: &mut Stack, frame: TestFrame) -> Result<(), Halt>
+pub(crate) fn test(stack: &mut Stack, frame: TestFrame) -> Result<(), Halt>
     ensures pushed { OnOk result (stack.new ≡ frames.Test frame ∷ stack.old) }
     ensures memory { IfErr result (λ halt. halt ≡ Memory) }
 {
@@ -102,7 +102,7 @@ pub fn first(stack: &mut Stack, frame: ValueFrame, node: u32, task: &mut Task) -
 /// A node's value comes next, and then the frame that writes.
 #[inline(always)]
 #[tactic(auto, unfolding(kr_mean::specs::Steps::bind))]
-pub fn then_write(
+pub(crate) fn then_write(
     stack: &mut Stack,
     frame: WriteFrame,
     node: u32,

@@ -127,7 +127,7 @@ fn take_write(
 
 /// A value comes to the topmost frame, where that is a test; else it comes next.
 #[tactic(auto, unfolding(kr_mean::specs::Steps::bind))]
-pub fn feed_test(
+pub(crate) fn feed_test(
     code: &Code,
     world: &World,
     stack: &mut Stack,
@@ -244,7 +244,7 @@ fn take_left(
 }
 
 /// An array is there; the index comes next, unless it is known.
-pub fn take_array(
+pub(crate) fn take_array(
     code: &Code,
     world: &mut World,
     stack: &mut Stack,
@@ -532,7 +532,7 @@ pub fn take_test(
 }
 
 /// A test's value comes next; where it is known, the frame has it at once.
-pub fn test_next(
+pub(crate) fn test_next(
     alloc: Global,
     code: &Code,
     world: &mut World,
@@ -552,7 +552,7 @@ pub fn test_next(
 /// A loop's test; where its value is known, the round begins at once.
 #[inline(always)]
 #[tactic(auto, unfolding(kr_mean::specs::Steps::bind))]
-pub fn begin_round(
+pub(crate) fn begin_round(
     alloc: Global,
     code: &Code,
     world: &mut World,

@@ -1,4 +1,4 @@
--- Where names stand.
+-- Between crates: where names stand.
 use Rattle.std.specs.Prelude.{◌≡◌, ℕ, List, [], ◌∷◌, Option, Some, None, bytes_eq, if◌then◌else◌}
 use Rattle.std.specs.List.{position_from}
 

@@ -1,4 +1,4 @@
--- What the code keeps of classes, as the class table has it.
+-- Between crates: what the code keeps of classes, as the class table has it.
 use Rattle.std.specs.Prelude.{◌≡◌, ℕ, ◌<◌, ◌^◌, List, [], ◌∷◌, length, map, All, Option, slice_index_or}
 use Rattle.kr_ast.specs.Arena.{Arena, AreNamesIn, name_in, root, tree_in}
 use Rattle.kr_ast.specs.Files.{file_at, tree_of_node}

@@ -1,4 +1,4 @@
--- No run of what is accepted is stuck.
+-- Between crates: no run of what is accepted is stuck.
 use Rattle.std.specs.Prelude.{◌≡◌, ℕ, List, None, Ok}
 use Rattle.kr_ast.specs.Tree.{Tree}
 use Rattle.kr_table.specs.Table.{table_of}

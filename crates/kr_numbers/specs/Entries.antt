@@ -1,4 +1,4 @@
--- The array types that a document bounds, by the numbers of their types.
+-- Between crates: the array types that a document bounds, by the numbers of their types.
 use Rattle.std.specs.Prelude.{◌≡◌, ℕ, ◌<◌, List, [], length, map, All}
 use Rattle.std.proofs.Common.{get_or}
 use Rattle.kr_table.specs.Types.{JavaType}

@@ -1,4 +1,4 @@
--- Values as numbers: those of a stretch follow each other, and different values have different numbers.
+-- Between crates: values as numbers: those of a stretch follow each other, and different values have different numbers.
 use Rattle.std.specs.Prelude.{ℕ, ◌+◌, ◌-◌, ◌<◌, ◌||◌, ℤ, pos, negsuc, Bool, true, false, List, [], ◌∷◌, map, flat_map, nat_lt}
 use Rattle.std.specs.List.{range_with_len}
 use Rattle.kr_value.specs.declared.value.Value.{Value}

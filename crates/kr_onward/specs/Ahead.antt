@@ -1,4 +1,4 @@
--- What is known at once of how a run goes on.
+-- Between crates: what is known at once of how a run goes on.
 use Rattle.std.specs.Prelude.{◌≡◌, List, ◌++◌, Ok}
 use Rattle.kr_value.specs.declared.value.Value.{Value}
 use Rattle.kr_mean.specs.Places.{SlotPlace}

@@ -1,4 +1,4 @@
--- What is known at once of where a statement leads.
+-- Between crates: what is known at once of where a statement leads.
 use Rattle.std.specs.Prelude.{◌≡◌, ℕ, Option, Some, None, Ok}
 use Rattle.kr_mean.specs.Steps.{Run, give}
 use Rattle.kr_mean.specs.Meaning as meaning

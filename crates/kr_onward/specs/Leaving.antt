@@ -1,4 +1,4 @@
--- Values that leave bodies: what they pass needs neither locals nor `this`.
+-- Between crates: values that leave bodies: what they pass needs neither locals nor `this`.
 use Rattle.std.specs.Prelude.{◌≡◌, List, [], ◌∷◌}
 use Rattle.kr_value.specs.declared.value.Value as v
 use Rattle.kr_mean.specs.Meaning as meaning

@@ -33,7 +33,7 @@ pub trait Follow {
 pub struct Nothing;
 
 /// One level above another.
-pub struct Over<L> {
+pub(crate) struct Over<L> {
     below: L,
 }
 
@@ -148,7 +148,7 @@ fn flow_in<L: Follow>(code: &Code, world: &World, statement: &Statement, fuel: u
 
 /// Where a node leads as a statement from so much fuel, where that is known at once.
 #[inline(always)]
-pub fn known_flow(code: &Code, world: &World, node: u32, fuel: u64) -> Option<Led>
+pub(crate) fn known_flow(code: &Code, world: &World, node: u32, fuel: u64) -> Option<Led>
     ensures { IfSome result (λ l. KnowsFlow code.now world.now fuel l (λ d. d.exec node)) }
 {
     <Over<Over<Over<Over<Nothing>>>>>::follow(code, world, node, fuel)
@@ -156,7 +156,7 @@ pub fn known_flow(code: &Code, world: &World, node: u32, fuel: u64) -> Option<Le
 
 /// The same of statements, one after another.
 #[inline(always)]
-pub fn known_flow_of(code: &Code, world: &World, nodes: Nodes, fuel: u64) -> Option<Led>
+pub(crate) fn known_flow_of(code: &Code, world: &World, nodes: Nodes, fuel: u64) -> Option<Led>
     ensures { IfSome result (λ l. KnowsFlow code.now world.now fuel l (λ d. all_at d (listed code.now nodes))) }
 {
     all::<Over<Over<Over<Nothing>>>>(code, world, nodes, fuel)

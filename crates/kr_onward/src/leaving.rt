@@ -16,16 +16,16 @@ use kr_world::{alone, binary};
 
 /// What comes to a frame: a value, or the value that a body gives.
 #[derive(Clone, Copy, Debug)]
-pub enum Point {
+pub(crate) enum Point {
     Comes(Value),
     Gives(Value),
 }
 
 /// What comes, and the fuel that is left.
 #[derive(Clone, Copy, Debug)]
-pub struct Stand {
-    pub point: Point,
-    pub fuel: u64,
+pub(crate) struct Stand {
+    pub(crate) point: Point,
+    pub(crate) fuel: u64,
 }
 
 /// A value comes to a frame that makes a value of it.

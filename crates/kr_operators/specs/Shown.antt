@@ -1,4 +1,4 @@
--- The values that constants of the code stand for.
+-- Between crates: the values that constants of the code stand for.
 use Rattle.std.specs.Prelude.{Option, Some, None}
 use Rattle.kr_table.specs.Constants.{ConstantValue, Whole, Truth, Absent}
 use Rattle.kr_operators.specs.declared.constant.Constant.{Constant}

@@ -1,5 +1,5 @@
--- What the operators give, worked by hand from the Java Language Specification 15.15 to 15.24, most of it at the edges of
--- the ints.
+-- Between crates: what the operators give, worked by hand from the Java Language Specification 15.15 to 15.24, most of it at the
+-- edges of the ints.
 use Rattle.std.specs.Prelude.{◌≡◌, ℤ, pos, negsuc, true, false, List, [], ◌∷◌, Option, Some, None}
 use Rattle.kr_ast.specs.declared.node.UnaryOperator.TheVariants.{Plus, Minus, Complement, Not}
 use Rattle.kr_ast.specs.declared.node.BinaryOperator.{BinaryOperator}

@@ -1,4 +1,4 @@
--- The codes of the grammar's rules.
+-- To be believed: the codes of the grammar's rules.
 use Rattle.std.specs.Prelude.{ℕ, List, codes}
 use Rattle.kr_parse.specs.declared.refusal.ParseRule.{ParseRule}
 use Rattle.kr_parse.specs.declared.refusal.ParseRule.TheVariants as rules

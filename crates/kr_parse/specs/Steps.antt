@@ -1,4 +1,4 @@
--- What the parser's loop keeps, and what a token does to it.
+-- Between crates: what the parser's loop keeps, and what a token does to it.
 use Rattle.std.specs.Prelude.{◌≡◌, ◌+◌, ◌≤◌, ℕ, pred, if◌then◌else◌, List, ◌∷◌, length, take, drop}
 use Rattle.kr_lex.specs.Lexemes.{Lexeme, Lexemes}
 use Rattle.kr_lex.specs.declared.kind.Kind.{Kind}

@@ -10,14 +10,14 @@ use kr_grammar::{Spelled, Symbol, Terminal, terminal_of};
 use kr_lex::{Kind, Tokens};
 
 /// How many brackets may be open.
-pub const OPEN_BRACKETS: u32 = 64;
+pub(crate) const OPEN_BRACKETS: u32 = 64;
 
 /// The index of the next token, how many brackets are open before it, and what it is: `End` behind the last token.
 #[derive(Clone, Copy, Debug)]
-pub struct Cursor {
-    pub at: usize,
-    pub depth: u32,
-    pub next: Terminal,
+pub(crate) struct Cursor {
+    pub(crate) at: usize,
+    pub(crate) depth: u32,
+    pub(crate) next: Terminal,
 }
 
 /// What stands at an index, `End` behind the last token.
@@ -34,7 +34,7 @@ fn ahead(tokens: &Tokens, at: usize) -> Terminal
 /// The refusal of a token with which no derivable file goes on.
 #[cold]
 #[inline(never)]
-pub fn dead(tokens: &Tokens, at: usize) -> ParseRefusal
+pub(crate) fn dead(tokens: &Tokens, at: usize) -> ParseRefusal
     requires { IsLeast tokens.now at }
     ensures { IsRefusal tokens.now result }
 {
@@ -100,7 +100,7 @@ fn depth_behind(kind: Kind, depth: u32) -> u32
 
 impl Cursor {
     /// Before the first token.
-    pub fn start(tokens: &Tokens) -> Cursor
+    pub(crate) fn start(tokens: &Tokens) -> Cursor
         ensures first { result.at ≡ 0 }
         ensures standing { IsStanding tokens.now result }
     {
@@ -131,7 +131,7 @@ impl Cursor {
     }
 
     /// Whether a token that the symbol asks for is ahead.
-    pub fn is_expected(self, tokens: &Tokens, symbol: Symbol) -> bool
+    pub(crate) fn is_expected(self, tokens: &Tokens, symbol: Symbol) -> bool
         requires { IsStanding tokens.now self }
         ensures yes { result ≡ true → (self.at < length tokens.now.list) × IsAsked symbol (token_at tokens.now self.at) }
         ensures no { result ≡ false → self.at < length tokens.now.list → IsAsked symbol (token_at tokens.now self.at) → ⊥ }
@@ -146,7 +146,7 @@ impl Cursor {
     }
 
     /// Goes behind the token ahead, with which some derivable file goes on.
-    pub fn step(&mut self, tokens: &Tokens) -> Result<(), ParseRefusal>
+    pub(crate) fn step(&mut self, tokens: &Tokens) -> Result<(), ParseRefusal>
         requires within { self.old.at < length tokens.now.list }
         requires standing { IsStanding tokens.now self.old }
         requires viable { IsViable tokens.now.list (self.old.at + 1) }

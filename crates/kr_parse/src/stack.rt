@@ -50,14 +50,14 @@ impl Stack {
         Ok(())
     }
 
-    pub fn pop(&mut self) -> Option<Symbol>
+    pub(crate) fn pop(&mut self) -> Option<Symbol>
         ensures { MatchOption result ((self.old ≡ []) × (self.new ≡ [])) (λ symbol. self.old ≡ symbol ∷ self.new) }
     {
         self.items.pop()
     }
 
     /// Puts the symbols on top, the first one topmost.
-    pub fn push_all(&mut self, body: &[Symbol]) -> Result<(), NoMemory>
+    pub(crate) fn push_all(&mut self, body: &[Symbol]) -> Result<(), NoMemory>
         ensures { OnOk result (self.new ≡ body.now ++ self.old) }
     {
         append_reversed(&mut self.items, body)?;

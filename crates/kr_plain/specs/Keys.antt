@@ -1,4 +1,4 @@
--- How far a list of entries goes.
+-- Between crates: how far a list of entries goes.
 use Rattle.std.specs.Prelude.{ℕ, zero, suc, List, [], ◌∷◌, if◌then◌else◌}
 use Rattle.kr_base.specs.declared.entry.Entry.{Entry}
 use Rattle.kr_base.specs.Cuts.{is_before}

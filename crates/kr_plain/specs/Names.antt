@@ -1,4 +1,4 @@
--- New numbers for the objects of class domains.
+-- Between crates: new numbers for the objects of class domains.
 use Rattle.std.specs.Prelude.{◌≡◌, ℕ, ◌<◌, List, map, Vec}
 use Rattle.std.specs.declared.alloc.Global.{Global}
 

@@ -1,4 +1,4 @@
--- What going over every vector comes to.
+-- Between crates: what going over every vector comes to.
 use Rattle.std.specs.Prelude.{◌≡◌, ℕ, ◌<◌, ◌⊎◌, List, Bool, true, false}
 use Rattle.std.proofs.Common.{get_or}
 use Rattle.kr_base.specs.declared.span.Bound.{Bound}

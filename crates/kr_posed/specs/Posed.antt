@@ -1,4 +1,4 @@
--- The problem that code has: the program of its files with these array types, and what bounds it.
+-- Between crates: the problem that code has: the program of its files with these array types, and what bounds it.
 use Rattle.std.specs.Prelude.{ℕ, ◌^◌, ◌<◌, List, length, map, All}
 use Rattle.kr_table.specs.Table.{Table}
 use Rattle.kr_members.specs.Shown.{table_in}

@@ -1,4 +1,4 @@
--- The nodes of code, as a walk by parts sees them.
+-- Between crates: the nodes of code, as a walk by parts sees them.
 use Rattle.std.specs.Prelude.{◌≡◌, ℕ, List, [], ◌∷◌, Option, Some, option_and_then, slice_get}
 use Rattle.kr_ast.specs.Tree as trees
 use Rattle.kr_ast.specs.Tree.{Tree}

@@ -1,4 +1,4 @@
--- The walk over a tree's nodes by their numbers.
+-- Between crates: the walk over a tree's nodes by their numbers.
 use Rattle.std.specs.Prelude.{◌≡◌, ℕ, List, [], Some, slice_get}
 use Rattle.kr_ast.specs.declared.node.Node.{Node as AstNode}
 use Rattle.kr_ast.specs.declared.node.Node.TheVariants as nodes

@@ -1,4 +1,4 @@
--- What a problem has beside its program, and the problem that it makes with a program.
+-- Between crates: what a problem has beside its program, and the problem that it makes with a program.
 use Rattle.std.specs.Prelude.{ℕ, List, [], map}
 use Rattle.std.proofs.Common.{get_or}
 use Rattle.kr_mean.specs.declared.mode.Mode.{Mode}

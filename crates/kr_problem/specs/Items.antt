@@ -1,4 +1,4 @@
--- Domains as the code has them: a range of integers is one entry.
+-- To be believed: domains as the code has them: a range of integers is one entry.
 use Rattle.std.specs.Prelude.{ℕ, zero, suc, ℤ, pos, negsuc, ◌+ℤ◌, ◌-ℤ◌, List, [], ◌∷◌, map, flat_map}
 use Rattle.kr_value.specs.declared.value.Value.TheVariants.{Int}
 use Rattle.kr_mean.specs.Problem as problems

@@ -1,4 +1,4 @@
--- What a layout keeps beside its bounds, and how its tables stand to them.
+-- Between crates: what a layout keeps beside its bounds, and how its tables stand to them.
 use Rattle.std.specs.Prelude.{◌≡◌, ℕ, zero, suc, ◌+◌, ◌*◌, ◌^◌, ◌<◌, List, [], ◌∷◌, length, map, All}
 use Rattle.kr_mean.specs.Problem as problems
 use Rattle.kr_mean.specs.Problem.{DomainObject}

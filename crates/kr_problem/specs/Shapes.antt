@@ -1,4 +1,4 @@
--- Where the objects of a domain stand among its values.
+-- Between crates: where the objects of a domain stand among its values.
 use Rattle.std.specs.Prelude.{◌≡◌, ℕ, ◌-◌, ◌<◌, List, [], length, Option, Some, None, Bool, true, nat_lt, if◌then◌else◌}
 use Rattle.std.proofs.Common.{get_or}
 use Rattle.kr_mean.specs.Problem.{Choice, DomainObject}

@@ -1,4 +1,4 @@
--- Stretches of values that stand one after another in a domain, with all that their values are made of.
+-- Between crates: stretches of values that stand one after another in a domain, with all that their values are made of.
 use Rattle.std.specs.Prelude.{◌≡◌, ℕ, ◌+◌, ◌^◌, ◌<◌, ◌≤◌, ℤ, pos, List, [], ◌∷◌, map, flat_map, length, All, Some, None}
 use Rattle.std.specs.List.{range_with_len}
 use Rattle.std.proofs.Common.{get_or}

@@ -1,4 +1,4 @@
--- The tables of slots and of class domains.
+-- Between crates: the tables of slots and of class domains.
 use Rattle.std.specs.Prelude.{ℕ, ◌+◌, List, [], ◌∷◌, ◌++◌, length, map, flat_map, Option, Some, None}
 use Rattle.std.specs.List.{range_with_len}
 use Rattle.std.proofs.Common.{get_or}

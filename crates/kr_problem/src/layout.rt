@@ -13,7 +13,6 @@ ghost use Rattle.kr_problem.specs.Layouts.{AnyProgramLaw, first_slot, stretches}
 
 use crate::classes::ClassDomain;
 use crate::entry::Entry;
-use kr_value::SlotPlace;
 use crate::item::Item;
 use crate::shape::Shape;
 use crate::stretch::{Block, Chosen};
@@ -23,7 +22,7 @@ use kr_base::NoMemory;
 use kr_fin::Listed;
 use kr_iso::{Object, Slots};
 use kr_mean::Mode;
-use kr_value::{Class, Obj, Value};
+use kr_value::{Class, Obj, SlotPlace, Value};
 use std::alloc::Global;
 use std::marker::Model;
 

@@ -5,10 +5,10 @@ ghost use Rattle.kr_problem.specs.Tables.{all_entries, blocks_from, class_entrie
 
 use crate::classes::{ClassDomain, Spotted};
 use crate::entry::Entry;
-use kr_value::SlotPlace;
 use crate::stretch::Block;
 use kr_base::NoMemory;
 use kr_iso::Object;
+use kr_value::SlotPlace;
 use std::alloc::Global;
 
 /// The number so many further on, where there is one.

@@ -1,4 +1,4 @@
--- What holds of the entries of every problem whose runs are lawful.
+-- To be believed: what holds of the entries of every problem whose runs are lawful.
 use Rattle.std.specs.Prelude.{◌≡◌, ℕ, List, true}
 use Rattle.kr_base.specs.declared.entry.Entry.{Entry}
 use Rattle.kr_base.specs.Entries.{IsAmong, is_valid}

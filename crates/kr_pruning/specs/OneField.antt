@@ -1,5 +1,5 @@
--- Classes of one `int` field whose `repOk` compares it with a number: their trees and their problems, and the entries of
--- these.
+-- Between crates: classes of one `int` field whose `repOk` compares it with a number: their trees and their problems, and the
+-- entries of these.
 use Rattle.std.specs.Prelude.{◌≡◌, ℕ, ◌+◌, ◌<◌, ◌≤◌, ℤ, pos, false, true, List, [], ◌∷◌, length, map, Option, Some, None, if◌then◌else◌, codes}
 use Rattle.kr_base.specs.declared.place.Place.{Place}
 use Rattle.kr_base.specs.declared.entry.Mark.TheVariants.{Valid, Invalid}

@@ -1,4 +1,5 @@
--- Nodes of a program's files by their numbers: what an entry says of a node, how it runs, and whether it touches candidates.
+-- Between crates: nodes of a program's files by their numbers: what an entry says of a node, how it runs, and whether it touches
+-- candidates.
 use Rattle.std.specs.Prelude.{◌≡◌, ℕ, ◌<◌, true, List, length}
 use Rattle.kr_ast.specs.declared.node.Entry.{Entry}
 use Rattle.kr_ast.specs.Arena.{Arena, ArePartsFrom, AreNamesIn, names, parts, tree_in, tree_of}

@@ -1,4 +1,4 @@
--- What a node touches, as the code has it: which objects it creates, or may write a field or an element of.
+-- Between crates: what a node touches, as the code has it: which objects it creates, or may write a field or an element of.
 use Rattle.std.specs.Prelude.{ℕ, ◌<◌, Bool, true, false, ◌&&◌, ◌||◌, List, [], ◌∷◌, Option, None, nat_eq, nat_lt}
 use Rattle.kr_ast.specs.Tree as trees
 use Rattle.kr_ast.specs.Tree.{Tree}

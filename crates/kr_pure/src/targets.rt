@@ -40,7 +40,7 @@ fn instance_only(found: Option<Field>) -> Option<Field>
 }
 
 /// The field of a name that objects of a type have.
-pub fn object_field(
+pub(crate) fn object_field(
     types: &Types,
     members: &Members,
     object: Option<u32>,
@@ -59,7 +59,7 @@ pub fn object_field(
 }
 
 /// A write of a field of an object, or of nothing.
-pub fn field_touch(found: Option<Field>) -> Touch
+pub(crate) fn field_touch(found: Option<Field>) -> Touch
     ensures within { (l : TypeList) → IsTouchWithin l result }
     ensures shown { (files : List Arena) (program : Program) (l : TypeList) (e : trees.Tree) (class : Class) → touches program l result class ≡ writes_to program (field_target e (option_map (field_shown files) found)) class }
 {
@@ -70,7 +70,7 @@ pub fn field_touch(found: Option<Field>) -> Touch
 }
 
 /// A write of a name that means this field, or no variable that objects have.
-pub fn name_touch(found: Option<Field>) -> Touch
+pub(crate) fn name_touch(found: Option<Field>) -> Touch
     ensures within { (l : TypeList) → IsTouchWithin l result }
     ensures shown { (files : List Arena) (program : Program) (l : TypeList) (class : Class) → touches program l result class ≡ writes_to program (name_target (field_or_none (option_map (field_shown files) found))) class }
 {
@@ -87,7 +87,7 @@ pub fn name_touch(found: Option<Field>) -> Touch
 }
 
 /// A write of an element of an expression of a type.
-pub fn element_touch(types: &Types, array: Option<u32>) -> Touch
+pub(crate) fn element_touch(types: &Types, array: Option<u32>) -> Touch
     requires { IfSome array (λ t. t < count types.now) }
     ensures within { IsTouchWithin types.now result }
     ensures shown { (program : Program) (a i : trees.Tree) (class : Class) → touches program types.now result class ≡ writes_to program (element_target a i (option_map (type_at types.now) array)) class }

@@ -1,4 +1,4 @@
--- Nodes at which code is entered: lists of statements, initial values, conditions.
+-- Between crates: nodes at which code is entered: lists of statements, initial values, conditions.
 use Rattle.std.specs.Prelude.{◌≡◌, ℕ, List, [], ◌∷◌, ◌++◌, flat_map, All, Option, Some, None, if◌then◌else◌}
 use Rattle.kr_ast.specs.Tree.{Tree}
 use Rattle.kr_table.specs.Table.{Table, Method, method_named}

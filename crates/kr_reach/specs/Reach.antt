@@ -1,5 +1,5 @@
--- The walk over the predicate's code: from the entries of its roots to the parts of each node that was seen, and to the entries
--- of what the node may run.
+-- Between crates: the walk over the predicate's code: from the entries of its roots to the parts of each node that was seen, and
+-- to the entries of what the node may run.
 use Rattle.std.specs.Prelude.{◌≡◌, ℕ, List, All, Contains, Some, slice_get}
 use Rattle.kr_ast.specs.declared.node.Entry.{Entry}
 use Rattle.kr_ast.specs.Arena.{Arena, IsArena}

@@ -1,4 +1,4 @@
--- The first place at which the predicate's code touches candidates.
+-- Between crates: the first place at which the predicate's code touches candidates.
 use Rattle.std.specs.Prelude.{◌≡◌, List, [], ◌∷◌, All, Contains, Option, Some, None, false, if◌then◌else◌}
 use Rattle.kr_base.specs.declared.place.Place.{Place}
 use Rattle.kr_table.specs.Rules.{is_earlier}

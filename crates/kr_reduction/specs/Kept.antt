@@ -1,4 +1,4 @@
--- What is read off the values that a parser keeps.
+-- Between crates: what is read off the values that a parser keeps.
 use Rattle.std.specs.Prelude.{ℕ, Bool, true, false, if◌then◌else◌, List, [], ◌∷◌, Option, Some, None, slice_get}
 use Rattle.kr_base.specs.declared.place.Place.{Place}
 use Rattle.kr_lex.specs.declared.kind.Kind.{Kind}

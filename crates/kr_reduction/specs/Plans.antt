@@ -1,4 +1,4 @@
--- What takes the place of the values on top: the tree of one node above theirs, or some of these values again.
+-- Between crates: what takes the place of the values on top: the tree of one node above theirs, or some of these values again.
 use Rattle.std.specs.Prelude.{ℕ, Bool, true, false, List, [], ◌∷◌, Option, Some, None, slice_get}
 use Rattle.kr_base.specs.declared.place.Place.{Place}
 use Rattle.kr_lex.specs.declared.kind.Kind.{Kind}

@@ -1,4 +1,4 @@
--- What is kept of the tokens, as the machine's values.
+-- Between crates: what is kept of the tokens, as the machine's values.
 use Rattle.std.specs.Prelude.{◌≡◌, ℕ, ◌+◌, ◌≤◌, List, [], ◌∷◌, ◌++◌, Option, Some, None, length, take, drop}
 use Rattle.kr_ast.specs.declared.node.Name.{Name}
 use Rattle.kr_ast.specs.Tree.{size}

@@ -10,5 +10,5 @@ mod way;
 
 pub use moves::{Move, move_of};
 pub use plan::{Plan, below, lower, plan_of, single, staying, tree, type_node, upper};
-pub use value::{Kept, Sort, ValueStack, no_modifiers};
+pub use value::{Kept, Sort, ValueStack};
 pub use way::{Way, sorts_of, way_of};

@@ -6,7 +6,7 @@ use kr_ast::{BinaryOperator, Primitive, StepOperator, UnaryOperator};
 use kr_lex::Kind;
 
 /// The primitive type of a token, `void` for any other.
-pub fn primitive_of(kind: Kind) -> Primitive
+pub(crate) fn primitive_of(kind: Kind) -> Primitive
     ensures { result ≡ the_primitive kind }
 {
     match kind {
@@ -17,7 +17,7 @@ pub fn primitive_of(kind: Kind) -> Primitive
 }
 
 /// The operator of a kept token before its operand.
-pub fn unary_of(kind: Kind) -> UnaryOperator
+pub(crate) fn unary_of(kind: Kind) -> UnaryOperator
     ensures { result ≡ the_unary kind }
 {
     match kind {
@@ -29,7 +29,7 @@ pub fn unary_of(kind: Kind) -> UnaryOperator
 }
 
 /// Of a token behind its operand.
-pub fn step_behind_of(kind: Kind) -> StepOperator
+pub(crate) fn step_behind_of(kind: Kind) -> StepOperator
     ensures { result ≡ the_step_behind kind }
 {
     match kind {
@@ -39,7 +39,7 @@ pub fn step_behind_of(kind: Kind) -> StepOperator
 }
 
 /// `++` and `--` before their operand.
-pub fn step_before_of(kind: Kind) -> StepOperator
+pub(crate) fn step_before_of(kind: Kind) -> StepOperator
     ensures { result ≡ the_step_before kind }
 {
     match kind {
@@ -49,7 +49,7 @@ pub fn step_before_of(kind: Kind) -> StepOperator
 }
 
 /// Between two operands.
-pub fn binary_of(kind: Kind) -> BinaryOperator
+pub(crate) fn binary_of(kind: Kind) -> BinaryOperator
     ensures { result ≡ the_binary kind }
 {
     match kind {
@@ -76,7 +76,7 @@ pub fn binary_of(kind: Kind) -> BinaryOperator
 }
 
 /// Of a compound assignment.
-pub fn compound_of(kind: Kind) -> BinaryOperator
+pub(crate) fn compound_of(kind: Kind) -> BinaryOperator
     ensures { result ≡ the_compound kind }
 {
     match kind {

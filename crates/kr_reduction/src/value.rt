@@ -63,7 +63,7 @@ pub enum Sort {
 }
 
 /// The place of what has none.
-pub const fn nowhere() -> Place
+pub(crate) const fn nowhere() -> Place
     ensures { result ≡ nowhere }
 {
     Place {
@@ -79,7 +79,7 @@ const fn no_name() -> Name
     Name { start: 0, end: 0 }
 }
 
-pub const fn no_modifiers() -> Modifiers
+pub(crate) const fn no_modifiers() -> Modifiers
     ensures { result ≡ no_modifiers }
 {
     Modifiers {
@@ -90,7 +90,7 @@ pub const fn no_modifiers() -> Modifiers
 }
 
 /// The name in a value that has one.
-pub fn name_in(value: Option<Kept>) -> Name
+pub(crate) fn name_in(value: Option<Kept>) -> Name
     ensures { result ≡ name_in value }
 {
     match value {
@@ -391,7 +391,7 @@ impl ValueStack {
     }
 
     /// The first name of a pair.
-    pub fn outer(&self, depth: usize) -> Name
+    pub(crate) fn outer(&self, depth: usize) -> Name
         ensures { result ≡ outer_at self.now depth }
     {
         if depth < self.items.len() {
@@ -413,7 +413,7 @@ impl ValueStack {
     }
 
     /// Whether a member or an owner is of a nested class.
-    pub fn is_nested(&self, depth: usize) -> bool
+    pub(crate) fn is_nested(&self, depth: usize) -> bool
         ensures { result ≡ nested_at self.now depth }
     {
         if depth < self.items.len() {

@@ -1,4 +1,4 @@
--- How a listing ends: what was written by then.
+-- To be believed: how a listing ends: what was written by then.
 use Rattle.std.specs.Prelude.{◌≡◌, ℕ, ◌<◌, ◌⊎◌, List, ◌++◌, take, Option}
 use Rattle.kr_base.specs.Told.{Added, Stopped}
 use Rattle.kr_report.specs.Texts.{memory_text}

@@ -1,4 +1,4 @@
--- What the parts of a listing put.
+-- Between crates: what the parts of a listing put.
 use Rattle.std.specs.Prelude.{◌≡◌, ℕ, Bool, true, false, List, [], length, take, Option, Result, Ok, Err}
 use Rattle.kr_base.specs.Told.{Added, Stopped}
 use Rattle.kr_base.specs.declared.entry.Mark.{Mark}

@@ -1,4 +1,4 @@
--- Reports: a status, the lines of rows, and the last line. What a listing of entries reports.
+-- To be believed: reports: a status, the lines of rows, and the last line. What a listing of entries reports.
 use Rattle.std.specs.Prelude.{ℕ, Bool, true, false, List, [], ◌∷◌, ◌++◌, length, take, map, filter, flat_map, Option, Some, None, nat_lt, if◌then◌else◌}
 use Rattle.kr_base.specs.declared.entry.Mark.{Mark}
 use Rattle.kr_base.specs.declared.entry.Mark.TheVariants.{Valid, Invalid, Spent}

@@ -1,4 +1,4 @@
--- The last line of a listing, and its status.
+-- Between crates: the last line of a listing, and its status.
 use Rattle.std.specs.Prelude.{ℕ, List}
 use Rattle.kr_report.specs.Texts.{listed_text, more_text, spent_text}
 use Rattle.kr_report.specs.declared.lines.Summary.{Summary}

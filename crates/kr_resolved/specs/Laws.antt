@@ -1,4 +1,4 @@
--- What nodes of code do, by what they stand for.
+-- Between crates: what nodes of code do, by what they stand for.
 use Rattle.std.specs.Prelude.{◌≡◌, ℕ, List, Some}
 use Rattle.kr_value.specs.declared.value.Value.{Value}
 use Rattle.kr_table.specs.Table.{Method}

@@ -1,4 +1,4 @@
--- Bodies of methods and constructors, by the nodes that declare them.
+-- Between crates: bodies of methods and constructors, by the nodes that declare them.
 use Rattle.std.specs.Prelude.{◌≡◌, ℕ, List, [], ◌∷◌, Option}
 use Rattle.kr_ast.specs.Tree as trees
 use Rattle.kr_ast.specs.Tree.{Tree}

@@ -1,4 +1,4 @@
--- Methods and what is called, by numbers.
+-- Between crates: methods and what is called, by numbers.
 use Rattle.std.specs.Prelude.{◌≡◌, ℕ, true, false, List, Option, Some, None, slice_get, if◌then◌else◌}
 use Rattle.kr_table.specs.Types.{JavaType, ClassType, SetType, ListType}
 use Rattle.kr_table.specs.Table.{Method}

@@ -1,4 +1,4 @@
--- Lists of nodes as links that follow one another.
+-- Between crates: lists of nodes as links that follow one another.
 use Rattle.std.specs.Prelude.{ℕ, ◌+◌, List, ◌∷◌, take, drop}
 use Rattle.kr_table.specs.Table.{items}
 use Rattle.kr_loops.specs.Laws.{running}

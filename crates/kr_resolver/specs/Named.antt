@@ -1,4 +1,4 @@
--- What a name means where a node stands, by numbers.
+-- Between crates: what a name means where a node stands, by numbers.
 use Rattle.std.specs.Prelude.{◌≡◌, ℕ, Bool, true, false, List, Option, Some, None}
 use Rattle.kr_value.specs.declared.value.Value.{Value}
 use Rattle.kr_table.specs.Types.{JavaType}

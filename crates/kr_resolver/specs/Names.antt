@@ -1,4 +1,4 @@
--- The names of fields by number.
+-- Between crates: the names of fields by number.
 use Rattle.std.specs.Prelude.{◌≡◌, ℕ, List, Some, codes, slice_get}
 use Rattle.kr_type_numbers.specs.Listed.{AreApart}
 

@@ -1,5 +1,6 @@
--- What the numbers of a program's code stand for. The nodes are those of the files, one file after another, and then those
--- that stand in no file; the fields and methods those of the classes, one class after another; the types have typing's numbers.
+-- Between crates: what the numbers of a program's code stand for. The nodes are those of the files, one file after another, and
+-- then those that stand in no file; the fields and methods those of the classes, one class after another; the types have
+-- typing's numbers.
 use Rattle.std.specs.Prelude.{ℕ, zero, suc, ◌+◌, ◌-◌, List, [], ◌∷◌, length, nat_lt, if◌then◌else◌, Option, Some, None, slice_get, slice_index_or}
 use Rattle.std.proofs.Common.{get_or}
 use Rattle.kr_ast.specs.Arena.{Arena, tree_in}

@@ -1,4 +1,4 @@
--- A node of a file by the numbers of the code, and what it is resolved to.
+-- Between crates: a node of a file by the numbers of the code, and what it is resolved to.
 use Rattle.std.specs.Prelude.{◌≡◌, ℕ, ◌<◌, List, length, Some, slice_get}
 use Rattle.kr_ast.specs.Tree.{Tree}
 use Rattle.kr_ast.specs.Arena.{Arena, ArePartsFrom, AreNamesIn, names, parts, tree_in, tree_of}

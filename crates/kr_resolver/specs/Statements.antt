@@ -1,4 +1,4 @@
--- What a node is resolved to as a statement.
+-- Between crates: what a node is resolved to as a statement.
 use Rattle.std.specs.Prelude.{◌≡◌, ℕ, Bool, true, false, List, Option, Some, None}
 use Rattle.kr_base.specs.declared.place.Place.{Place}
 use Rattle.kr_ast.specs.Tree as trees

@@ -1,4 +1,4 @@
--- What an assignment writes, by numbers.
+-- Between crates: what an assignment writes, by numbers.
 use Rattle.std.specs.Prelude.{◌≡◌, ℕ, Bool, true, false, List, Option, Some, None}
 use Rattle.kr_ast.specs.Tree.{Tree}
 use Rattle.kr_table.specs.Types.{JavaType, ArrayType}

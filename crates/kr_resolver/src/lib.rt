@@ -26,7 +26,6 @@ mod writes;
 pub use bodies::method_code;
 pub use constructors::constructor_code;
 pub use links::Links;
-pub use lists::{first_item, list_links};
 pub use methods::called_on;
 pub use names::Names;
 pub use nodes::{ResolvedNodes, resolve_nodes};

@@ -14,7 +14,7 @@ use kr_code::Nodes;
 use kr_types::Program;
 
 /// The first item of a list, and what is behind it.
-pub fn first_item(program: &Program, list: Site) -> Option<(u32, u32)>
+pub(crate) fn first_item(program: &Program, list: Site) -> Option<(u32, u32)>
     requires program { IsProgram program.now }
     requires site { IsSite program.now list }
     ensures within { IfSome result (λ p. p.0 < length (arena_at program.now list).entries) }
@@ -28,7 +28,11 @@ pub fn first_item(program: &Program, list: Site) -> Option<(u32, u32)>
 }
 
 /// The nodes of a list's items, as links.
-pub fn list_links(program: &Program, list: Site, links: &mut Links) -> Result<Nodes, NoMemory>
+pub(crate) fn list_links(
+    program: &Program,
+    list: Site,
+    links: &mut Links,
+) -> Result<Nodes, NoMemory>
     requires program { IsProgram program.now }
     requires site { IsSite program.now list }
     ensures grown { IsGrown links.old links.new }

@@ -1,4 +1,5 @@
--- The fields and the methods of all classes by number: those of one class after those of another, each in source order.
+-- Between crates: the fields and the methods of all classes by number: those of one class after those of another, each in source
+-- order.
 use Rattle.std.specs.Prelude.{◌≡◌, ℕ, ◌<◌, List, [], ◌∷◌, length, map, take, flat_map, All, slice_index_or, false}
 use Rattle.kr_base.specs.declared.place.Place.{Place}
 use Rattle.kr_ast.specs.Arena.{Arena}

@@ -1,4 +1,4 @@
--- What a step, and what a whole run, says of the meaning.
+-- Between crates: what a step, and what a whole run, says of the meaning.
 use Rattle.std.specs.Prelude.{◌≡◌, List, Result, Ok, Err}
 use Rattle.kr_value.specs.declared.value.Value.{Value}
 use Rattle.kr_mean.specs.Steps.{Outcome}

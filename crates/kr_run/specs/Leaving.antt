@@ -1,4 +1,4 @@
--- Flows that leave the body.
+-- Between crates: flows that leave the body.
 use Rattle.kr_frames.specs.declared.task.Flow.{Flow}
 use Rattle.kr_frames.specs.declared.task.Flow.TheVariants as flows
 

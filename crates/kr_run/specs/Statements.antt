@@ -1,4 +1,4 @@
--- Statements that cost a unit before anything else.
+-- Between crates: statements that cost a unit before anything else.
 use Rattle.std.specs.Prelude.{◌≡◌}
 use Rattle.kr_mean.specs.Steps.{State, bind, tick}
 use Rattle.kr_code.specs.declared.code.Code.{Code}

@@ -22,7 +22,7 @@ use kr_world::{End, Halt, World};
 use std::alloc::Global;
 
 /// The topmost frame goes, with the values that it has.
-pub fn take_found(alloc: Global, stack: &mut Stack) -> Result<Vec<Value>, Halt>
+pub(crate) fn take_found(alloc: Global, stack: &mut Stack) -> Result<Vec<Value>, Halt>
     ensures rest { OnOk result (stack.new ≡ drop 1 stack.old) }
     ensures values { IfOk result (λ found. found.items ≡ values_on stack.old) }
     ensures memory { IfErr result (λ halt. halt ≡ Memory) }
@@ -103,7 +103,12 @@ fn next_upwards(
 }
 
 /// Arguments of a superclass's constructor are awaited, behind those that are there.
-pub fn await_upwards(stack: &mut Stack, up: Up, nodes: Nodes, found: &[Value]) -> Result<(), Halt>
+pub(crate) fn await_upwards(
+    stack: &mut Stack,
+    up: Up,
+    nodes: Nodes,
+    found: &[Value],
+) -> Result<(), Halt>
     ensures pushed { OnOk result (stack.new ≡ frames.UpArguments up nodes found.now ∷ stack.old) }
     ensures memory { IfErr result (λ halt. halt ≡ Memory) }
 {
@@ -153,7 +158,7 @@ fn begin_upwards(
 
 /// The arguments that are left come for the topmost frame.
 #[tactic(auto, unfolding(kr_mean::specs::Steps::bind))]
-pub fn next_arguments(
+pub(crate) fn next_arguments(
     alloc: Global,
     code: &Code,
     world: &mut World,
@@ -217,7 +222,7 @@ fn take_next_upwards(
 }
 
 /// One more argument comes, and the topmost frame waited for it with those that are there.
-pub fn take_argument(
+pub(crate) fn take_argument(
     alloc: Global,
     code: &Code,
     world: &mut World,
@@ -237,7 +242,7 @@ pub fn take_argument(
 }
 
 /// One more argument of a superclass's constructor comes.
-pub fn take_up_argument(
+pub(crate) fn take_up_argument(
     alloc: Global,
     code: &Code,
     world: &World,

@@ -30,7 +30,7 @@ fn plain(value: Value) -> Local
 }
 
 /// Arguments come as locals in place of these, in the room that is there.
-pub fn become_arguments(locals: &mut Vec<Local>, arguments: &[Value]) -> Result<(), Halt>
+pub(crate) fn become_arguments(locals: &mut Vec<Local>, arguments: &[Value]) -> Result<(), Halt>
     ensures locals { OnOk result (map local_of locals.new.items ≡ map plain_local arguments.now) }
     ensures memory { IfErr result (λ halt. halt ≡ Memory) }
 {

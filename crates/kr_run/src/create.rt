@@ -20,7 +20,7 @@ use std::alloc::Global;
 
 /// A new object of a class.
 #[tactic(auto, unfolding(kr_mean::specs::Steps::bind))]
-pub fn create(
+pub(crate) fn create(
     alloc: Global,
     code: &Code,
     world: &mut World,
@@ -50,7 +50,12 @@ pub fn create(
 
 /// Nothing that has a meaning, in place of something that gives nothing.
 #[tactic(auto, unfolding(kr_mean::specs::Steps::bind))]
-pub fn stop_unit(code: &Code, world: &World, stack: &mut Stack, task: &mut Task) -> Result<(), Halt>
+pub(crate) fn stop_unit(
+    code: &Code,
+    world: &World,
+    stack: &mut Stack,
+    task: &mut Task,
+) -> Result<(), Halt>
     ensures { Leads code.now (next_task result task.new) stack.new world.now world.now (λ d x. out_unit code.now d stack.old (stop_step Stuck (state_at world.now x))) }
 {
     push(stack, Waiting::Store(0, Value::Null))?;
@@ -59,7 +64,7 @@ pub fn stop_unit(code: &Code, world: &World, stack: &mut Stack, task: &mut Task)
 }
 
 /// The constructors of a line of classes come, on an object, with these arguments.
-pub fn await_construct(
+pub(crate) fn await_construct(
     stack: &mut Stack,
     line: Nodes,
     object: Value,
@@ -212,7 +217,7 @@ fn construct_last(
 
 /// The constructors of a line of classes.
 #[tactic(auto, unfolding(kr_mean::specs::Steps::bind))]
-pub fn construct(
+pub(crate) fn construct(
     alloc: Global,
     code: &Code,
     world: &mut World,
@@ -237,7 +242,7 @@ pub fn construct(
 
 /// The initial values of fields, one after another.
 #[tactic(auto, unfolding(kr_mean::specs::Steps::bind))]
-pub fn initialise(
+pub(crate) fn initialise(
     code: &Code,
     world: &World,
     stack: &mut Stack,
@@ -266,7 +271,7 @@ pub fn initialise(
 
 /// Something is done, and a frame waited for it.
 #[tactic(auto, unfolding(kr_mean::specs::Steps::bind))]
-pub fn take_unit(
+pub(crate) fn take_unit(
     code: &Code,
     world: &mut World,
     stack: &mut Stack,

@@ -1,4 +1,4 @@
--- Checkpoints in the order in which their runs came to them.
+-- Between crates: checkpoints in the order in which their runs came to them.
 use Rattle.std.specs.Prelude.{ℕ, ◌<◌, ◌≤◌, List, length}
 use Rattle.std.proofs.Common.{get_or}
 use Rattle.kr_runner.specs.declared.check.Check.{Check}

@@ -1,4 +1,4 @@
--- What is known of a run before it goes on from the last checkpoint.
+-- Between crates: what is known of a run before it goes on from the last checkpoint.
 use Rattle.std.specs.Prelude.{◌≡◌, ◌⊎◌, ℕ, Bool, List, [], Ok, take}
 use Rattle.std.specs.List.{All}
 use Rattle.kr_value.specs.declared.value.Value.{Value}

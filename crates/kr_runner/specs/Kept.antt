@@ -1,4 +1,4 @@
--- What is left of a run, with which candidates, and what a checkpoint keeps.
+-- Between crates: what is left of a run, with which candidates, and what a checkpoint keeps.
 use Rattle.std.specs.Prelude.{◌≡◌, ℕ, ◌+◌, Bool, true, List, [], ◌∷◌, drop, length, take, Some}
 use Rattle.kr_value.specs.declared.value.Value.{Value}
 use Rattle.kr_value.specs.declared.object.Spot.TheVariants.{Length, Element}

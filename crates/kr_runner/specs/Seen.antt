@@ -1,4 +1,4 @@
--- What callers see of a runner.
+-- Between crates: what callers see of a runner.
 use Rattle.std.specs.Prelude.{ℕ, List}
 use Rattle.kr_problem.specs.Bounds.{Bounds}
 use Rattle.kr_judge.specs.declared.predicate.Predicate.{Predicate}

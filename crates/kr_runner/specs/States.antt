@@ -1,4 +1,4 @@
--- The state of a world, without its candidates and what was read.
+-- Between crates: the state of a world, without its candidates and what was read.
 use Rattle.std.specs.Prelude.{◌≡◌}
 use Rattle.kr_world.specs.declared.world.World.{World}
 

@@ -23,16 +23,16 @@ use std::marker::Model;
 
 /// What a run does first: at which condition, what comes next, and how many places it has read before.
 #[derive(Drop)]
-pub struct Start {
-    pub condition: usize,
-    pub task: Task,
-    pub count: usize,
+pub(crate) struct Start {
+    pub(crate) condition: usize,
+    pub(crate) task: Task,
+    pub(crate) count: usize,
 }
 
 /// Checkpoints. Contracts see the list of them; behind those there is room for others. What a later one had read begins with
 /// what an earlier one had.
 #[derive(Drop)]
-pub struct Checks {
+pub(crate) struct Checks {
     items: Vec<Check>,
     count: usize,
 }

@@ -1,5 +1,5 @@
--- What is claimed of code without broken nodes: no run of it is stuck, expressions give values of the types that they are used
--- as, and statements lead on only as they may.
+-- Between crates: what is claimed of code without broken nodes: no run of it is stuck, expressions give values of the types that
+-- they are used as, and statements lead on only as they may.
 use Rattle.std.specs.Prelude.{◌≡◌, ℕ, Bool, true, false, if◌then◌else◌, List, [], ◌∷◌, ◌++◌, Option, Some, None}
 use Rattle.kr_ast.specs.Tree.{Tree}
 use Rattle.kr_value.specs.declared.value.Value.{Value}

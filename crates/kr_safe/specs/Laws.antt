@@ -1,4 +1,4 @@
--- Expressions of a typed program are safe where their parts are.
+-- Between crates: expressions of a typed program are safe where their parts are.
 use Rattle.kr_mean.specs.Program.{Program}
 use Rattle.kr_mean.specs.Meaning.{Parts, value_of}
 use Rattle.kr_soundness.specs.Triples.{Fixed}

@@ -1,4 +1,5 @@
--- What typing gives of a whole program: of each field, constant, method, constructor and initial value what runs rely on.
+-- Between crates: what typing gives of a whole program: of each field, constant, method, constructor and initial value what runs
+-- rely on.
 use Rattle.std.specs.Prelude.{◌≡◌, ℕ, true, false, List, [], ◌∷◌, map, Option, Some, None}
 use Rattle.kr_base.specs.declared.place.Place.{Place}
 use Rattle.kr_ast.specs.Tree as trees

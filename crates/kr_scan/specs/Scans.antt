@@ -1,4 +1,4 @@
--- What a scan of a problem's candidates finds.
+-- Between crates: what a scan of a problem's candidates finds.
 use Rattle.std.specs.Prelude.{◌≡◌, ℕ, List, [], ◌∷◌}
 use Rattle.kr_base.specs.declared.span.Bound.{Bound}
 use Rattle.kr_base.specs.declared.span.Bound.TheVariants.{At}

@@ -1,4 +1,4 @@
--- The scope that a node hands to each of its parts, as the typing rules say.
+-- Between crates: the scope that a node hands to each of its parts, as the typing rules say.
 use Rattle.std.specs.Prelude.{ℕ, zero, suc}
 use Rattle.kr_ast.specs.Tree as trees
 use Rattle.kr_ast.specs.Tree.{Tree}

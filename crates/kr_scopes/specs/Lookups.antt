@@ -1,4 +1,4 @@
--- Which local a name means.
+-- Between crates: which local a name means.
 use Rattle.std.specs.Prelude.{ℕ, ◌≡◌, List, Option}
 use Rattle.kr_ast.specs.Arena.{Arena}
 use Rattle.kr_table.specs.Table.{Table, Field}

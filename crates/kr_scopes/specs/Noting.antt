@@ -1,4 +1,4 @@
--- What follows from the notes of a node's parts: each node's note is what is kept of its judgement.
+-- Between crates: what follows from the notes of a node's parts: each node's note is what is kept of its judgement.
 use Rattle.std.specs.Prelude.{ℕ, ◌≡◌, ◌<◌, List, length, slice_get, Some}
 use Rattle.kr_ast.specs.Tree.{Tree}
 use Rattle.kr_ast.specs.declared.node.Entry.{Entry}

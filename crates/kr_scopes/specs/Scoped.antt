@@ -1,4 +1,4 @@
--- The scopes of all nodes of a tree.
+-- Between crates: the scopes of all nodes of a tree.
 use Rattle.std.specs.Prelude.{ℕ, ◌+◌, ◌≤◌, ◌<◌, ◌≡◌, List, length, slice_get, slice_index_or, false, Some, None}
 use Rattle.kr_ast.specs.declared.node.Entry.{Entry}
 use Rattle.kr_ast.specs.Arena.{Arena, IsPart, tree_in}

@@ -1,4 +1,4 @@
--- What is kept of scopes, and the scopes that it stands for in a tree.
+-- Between crates: what is kept of scopes, and the scopes that it stands for in a tree.
 use Rattle.std.specs.Prelude.{ℕ, ◌+◌, ◌-◌, ◌≤◌, ◌<◌, ◌≡◌, List, [], ◌∷◌, length, Option, Some, None, unwrap_or, slice_get, slice_index_or}
 use Rattle.kr_ast.specs.Tree as trees
 use Rattle.kr_ast.specs.Tree.{Tree}

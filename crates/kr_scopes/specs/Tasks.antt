@@ -1,4 +1,4 @@
--- The scope behind a node, with what is still to be passed on the way.
+-- Between crates: the scope behind a node, with what is still to be passed on the way.
 use Rattle.std.specs.Prelude.{ℕ, ◌+◌, ◌*◌, ◌≤◌, ◌<◌, ◌≡◌, List, [], ◌∷◌, ◌++◌, length, Option, Some}
 use Rattle.kr_ast.specs.Tree.{size}
 use Rattle.kr_base.specs.declared.place.Place.{Place}

@@ -54,7 +54,7 @@ pub fn bind(
 }
 
 /// The scope behind a declarator.
-pub fn bind_declared(
+pub(crate) fn bind_declared(
     tree: &Tree,
     bindings: &mut Vec<Binding>,
     from: Within,

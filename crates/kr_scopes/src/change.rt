@@ -32,7 +32,7 @@ pub enum Change {
 }
 
 /// What is different for the first part of a node.
-pub fn first_change(node: Node) -> Change
+pub(crate) fn first_change(node: Node) -> Change
     ensures { result ≡ first_change node }
 {
     match node {
@@ -68,7 +68,7 @@ fn operand_change(operator: UnaryOperator) -> Change
 }
 
 /// What is different for the other parts of a node.
-pub fn rest_change(node: Node) -> Change
+pub(crate) fn rest_change(node: Node) -> Change
     ensures { result ≡ rest_change node }
 {
     match node {

@@ -88,7 +88,7 @@ fn plainly(up: Within, at: u32, node: Node, position: u8) -> Within
 }
 
 /// The scope of a part, from that of the node.
-pub fn hand_on(
+pub(crate) fn hand_on(
     tree: &Tree,
     bindings: &mut Vec<Binding>,
     tasks: &mut Tasks,

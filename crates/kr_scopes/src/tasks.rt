@@ -44,7 +44,7 @@ impl Tasks {
         Ok(())
     }
 
-    pub fn pop(&mut self) -> Option<Task>
+    pub(crate) fn pop(&mut self) -> Option<Task>
         ensures { MatchOption result ((self.old ≡ []) × (self.new ≡ [])) (λ task. self.old ≡ task ∷ self.new) }
     {
         self.items.pop()

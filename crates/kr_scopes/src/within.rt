@@ -77,7 +77,7 @@ impl Within {
     }
 
     /// The scope of a class's members.
-    pub fn in_class(class: u32) -> Within
+    pub(crate) fn in_class(class: u32) -> Within
         ensures { result ≡ record nowhere { class = Some class } }
     {
         let mut made = Within::outside();
@@ -95,7 +95,7 @@ impl Within {
     }
 
     /// Likewise, where it stands for a statement.
-    pub fn statement(self) -> Within
+    pub(crate) fn statement(self) -> Within
         ensures { result ≡ record self { role = AsStatement } }
     {
         let mut made = self;
@@ -104,7 +104,7 @@ impl Within {
     }
 
     /// Likewise, under a unary minus.
-    pub fn under_minus(self) -> Within
+    pub(crate) fn under_minus(self) -> Within
         ensures { result ≡ record self { role = UnderMinus } }
     {
         let mut made = self;
@@ -113,7 +113,7 @@ impl Within {
     }
 
     /// Likewise, in a loop.
-    pub fn in_loop(self) -> Within
+    pub(crate) fn in_loop(self) -> Within
         ensures { result ≡ record self { is_in_loop = true } }
     {
         let mut made = self;
@@ -122,7 +122,7 @@ impl Within {
     }
 
     /// Likewise, in `\old(..)`.
-    pub fn in_old(self) -> Within
+    pub(crate) fn in_old(self) -> Within
         ensures { result ≡ record self { is_in_old = true; role = AsValue } }
     {
         let mut made = self;
@@ -132,7 +132,7 @@ impl Within {
     }
 
     /// Likewise, in a contract of this kind.
-    pub fn in_contract(self, part: Part) -> Within
+    pub(crate) fn in_contract(self, part: Part) -> Within
         ensures { result ≡ record self { part = part; role = AsValue } }
     {
         let mut made = self;
@@ -142,7 +142,7 @@ impl Within {
     }
 
     /// Likewise, in static code or not.
-    pub fn static_if(self, is_static: bool) -> Within
+    pub(crate) fn static_if(self, is_static: bool) -> Within
         ensures { result ≡ record self { is_static = is_static } }
     {
         let mut made = self;
@@ -151,7 +151,7 @@ impl Within {
     }
 
     /// Likewise, of a method with this result type.
-    pub fn with_result(self, result_type: u32) -> Within
+    pub(crate) fn with_result(self, result_type: u32) -> Within
         ensures { result ≡ record self { result = Some result_type } }
     {
         let mut made = self;
@@ -160,7 +160,7 @@ impl Within {
     }
 
     /// Likewise, where declarators declare this, of the type of a node.
-    pub fn with_declared(self, declaring: Declaring, declared: u32) -> Within
+    pub(crate) fn with_declared(self, declaring: Declaring, declared: u32) -> Within
         ensures { result ≡ record self { declaring = declaring; declared = Some declared } }
     {
         let mut made = self;

@@ -1,4 +1,4 @@
--- The shapes of expressions, as the grammar derives them.
+-- Between crates: the shapes of expressions, as the grammar derives them.
 use Rattle.std.specs.Prelude.{◌≡◌, Bool, true, false}
 use Rattle.kr_ast.specs.declared.node.Primitive.{Primitive}
 use Rattle.kr_ast.specs.declared.node.Primitive.TheVariants.{Void}

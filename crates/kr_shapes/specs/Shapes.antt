@@ -1,4 +1,4 @@
--- The shapes of trees: what may stand where (Java Language Specification 4, 7, 8, 14, 15, for this language).
+-- Between crates: the shapes of trees: what may stand where (Java Language Specification 4, 7, 8, 14, 15, for this language).
 use Rattle.std.specs.Prelude.{◌≡◌, ◌⊎◌, Bool, true, false, List}
 use Rattle.kr_lex.specs.Lexemes.{Lexeme}
 use Rattle.kr_ast.specs.Tree as trees

@@ -1,4 +1,4 @@
--- When the domains of a problem give each slot values of its type: those that the finitization may state.
+-- Between crates: when the domains of a problem give each slot values of its type: those that the finitization may state.
 use Rattle.std.specs.Prelude.{◌≡◌, ℕ, ◌<◌, true, List, [], ◌∷◌, length, map, Some, None}
 use Rattle.std.proofs.Common.{get_or}
 use Rattle.kr_value.specs.declared.object.Class.{Class}

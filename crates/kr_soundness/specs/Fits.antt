@@ -1,5 +1,5 @@
--- When values, objects and heaps are of their types (the Java Language Specification, 4.3, 4.10, 4.12.2). Each object of a heap
--- has a type that it keeps. A collection's type has that of its members, which its class doesn't tell.
+-- Between crates: when values, objects and heaps are of their types (the Java Language Specification, 4.3, 4.10, 4.12.2). Each
+-- object of a heap has a type that it keeps. A collection's type has that of its members, which its class doesn't tell.
 use Rattle.std.specs.Prelude.{◌≡◌, ℕ, ◌<◌, ℤ, pos, negsuc, true, List, [], ◌∷◌, length, map}
 use Rattle.std.proofs.Common.{get_or}
 use Rattle.kr_value.specs.declared.value.Value.{Value}

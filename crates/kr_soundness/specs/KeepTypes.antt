@@ -1,4 +1,4 @@
--- Types while a program runs: each step keeps them.
+-- Between crates: types while a program runs: each step keeps them.
 use Rattle.std.specs.Prelude.{◌≡◌, ℕ, ◌<◌, ◌≤◌, true, false, List, [], ◌∷◌, ◌++◌, length, Option, Some, codes, pos}
 use Rattle.kr_base.specs.declared.place.Place.{Place}
 use Rattle.kr_ast.specs.declared.node.BinaryOperator.{BinaryOperator}

@@ -1,4 +1,4 @@
--- What holds of the heaps of candidates.
+-- Between crates: what holds of the heaps of candidates.
 use Rattle.std.specs.Prelude.{◌≡◌, ℕ, List, map, Some}
 use Rattle.kr_value.specs.declared.value.Value.TheVariants.{Ref as Reference}
 use Rattle.kr_table.specs.Types.{ClassType}

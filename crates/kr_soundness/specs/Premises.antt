@@ -1,4 +1,4 @@
--- Problems that meet what the laws on listings ask, and problems that don't, worked by hand.
+-- Between crates: problems that meet what the laws on listings ask, and problems that don't, worked by hand.
 use Rattle.std.specs.Prelude.{ℕ, pos, true, false, List, [], ◌∷◌, ◌++◌, codes}
 use Rattle.kr_ast.specs.declared.node.Primitive.TheVariants as primitives
 use Rattle.kr_ast.specs.declared.node.BinaryOperator.TheVariants as operators

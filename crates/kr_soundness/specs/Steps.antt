@@ -1,4 +1,4 @@
--- What the classes of a program have, as far as types speak of it; and what a class says of an object's type.
+-- Between crates: what the classes of a program have, as far as types speak of it; and what a class says of an object's type.
 use Rattle.std.specs.Prelude.{Bool, false, ◌≡◌, ℕ, ◌<◌, true, List, length, map, Option, Some, None}
 use Rattle.std.proofs.Common.{get_or}
 use Rattle.kr_ast.specs.declared.node.BinaryOperator.{BinaryOperator}

@@ -1,5 +1,5 @@
--- What runs do with values, locals and heaps of known types: they don't get stuck, objects keep their types, new ones get types
--- behind those that were there, and what is given is of a type.
+-- Between crates: what runs do with values, locals and heaps of known types: they don't get stuck, objects keep their types, new
+-- ones get types behind those that were there, and what is given is of a type.
 use Rattle.std.specs.Prelude.{◌≡◌, ℕ, zero, suc, ◌≤◌, if◌then◌else◌, List, [], ◌∷◌, ◌++◌, length, map, Option, Some, None, Result, Ok, Err}
 use Rattle.kr_base.specs.declared.place.Place.{Place}
 use Rattle.kr_value.specs.declared.value.Value.{Value}

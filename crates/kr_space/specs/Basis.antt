@@ -1,4 +1,4 @@
--- What the problem of a document is made of, with what is known of it.
+-- Between crates: what the problem of a document is made of, with what is known of it.
 use Rattle.std.specs.Prelude.{◌≡◌, ℕ, ◌+◌, ◌^◌, ◌<◌, List, length, map, unwrap_or}
 use Rattle.kr_table.specs.Table.{headings_of}
 use Rattle.kr_type_numbers.specs.Types.{TypeList}

@@ -1,4 +1,4 @@
--- A document beside a program, with what is known of both.
+-- Between crates: a document beside a program, with what is known of both.
 use Rattle.std.specs.Prelude.{◌+◌, ◌^◌, ◌<◌, length, All}
 use Rattle.kr_table.specs.Table.{headings_of}
 use Rattle.kr_mean.specs.Problem.{Problem}

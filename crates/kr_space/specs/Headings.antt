@@ -1,4 +1,4 @@
--- The heads of classes by their numbers, and what isn't there.
+-- Between crates: the heads of classes by their numbers, and what isn't there.
 use Rattle.std.specs.Prelude.{ℕ, List, [], None}
 use Rattle.std.proofs.Common.{get_or}
 use Rattle.kr_fin.specs.declared.document.Count.{Count}

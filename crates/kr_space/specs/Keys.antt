@@ -1,4 +1,4 @@
--- The keys of a document's tables by their places.
+-- Between crates: the keys of a document's tables by their places.
 use Rattle.std.specs.Prelude.{map}
 use Rattle.kr_names.specs.Listed.{IsIndexOf}
 use Rattle.kr_fin.specs.declared.document.FinDoc.{FinDoc}

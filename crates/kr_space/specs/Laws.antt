@@ -1,4 +1,4 @@
--- What holds of documents.
+-- Between crates: what holds of documents.
 use Rattle.std.specs.Prelude.{◌≡◌, ℕ, List, Ok}
 use Rattle.kr_fin.specs.declared.document.FinDoc.{FinDoc}
 use Rattle.kr_fin.specs.Meaning.{meaning}

@@ -1,4 +1,4 @@
--- The domains that a document gives, by number: those of its fields, of its parameters, and of its lengths.
+-- Between crates: the domains that a document gives, by number: those of its fields, of its parameters, and of its lengths.
 use Rattle.std.specs.Prelude.{◌≡◌, List, ◌++◌, map}
 use Rattle.kr_mean.specs.Problem.{Domain}
 use Rattle.kr_fin.specs.declared.document.ArrayBound.{ArrayBound}

@@ -1,4 +1,4 @@
--- Why a document is refused.
+-- Between crates: why a document is refused.
 use Rattle.std.specs.Prelude.{◌≡◌, List, ◌++◌, Option, Some}
 use Rattle.kr_mean.specs.declared.mode.Mode.{Mode}
 use Rattle.kr_mean.specs.Problem.{Problem}

@@ -1,4 +1,4 @@
--- How many objects and slots there are, by class domains.
+-- Between crates: how many objects and slots there are, by class domains.
 use Rattle.std.specs.Prelude.{◌≡◌, ℕ, List, [], map}
 use Rattle.kr_table.specs.Table.{Heading}
 use Rattle.kr_value.specs.declared.object.Class.TheVariants.{Object}

@@ -1,4 +1,4 @@
--- How many slots a problem has, by classes and array types.
+-- Between crates: how many slots a problem has, by classes and array types.
 use Rattle.std.specs.Prelude.{ℕ, ◌+◌, ◌*◌, List, [], ◌∷◌, length}
 use Rattle.kr_table.specs.Types.{JavaType}
 use Rattle.kr_table.specs.Table.{Heading, fields_of}

@@ -1,4 +1,4 @@
--- The rules on a declared name, from what is known of its scope.
+-- Between crates: the rules on a declared name, from what is known of its scope.
 use Rattle.std.specs.Prelude.{Bool, Option}
 use Rattle.kr_table.specs.Types.{JavaType}
 use Rattle.kr_table.specs.Table.{Table}

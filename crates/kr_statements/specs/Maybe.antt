@@ -1,4 +1,4 @@
--- A rule on a part that may be absent.
+-- Between crates: a rule on a part that may be absent.
 use Rattle.std.specs.Prelude.{ℕ, Option, Some, None, option_map}
 use Rattle.kr_table.specs.Types.{JavaType}
 use Rattle.kr_typing.specs.Rules as rules

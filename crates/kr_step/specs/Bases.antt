@@ -1,4 +1,4 @@
--- A small search, worked by hand: fields x and y in P and Q, two objects of each, and one root.
+-- Between crates: a small search, worked by hand: fields x and y in P and Q, two objects of each, and one root.
 use Rattle.std.specs.Prelude.{ℕ, ◌-◌, ◌==◌, nat_lt, List, [], ◌∷◌, Some, None, if◌then◌else◌}
 use Rattle.kr_mean.specs.Space.{Space}
 use Rattle.kr_step.specs.declared.runner.Ending.{Ending}

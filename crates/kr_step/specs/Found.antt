@@ -1,4 +1,4 @@
--- The next candidate of a search.
+-- Between crates: the next candidate of a search.
 use Rattle.std.specs.Prelude.{◌≡◌, ℕ, List, Option, Some, None}
 use Rattle.kr_base.specs.Cuts.{Before}
 use Rattle.kr_mean.specs.Space.{Space}

@@ -1,4 +1,4 @@
--- What stays when a search moves on.
+-- Between crates: what stays when a search moves on.
 use Rattle.std.specs.Prelude.{◌≡◌, ℕ, ◌<◌, ◌≤◌, List, [], ◌∷◌, ◌++◌, length}
 use Rattle.std.proofs.Common.{get_or}
 

@@ -1,4 +1,4 @@
--- What a search shows, and what it answers.
+-- Between crates: what a search shows, and what it answers.
 use Rattle.std.specs.Prelude.{◌≡◌, ℕ, List, [], ◌∷◌}
 use Rattle.kr_base.specs.Cuts.{Before}
 use Rattle.kr_base.specs.declared.entry.Entry.{Entry}

@@ -1,4 +1,4 @@
--- Where a search stands, and the next candidate above a cut.
+-- Between crates: where a search stands, and the next candidate above a cut.
 use Rattle.std.specs.Prelude.{◌≡◌, ℕ, ◌<◌, List, [], ◌∷◌, ◌++◌, map, filter, Bool, true, false}
 use Rattle.std.proofs.Common.{get_or}
 use Rattle.kr_mean.specs.Space.{Space, IsVector}

@@ -1,4 +1,4 @@
--- One turn of a search on its way.
+-- Between crates: one turn of a search on its way.
 use Rattle.std.specs.Prelude.{◌≡◌, ℕ, List, [], ◌∷◌, ◌++◌, Bool, true, false}
 use Rattle.kr_mean.specs.Space.{Space}
 use Rattle.kr_step.specs.Steps.{IsStuck, IsMoved, IsFront, indices_of}

@@ -1,4 +1,4 @@
--- A candidate's structure as it is written: parameters, and then the objects that are met, each slot by slot.
+-- Between crates: a candidate's structure as it is written: parameters, and then the objects that are met, each slot by slot.
 use Rattle.std.specs.Prelude.{◌≡◌, ℕ, ◌+◌, Bool, true, false, List, [], ◌∷◌, ◌++◌, length, map, flat_map, codes}
 use Rattle.std.proofs.Common.{get_or}
 use Rattle.kr_value.specs.declared.object.Class.{Class}

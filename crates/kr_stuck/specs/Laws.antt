@@ -1,4 +1,4 @@
--- No run of a typed program is stuck.
+-- Between crates: no run of a typed program is stuck.
 use Rattle.std.specs.Prelude.{◌≡◌, ℕ, List, Some}
 use Rattle.kr_table.specs.Table.{Method}
 use Rattle.kr_mean.specs.Program.{Program}

@@ -1,4 +1,4 @@
--- What typing gives of the predicate of a problem, and of the contract of the method under test.
+-- Between crates: what typing gives of the predicate of a problem, and of the contract of the method under test.
 use Rattle.std.specs.Prelude.{◌≡◌, ℕ, true, false, List, [], ◌∷◌, map, Option, Some, None, Ok, Err, codes}
 use Rattle.kr_base.specs.declared.place.Place.{Place}
 use Rattle.kr_value.specs.declared.value.Value.{Value}

@@ -1,4 +1,4 @@
--- What holds of a problem that breaks no rule.
+-- Between crates: what holds of a problem that breaks no rule.
 use Rattle.std.specs.Prelude.{◌≤◌, length, All}
 use Rattle.kr_ast.specs.Arena.{root}
 use Rattle.kr_shapes.specs.Shapes.{AreClasses}

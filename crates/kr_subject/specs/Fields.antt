@@ -1,4 +1,4 @@
--- The fields of each class's objects, as they are kept.
+-- Between crates: the fields of each class's objects, as they are kept.
 use Rattle.std.specs.Prelude.{◌≡◌, ℕ, List, [], map, All, Vec}
 use Rattle.std.specs.declared.alloc.Global.{Global}
 use Rattle.std.proofs.Common.{get_or}

@@ -1,4 +1,4 @@
--- What holds of a problem that is searched and written.
+-- Between crates: what holds of a problem that is searched and written.
 use Rattle.std.specs.Prelude.{◌≡◌, List}
 use Rattle.kr_mean.specs.declared.mode.Mode.TheVariants.{List as Listing}
 use Rattle.kr_members.specs.declared.fields.Field.{Field}

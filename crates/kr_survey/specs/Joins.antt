@@ -1,4 +1,4 @@
--- Rows in pieces.
+-- Between crates: rows in pieces.
 use Rattle.std.specs.Prelude.{List, [], ◌∷◌, ◌++◌}
 use Rattle.std.proofs.Common.{Vec, Global}
 

@@ -1,4 +1,4 @@
--- What a scan of entries gives.
+-- Between crates: what a scan of entries gives.
 use Rattle.std.specs.Prelude.{◌≡◌, ℕ, ◌<◌, List, [], ◌∷◌, Bool, true, false, ◌||◌, ◌==◌, if◌then◌else◌, take, length}
 use Rattle.std.specs.List.{flat_map, list_any}
 use Rattle.kr_base.specs.declared.span.Bound.{Bound}

@@ -1,4 +1,4 @@
--- What holds of the ancestors of a class.
+-- Between crates: what holds of the ancestors of a class.
 use Rattle.std.specs.Prelude.{◌≡◌, ℕ, ◌<◌, List, None, Some, false, length, true}
 use Rattle.kr_ast.specs.Tree.{Tree}
 use Rattle.kr_table.specs.Table.{Table, ancestors, is_among, super_of, table_of}

@@ -1,4 +1,5 @@
--- The array types that a program names, in order: their numbers. Each element's type that is one stands before its array's.
+-- To be believed: the array types that a program names, in order: their numbers. Each element's type that is one stands before
+-- its array's.
 use Rattle.std.specs.Prelude.{ℕ, ◌+◌, Bool, true, false, ◌||◌, List, [], ◌∷◌, ◌++◌, flat_map, if◌then◌else◌, Option, Some, None}
 use Rattle.kr_ast.specs.Tree as trees
 use Rattle.kr_ast.specs.Tree.{Tree}

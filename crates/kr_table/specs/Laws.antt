@@ -1,4 +1,4 @@
--- What holds of the first of several broken rules.
+-- Between crates: what holds of the first of several broken rules.
 use Rattle.std.specs.Prelude.{◌≡◌, ◌⊎◌, List, [], ◌∷◌, false, Some, None}
 use Rattle.kr_table.specs.Rules.{Fault, is_before, least}
 

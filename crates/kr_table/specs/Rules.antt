@@ -1,4 +1,4 @@
--- The class rules, and the first broken one.
+-- To be believed: the class rules, and the first broken one.
 use Rattle.std.specs.Prelude.{ℕ, ◌+◌, ◌-◌, Bool, true, false, ◌&&◌, ◌||◌, not, List, [], ◌∷◌, ◌++◌, length, map, drop, flat_map, nat_eq, nat_lt, bytes_eq, if◌then◌else◌, Option, Some, None, option_to_list, is_none, codes}
 use Rattle.kr_base.specs.declared.place.Place.{Place}
 use Rattle.kr_ast.specs.Tree as trees

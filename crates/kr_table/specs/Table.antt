@@ -1,4 +1,4 @@
--- The class table of the files of a program (Java Language Specification 8).
+-- To be believed: the class table of the files of a program (Java Language Specification 8).
 use Rattle.std.specs.Prelude.{ℕ, zero, suc, ◌+◌, Bool, true, false, ◌||◌, List, [], ◌∷◌, ◌++◌, length, reverse, flat_map, find, nat_eq, bytes_eq, if◌then◌else◌, Option, Some, None, option_and_then, option_to_list, codes}
 use Rattle.kr_base.specs.declared.place.Place.{Place}
 use Rattle.kr_ast.specs.declared.node.Primitive.TheVariants.{Int, Boolean, Void}

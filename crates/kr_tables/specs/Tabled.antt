@@ -1,4 +1,4 @@
--- What the tables of a program's code say.
+-- Between crates: what the tables of a program's code say.
 use Rattle.std.specs.Prelude.{◌≡◌, ℕ, ◌<◌, ◌^◌, List, [], All, Bool, Option, None, false, length, map, codes, bytes_eq, nat_eq, option_map, slice_index_or, IfSome}
 use Rattle.std.proofs.Common.{get_or}
 use Rattle.kr_ast.specs.Arena.{Arena}

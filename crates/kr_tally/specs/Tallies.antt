@@ -1,4 +1,4 @@
--- How many entries are valid, or which one is spent; and the answer that says it.
+-- To be believed: how many entries are valid, or which one is spent; and the answer that says it.
 use Rattle.std.specs.Prelude.{◌≡◌, ◌+◌, ◌-◌, ◌^◌, ℕ, List, ◌++◌, length, min, Option, Some, None, codes, decimal}
 use Rattle.kr_base.specs.declared.entry.Entry.{Entry}
 use Rattle.kr_mean.specs.declared.row.Row.{Row}

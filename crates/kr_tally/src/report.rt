@@ -7,9 +7,9 @@ ghost use Rattle.kr_report.specs.Endings.{EndsListing};
 ghost use Rattle.kr_tally.specs.Tallies.{Tallies, tally_answer};
 
 use crate::tally::{Tally, tally_of};
-use kr_report::once_written;
 use kr_base::{Bound, NoMemory, Sink};
 use kr_candidates::{Candidates, Subject};
+use kr_report::once_written;
 use kr_scan::Scan;
 use kr_steps::Steps;
 use std::alloc::Global;

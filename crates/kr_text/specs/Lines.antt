@@ -1,4 +1,4 @@
--- What a line has taken, and how often it was refused memory.
+-- Between crates: what a line has taken, and how often it was refused memory.
 use Rattle.std.specs.Prelude.{ℕ, List}
 use Rattle.kr_text.specs.declared.line.Line.{Line}
 

@@ -1,4 +1,4 @@
--- The texts that are written.
+-- To be believed: the texts that are written.
 use Rattle.std.specs.Prelude.{ℕ, List, [], ◌∷◌, ◌++◌, codes, decimal, flat_map, Option, Some, None}
 use Rattle.std.specs.Borrow.{Bor}
 use Rattle.kr_base.specs.declared.place.Place.{Place}

@@ -1,4 +1,4 @@
--- Lists of different items that only grow.
+-- Between crates: lists of different items that only grow.
 use Rattle.std.specs.Prelude.{◌≡◌, ℕ, List, ◌++◌, Some, slice_get}
 
 -- some more items stand behind those that were

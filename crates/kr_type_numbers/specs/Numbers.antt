@@ -1,4 +1,4 @@
--- The numbers of the types that nodes name.
+-- Between crates: the numbers of the types that nodes name.
 use Rattle.std.specs.Prelude.{◌≡◌, ℕ, ◌<◌, List, [], length, map, slice_index_or}
 use Rattle.kr_ast.specs.Arena.{Arena, root, tree_in}
 use Rattle.kr_ast.specs.declared.node.Primitive.{Primitive}

@@ -1,4 +1,4 @@
--- The types that numbers stand for.
+-- Between crates: the types that numbers stand for.
 use Rattle.std.specs.Prelude.{◌≡◌, ℕ, ◌<◌, ◌≤◌, ◌==◌, Bool, List, [], length, map, Some, slice_get, slice_index_or}
 use Rattle.kr_ast.specs.Grow.{grow}
 use Rattle.kr_table.specs.Types.{JavaType, IntType, BooleanType, NullType, VoidType, ClassType, ArrayType, SetType, ListType, InferredType, UnknownType, AppliedType, is_known, is_same}

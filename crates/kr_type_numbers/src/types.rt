@@ -136,7 +136,7 @@ impl Types {
     }
 
     /// What stands between the brackets of `new HashSet<>()`.
-    pub fn inferred(&self) -> u32
+    pub(crate) fn inferred(&self) -> u32
         ensures { IsTypeNumber self.now result InferredType }
     {
         prove!(4 < self.forms.len());

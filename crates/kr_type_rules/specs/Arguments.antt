@@ -1,4 +1,4 @@
--- Arguments and parameters by the trees of the parameters' types.
+-- Between crates: arguments and parameters by the trees of the parameters' types.
 use Rattle.std.specs.Prelude.{ℕ, Bool, true, false, ◌&&◌, List, [], ◌∷◌, flat_map}
 use Rattle.kr_ast.specs.Tree as trees
 use Rattle.kr_ast.specs.Tree.{Tree}

@@ -1,4 +1,4 @@
--- What the code knows of nodes, as the typing rules have it.
+-- Between crates: what the code knows of nodes, as the typing rules have it.
 use Rattle.std.specs.Prelude.{◌≡◌, ℕ, ◌<◌, Bool, true, ◌&&◌, ◌||◌, not, if◌then◌else◌, List, [], Option, Some, None}
 use Rattle.kr_ast.specs.Arena.{Arena}
 use Rattle.kr_table.specs.Types.{JavaType, is_collection, is_known, is_reference, is_void}

@@ -174,7 +174,7 @@ pub(crate) fn above_rule(
 }
 
 /// T24: a method of an object's class.
-pub fn method_rule(
+pub(crate) fn method_rule(
     trees: &[Tree],
     types: &Types,
     members: &Members,

@@ -75,7 +75,7 @@ fn member_call_rule(
 }
 
 /// T25: a call of a collection.
-pub fn collection_rule(
+pub(crate) fn collection_rule(
     types: &Types,
     members: &Members,
     here: Within,

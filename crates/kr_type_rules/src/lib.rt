@@ -16,8 +16,7 @@ mod statements;
 mod writes;
 
 pub use arguments::arguments_fit;
-pub use calls::{call_rule, method_rule, static_rule};
-pub use collections::collection_rule;
+pub use calls::{call_rule, static_rule};
 pub use declarations::{
     constant_initial_rule, field_initial_rule, local_rule, result_value_rule, return_rule,
     type_of_node,
@@ -32,7 +31,7 @@ pub use operators::{
     cast_rule, choice_rule, diamond_rule, instance_rule, number_rule, operator_rule, type_rule,
     unary_rule,
 };
-pub use relations::{are_related, is_assignable, is_int, takes};
+pub use relations::{are_related, is_assignable, is_int};
 pub use rules::TypingRule;
 pub use statements::{condition_rule, contract_rule, jump_rule, old_rule};
 pub use writes::{assignment_rule, compound_rule, is_code, step_rule};

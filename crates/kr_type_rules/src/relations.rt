@@ -24,7 +24,7 @@ pub fn is_int(types: &Types, number: u32) -> bool
 }
 
 /// Whether it is `boolean`.
-pub fn is_boolean(types: &Types, number: u32) -> bool
+pub(crate) fn is_boolean(types: &Types, number: u32) -> bool
     requires { number < count types.now }
     ensures { result ≡ rules.is_boolean (type_at types.now number) }
 {
@@ -116,7 +116,7 @@ pub fn are_related(types: &Types, members: &Members, a: u32, b: u32) -> bool
 }
 
 /// Whether a value of a type goes into a variable: one whose type breaks rule T1 takes everything.
-pub fn takes(types: &Types, members: &Members, to: u32, from: u32) -> bool
+pub(crate) fn takes(types: &Types, members: &Members, to: u32, from: u32) -> bool
     requires from { from < count types.now }
     requires to { to < count types.now }
     ensures { (files : List Arena) → AreMembers files members.now → result ≡ goes_into (table_in files) (type_at types.now to) (type_at types.now from) }
@@ -125,7 +125,7 @@ pub fn takes(types: &Types, members: &Members, to: u32, from: u32) -> bool
 }
 
 /// Whether both are reference types, and related.
-pub fn related_references(types: &Types, members: &Members, a: u32, b: u32) -> bool
+pub(crate) fn related_references(types: &Types, members: &Members, a: u32, b: u32) -> bool
     requires first { a < count types.now }
     requires second { b < count types.now }
     ensures { (files : List Arena) → AreMembers files members.now → result ≡ are_related_references (table_in files) (type_at types.now a) (type_at types.now b) }
@@ -134,7 +134,7 @@ pub fn related_references(types: &Types, members: &Members, a: u32, b: u32) -> b
 }
 
 /// Whether both are `int`.
-pub fn both_int(types: &Types, a: u32, b: u32) -> bool
+pub(crate) fn both_int(types: &Types, a: u32, b: u32) -> bool
     requires first { a < count types.now }
     requires second { b < count types.now }
     ensures { result ≡ rules.both_int (type_at types.now a) (type_at types.now b) }
@@ -143,7 +143,7 @@ pub fn both_int(types: &Types, a: u32, b: u32) -> bool
 }
 
 /// Whether both are `boolean`.
-pub fn both_boolean(types: &Types, a: u32, b: u32) -> bool
+pub(crate) fn both_boolean(types: &Types, a: u32, b: u32) -> bool
     requires first { a < count types.now }
     requires second { b < count types.now }
     ensures { result ≡ rules.both_boolean (type_at types.now a) (type_at types.now b) }
@@ -152,7 +152,7 @@ pub fn both_boolean(types: &Types, a: u32, b: u32) -> bool
 }
 
 /// Whether they may be compared by `==`: both int, both boolean, or related references.
-pub fn are_comparable(types: &Types, members: &Members, a: u32, b: u32) -> bool
+pub(crate) fn are_comparable(types: &Types, members: &Members, a: u32, b: u32) -> bool
     requires first { a < count types.now }
     requires second { b < count types.now }
     ensures { (files : List Arena) → AreMembers files members.now → result ≡ are_comparable (table_in files) (type_at types.now a) (type_at types.now b) }
@@ -170,7 +170,7 @@ fn no_collections(types: &Types, a: u32, b: u32) -> bool
 }
 
 /// Whether a value of a type may be cast: int to int, boolean to boolean, or related references that are no collections.
-pub fn cast_fits(types: &Types, members: &Members, to: u32, from: u32) -> bool
+pub(crate) fn cast_fits(types: &Types, members: &Members, to: u32, from: u32) -> bool
     requires to { to < count types.now }
     requires from { from < count types.now }
     ensures { (files : List Arena) → AreMembers files members.now → result ≡ cast_fits (table_in files) (type_at types.now to) (type_at types.now from) }
@@ -181,7 +181,7 @@ pub fn cast_fits(types: &Types, members: &Members, to: u32, from: u32) -> bool
 }
 
 /// Whether it is a class or array type, related to a reference.
-pub fn instance_fits(types: &Types, members: &Members, from: u32, to: u32) -> bool
+pub(crate) fn instance_fits(types: &Types, members: &Members, from: u32, to: u32) -> bool
     requires from { from < count types.now }
     requires to { to < count types.now }
     ensures { (files : List Arena) → AreMembers files members.now → result ≡ (is_element (type_at types.now to) && are_related_references (table_in files) (type_at types.now from) (type_at types.now to)) }
@@ -190,7 +190,7 @@ pub fn instance_fits(types: &Types, members: &Members, from: u32, to: u32) -> bo
 }
 
 /// Whether it is boolean, and two others are related.
-pub fn choice_fits(types: &Types, members: &Members, test: u32, a: u32, b: u32) -> bool
+pub(crate) fn choice_fits(types: &Types, members: &Members, test: u32, a: u32, b: u32) -> bool
     requires test { test < count types.now }
     requires first { a < count types.now }
     requires second { b < count types.now }
@@ -200,7 +200,7 @@ pub fn choice_fits(types: &Types, members: &Members, test: u32, a: u32, b: u32) 
 }
 
 /// Of two types that are related the one that is assigned to.
-pub fn wider(types: &Types, members: &Members, a: u32, b: u32) -> u32
+pub(crate) fn wider(types: &Types, members: &Members, a: u32, b: u32) -> u32
     requires first { a < count types.now }
     requires second { b < count types.now }
     ensures within { result < count types.now }

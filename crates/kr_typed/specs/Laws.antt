@@ -1,4 +1,4 @@
--- Expressions without broken nodes have types.
+-- Between crates: expressions without broken nodes have types.
 use Rattle.std.specs.Prelude.{◌≡◌, ℕ, true, false, List, [], ◌∷◌, Some}
 use Rattle.kr_ast.specs.Tree.{Tree}
 use Rattle.kr_table.specs.Types.{JavaType, is_known}

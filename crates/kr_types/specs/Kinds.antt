@@ -1,4 +1,4 @@
--- Kinds of nodes whose notes are made in one place.
+-- Between crates: kinds of nodes whose notes are made in one place.
 use Rattle.kr_ast.specs.declared.node.Node.{Node}
 use Rattle.kr_ast.specs.declared.node.Node.TheVariants as nodes
 use Rattle.kr_types.specs.declared.group.Group.{Group}

@@ -1,4 +1,4 @@
--- A program that breaks no rule, with what is known of its nodes.
+-- Between crates: a program that breaks no rule, with what is known of its nodes.
 use Rattle.std.specs.Prelude.{◌≡◌, ℕ, ◌<◌, ◌^◌, List, length, map, flat_map, Some, slice_get}
 use Rattle.kr_ast.specs.declared.node.Entry.{Entry}
 use Rattle.kr_ast.specs.Arena.{Arena, root, tree_in}

@@ -1,4 +1,4 @@
--- What a refusal says of the typing rules.
+-- Between crates: what a refusal says of the typing rules.
 use Rattle.std.specs.Prelude.{◌≡◌, ℕ, List, map, take, flat_map, Some}
 use Rattle.kr_ast.specs.Arena.{Arena, root}
 use Rattle.kr_ast.specs.Tree.{Tree}

@@ -1,4 +1,4 @@
--- What the notes of a file's nodes are made from, and what each note says.
+-- Between crates: what the notes of a file's nodes are made from, and what each note says.
 use Rattle.std.specs.Prelude.{◌≡◌, ℕ, ◌<◌, List, length, Some, slice_get}
 use Rattle.kr_base.specs.declared.place.Place.{Place}
 use Rattle.kr_ast.specs.declared.node.Node.{Node}

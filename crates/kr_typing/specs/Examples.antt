@@ -1,4 +1,4 @@
--- Sources, and the first rule that each breaks.
+-- Between crates: sources, and the first rule that each breaks.
 use Rattle.std.specs.Prelude.{◌≡◌, map, pos, negsuc, List, [], ◌∷◌, true, false, codes, Some, None}
 use Rattle.kr_ast.specs.declared.node.Primitive.TheVariants.{Int, Boolean, Void}
 use Rattle.kr_ast.specs.declared.node.UnaryOperator.TheVariants.{Plus, Minus, Complement, Not}

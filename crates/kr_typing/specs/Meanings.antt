@@ -1,5 +1,5 @@
--- What names, types and constants mean in one family of classes: A with its nested class N, B below A, C below B. Their
--- numbers are 0 to 3.
+-- Between crates: what names, types and constants mean in one family of classes: A with its nested class N, B below A, C below
+-- B. Their numbers are 0 to 3.
 use Rattle.std.specs.Prelude.{◌≡◌, ℕ, zero, suc, ◌+◌, List, [], ◌∷◌, map, flat_map, length, take, true, false, pos, Some, None, option_map, codes}
 use Rattle.kr_ast.specs.declared.node.Primitive.TheVariants.{Int, Boolean, Void}
 use Rattle.kr_ast.specs.declared.node.BinaryOperator.TheVariants.{Add, Less}

@@ -1,5 +1,5 @@
--- What is kept of a judgement: the type, and the first broken node with its least rule. What is kept of a node follows
--- from what is kept of its parts.
+-- Between crates: what is kept of a judgement: the type, and the first broken node with its least rule. What is kept of a node
+-- follows from what is kept of its parts.
 use Rattle.std.specs.Prelude.{ℕ, ◌≡◌, ◌<◌, List, [], ◌∷◌, length, slice_get, slice_index_or, Option, Some, None}
 use Rattle.kr_base.specs.declared.place.Place.{Place}
 use Rattle.kr_ast.specs.Tree as trees

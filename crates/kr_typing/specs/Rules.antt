@@ -1,4 +1,5 @@
--- The typing rules: what a node asks of its scope and of the types of its parts (Java Language Specification 14, 15).
+-- To be believed: the typing rules: what a node asks of its scope and of the types of its parts (Java Language Specification 14,
+-- 15).
 use Rattle.std.specs.Prelude.{ℕ, Bool, true, false, ◌&&◌, ◌||◌, not, List, [], ◌∷◌, nat_lt, bytes_eq, if◌then◌else◌, Option, Some, None, option_and_then, is_some, codes}
 use Rattle.kr_base.specs.declared.place.Place.{Place}
 use Rattle.kr_ast.specs.declared.node.UnaryOperator.{UnaryOperator}

@@ -1,4 +1,5 @@
--- The scope by which code runs: whether it stands in a loop, and which field its value is the initial one of, is left out.
+-- Between crates: the scope by which code runs: whether it stands in a loop, and which field its value is the initial one of, is
+-- left out.
 use Rattle.std.specs.Prelude.{Bool, false}
 use Rattle.kr_table.specs.Types.{JavaType, VoidType}
 use Rattle.kr_typing.specs.Scopes.{Scope, Declaring, Locals, Fields, AsValue}

@@ -1,4 +1,4 @@
--- What is known where a node stands, and what names mean there (Java Language Specification 6).
+-- To be believed: what is known where a node stands, and what names mean there (Java Language Specification 6).
 use Rattle.std.specs.Prelude.{ℕ, Bool, true, false, List, [], ◌∷◌, length, flat_map, bytes_eq, if◌then◌else◌, Option, Some, None, option_and_then, option_to_list, unwrap_or}
 use Rattle.kr_ast.specs.Tree as trees
 use Rattle.kr_ast.specs.Tree.{Tree}

@@ -1,4 +1,4 @@
--- Words for written trees and answers.
+-- Between crates: words for written trees and answers.
 use Rattle.std.specs.Prelude.{ℕ, List, [], ◌∷◌}
 use Rattle.kr_base.specs.declared.place.Place.{Place}
 use Rattle.kr_ast.specs.Tree.{Tree, Nil, Cons}

@@ -1,5 +1,5 @@
--- Types of nodes, and which nodes are broken, by one recursion over the trees: the scope is handed down, the type and the
--- broken nodes are handed up.
+-- To be believed: types of nodes, and which nodes are broken, by one recursion over the trees: the scope is handed down, the
+-- type and the broken nodes are handed up.
 use Rattle.std.specs.Prelude.{ℕ, ◌≡◌, Bool, true, false, List, [], ◌∷◌, ◌++◌, flat_map, Option, Some, None, option_to_list}
 use Rattle.kr_base.specs.declared.place.Place.{Place}
 use Rattle.kr_ast.specs.declared.node.UnaryOperator.{UnaryOperator}

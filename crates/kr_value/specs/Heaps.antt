@@ -1,4 +1,4 @@
--- A heap: its objects by their numbers.
+-- To be believed: a heap: its objects by their numbers.
 use Rattle.std.specs.Prelude.{ℕ, nat_lt, pos, Bool, true, false, List, [], length}
 use Rattle.std.proofs.Common.{get_or}
 use Rattle.kr_value.specs.declared.value.Value.{Value}

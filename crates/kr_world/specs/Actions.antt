@@ -1,4 +1,4 @@
--- Steps of the meaning that need no other code, each of which gives a value.
+-- Between crates: steps of the meaning that need no other code, each of which gives a value.
 use Rattle.std.specs.Prelude.{[]}
 use Rattle.kr_value.specs.declared.value.Value.{Value}
 use Rattle.kr_value.specs.declared.value.Value.TheVariants.{Null}

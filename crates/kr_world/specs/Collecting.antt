@@ -1,4 +1,4 @@
--- What a call on the members of a collection answers and leaves.
+-- Between crates: what a call on the members of a collection answers and leaves.
 use Rattle.std.specs.Prelude.{◌≡◌, List, Option, Some, None, Result, Ok, Err}
 use Rattle.kr_value.specs.declared.value.Value.{Value}
 use Rattle.kr_mean.specs.Collections.{Collected, gives}

@@ -1,4 +1,4 @@
--- What the code says, as the meaning says it.
+-- Between crates: what the code says, as the meaning says it.
 use Rattle.std.specs.Prelude.{◌≡◌, Result, Ok, Err}
 use Rattle.kr_mean.specs.Steps.{Stop}
 use Rattle.kr_world.specs.declared.world.End.{End}

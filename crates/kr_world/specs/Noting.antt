@@ -1,4 +1,4 @@
--- What was read, each place once, where it is read first.
+-- Between crates: what was read, each place once, where it is read first.
 use Rattle.std.specs.Prelude.{Bool, false, List, [], ◌∷◌, ◌++◌, ◌||◌, if◌then◌else◌}
 use Rattle.kr_mean.specs.Places.{SlotPlace}
 use Rattle.kr_mean.specs.Runs.{is_same_place}

@@ -1,4 +1,4 @@
--- Where a place stands among all places.
+-- Between crates: where a place stands among all places.
 use Rattle.std.specs.Prelude.{◌≡◌, ℕ, ◌+◌, ◌-◌, ◌*◌, ◌≤◌, ◌<◌, ◌==◌, Bool, false, Option, Some, None, List, length, take, if◌then◌else◌}
 use Rattle.std.proofs.Common.{get_or}
 use Rattle.std.specs.List.{All}

@@ -1,4 +1,4 @@
--- What a run has read, and all else as it was.
+-- Between crates: what a run has read, and all else as it was.
 use Rattle.std.specs.Prelude.{◌≡◌, List, ◌++◌}
 use Rattle.kr_mean.specs.Places.{SlotPlace}
 use Rattle.kr_world.specs.declared.world.World.{World}

@@ -1,4 +1,4 @@
--- What the code's types stand for.
+-- Between crates: what the code's types stand for.
 use Rattle.std.specs.Prelude.{option_map}
 use Rattle.kr_mean.specs.Places.{Parameter}
 use Rattle.kr_mean.specs.Steps as steps

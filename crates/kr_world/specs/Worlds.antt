@@ -1,4 +1,4 @@
--- The state that a world is, also with other candidates, and what it is to do a step of the meaning.
+-- Between crates: the state that a world is, also with other candidates, and what it is to do a step of the meaning.
 use Rattle.std.specs.Prelude.{◌≡◌, ℕ, ◌<◌, Bool, true, false, List, ◌++◌, length, map, Option, Some, None, Result, Ok, Err}
 use Rattle.kr_value.specs.Heaps.{Heap, HeapObject, object_in, has_spot, value_of_spot}
 use Rattle.kr_value.specs.declared.object.Class.{Class}

@@ -15,7 +15,7 @@ pub use collections::{collect, size_value};
 pub use memory::{
     class_of, element, index_below, load_named, made_number, new_object, store_initial,
 };
-pub use names::{assign, declare, tick};
+pub use names::{declare, tick};
 pub use operators::{alone, binary, operated, operated_alone};
 pub use reads::Reads;
 pub use world::{End, Halt, Local, Old, World};

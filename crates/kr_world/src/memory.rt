@@ -11,10 +11,9 @@ ghost use Rattle.kr_world.specs.Reading.{OnlyReads};
 ghost use Rattle.kr_world.specs.Worlds.{state_at, Agrees, Allows, is_fixed, candidates_of, Others, IsKept, IsArray};
 
 use crate::{End, Halt, World};
-use kr_value::SlotPlace;
 use kr_code::{Code, Nodes};
 use kr_mean::Kind;
-use kr_value::{Class, Spot, Value};
+use kr_value::{Class, SlotPlace, Spot, Value};
 use std::alloc::Global;
 
 /// An object's number among those that the run has made; none where it is a candidate.
@@ -312,7 +311,7 @@ fn put_element(
 
 /// Writes an element of an array of a type.
 #[tactic(auto, unfolding(kr_mean::specs::Steps::bind))]
-pub fn store_item(
+pub(crate) fn store_item(
     code: &Code,
     world: &mut World,
     class: u32,
@@ -340,7 +339,7 @@ pub fn store_item(
 
 /// Whether a value is an instance of a type.
 #[tactic(auto, unfolding(kr_mean::specs::Steps::bind))]
-pub fn instance(code: &Code, world: &World, class: u32, value: Value) -> Result<Value, Halt>
+pub(crate) fn instance(code: &Code, world: &World, class: u32, value: Value) -> Result<Value, Halt>
     ensures { Agrees result world.now world.now (λ x. bind (class_or_null value) (λ c. give (instance_of code.now class c)) (state_at world.now x)) }
 {
     match value {
@@ -352,7 +351,7 @@ pub fn instance(code: &Code, world: &World, class: u32, value: Value) -> Result<
 
 /// A value that has to be of a type.
 #[tactic(auto, unfolding(kr_mean::specs::Steps::bind))]
-pub fn cast(code: &Code, world: &World, class: u32, value: Value) -> Result<Value, Halt>
+pub(crate) fn cast(code: &Code, world: &World, class: u32, value: Value) -> Result<Value, Halt>
     ensures { Agrees result world.now world.now (λ x. bind (class_or_null value) (cast_to code.now class value) (state_at world.now x)) }
 {
     match value {
@@ -405,7 +404,7 @@ fn fresh_array(
 }
 
 /// A new array.
-pub fn new_array(
+pub(crate) fn new_array(
     alloc: Global,
     world: &mut World,
     class: Option<u32>,

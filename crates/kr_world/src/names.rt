@@ -9,10 +9,9 @@ ghost use Rattle.kr_value.specs.declared.value.Value.TheVariants.{Null};
 ghost use Rattle.kr_world.specs.Worlds.{state_at, Agrees};
 
 use crate::{End, Halt, Local, World};
-use kr_value::SlotPlace;
 use kr_base::Place;
 use kr_heap::append;
-use kr_value::Value;
+use kr_value::{SlotPlace, Value};
 
 /// One unit of fuel.
 #[inline(always)]
@@ -50,7 +49,12 @@ pub fn declare(world: &mut World, value: Value) -> Result<Value, Halt>
 /// Gives a local another value, and then what is to be given.
 #[inline(always)]
 #[tactic(auto, unfolding(kr_mean::specs::Steps::bind))]
-pub fn assign(world: &mut World, local: u32, value: Value, given: Value) -> Result<Value, Halt>
+pub(crate) fn assign(
+    world: &mut World,
+    local: u32,
+    value: Value,
+    given: Value,
+) -> Result<Value, Halt>
     ensures { Agrees result world.new world.old (λ x. bind (assign_step local value) (λ u. give given) (state_at world.old x)) }
 {
     if (local as usize) < world.locals.len() {
