@@ -123,12 +123,28 @@ fn ends_into(
 fn small_steps(rt: HostRuntime) -> Result<(), Fail> {
     let rows: [(&[&str], u8, &str); 8] = [
         (&LIST, 0, LISTED),
-        (&["check", "fin.toml", "Cell.java"], 0, "ok classes 1 slots 2\n"),
-        (&["list", "--limit", "1", "fin.toml", "Cell.java"], 0, "0.1 Cell#0{v=1}\nmore 0.1\n"),
+        (
+            &["check", "fin.toml", "Cell.java"],
+            0,
+            "ok classes 1 slots 2\n",
+        ),
+        (
+            &["list", "--limit", "1", "fin.toml", "Cell.java"],
+            0,
+            "0.1 Cell#0{v=1}\nmore 0.1\n",
+        ),
         (&["demo", "2"], 0, "nodes 2 valid 2\n"),
         (&["list"], 2, "usage fault\n"),
-        (&["list", "fin.toml", "Cell.java", "Cell.java"], 3, "Cell.java:1:7: C1\n"),
-        (&["list", "Cell.java", "fin.toml"], 4, "Cell.java: F1 toml\n"),
+        (
+            &["list", "fin.toml", "Cell.java", "Cell.java"],
+            3,
+            "Cell.java:1:7: C1\n",
+        ),
+        (
+            &["list", "Cell.java", "fin.toml"],
+            4,
+            "Cell.java: F1 toml\n",
+        ),
         (&["list", "fin.toml", "N.java"], 6, "read fault N.java\n"),
     ];
     for step in 1..6usize {
@@ -147,12 +163,26 @@ fn failing_puts(rt: HostRuntime) -> Result<(), Fail> {
         (&LIST, 1024, 4, 2, "0.1 "),
         (&["list"], 2, 1, 9, "us"),
         (&["list", "Cell.java", "fin.toml"], 2, 1, 9, "Ce"),
-        (&["list", "fin.toml", "Cell.java", "Cell.java"], 2, 1, 9, "Ce"),
+        (
+            &["list", "fin.toml", "Cell.java", "Cell.java"],
+            2,
+            1,
+            9,
+            "Ce",
+        ),
         (&["list", "none.toml", "Cell.java"], 2, 1, 9, "re"),
     ];
     for (words, room, step, failing, front) in rows {
         assert!(rt; step > 0);
-        let ended = ends_into(rt.alloc(), words, room, step, &[failing], 7, front.as_bytes())?;
+        let ended = ends_into(
+            rt.alloc(),
+            words,
+            room,
+            step,
+            &[failing],
+            7,
+            front.as_bytes(),
+        )?;
         assert!(rt; ended, "{front}");
     }
     Ok(())
@@ -162,7 +192,10 @@ fn failing_puts(rt: HostRuntime) -> Result<(), Fail> {
 fn full_outputs(rt: HostRuntime) -> Result<(), Fail> {
     let whole = LISTED.as_bytes();
     for room in 0..whole.len() {
-        assert!(rt; ends_into(rt.alloc(), &LIST, room, 5, &[], 7, &whole[..room])?, "{room}");
+        assert!(rt;
+            ends_into(rt.alloc(), &LIST, room, 5, &[], 7, &whole[..room])?,
+            "{room}"
+        );
     }
     assert!(rt; ends_into(rt.alloc(), &LIST, whole.len(), 5, &[], 0, whole)?);
     Ok(())
@@ -171,7 +204,15 @@ fn full_outputs(rt: HostRuntime) -> Result<(), Fail> {
 /// Whether the listing ends so over the cell's files with this source, of which a read fails.
 fn fails(alloc: Global, source: &str, failing: u32, text: &str) -> Result<bool, NoMemory> {
     let mut out = sink_of(alloc, 1024, 1024, &[])?;
-    ends_over(alloc, &LIST, source, &[failing], &mut out, 6, text.as_bytes())
+    ends_over(
+        alloc,
+        &LIST,
+        source,
+        &[failing],
+        &mut out,
+        6,
+        text.as_bytes(),
+    )
 }
 
 #[test]
@@ -200,12 +241,7 @@ fn starts(
     Ok(ended == status && out.bytes() == text.as_bytes())
 }
 
-fn starts_with(
-    alloc: Global,
-    words: &[&str],
-    status: u8,
-    text: &str,
-) -> Result<bool, NoMemory> {
+fn starts_with(alloc: Global, words: &[&str], status: u8, text: &str) -> Result<bool, NoMemory> {
     let words = words_of(alloc, words)?;
     starts(alloc, Ok(words), status, text)
 }

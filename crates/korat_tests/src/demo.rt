@@ -16,7 +16,14 @@ fn demo_ends(
 ) -> Result<bool, NoMemory> {
     let mut out = sink_of(alloc, room, 4, &[])?;
     let mut files = files_of(alloc, &[], &[1])?;
-    ends(alloc, &["demo", nodes], &mut files, &mut out, status, text.as_bytes())
+    ends(
+        alloc,
+        &["demo", nodes],
+        &mut files,
+        &mut out,
+        status,
+        text.as_bytes(),
+    )
 }
 
 #[test]
