@@ -10,7 +10,7 @@ mod layers;
 #[cfg(test)]
 mod listing;
 #[cfg(test)]
-mod pieces;
+mod problems;
 #[cfg(test)]
 mod random;
 #[cfg(test)]
