@@ -1,38 +1,61 @@
-// What the demo answers, over files of which no read goes well: it reads none.
+// What the demo answers, over files of which no read goes well: it reads none. And its texts.
 
-use crate::calls::{call, files_of};
+use crate::calls::{ends, files_of, sink_of};
 use kr_base::NoMemory;
-use kr_io::MemSink;
+use kr_demo::{demo_finitization, demo_source};
 use std::alloc::Global;
 use std::test::Fail;
 
-/// What the demo of so many nodes ends with and writes, into an output of so many bytes.
-fn demo(alloc: Global, nodes: &str, room: usize) -> Result<(u8, MemSink), NoMemory> {
-    let files = files_of(alloc, &[], &[1])?;
-    let mut out = MemSink::new(alloc, room, 4, Vec::new(alloc))?;
-    let status = call(alloc, &["demo", nodes], files, &mut out)?;
-    Ok((status, out))
+/// Whether the demo of so many nodes ends so and writes this, into an output of so many bytes.
+fn demo_ends(
+    alloc: Global,
+    nodes: &str,
+    room: usize,
+    status: u8,
+    text: &str,
+) -> Result<bool, NoMemory> {
+    let mut out = sink_of(alloc, room, 4, &[])?;
+    let mut files = files_of(alloc, &[], &[1])?;
+    ends(
+        alloc,
+        &["demo", nodes],
+        &mut files,
+        &mut out,
+        status,
+        text.as_bytes(),
+    )
 }
 
 #[test]
 fn few_nodes(rt: HostRuntime) -> Result<(), Fail> {
-    let alloc = rt.alloc();
-    for (nodes, text) in [
-        ("1", "nodes 1 valid 1\n"),
-        ("2", "nodes 2 valid 2\n"),
-        ("3", "nodes 3 valid 5\n"),
+    for (nodes, room, status, text) in [
+        ("1", 1024, 0, "nodes 1 valid 1\n"),
+        ("2", 1024, 0, "nodes 2 valid 2\n"),
+        ("3", 1024, 0, "nodes 3 valid 5\n"),
+        ("1", 15, 7, "nodes 1 valid 1"),
     ] {
-        let (status, out) = demo(alloc, nodes, 1024)?;
-        assert_eq!(rt; status, 0, "{nodes}");
-        assert_eq!(rt; out.bytes(), text.as_bytes(), "{nodes}");
+        assert!(rt; demo_ends(rt.alloc(), nodes, room, status, text)?, "{text}");
     }
     Ok(())
 }
 
+/// Whether the class for twelve nodes begins and ends as it reads.
+fn is_source(text: &[u8]) -> bool {
+    text.starts_with(b"import java.util.*;\nclass Node {\n  Node left;\n")
+        && text.ends_with(b"    return seen.size() == 12;\n  }\n}\n")
+}
+
+/// Whether the finitization for twelve nodes begins and ends as it reads.
+fn is_finitization(text: &[u8]) -> bool {
+    text.starts_with(b"root = \"Tree\"\nfuel = 2000\n[objects]\nTree = 1\nNode = 12\n[fields]\n")
+        && text.ends_with(b"\"Node.right\" = [\"null\", \"Node\"]\n")
+}
+
 #[test]
-fn full_output(rt: HostRuntime) -> Result<(), Fail> {
-    let (status, out) = demo(rt.alloc(), "1", 15)?;
-    assert_eq!(rt; status, 7);
-    assert_eq!(rt; out.bytes(), b"nodes 1 valid 1".as_slice());
+fn twelve_nodes(rt: HostRuntime) -> Result<(), Fail> {
+    let source = demo_source(rt.alloc(), 12)?;
+    assert!(rt; is_source(source.as_slice()));
+    let finitization = demo_finitization(rt.alloc(), 12)?;
+    assert!(rt; is_finitization(finitization.as_slice()));
     Ok(())
 }

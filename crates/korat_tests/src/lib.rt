@@ -1,4 +1,5 @@
-//! Tests of the whole tool as one call, and of its words.
+//! Tests of the whole tool as one call, of its words and of the demo's texts. What the built program shows stands in
+//! tests/run and tests/cases.
 #![tactic(auto)]
 
 #[cfg(test)]
@@ -7,5 +8,3 @@ mod calls;
 mod demo;
 #[cfg(test)]
 mod words;
-#[cfg(test)]
-mod worked;

@@ -1,46 +1,53 @@
 // The words of a call, run once each way.
 
 use kr_args::command;
-use kr_args::forms::{ArgRefusal, Command};
+use kr_args::forms::{ArgRefusal, Ask, Command};
 use kr_base::{Bound, Words};
 use std::alloc::Global;
 use std::test::Fail;
 
-fn words_of(alloc: Global, texts: &[&str]) -> Result<Words, Fail> {
-    let mut words = Words::new(alloc);
+fn push_words(words: &mut Words, texts: &[&str]) -> Result<(), Fail> {
     for text in texts {
         words.push(text)?;
     }
-    Ok(words)
+    Ok(())
 }
 
-fn shown_bound(alloc: Global, bound: &Bound) -> Result<String, Fail> {
-    Ok(match bound {
-        Bound::End => String::from_str(alloc, "end")?,
-        Bound::At(cut) => format!(in alloc; "{:?}", cut.numbers())?,
+/// What a listing is asked for, in one line.
+fn shown_ask(alloc: Global, ask: &Ask) -> Result<String, Fail> {
+    let fin = ask.fin.as_str();
+    let sources = ask.sources.len();
+    let from = ask.from.numbers();
+    let limit = ask.limit;
+    Ok(match &ask.to {
+        Bound::End => format!(in alloc; "list {fin} {sources} {from:?} end {limit}")?,
+        Bound::At(cut) => {
+            format!(in alloc; "list {fin} {sources} {from:?} {:?} {limit}", cut.numbers())?
+        }
     })
 }
 
-/// A command in one line.
-fn shown(alloc: Global, texts: &[&str]) -> Result<String, Fail> {
-    let words = words_of(alloc, texts)?;
-    Ok(match command(alloc, &words) {
-        Ok(Command::List(ask)) => {
-            let fin = ask.fin.as_str();
-            let sources = ask.sources.len();
-            let from = ask.from.numbers();
-            let to = shown_bound(alloc, &ask.to)?;
-            let limit = ask.limit;
-            format!(in alloc; "list {fin} {sources} {from:?} {to} {limit}")?
-        }
+/// A command, or why there is none, in one line.
+fn shown(alloc: Global, answer: &Result<Command, ArgRefusal>) -> Result<String, Fail> {
+    match answer {
+        Ok(Command::List(ask)) => shown_ask(alloc, ask),
         Ok(Command::Check { fin, sources }) => {
             let count = sources.len();
-            format!(in alloc; "check {fin} {count}")?
+            Ok(format!(in alloc; "check {fin} {count}")?)
         }
-        Ok(Command::Demo { n }) => format!(in alloc; "demo {n}")?,
-        Err(ArgRefusal::Usage) => String::from_str(alloc, "usage")?,
-        Err(ArgRefusal::NoMemory) => String::from_str(alloc, "memory")?,
-    })
+        Ok(Command::Demo { n }) => Ok(format!(in alloc; "demo {n}")?),
+        Err(ArgRefusal::Usage) => Ok(String::from_str(alloc, "usage")?),
+        Err(ArgRefusal::NoMemory) => Ok(String::from_str(alloc, "memory")?),
+    }
+}
+
+/// Whether words are this command.
+fn is_command(alloc: Global, texts: &[&str], line: &str) -> Result<bool, Fail> {
+    let mut words = Words::new(alloc);
+    push_words(&mut words, texts)?;
+    let answer = command(alloc, &words);
+    let text = shown(alloc, &answer)?;
+    Ok(text.as_str() == line)
 }
 
 #[test]
@@ -62,8 +69,7 @@ fn commands(rt: HostRuntime) -> Result<(), Fail> {
         (&["test", "f", "m", "a"], "usage"),
     ];
     for (texts, answer) in rows {
-        let line = shown(rt.alloc(), texts)?;
-        assert_eq!(rt; line.as_str(), answer);
+        assert!(rt; is_command(rt.alloc(), texts, answer)?, "{answer}");
     }
     Ok(())
 }

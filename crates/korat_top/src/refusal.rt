@@ -40,7 +40,11 @@ impl Refusal {
     }
 
     /// A node at a place breaks a typing rule.
-    pub(crate) fn of_node(alloc: Global, place: Place, rule: TypingRule) -> Result<Refusal, NoMemory>
+    pub(crate) fn of_node(
+        alloc: Global,
+        place: Place,
+        rule: TypingRule,
+    ) -> Result<Refusal, NoMemory>
         ensures { IfOk result (λ refusal. refusal_of refusal ≡ at_place place (type_code (rule_number rule))) }
     {
         let mut digits = Buffer::new();

@@ -149,9 +149,9 @@ pub(crate) fn counts(
     requires { 0 < times }
 {
     let whole = counts_above(alloc, prepared, &[], times)?;
-    assert_eq!(rt; whole, (count, count));
+    assert!(rt; whole == (count, count));
     let above = counts_above(alloc, prepared, &[0, 1], 4)?;
-    assert_eq!(rt; above.0, 3);
+    assert!(rt; above.0 == 3);
     assert!(rt; above.1 <= 7);
     Ok(())
 }

@@ -130,7 +130,7 @@ fn walks(
     requires small { length (slots (bare layout.now)) < 2 ^ 31 }
 {
     let walk = walked(alloc, layout, indices)?;
-    assert_eq!(rt; walk.slots(), reached);
+    assert!(rt; walk.slots() == reached);
     Ok(())
 }
 
@@ -147,7 +147,7 @@ fn spells(
     requires small { length (slots (bare layout.now)) < 2 ^ 31 }
 {
     let heap = built(alloc, layout, indices)?;
-    assert_eq!(rt; heap.len(), count);
+    assert!(rt; heap.len() == count);
     for (object, field, other) in fields {
         assert!(rt; heap.read(*object, Spot::Field(*field)) == Some(Value::Ref(*other)));
     }
@@ -163,9 +163,9 @@ fn lists(
     wanted: &str,
 ) -> Result<(), Fail> {
     let plain = plain_of(alloc, prepared, after)?;
-    assert_eq!(rt; plain.as_str(), wanted);
+    assert!(rt; plain.as_str() == wanted);
     let searched = searched_of(alloc, prepared, after)?;
-    assert_eq!(rt; searched.as_str(), wanted);
+    assert!(rt; searched.as_str() == wanted);
     Ok(())
 }
 
@@ -179,7 +179,7 @@ fn scans(
     wanted: &str,
 ) -> Result<(), Fail> {
     let text = scanned::<Brand>(alloc, Blank::new(1), prepared, after, upto)?;
-    assert_eq!(rt; text.as_str(), wanted);
+    assert!(rt; text.as_str() == wanted);
     Ok(())
 }
 
@@ -188,7 +188,7 @@ fn stands_at(rt: &impl Abort, alloc: Global, layout: &Layout, indices: &[u32]) -
     requires well { IsWellFormed (bare layout.now) }
 {
     let vector = vector_of(alloc, layout, indices)?;
-    assert_eq!(rt; vector.indices(), indices);
+    assert!(rt; vector.indices() == indices);
     Ok(())
 }
 
@@ -218,7 +218,7 @@ fn chooses(
     path: &[(u32, u32)],
 ) -> Result<(), Fail> {
     let found = chosen(alloc, layout, least)?;
-    assert_eq!(rt; found.as_slice(), path);
+    assert!(rt; found.as_slice() == path);
     Ok(())
 }
 

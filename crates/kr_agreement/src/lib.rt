@@ -2,13 +2,15 @@
 #![tactic(auto)]
 
 #[cfg(test)]
+mod compiled;
+#[cfg(test)]
 mod counting;
 #[cfg(test)]
 mod layers;
 #[cfg(test)]
 mod listing;
 #[cfg(test)]
-mod pieces;
+mod problems;
 #[cfg(test)]
 mod random;
 #[cfg(test)]

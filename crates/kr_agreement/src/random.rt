@@ -1,15 +1,15 @@
-// Problems made at random: the search finds the entries of the plain listing, from the beginning and above a cut.
-ghost use Rattle.std.specs.Prelude.{◌≡◌, ◌<◌};
+// Problems that were made at random: the search finds the entries of the plain listing, from the beginning and above a cut.
 
 use crate::listing::{plain_of, searched_of};
-use crate::pieces::{Piece, Shape, piece_of};
-use kr_samples::{Random, read};
+use crate::problems::PROBLEMS;
+use kr_base::Cut;
+use kr_samples::read;
 use kr_subject::Prepared;
 use std::alloc::Global;
 use std::process::Abort;
 use std::test::Fail;
 
-/// How many pieces of text were problems, how many were refused, and how many entries of each kind the listings have.
+/// How many texts were problems, how many were refused, and the listings' entries.
 #[derive(Drop)]
 struct Tally {
     compared: u32,
@@ -27,15 +27,6 @@ fn count_of(text: &str, sign: u8) -> u32 {
     count
 }
 
-/// Three more numbers, each below 3, of which the first ones make a cut.
-fn cut_of(alloc: Global, random: &mut Random) -> Result<Vec<u32>, Fail> {
-    let mut cut = vec![in alloc; 0]?;
-    for _ in 0..random.below(3) {
-        cut.push(random.below(3))?;
-    }
-    Ok(cut)
-}
-
 /// Whether both listings above a cut are the same; adds the signs of its entries.
 fn agree(
     alloc: Global,
@@ -49,90 +40,61 @@ fn agree(
     Ok(plain.as_str() == searched.as_str())
 }
 
-/// Compares the listings of a problem, whole and above a cut.
-fn compare(
-    rt: &impl Abort,
+/// Whether the listings of a problem are the same, whole and above a cut.
+fn agree_twice(
     alloc: Global,
-    piece: &Piece,
     prepared: &Prepared,
     cut: &[u32],
     signs: &mut String,
-) -> Result<(), Fail> {
-    let source = piece.source.as_str();
-    let fin = piece.fin.as_str();
+) -> Result<bool, Fail> {
     let whole = agree(alloc, prepared, &[], signs)?;
-    assert!(rt; whole, "{} {}", source, fin);
     let part = agree(alloc, prepared, cut, signs)?;
-    assert!(rt; part, "above {:?}: {} {}", cut, source, fin);
-    Ok(())
+    Ok(whole && part)
 }
 
-/// Compares a piece that is read, where it is a problem.
-fn try_read(
-    rt: &impl Abort,
+/// The same of a text that is read; nothing is compared where it is no problem.
+fn agree_read(
     alloc: Global,
-    piece: &Piece,
+    source: &str,
+    fin: &str,
     cut: &[u32],
     tally: &mut Tally,
-) -> Result<(), Fail> {
-    match read(alloc, piece.source.as_str(), piece.fin.as_str()) {
+) -> Result<bool, Fail> {
+    match read(alloc, source, fin) {
         Err(_) => {
             tally.refused = tally.refused.saturating_add(1);
-            Ok(())
+            Ok(true)
         }
         Ok(prepared) => {
             tally.compared = tally.compared.saturating_add(1);
-            compare(rt, alloc, piece, &prepared, cut, &mut tally.signs)
+            agree_twice(alloc, &prepared, cut, &mut tally.signs)
         }
     }
 }
 
-/// Compares the next piece of a shape.
-fn try_piece(
-    rt: &impl Abort,
-    alloc: Global,
-    random: &mut Random,
-    shape: Shape,
-    tally: &mut Tally,
-) -> Result<(), Fail> {
-    let piece = piece_of(alloc, random, shape)?;
-    let cut = cut_of(alloc, random)?;
-    try_read(rt, alloc, &piece, cut.as_slice(), tally)
-}
-
-/// Compares the next piece of each shape.
-fn try_shapes(
-    rt: &impl Abort,
-    alloc: Global,
-    random: &mut Random,
-    tally: &mut Tally,
-) -> Result<(), Fail> {
-    for shape in [Shape::Plain, Shape::Nodes, Shape::Bases, Shape::Array] {
-        try_piece(rt, alloc, random, shape, tally)?;
+fn try_all(rt: &impl Abort, alloc: Global, tally: &mut Tally) -> Result<(), Fail> {
+    for (cut, source, fin) in PROBLEMS {
+        let after = Cut::parse(alloc, cut)?;
+        let same = agree_read(alloc, source, fin, after.numbers(), tally)?;
+        assert!(rt; same, "above {cut}: {source} {fin}");
     }
     Ok(())
 }
 
 /// Whether there are entries of each kind.
-fn tells_enough(rt: &impl Abort, signs: &str) {
-    assert!(rt; count_of(signs, b'+') >= 100);
-    assert!(rt; count_of(signs, b'-') >= 100);
-    assert!(rt; count_of(signs, b'?') >= 5);
+fn tells_enough(signs: &str) -> bool {
+    count_of(signs, b'+') >= 100 && count_of(signs, b'-') >= 100 && count_of(signs, b'?') >= 5
 }
 
 #[test]
 fn random_problems(rt: HostRuntime) -> Result<(), Fail> {
-    let alloc = rt.alloc();
-    let mut random = Random::new(2002);
     let mut tally = Tally {
         compared: 0,
         refused: 0,
-        signs: String::new(alloc),
+        signs: String::new(rt.alloc()),
     };
-    for _ in 0..20 {
-        try_shapes(&rt, alloc, &mut random, &mut tally)?;
-    }
-    assert_eq!(rt; (tally.compared, tally.refused), (63, 17));
-    tells_enough(&rt, tally.signs.as_str());
+    try_all(&rt, rt.alloc(), &mut tally)?;
+    assert!(rt; tally.compared == 63 && tally.refused == 17);
+    assert!(rt; tells_enough(tally.signs.as_str()));
     Ok(())
 }

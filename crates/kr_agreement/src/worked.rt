@@ -45,7 +45,7 @@ enum Trial {
 /// Whether search and plain listing find these entries.
 fn finds(rt: &impl Abort, alloc: Global, prepared: &Prepared, wanted: &str) -> Result<(), Fail> {
     let text = agreed(alloc, prepared)?;
-    assert_eq!(rt; text.as_str(), wanted);
+    assert!(rt; text.as_str() == wanted);
     Ok(())
 }
 

@@ -217,10 +217,10 @@ fn runs_twice<R: Runner>(
     requires { IsVector (R.space kept.old) (R.vector kept.old) }
 {
     let ordered = ran_alike(alloc, kept, prepared, numbers)?;
-    assert_eq!(rt; ordered, count);
+    assert!(rt; ordered == count);
     shuffle(random, numbers);
     let shuffled = ran_alike(alloc, kept, prepared, numbers)?;
-    assert_eq!(rt; shuffled, count);
+    assert!(rt; shuffled == count);
     Ok(())
 }
 
@@ -248,10 +248,10 @@ fn judge_all(
     count: u32,
 ) -> Result<(), Fail> {
     let ordered = agreements(alloc, prepared, numbers)?;
-    assert_eq!(rt; ordered, count);
+    assert!(rt; ordered == count);
     ran_twice(rt, alloc, random, prepared, numbers, count)?;
     let shuffled = agreements(alloc, prepared, numbers)?;
-    assert_eq!(rt; shuffled, count);
+    assert!(rt; shuffled == count);
     Ok(())
 }
 
@@ -262,7 +262,7 @@ pub(crate) fn judge_problem(
     prepared: &Prepared,
     count: u32,
 ) -> Result<(), Fail> {
-    assert_eq!(rt; count_of(layout_of(prepared)), count);
+    assert!(rt; count_of(layout_of(prepared)) == count);
     let mut numbers = numbers_of(alloc, count)?;
     let mut random = Random::new(2009);
     judge_all(

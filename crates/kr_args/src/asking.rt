@@ -2,14 +2,14 @@
 ghost use Rattle.std.specs.Prelude.{◌≡◌, ◌≢◌, Some, None, MatchResult, string_bytes};
 ghost use Rattle.clap.specs.Words.{kind_of, subcommand_rows_of, found_of, rows_of, first_of, all_of};
 ghost use Rattle.clap.specs.declared.error.ErrorKind.TheVariants.{OutOfMemory};
-ghost use Rattle.kr_args.specs.Reading.{text_in, texts_in, files_in, list_in, check_in, demo_in, demo_with, named_in, task_in, task_of, files_of, command_of};
+ghost use Rattle.kr_args.specs.Reading.{text_in, texts_in, files_in, range_in, list_in, check_in, demo_in, demo_with, named_in, task_in, task_of, files_of, command_of};
 
 use crate::definition::whole_definition;
 use crate::forms::{ArgRefusal, Ask, Command};
 use crate::values::{read_files, read_from, read_limit, read_number, read_to};
 use clap::error::ErrorKind;
 use clap::{ArgMatches, Error};
-use kr_base::Words;
+use kr_base::{Bound, Cut, Words};
 use std::alloc::Global;
 
 /// The first value of an argument.
@@ -33,20 +33,36 @@ fn read_sources(alloc: Global, matches: &ArgMatches<'_>) -> Result<(String, Word
     read_files(alloc, text_of(matches, "fin"), texts_of(matches, "source"))
 }
 
+/// What is listed of all entries.
+#[derive(Drop)]
+struct Range {
+    from: Cut,
+    to: Bound,
+    limit: u32,
+}
+
+fn read_range(alloc: Global, matches: &ArgMatches<'_>) -> Result<Range, ArgRefusal>
+    ensures { let wanted = range_in (rows_of (found_of matches.now)) in
+        MatchResult result (λ range. wanted ≡ Some (record { from = range.from; to = range.to; limit = range.limit })) (λ e. e ≡ ArgRefusal.Usage → wanted ≡ None) }
+{
+    let from = read_from(alloc, text_of(matches, "from"))?;
+    let to = read_to(alloc, text_of(matches, "to"))?;
+    let limit = read_limit(text_of(matches, "limit"))?;
+    Ok(Range { from, to, limit })
+}
+
 fn read_list(alloc: Global, matches: &ArgMatches<'_>) -> Result<Command, ArgRefusal>
     ensures { let wanted = list_in (rows_of (found_of matches.now)) in
         MatchResult result (λ command. wanted ≡ Some (task_of command)) (λ e. e ≡ ArgRefusal.Usage → wanted ≡ None) }
 {
     let (fin, sources) = read_sources(alloc, matches)?;
-    let from = read_from(alloc, text_of(matches, "from"))?;
-    let to = read_to(alloc, text_of(matches, "to"))?;
-    let limit = read_limit(text_of(matches, "limit"))?;
+    let range = read_range(alloc, matches)?;
     Ok(Command::List(Ask {
         fin,
         sources,
-        from,
-        to,
-        limit,
+        from: range.from,
+        to: range.to,
+        limit: range.limit,
     }))
 }
 

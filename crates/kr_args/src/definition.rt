@@ -86,15 +86,28 @@ fn with_command<'a>(
     above.subcommand(command)
 }
 
+/// The tool with its first command.
+fn with_list<'a>(alloc: Global) -> Result<Definition<'a>, AllocError>
+    ensures { IfOk result (λ c. app_of c ≡ with_subcommand bare_app list_app.top) }
+{
+    let list = list_definition(alloc)?;
+    with_command(bare_definition(alloc), list)
+}
+
+/// The tool with its first two commands.
+fn with_check<'a>(alloc: Global) -> Result<Definition<'a>, AllocError>
+    ensures { IfOk result (λ c. app_of c ≡ with_subcommand (with_subcommand bare_app list_app.top) check_app.top) }
+{
+    let korat = with_list(alloc)?;
+    let check = check_definition(alloc)?;
+    with_command(korat, check)
+}
+
 /// The tool with all its commands.
 pub(crate) fn whole_definition<'a>(alloc: Global) -> Result<Definition<'a>, AllocError>
     ensures { IfOk result (λ c. app_of c ≡ korat_app) }
 {
-    let list = list_definition(alloc)?;
-    let check = check_definition(alloc)?;
+    let korat = with_check(alloc)?;
     let demo = demo_definition(alloc)?;
-    let korat = bare_definition(alloc);
-    let korat = with_command(korat, list)?;
-    let korat = with_command(korat, check)?;
     with_command(korat, demo)
 }

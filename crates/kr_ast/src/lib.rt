@@ -6,8 +6,6 @@ mod files;
 mod forest;
 mod node;
 mod parts;
-#[cfg(test)]
-mod tests;
 mod tree;
 
 pub use files::{NodeAt, tree_of};

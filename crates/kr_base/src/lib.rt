@@ -21,6 +21,3 @@ pub use place::Place;
 pub use sink::{Failed, Sink, put_all};
 pub use span::{Bound, Span};
 pub use words::Words;
-
-#[cfg(test)]
-mod tests;

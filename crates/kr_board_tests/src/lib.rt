@@ -7,3 +7,5 @@ mod board;
 mod machine;
 #[cfg(test)]
 mod survey;
+#[cfg(test)]
+mod texts;

@@ -2,18 +2,24 @@
 // writes them, cuts as numbers joined by dots, `.` for the empty cut; a segment as its number, owner or `-`, after, mark,
 // upto, rows and tried; behind `|` the next number, what was tried in segments that are gone, the end and its flag.
 
+use crate::texts::{push_bound, push_cut, push_number, push_numbers, push_owner};
 use kr_base::{Bound, Cut, Span};
 use kr_core::{Core, CoreRefusal, Event, Lease, Reply, Segment, counting_law, kept_law};
 use std::alloc::Global;
 use std::process::Abort;
 use std::test::Fail;
 
+fn push_parts(numbers: &mut Vec<u32>, text: &str) -> Result<(), Fail> {
+    for number in text.split('.') {
+        numbers.push(number.parse::<u32>()?)?;
+    }
+    Ok(())
+}
+
 fn cut_of(alloc: Global, text: &str) -> Result<Cut, Fail> {
     let mut numbers = Vec::new(alloc);
     if text != "." {
-        for number in text.split('.') {
-            numbers.push(number.parse::<u32>()?)?;
-        }
+        push_parts(&mut numbers, text)?;
     }
     Ok(Cut::new(numbers))
 }
@@ -26,101 +32,108 @@ fn bound_of(alloc: Global, text: &str) -> Result<Bound, Fail> {
     }
 }
 
-fn report_of(alloc: Global, words: &[&str]) -> Result<Event, Fail> {
+/// A word of a line; the empty one where there is none.
+fn word(line: &str, at: usize) -> &str {
+    let mut place: usize = 0;
+    for piece in line.split(' ') {
+        if place == at {
+            return piece;
+        }
+        place = place.saturating_add(1);
+    }
+    ""
+}
+
+/// A word of a line as a number; 0 where it is none.
+fn number(line: &str, at: usize) -> u64 {
+    match word(line, at).parse::<u64>() {
+        Ok(number) => number,
+        Err(_) => 0,
+    }
+}
+
+/// The second word of a line as a seat.
+fn seat(line: &str) -> u32 {
+    match word(line, 1).parse::<u32>() {
+        Ok(seat) => seat,
+        Err(_) => 0,
+    }
+}
+
+fn report_of(alloc: Global, line: &str) -> Result<Event, Fail> {
+    let reach = bound_of(alloc, word(line, 3))?;
     Ok(Event::Report {
-        seat: word(words, 1).parse::<u32>()?,
-        segment: word(words, 2).parse::<u64>()?,
-        reach: bound_of(alloc, word(words, 3))?,
-        rows: word(words, 4).parse::<u64>()?,
-        tried: word(words, 5).parse::<u64>()?,
-        spent: words.len() == 7,
+        seat: seat(line),
+        segment: number(line, 2),
+        reach,
+        rows: number(line, 4),
+        tried: number(line, 5),
+        spent: word(line, 6) == "spent",
     })
 }
 
-fn steal_of(alloc: Global, words: &[&str]) -> Result<Event, Fail> {
+fn steal_of(alloc: Global, line: &str) -> Result<Event, Fail> {
+    let cut = cut_of(alloc, word(line, 3))?;
     Ok(Event::Steal {
-        seat: word(words, 1).parse::<u32>()?,
-        victim: word(words, 2).parse::<u64>()?,
-        cut: cut_of(alloc, word(words, 3))?,
-        segment: word(words, 4).parse::<u64>()?,
+        seat: seat(line),
+        victim: number(line, 2),
+        cut,
+        segment: number(line, 4),
     })
 }
 
-fn word<'a>(words: &[&'a str], at: usize) -> &'a str {
-    match words.get(at) {
-        Some(word) => *word,
-        None => "",
+fn stop_of(alloc: Global, line: &str) -> Result<Event, Fail> {
+    let mark = cut_of(alloc, word(line, 1))?;
+    Ok(Event::StopAt { mark })
+}
+
+/// An event that speaks of no cut.
+fn plain_of(kind: &str, line: &str) -> Event {
+    let seat = seat(line);
+    let segment = number(line, 2);
+    if kind == "drain" {
+        Event::Drain {
+            rows: number(line, 1),
+        }
+    } else if kind == "look" {
+        Event::Look { seat }
+    } else if kind == "take" {
+        Event::Take { seat, segment }
+    } else {
+        Event::GiveUp { seat, segment }
     }
 }
 
 fn event_of(alloc: Global, line: &str) -> Result<Event, Fail> {
-    let mut words = Vec::new(alloc);
-    for piece in line.split(' ') {
-        words.push(piece)?;
-    }
-    let words = words.as_slice();
-    let kind = word(words, 0);
+    let kind = word(line, 0);
     if kind == "report" {
-        return report_of(alloc, words);
-    }
-    if kind == "steal" {
-        return steal_of(alloc, words);
-    }
-    if kind == "stop" {
-        return Ok(Event::StopAt {
-            mark: cut_of(alloc, word(words, 1))?,
-        });
-    }
-    if kind == "drain" {
-        return Ok(Event::Drain {
-            rows: word(words, 1).parse::<u64>()?,
-        });
-    }
-    let seat = word(words, 1).parse::<u32>()?;
-    if kind == "look" {
-        return Ok(Event::Look { seat });
-    }
-    let segment = word(words, 2).parse::<u64>()?;
-    if kind == "take" {
-        Ok(Event::Take { seat, segment })
+        report_of(alloc, line)
+    } else if kind == "steal" {
+        steal_of(alloc, line)
+    } else if kind == "stop" {
+        stop_of(alloc, line)
     } else {
-        Ok(Event::GiveUp { seat, segment })
+        Ok(plain_of(kind, line))
     }
 }
 
-fn cut_text(alloc: Global, cut: &Cut) -> Result<String, Fail> {
-    let mut text = String::new(alloc);
-    for number in cut.numbers() {
-        if text.is_empty() {
-            text = format!(in alloc; "{number}")?;
-        } else {
-            text = format!(in alloc; "{text}.{number}")?;
-        }
-    }
-    if text.is_empty() {
-        text = String::from_str(alloc, ".")?;
-    }
-    Ok(text)
-}
-
-fn bound_text(alloc: Global, bound: &Bound) -> Result<String, Fail> {
-    match bound {
-        Bound::At(cut) => cut_text(alloc, cut),
-        Bound::End => Ok(String::from_str(alloc, "end")?),
-    }
-}
-
-fn event_text(alloc: Global, event: &Event) -> Result<String, Fail> {
+fn push_event(alloc: Global, text: &mut String, event: &Event) -> Result<(), Fail> {
     match event {
-        Event::Take { seat, segment } => Ok(format!(in alloc; "take {seat} {segment}")?),
+        Event::Take { seat, segment } => {
+            text.push_str("take")?;
+            push_numbers(alloc, text, &[u64::from(*seat), *segment])
+        }
         Event::Steal {
             seat,
             victim,
             cut,
             segment,
         } => {
-            let cut = cut_text(alloc, cut)?;
-            Ok(format!(in alloc; "steal {seat} {victim} {cut} {segment}")?)
+            text.push_str("steal")?;
+            push_numbers(alloc, text, &[u64::from(*seat), *victim])?;
+            text.push(' ')?;
+            push_cut(alloc, text, cut)?;
+            push_numbers(alloc, text, &[*segment])
         }
         Event::Report {
             seat,
@@ -130,66 +143,114 @@ fn event_text(alloc: Global, event: &Event) -> Result<String, Fail> {
             tried,
             spent,
         } => {
-            let reach = bound_text(alloc, reach)?;
-            let flag = if *spent { " spent" } else { "" };
-            Ok(format!(in alloc; "report {seat} {segment} {reach} {rows} {tried}{flag}")?)
+            text.push_str("report")?;
+            push_numbers(alloc, text, &[u64::from(*seat), *segment])?;
+            text.push(' ')?;
+            push_bound(alloc, text, reach)?;
+            push_numbers(alloc, text, &[*rows, *tried])?;
+            Ok(text.push_str(if *spent { " spent" } else { "" })?)
         }
-        Event::GiveUp { seat, segment } => Ok(format!(in alloc; "giveup {seat} {segment}")?),
-        Event::Drain { rows } => Ok(format!(in alloc; "drain {rows}")?),
+        Event::GiveUp { seat, segment } => {
+            text.push_str("giveup")?;
+            push_numbers(alloc, text, &[u64::from(*seat), *segment])
+        }
+        Event::Drain { rows } => {
+            text.push_str("drain")?;
+            push_numbers(alloc, text, &[*rows])
+        }
         Event::StopAt { mark } => {
-            let mark = cut_text(alloc, mark)?;
-            Ok(format!(in alloc; "stop {mark}")?)
+            text.push_str("stop ")?;
+            push_cut(alloc, text, mark)
         }
-        Event::Look { seat } => Ok(format!(in alloc; "look {seat}")?),
+        Event::Look { seat } => {
+            text.push_str("look")?;
+            push_numbers(alloc, text, &[u64::from(*seat)])
+        }
     }
 }
 
-fn lease_text(alloc: Global, kind: &str, lease: &Lease) -> Result<String, Fail> {
-    let mark = cut_text(alloc, &lease.mark)?;
-    let upto = bound_text(alloc, &lease.upto)?;
-    let seat = lease.seat;
-    let segment = lease.segment;
-    Ok(format!(in alloc; "{kind} {seat} {segment} {mark} {upto}")?)
+/// Whether an event is that of a line.
+fn is_event(alloc: Global, event: &Event, line: &str) -> Result<bool, Fail> {
+    let mut text = String::new(alloc);
+    push_event(alloc, &mut text, event)?;
+    Ok(text.as_str() == line)
 }
 
-fn reply_text(alloc: Global, reply: &Reply) -> Result<String, Fail> {
+fn push_lease(alloc: Global, text: &mut String, kind: &str, lease: &Lease) -> Result<(), Fail> {
+    text.push_str(kind)?;
+    push_numbers(alloc, text, &[u64::from(lease.seat), lease.segment])?;
+    text.push(' ')?;
+    push_cut(alloc, text, &lease.mark)?;
+    text.push(' ')?;
+    push_bound(alloc, text, &lease.upto)
+}
+
+fn push_reply(alloc: Global, text: &mut String, reply: &Reply) -> Result<(), Fail> {
     match reply {
-        Reply::Lease(lease) => lease_text(alloc, "lease", lease),
-        Reply::Go(lease) => lease_text(alloc, "go", lease),
-        Reply::Done => Ok(String::from_str(alloc, "done")?),
-        Reply::Noted => Ok(String::from_str(alloc, "noted")?),
+        Reply::Lease(lease) => push_lease(alloc, text, "lease", lease),
+        Reply::Go(lease) => push_lease(alloc, text, "go", lease),
+        Reply::Done => Ok(text.push_str("done")?),
+        Reply::Noted => Ok(text.push_str("noted")?),
     }
 }
 
-fn segment_text(alloc: Global, segment: &Segment) -> Result<String, Fail> {
-    let after = bound_text(alloc, &segment.after)?;
-    let mark = bound_text(alloc, &segment.mark)?;
-    let upto = bound_text(alloc, &segment.upto)?;
-    let owner = match segment.owner {
-        Some(seat) => format!(in alloc; "{seat}")?,
-        None => String::from_str(alloc, "-")?,
-    };
-    let number = segment.number;
-    let rows = segment.rows;
-    let tried = segment.tried;
-    Ok(format!(in alloc; "{number} {owner} {after} {mark} {upto} {rows} {tried}")?)
+fn push_segment(alloc: Global, text: &mut String, segment: &Segment) -> Result<(), Fail> {
+    push_number(alloc, text, segment.number)?;
+    push_owner(alloc, text, segment.owner)?;
+    push_bound(alloc, text, &segment.after)?;
+    text.push(' ')?;
+    push_bound(alloc, text, &segment.mark)?;
+    text.push(' ')?;
+    push_bound(alloc, text, &segment.upto)?;
+    push_numbers(alloc, text, &[segment.rows, segment.tried])
+}
+
+fn push_segments(alloc: Global, text: &mut String, segments: &[Segment]) -> Result<(), Fail> {
+    let mut is_first = true;
+    for segment in segments {
+        if !is_first {
+            text.push_str("; ")?;
+        }
+        push_segment(alloc, text, segment)?;
+        is_first = false;
+    }
+    Ok(())
+}
+
+fn push_state(alloc: Global, text: &mut String, core: &Core) -> Result<(), Fail> {
+    push_segments(alloc, text, core.segments())?;
+    text.push_str(" |")?;
+    push_numbers(alloc, text, &[core.next(), core.past()])?;
+    text.push(' ')?;
+    push_bound(alloc, text, core.end())?;
+    text.push_str(if core.is_spent() { " spent" } else { "" })?;
+    Ok(())
 }
 
 fn state_text(alloc: Global, core: &Core) -> Result<String, Fail> {
     let mut text = String::new(alloc);
-    for segment in core.segments() {
-        let segment = segment_text(alloc, segment)?;
-        if text.is_empty() {
-            text = segment;
-        } else {
-            text = format!(in alloc; "{text}; {segment}")?;
-        }
+    push_state(alloc, &mut text, core)?;
+    Ok(text)
+}
+
+fn span_of(alloc: Global, after: &str, upto: &str) -> Result<Span, Fail> {
+    let after = cut_of(alloc, after)?;
+    let upto = bound_of(alloc, upto)?;
+    Ok(Span { after, upto })
+}
+
+fn push_cuts(alloc: Global, all: &mut Vec<Cut>, cuts: &[&str]) -> Result<(), Fail> {
+    for cut in cuts {
+        let cut = cut_of(alloc, cut)?;
+        all.push(cut)?;
     }
-    let next = core.next();
-    let past = core.past();
-    let end = bound_text(alloc, core.end())?;
-    let flag = if core.is_spent() { " spent" } else { "" };
-    Ok(format!(in alloc; "{text} | {next} {past} {end}{flag}")?)
+    Ok(())
+}
+
+fn cuts_of(alloc: Global, cuts: &[&str]) -> Result<Vec<Cut>, Fail> {
+    let mut all = Vec::new(alloc);
+    push_cuts(alloc, &mut all, cuts)?;
+    Ok(all)
 }
 
 fn opened(
@@ -199,47 +260,92 @@ fn opened(
     upto: &str,
     cuts: &[&str],
 ) -> Result<Core, Fail> {
-    let span = Span {
-        after: cut_of(alloc, after)?,
-        upto: bound_of(alloc, upto)?,
-    };
-    let mut all = Vec::new(alloc);
-    for cut in cuts {
-        all.push(cut_of(alloc, cut)?)?;
-    }
+    let span = span_of(alloc, after, upto)?;
+    let all = cuts_of(alloc, cuts)?;
     let cuts = all.as_slice();
     assert!(rt; Core::can_open(&span, cuts));
     Ok(Core::open(alloc, &span, cuts)?)
 }
 
-// Takes the events one after another; an empty state stands for the one before.
+/// Whether a span with cuts opens in this state.
+fn opens(
+    rt: &impl Abort,
+    alloc: Global,
+    after: &str,
+    upto: &str,
+    cuts: &[&str],
+    state: &str,
+) -> Result<bool, Fail> {
+    let core = opened(rt, alloc, after, upto, cuts)?;
+    let text = state_text(alloc, &core)?;
+    Ok(text.as_str() == state)
+}
+
+/// Whether a span doesn't open with these cuts.
+fn refuses(alloc: Global, after: &str, upto: &str, cuts: &[&str]) -> Result<bool, Fail> {
+    let span = span_of(alloc, after, upto)?;
+    let all = cuts_of(alloc, cuts)?;
+    Ok(!Core::can_open(&span, all.as_slice()))
+}
+
+/// Takes the event of a line and appends the reply: `illegal`, where the event came back as it was.
+fn push_answer(
+    alloc: Global,
+    text: &mut String,
+    core: &mut Core,
+    event: Event,
+    line: &str,
+) -> Result<(), Fail> {
+    match core.apply(event) {
+        Ok(reply) => push_reply(alloc, text, &reply),
+        Err(CoreRefusal::Illegal(event)) => {
+            let same = is_event(alloc, &event, line)?;
+            Ok(text.push_str(if same { "illegal" } else { "another event" })?)
+        }
+        Err(CoreRefusal::NoMemory) => Ok(text.push_str("no memory")?),
+    }
+}
+
+/// The reply to the event of a line, and whether the event was said to fit.
+fn answer(alloc: Global, core: &mut Core, line: &str) -> Result<(String, bool), Fail> {
+    let event = event_of(alloc, line)?;
+    let fits = core.fits(&event);
+    let mut text = String::new(alloc);
+    push_answer(alloc, &mut text, core, event, line)?;
+    Ok((text, fits))
+}
+
+// Takes an event, and compares its reply and the state then; an empty state stands for the one before.
+fn step(
+    rt: &impl Abort,
+    alloc: Global,
+    core: &mut Core,
+    row: &(&str, &str, &str),
+) -> Result<(), Fail> {
+    let (line, reply, state) = *row;
+    let before = state_text(alloc, core)?;
+    let (answer, fits) = answer(alloc, core, line)?;
+    assert!(rt; answer.as_str() == reply, "{answer} at {line}");
+    assert!(rt; fits == (reply != "illegal"), "at {line}");
+    let after = state_text(alloc, core)?;
+    let wanted = if state.is_empty() {
+        before.as_str()
+    } else {
+        state
+    };
+    assert!(rt; after.as_str() == wanted, "{after} after {line}");
+    Ok(())
+}
+
+// Takes the events one after another.
 fn run(
     rt: &impl Abort,
     alloc: Global,
     core: &mut Core,
     rows: &[(&str, &str, &str)],
 ) -> Result<(), Fail> {
-    for (line, reply, state) in rows {
-        let before = state_text(alloc, core)?;
-        let event = event_of(alloc, line)?;
-        let fits = core.fits(&event);
-        let answer = match core.apply(event) {
-            Ok(reply) => reply_text(alloc, &reply)?,
-            Err(CoreRefusal::Illegal(event)) => {
-                assert_eq!(rt; event_text(alloc, &event)?.as_str(), *line);
-                String::from_str(alloc, "illegal")?
-            }
-            Err(CoreRefusal::NoMemory) => String::from_str(alloc, "no memory")?,
-        };
-        assert_eq!(rt; answer.as_str(), *reply, "at {line}");
-        assert_eq!(rt; fits, *reply != "illegal", "at {line}");
-        let after = state_text(alloc, core)?;
-        let wanted = if state.is_empty() {
-            before.as_str()
-        } else {
-            *state
-        };
-        assert_eq!(rt; after.as_str(), wanted, "after {line}");
+    for row in rows {
+        step(rt, alloc, core, row)?;
     }
     Ok(())
 }
@@ -264,15 +370,16 @@ fn openings(rt: HostRuntime) -> Result<(), Fail> {
         ("2", "1", none, "0 - 2 2 2 0 0 | 1 0 2"),
         ("2", "2", none, "0 - 2 2 2 0 0 | 1 0 2"),
     ] {
-        let core = opened(&rt, rt.alloc(), after, upto, cuts)?;
-        assert_eq!(rt; state_text(rt.alloc(), &core)?.as_str(), state);
+        assert!(rt;
+            opens(&rt, rt.alloc(), after, upto, cuts, state)?,
+            "{state}"
+        );
     }
     Ok(())
 }
 
 #[test]
 fn refused_cuts(rt: HostRuntime) -> Result<(), Fail> {
-    let alloc = rt.alloc();
     for (after, upto, first, second) in [
         (".", "end", ".", "1"),
         ("1", "2", "1.5", "2"),
@@ -280,15 +387,8 @@ fn refused_cuts(rt: HostRuntime) -> Result<(), Fail> {
         ("1", "3", "2.5", "2"),
         ("3", "1", "2", "2.5"),
     ] {
-        let span = Span {
-            after: cut_of(alloc, after)?,
-            upto: bound_of(alloc, upto)?,
-        };
-        let mut cuts = Vec::new(alloc);
-        cuts.push(cut_of(alloc, first)?)?;
-        cuts.push(cut_of(alloc, second)?)?;
         assert!(rt;
-            !Core::can_open(&span, cuts.as_slice()),
+            refuses(rt.alloc(), after, upto, &[first, second])?,
             "at {first} and {second}"
         );
     }
@@ -507,25 +607,51 @@ fn a_span_with_nothing_in_it(rt: HostRuntime) -> Result<(), Fail> {
     )
 }
 
-#[test]
-fn what_segments_tell(rt: HostRuntime) -> Result<(), Fail> {
-    let alloc = rt.alloc();
-    let mut core = opened(&rt, alloc, ".", "end", &["1", "2"])?;
-    for line in ["take 5 0", "report 5 0 1 0 1", "take 6 1"] {
-        let answer = core.apply(event_of(alloc, line)?);
+// Takes events that are legal.
+fn apply_all(rt: &impl Abort, alloc: Global, core: &mut Core, lines: &[&str]) -> Result<(), Fail> {
+    for line in lines {
+        let event = event_of(alloc, line)?;
+        let answer = core.apply(event);
         assert!(rt; answer.is_ok(), "at {line}");
     }
-    let mut told = String::new(alloc);
-    for segment in core.segments() {
-        let remainder = segment.has_remainder();
-        let owned = segment.is_owned();
-        let by_six = segment.is_owned_by(6);
-        let closed = segment.is_closed();
-        told = format!(in alloc; "{told}{remainder} {owned} {by_six} {closed}; ")?;
+    Ok(())
+}
+
+// Whether a segment has a remainder, is owned, is owned by 6, is closed.
+fn tells(segment: &Segment, wanted: [bool; 4]) -> bool {
+    segment.has_remainder() == wanted[0]
+        && segment.is_owned() == wanted[1]
+        && segment.is_owned_by(6) == wanted[2]
+        && segment.is_closed() == wanted[3]
+}
+
+fn all_tell(segments: &[Segment], wanted: &[[bool; 4]]) -> bool {
+    for at in 0..segments.len() {
+        match (segments.get(at), wanted.get(at)) {
+            (Some(segment), Some(wanted)) => {
+                if !tells(segment, *wanted) {
+                    return false;
+                }
+            }
+            _ => return false,
+        }
     }
-    assert_eq!(rt;
-        told.as_str(),
-        "false false false true; true true true false; true false false false; "
+    segments.len() == wanted.len()
+}
+
+#[test]
+fn what_segments_tell(rt: HostRuntime) -> Result<(), Fail> {
+    let mut core = opened(&rt, rt.alloc(), ".", "end", &["1", "2"])?;
+    let lines = ["take 5 0", "report 5 0 1 0 1", "take 6 1"];
+    apply_all(&rt, rt.alloc(), &mut core, &lines)?;
+    let told = all_tell(
+        core.segments(),
+        &[
+            [false, false, false, true],
+            [true, true, true, false],
+            [true, false, false, false],
+        ],
     );
+    assert!(rt; told);
     Ok(())
 }

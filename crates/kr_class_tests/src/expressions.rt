@@ -40,7 +40,7 @@ fn value_note(number: u32) -> Note
 fn broken(note: Note) -> u32 {
     match note.least {
         None => 0,
-        Some(fault) => fault.rule,
+        Some(fault) => fault.rule.number(),
     }
 }
 

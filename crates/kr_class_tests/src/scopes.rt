@@ -39,18 +39,31 @@ fn has_local(tree: &Tree, scopes: &Scopes, node: u32) -> bool
     }
 }
 
+/// The declared type where a node stands, if there is one.
+fn declared_at(scopes: &Scopes, node: u32) -> Option<u32> {
+    if (node as usize) < scopes.within.len() {
+        scopes.at(node).declared
+    } else {
+        None
+    }
+}
+
+/// Whether no local is in scope where a node stands.
+fn has_no_locals(scopes: &Scopes, node: u32) -> bool {
+    (node as usize) < scopes.within.len() && scopes.at(node).top == 0
+}
+
 /// Whether a node is one of these three, with the scope that it should have: the declared type, where `x` isn't in scope yet; the
 /// declarator, which has that type; the initial value, where it is.
 fn is_scoped(tree: &Tree, scopes: &Scopes, node: u32) -> bool
     requires scopes { AreScopes tree.now scopes.now.bindings.items scopes.now.within.items }
     requires within { node < length tree.now.entries }
-    requires long { node < length scopes.now.within.items }
 {
     match tree.entry(node).node {
         Node::PrimitiveType {
             primitive: Primitive::Int,
         } => scopes.local(tree, node, b"x").is_none(),
-        Node::Declarator { .. } => is_int(tree, scopes.at(node).declared),
+        Node::Declarator { .. } => is_int(tree, declared_at(scopes, node)),
         Node::Variable { .. } => has_local(tree, scopes, node),
         _ => false,
     }
@@ -72,7 +85,7 @@ fn scoped_nodes(tree: &Tree, scopes: &Scopes) -> u32
 /// The three nodes have their scopes, and nothing is in scope at the last node, the whole tree.
 fn scopes_fit(alloc: Global, tree: &Tree) -> Result<bool, NoMemory> {
     let scopes = Scopes::of(alloc, tree)?;
-    Ok(scoped_nodes(tree, &scopes) == 3 && scopes.at(tree.nodes() - 1).top == 0)
+    Ok(scoped_nodes(tree, &scopes) == 3 && has_no_locals(&scopes, tree.nodes().saturating_sub(1)))
 }
 
 #[test]

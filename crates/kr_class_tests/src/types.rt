@@ -2,6 +2,7 @@
 ghost use Rattle.kr_types.specs.Programs.{IsProgram};
 ghost use Rattle.std.specs.Prelude.{◌≡◌, length};
 
+use kr_ast::tree_of;
 use kr_base::{NoMemory, Place};
 use kr_sources::program_of;
 use kr_types::Program;
@@ -21,8 +22,9 @@ fn ints_at_value(program: &Program) -> u32
 {
     let int = program.table.types.int();
     let mut count: u32 = 0;
-    for node in 0..program.trees[0].nodes() {
-        if program.trees[0].entry(node).place == column(19) {
+    let tree = tree_of(&program.trees, 0);
+    for node in 0..tree.nodes() {
+        if tree.entry(node).place == column(19) {
             if program.type_of(0, node) != Some(int) {
                 return 0;
             }

@@ -3,7 +3,7 @@ ghost use Rattle.std.specs.Prelude.{◌≡◌, ◌<◌, length};
 ghost use Rattle.kr_ast.specs.Files.{file_at};
 ghost use Rattle.kr_types.specs.Programs.{IsProgram};
 
-use kr_ast::Tree;
+use kr_ast::{Tree, tree_of};
 use kr_base::{NoMemory, Place};
 use kr_pure::{Touch, runs_of, touch_of};
 use kr_sources::program_of;
@@ -41,7 +41,7 @@ fn effects(alloc: Global, program: &Program) -> Result<u32, NoMemory>
     requires program { IsProgram program.now }
     requires alone { length program.now.trees.items ≡ 1 }
 {
-    let tree = &program.trees[0];
+    let tree = tree_of(&program.trees, 0);
     let mut count: u32 = 0;
     for node in 0..tree.nodes() {
         if is_creation(tree, node) && is_effect(alloc, program, node)? {

@@ -11,6 +11,3 @@ pub use laws::set_law;
 pub use list::ListObj;
 pub use search::has_member;
 pub use set::SetObj;
-
-#[cfg(test)]
-mod tests;

@@ -5,6 +5,3 @@
 mod texts;
 
 pub use texts::{demo_finitization, demo_source};
-
-#[cfg(test)]
-mod tests;

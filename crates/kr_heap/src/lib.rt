@@ -9,6 +9,3 @@ mod object;
 pub use heap::Heap;
 pub use lists::{append, refill};
 pub use members::Members;
-
-#[cfg(test)]
-mod tests;

@@ -16,6 +16,3 @@ pub use kr_base::{Failed, Sink};
 pub use memory::{MemFile, MemFiles};
 pub use output::StdSink;
 pub use sinks::{MemSink, SafeSink};
-
-#[cfg(test)]
-mod tests;

@@ -59,33 +59,59 @@ fn is_bound_copied(bound: &Bound) -> Result<bool, Fail> {
     Ok(!copy.is_below(bound) && !bound.is_below(&copy))
 }
 
+/// Whether a cut is copied, as a bound too, and gives its numbers back.
+fn is_kept(cut: Cut, numbers: &[u32]) -> Result<bool, Fail> {
+    let copied = is_copied(&cut)? && cut.numbers() == numbers;
+    let bound = Bound::At(cut);
+    let bound_copied = is_bound_copied(&bound)?;
+    Ok(copied && bound_copied)
+}
+
+/// Whether a cut gives its numbers back.
+fn gives_back(cut: Cut, numbers: &[u32]) -> bool {
+    cut.into_numbers().as_slice() == numbers
+}
+
 #[test]
 fn copies(rt: HostRuntime) -> Result<(), Fail> {
-    let cut = cut_of(rt.alloc(), &[0, 2, 1])?;
-    assert!(rt; is_copied(&cut)?);
-    assert_eq!(rt; cut.numbers(), [0, 2, 1].as_slice());
-    let bound = Bound::At(cut);
-    assert!(rt; is_bound_copied(&bound)?);
-    if let Bound::At(cut) = bound {
-        assert_eq!(rt; cut.into_numbers().as_slice(), [0, 2, 1].as_slice());
+    for numbers in [[0, 2, 1], [0, 0, 4_294_967_295]] {
+        let cut = cut_of(rt.alloc(), &numbers)?;
+        assert!(rt; is_kept(cut, &numbers)?);
+        let cut = cut_of(rt.alloc(), &numbers)?;
+        assert!(rt; gives_back(cut, &numbers));
     }
     assert!(rt; Cut::empty(rt.alloc()).numbers().is_empty());
     Ok(())
 }
 
-#[test]
-fn words(rt: HostRuntime) -> Result<(), Fail> {
-    let mut words = Words::new(rt.alloc());
-    assert!(rt; words.is_empty());
+/// Adds three words.
+fn push_words(words: &mut Words) -> Result<bool, Fail> {
+    let was_empty = words.is_empty();
     for word in ["list", "", "Kühe.java"] {
         words.push(word)?;
     }
-    assert!(rt; !words.is_empty());
-    assert_eq!(rt; words.len(), 3);
-    assert_eq!(rt; words.get(0), "list");
-    assert_eq!(rt; words.get(1), "");
-    assert_eq!(rt; words.get(2), "Kühe.java");
-    assert_eq!(rt; words.texts().len(), 3);
+    Ok(was_empty)
+}
+
+/// Whether these are the three words.
+fn are_words(words: &Words) -> bool {
+    !words.is_empty()
+        && words.len() == 3
+        && words.get(0) == "list"
+        && words.get(1) == ""
+        && words.get(2) == "Kühe.java"
+        && words.texts().len() == 3
+}
+
+fn holds_words(alloc: Global) -> Result<bool, Fail> {
+    let mut words = Words::new(alloc);
+    let was_empty = push_words(&mut words)?;
+    Ok(was_empty && are_words(&words))
+}
+
+#[test]
+fn words(rt: HostRuntime) -> Result<(), Fail> {
+    assert!(rt; holds_words(rt.alloc())?);
     Ok(())
 }
 
@@ -95,6 +121,12 @@ fn parsed(alloc: Global, text: &str) -> Result<String, Fail> {
         Ok(cut) => format!(in alloc; "{:?}", cut.numbers())?,
         Err(refusal) => format!(in alloc; "{refusal:?}")?,
     })
+}
+
+/// Whether the reading of a text answers so.
+fn answers(alloc: Global, text: &str, answer: &str) -> Result<bool, Fail> {
+    let read = parsed(alloc, text)?;
+    Ok(read.as_str() == answer)
 }
 
 #[test]
@@ -118,19 +150,25 @@ fn parsing(rt: HostRuntime) -> Result<(), Fail> {
         ("1.é", "Malformed(2)"),
     ];
     for (text, answer) in rows {
-        let read = parsed(rt.alloc(), text)?;
-        assert_eq!(rt; read.as_str(), answer, "{text}");
+        assert!(rt; answers(rt.alloc(), text, answer)?, "{text}");
     }
     Ok(())
 }
 
-/// Zeros joined by dots, and what stands behind them.
-fn zeros(alloc: Global, count: u32, end: &str) -> Result<String, Fail> {
-    let mut text = String::from_str(alloc, "0")?;
+/// Appends zeros joined by dots, and what stands behind them.
+fn push_zeros(text: &mut String, count: u32, end: &str) -> Result<(), Fail> {
+    text.push('0')?;
     for _ in 1..count {
         text.push_str(".0")?;
     }
     text.push_str(end)?;
+    Ok(())
+}
+
+/// The same as a text.
+fn zeros(alloc: Global, count: u32, end: &str) -> Result<String, Fail> {
+    let mut text = String::new(alloc);
+    push_zeros(&mut text, count, end)?;
     Ok(text)
 }
 
@@ -142,17 +180,26 @@ fn count_of(alloc: Global, text: &str) -> usize {
     }
 }
 
+/// Whether the reading of so many zeros answers so.
+fn zeros_answer(alloc: Global, count: u32, end: &str, answer: &str) -> Result<bool, Fail> {
+    let text = zeros(alloc, count, end)?;
+    answers(alloc, text.as_str(), answer)
+}
+
+/// Whether so many zeros are a cut.
+fn are_cut(alloc: Global, count: u32) -> Result<bool, Fail> {
+    let text = zeros(alloc, count, "")?;
+    Ok(count_of(alloc, text.as_str()) == count as usize)
+}
+
 #[test]
 fn long_cuts(rt: HostRuntime) -> Result<(), Fail> {
-    let longest = zeros(rt.alloc(), 4_096, "")?;
-    assert_eq!(rt; count_of(rt.alloc(), longest.as_str()), 4_096);
+    assert!(rt; are_cut(rt.alloc(), 4_096)?);
     for (count, end, answer) in [
         (4_097, "", "TooLong(4097)"),
         (5_000, ".", "Malformed(10000)"),
     ] {
-        let text = zeros(rt.alloc(), count, end)?;
-        let refused = parsed(rt.alloc(), text.as_str())?;
-        assert_eq!(rt; refused.as_str(), answer);
+        assert!(rt; zeros_answer(rt.alloc(), count, end, answer)?, "{count}");
     }
     Ok(())
 }
@@ -177,6 +224,20 @@ fn inside(alloc: Global, mark: &Cut, bound: &Bound) -> Result<String, Fail> {
     shown(alloc, cut)
 }
 
+/// Whether the cut inside a mark and a bound is this one.
+fn is_inside(alloc: Global, mark: &str, bound: &str, answer: &str) -> Result<bool, Fail> {
+    let cut = Cut::parse(alloc, mark)?;
+    let end = bound_of(alloc, bound);
+    let shown = inside(alloc, &cut, &end)?;
+    Ok(shown.as_str() == answer)
+}
+
+/// Whether there is none inside the empty cut and the end.
+fn has_no_inside(mark: &Cut) -> Result<bool, Fail> {
+    let cut = mark.inside(&Bound::End)?;
+    Ok(cut.is_none())
+}
+
 #[test]
 fn insides(rt: HostRuntime) -> Result<(), Fail> {
     let rows = [
@@ -191,11 +252,12 @@ fn insides(rt: HostRuntime) -> Result<(), Fail> {
         ("5", "3", "None"),
     ];
     for (mark, bound, answer) in rows {
-        let cut = Cut::parse(rt.alloc(), mark)?;
-        let end = bound_of(rt.alloc(), bound);
-        let shown = inside(rt.alloc(), &cut, &end)?;
-        assert_eq!(rt; shown.as_str(), answer, "{mark} {bound}");
+        assert!(rt;
+            is_inside(rt.alloc(), mark, bound, answer)?,
+            "{mark} {bound}"
+        );
     }
-    assert!(rt; Cut::empty(rt.alloc()).inside(&Bound::End)?.is_none());
+    let empty = Cut::empty(rt.alloc());
+    assert!(rt; has_no_inside(&empty)?);
     Ok(())
 }

@@ -11,19 +11,26 @@ use std::test::Fail;
 use std::{fs, io};
 
 fn file_of(alloc: Global, name: &str, text: &str) -> Result<MemFile, Fail> {
-    Ok(MemFile {
-        name: String::from_str(alloc, name)?,
-        bytes: Vec::from_slice(alloc, text.as_bytes())?,
-    })
+    let name = String::from_str(alloc, name)?;
+    let bytes = Vec::from_slice(alloc, text.as_bytes())?;
+    Ok(MemFile { name, bytes })
 }
 
-/// Two files of one name, the second read of which fails.
-fn files_of(alloc: Global) -> Result<MemFiles, Fail> {
-    let mut held = Vec::new(alloc);
+/// Adds files, two of them of one name.
+fn push_files(alloc: Global, held: &mut Vec<MemFile>) -> Result<(), Fail> {
     for (name, text) in [("a", "first"), ("b", ""), ("a", "second")] {
-        held.push(file_of(alloc, name, text)?)?;
+        let file = file_of(alloc, name, text)?;
+        held.push(file)?;
     }
-    Ok(MemFiles::new(alloc, held, Vec::from_slice(alloc, &[2])?))
+    Ok(())
+}
+
+/// These files, the second read of which fails.
+fn files_of(alloc: Global) -> Result<MemFiles, Fail> {
+    let failing = Vec::from_slice(alloc, &[2])?;
+    let mut held = Vec::new(alloc);
+    push_files(alloc, &mut held)?;
+    Ok(MemFiles::new(alloc, held, failing))
 }
 
 /// Whether a read answers this text, or fails where there is none.
@@ -60,6 +67,14 @@ fn takes(out: &mut MemSink, text: &[u8], is_whole: bool) -> bool {
     put.is_ok() == is_whole && out.bytes() == text
 }
 
+/// An output of this room, at whose puts of these numbers it fails.
+fn sink_of(alloc: Global, capacity: usize, step: usize, failing: &[u32]) -> Result<MemSink, Fail>
+    requires { 0 < step }
+{
+    let failing = Vec::from_slice(alloc, failing)?;
+    Ok(MemSink::new(alloc, capacity, step, failing)?)
+}
+
 #[test]
 fn sinks_in_memory(rt: HostRuntime) -> Result<(), Fail> {
     let alloc = rt.alloc();
@@ -73,12 +88,19 @@ fn sinks_in_memory(rt: HostRuntime) -> Result<(), Fail> {
     ];
     for (capacity, step, failing, text, is_whole) in rows {
         assert!(rt; step > 0);
-        let failing = Vec::from_slice(alloc, failing)?;
-        let mut out = MemSink::new(alloc, capacity, step, failing)?;
+        let mut out = sink_of(alloc, capacity, step, failing)?;
         assert!(rt; takes(&mut out, text.as_bytes(), is_whole), "{text}");
     }
     assert_eq!(rt; SafeSink.put(b"0.10.2"), Ok(6));
     Ok(())
+}
+
+/// Whether a cut is written so.
+fn is_written(alloc: Global, numbers: &[u32], text: &[u8]) -> Result<bool, Fail> {
+    let cut = Cut::new(Vec::from_slice(alloc, numbers)?);
+    let mut out = sink_of(alloc, 20, 3, &[])?;
+    let written = cut.write(&mut out).is_ok();
+    Ok(written && out.bytes() == text)
 }
 
 #[test]
@@ -91,10 +113,7 @@ fn cuts(rt: HostRuntime) -> Result<(), Fail> {
         (&[4_294_967_295, 10], "4294967295.10"),
     ];
     for (numbers, text) in rows {
-        let cut = Cut::new(Vec::from_slice(alloc, numbers)?);
-        let mut out = MemSink::new(alloc, 20, 3, Vec::new(alloc))?;
-        cut.write(&mut out)?;
-        assert_eq!(rt; out.bytes(), text.as_bytes());
+        assert!(rt; is_written(alloc, numbers, text.as_bytes())?, "{text}");
     }
     Ok(())
 }

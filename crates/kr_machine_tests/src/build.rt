@@ -1,9 +1,14 @@
 // A candidate of two nodes and an array, worked by hand.
-ghost use Rattle.std.specs.Prelude.{◌≡◌, IfOk};
+ghost use Rattle.std.specs.Prelude.{◌≡◌, ◌<◌, ◌^◌, IfOk, length};
+ghost use Rattle.kr_mean.specs.Problem.{slots};
+ghost use Rattle.kr_mean.specs.Space.{IsVector, space_of};
+ghost use Rattle.kr_mean.specs.WellFormed.{IsWellFormed};
+ghost use Rattle.kr_problem.specs.Bounds.{bare};
 ghost use Rattle.kr_machine_tests.specs.TwoNodes.{arrays as array_domain, from_second, nodes as node_domain, two_nodes};
 
 use kr_build::{Walk, build};
 use kr_fin::Listed;
+use kr_heap::Heap;
 use kr_mean::Mode;
 use kr_problem::{ClassDomain, Item, Layout, Spotted};
 use kr_value::{Class, Spot, Value};
@@ -100,24 +105,29 @@ fn candidate(alloc: Global) -> Result<Vector, Fail>
     Ok(vector)
 }
 
-#[test]
-fn walks(rt: HostRuntime) -> Result<(), Fail> {
-    let layout = layout(rt.alloc())?;
-    let vector = candidate(rt.alloc())?;
-    let mut walk = Walk::new(rt.alloc());
-    walk.walk(&layout, &vector)?;
-    assert_eq!(rt; walk.slots(), [0, 3, 4, 1, 2, 5, 6].as_slice());
-    walk.walk(&layout, &vector)?;
-    assert_eq!(rt; walk.slots(), [0, 3, 4, 1, 2, 5, 6].as_slice());
-    Ok(())
+/// Whether a walk, made twice, meets the slots in this order.
+fn walks_alike(walk: &mut Walk, layout: &Layout, vector: &Vector) -> Result<bool, Fail>
+    requires well { IsWellFormed (bare layout.now) }
+    requires vector { IsVector (space_of (bare layout.now)) vector.now }
+    requires small { length (slots (bare layout.now)) < 2 ^ 31 }
+{
+    walk.walk(layout, vector)?;
+    let first = walk.slots() == [0, 3, 4, 1, 2, 5, 6].as_slice();
+    walk.walk(layout, vector)?;
+    Ok(first && walk.slots() == [0, 3, 4, 1, 2, 5, 6].as_slice())
 }
 
 #[test]
-fn builds(rt: HostRuntime) -> Result<(), Fail> {
-    let layout = layout(rt.alloc())?;
+fn walks(rt: HostRuntime) -> Result<(), Fail> {
     let vector = candidate(rt.alloc())?;
-    let heap = build(rt.alloc(), &layout, &vector)?;
-    assert_eq!(rt; heap.len(), 3);
+    let layout = layout(rt.alloc())?;
+    let mut walk = Walk::new(rt.alloc());
+    assert!(rt; walks_alike(&mut walk, &layout, &vector)?);
+    Ok(())
+}
+
+/// Whether the nodes and the array are there, with what their fields and elements have.
+fn are_nodes(heap: &Heap) -> bool {
     for (object, spot, value) in [
         (0, Spot::Field(0), Some(Value::Null)),
         (0, Spot::Field(1), Some(Value::Ref(2))),
@@ -128,9 +138,18 @@ fn builds(rt: HostRuntime) -> Result<(), Fail> {
         (2, Spot::Element(0), Some(Value::Int(7))),
         (2, Spot::Element(1), None),
     ] {
-        assert!(rt; heap.read(object, spot) == value);
+        if heap.read(object, spot) != value {
+            return false;
+        }
     }
-    assert!(rt; heap.class_of(1) == Class::Object(0));
-    assert!(rt; heap.class_of(2) == Class::Array(0));
+    heap.len() == 3 && heap.class_of(1) == Class::Object(0) && heap.class_of(2) == Class::Array(0)
+}
+
+#[test]
+fn builds(rt: HostRuntime) -> Result<(), Fail> {
+    let vector = candidate(rt.alloc())?;
+    let layout = layout(rt.alloc())?;
+    let heap = build(rt.alloc(), &layout, &vector)?;
+    assert!(rt; are_nodes(&heap));
     Ok(())
 }

@@ -14,6 +14,7 @@
 //         boolean valid() { return repOk(); }
 //     }
 
+use crate::codes::{NONE, Parts, code_of, push_row};
 use kr_ast::BinaryOperator;
 use kr_base::NoMemory;
 use kr_code::{
@@ -25,9 +26,8 @@ use kr_heap::Heap;
 use kr_mean::Kind;
 use kr_value::{Class, Spot, Value};
 use std::alloc::Global;
+use std::process::Abort;
 use std::test::Fail;
-
-const NONE: Nodes = Nodes { first: 0, count: 0 };
 
 const MINUS: Method = Method {
     number: 0,
@@ -72,17 +72,15 @@ const ABSENT: Method = Method {
 /// Code as it is written, node by node.
 #[derive(Drop)]
 struct Writer {
-    nodes: Vec<Node>,
-    links: Vec<u32>,
-    methods: Vec<MethodCode>,
+    parts: Parts,
 }
 
 impl Writer {
     fn node(&mut self, node: Node) -> Result<u32, NoMemory> {
-        let Ok(number) = u32::try_from(self.nodes.len()) else {
+        let Ok(number) = u32::try_from(self.parts.nodes.len()) else {
             return Err(NoMemory);
         };
-        self.nodes.push(node)?;
+        self.parts.nodes.push(node)?;
         Ok(number)
     }
 
@@ -107,12 +105,14 @@ impl Writer {
     }
 
     fn list(&mut self, nodes: &[u32]) -> Result<Nodes, NoMemory> {
-        let (Ok(first), Ok(count)) = (u32::try_from(self.links.len()), u32::try_from(nodes.len()))
-        else {
+        let (Ok(first), Ok(count)) = (
+            u32::try_from(self.parts.links.len()),
+            u32::try_from(nodes.len()),
+        ) else {
             return Err(NoMemory);
         };
         for node in nodes {
-            self.links.push(*node)?;
+            self.parts.links.push(*node)?;
         }
         Ok(Nodes { first, count })
     }
@@ -127,7 +127,7 @@ impl Writer {
 
     fn method(&mut self, parameters: u32, is_void: bool, body: &[u32]) -> Result<(), NoMemory> {
         let listed = self.list(body)?;
-        self.methods.push(MethodCode {
+        self.parts.methods.push(MethodCode {
             parameters,
             is_void,
             body: listed,
@@ -237,78 +237,88 @@ fn write_deep(writer: &mut Writer) -> Result<(), NoMemory> {
     writer.returning(0, valid)
 }
 
-/// Each method's own number is what objects of the class run.
-fn dispatch(alloc: Global) -> Result<Vec<Vec<Option<u32>>>, NoMemory> {
-    let mut rows = Vec::new(alloc);
+/// The class, the place of its field, and what its objects run: the method of that number itself.
+fn write_class(alloc: Global, parts: &mut Parts) -> Result<(), NoMemory> {
+    let Ok(class) = u32::try_from(parts.links.len()) else {
+        return Err(NoMemory);
+    };
+    parts.links.push(0)?;
+    parts.values.push(Value::Int(0))?;
+    parts.classes.push(ClassCode {
+        defaults: Nodes { first: 0, count: 1 },
+        line: Nodes {
+            first: class,
+            count: 1,
+        },
+        initialisers: NONE,
+        constructor: None,
+    })?;
+    push_row(alloc, &mut parts.positions, &[])?;
+    push_row(alloc, &mut parts.positions, &[Some(0)])?;
+    push_row(alloc, &mut parts.spots, &[Some(0)])?;
     for number in 0..8u32 {
-        rows.push(vec![in alloc; Some(number)]?)?;
+        push_row(alloc, &mut parts.dispatch, &[Some(number)])?;
     }
-    Ok(rows)
+    Ok(())
+}
+
+fn write_all(alloc: Global, writer: &mut Writer) -> Result<(), NoMemory> {
+    write_arithmetic(writer)?;
+    write_copy(writer)?;
+    write_fill(writer)?;
+    write_deep(writer)?;
+    write_class(alloc, &mut writer.parts)
 }
 
 fn code(alloc: Global) -> Result<Code, NoMemory> {
     let mut writer = Writer {
-        nodes: Vec::new(alloc),
-        links: Vec::new(alloc),
-        methods: Vec::new(alloc),
+        parts: Parts::new(alloc),
     };
-    write_arithmetic(&mut writer)?;
-    write_copy(&mut writer)?;
-    write_fill(&mut writer)?;
-    write_deep(&mut writer)?;
-    let Ok(class) = u32::try_from(writer.links.len()) else {
-        return Err(NoMemory);
-    };
-    writer.links.push(0)?;
-    if writer.links.len() > 1000 {
-        return Err(NoMemory);
-    }
-    Ok(Code {
-        nodes: writer.nodes,
-        links: writer.links,
-        values: vec![in alloc; Value::Int(0)]?,
-        methods: writer.methods,
-        classes: vec![in alloc;
-            ClassCode {
-                defaults: Nodes { first: 0, count: 1 },
-                line: Nodes {
-                    first: class,
-                    count: 1,
-                },
-                initialisers: NONE,
-                constructor: None,
-            },
-        ]?,
-        positions: vec![in alloc; Vec::new(alloc), vec![in alloc; Some(0)]?]?,
-        spots: vec![in alloc; vec![in alloc; Some(0)]?]?,
-        dispatch: dispatch(alloc)?,
-        instances: Vec::new(alloc),
-        array_instances: Vec::new(alloc),
-    })
+    write_all(alloc, &mut writer)?;
+    code_of(alloc, writer.parts)
 }
 
-/// A cell whose field is 3, an empty list and an empty set.
-fn heap(alloc: Global) -> Result<Heap, NoMemory> {
-    let mut heap = Heap::new(alloc);
-    let _ = heap.allocate(Class::Object(0), vec![in alloc; Value::Int(3)]?)?;
+/// Adds a cell whose field is 3, an empty list and an empty set.
+fn push_objects(alloc: Global, heap: &mut Heap) -> Result<(), NoMemory> {
+    let fields = vec![in alloc; Value::Int(3)]?;
+    let _ = heap.allocate(Class::Object(0), fields)?;
     let _ = heap.allocate(Class::List, Vec::new(alloc))?;
     let _ = heap.allocate(Class::Set, Vec::new(alloc))?;
+    Ok(())
+}
+
+fn heap(alloc: Global) -> Result<Heap, NoMemory> {
+    let mut heap = Heap::new(alloc);
+    push_objects(alloc, &mut heap)?;
     Ok(heap)
 }
 
 fn executed(
     alloc: Global,
+    code: &Code,
     method: Method,
     values: &[Value],
     fuel: u64,
 ) -> Result<Executed, NoMemory> {
-    let code = code(alloc)?;
-    execute(alloc, &code, heap(alloc)?, method, values, fuel)
+    let heap = heap(alloc)?;
+    execute(alloc, code, heap, method, values, fuel)
 }
 
-#[test]
-fn values_and_ends(rt: HostRuntime) -> Result<(), Fail> {
-    let alloc = rt.alloc();
+/// Whether a run ends so, with so much fuel left.
+fn ends(
+    alloc: Global,
+    code: &Code,
+    method: Method,
+    values: &[Value],
+    fuel: u64,
+    end: Ending,
+    left: u64,
+) -> Result<bool, NoMemory> {
+    let run = executed(alloc, code, method, values, fuel)?;
+    Ok(run.end == end && run.left == left)
+}
+
+fn run_all(rt: &impl Abort, alloc: Global, code: &Code) -> Result<(), Fail> {
     let cell = Value::Ref(0);
     let seven = [Value::Int(7), Value::Int(3)];
     let zero = [Value::Int(0), Value::Int(0)];
@@ -351,55 +361,96 @@ fn values_and_ends(rt: HostRuntime) -> Result<(), Fail> {
         (COPY, &receiver[..0], 10, Ending::Stuck, 10),
         (ABSENT, &seven[..0], 10, Ending::Stuck, 10),
     ] {
-        let run = executed(alloc, method, values, fuel)?;
-        assert!(rt; run.end == end);
-        assert_eq!(rt; run.left, left);
+        assert!(rt;
+            ends(alloc, code, method, values, fuel, end, left)?,
+            "{fuel}"
+        );
     }
     Ok(())
 }
 
 #[test]
-fn heaps(rt: HostRuntime) -> Result<(), Fail> {
-    let alloc = rt.alloc();
-    let set = executed(alloc, SET, &[Value::Ref(0), Value::Int(5)], 10)?;
-    assert!(rt; set.heap.read(0, Spot::Field(0)) == Some(Value::Int(5)));
-    assert_eq!(rt; set.heap.len(), 3);
-    let copy = executed(alloc, COPY, &[Value::Ref(0)], 10)?;
-    assert_eq!(rt; copy.heap.len(), 4);
-    assert!(rt; copy.heap.class_of(3) == Class::Object(0));
-    assert!(rt; copy.heap.read(3, Spot::Field(0)) == Some(Value::Int(3)));
+fn values_and_ends(rt: HostRuntime) -> Result<(), Fail> {
+    let code = code(rt.alloc())?;
+    run_all(&rt, rt.alloc(), &code)
+}
+
+/// Whether `set` writes the cell's field, and makes no object.
+fn sets(alloc: Global, code: &Code) -> Result<bool, NoMemory> {
+    let set = executed(alloc, code, SET, &[Value::Ref(0), Value::Int(5)], 10)?;
+    Ok(set.heap.read(0, Spot::Field(0)) == Some(Value::Int(5)) && set.heap.len() == 3)
+}
+
+/// Whether `copy` makes a cell, with this end and this number in its field.
+fn copies(
+    alloc: Global,
+    code: &Code,
+    fuel: u64,
+    end: Ending,
+    number: i32,
+) -> Result<bool, NoMemory> {
+    let copy = executed(alloc, code, COPY, &[Value::Ref(0)], fuel)?;
+    Ok(
+        copy.end == end
+            && copy.heap.len() == 4
+            && copy.heap.class_of(3) == Class::Object(0)
+            && copy.heap.read(3, Spot::Field(0)) == Some(Value::Int(number)),
+    )
+}
+
+fn make_all(rt: &impl Abort, alloc: Global, code: &Code) -> Result<(), Fail> {
+    assert!(rt; sets(alloc, code)?);
+    let made = Ending::Value(Value::Ref(3));
+    assert!(rt; copies(alloc, code, 10, made, 3)?);
     // spent before the field of the new object is written
-    let half = executed(alloc, COPY, &[Value::Ref(0)], 5)?;
-    assert!(rt; half.end == Ending::Spent);
-    assert!(rt; half.heap.read(3, Spot::Field(0)) == Some(Value::Int(0)));
+    assert!(rt; copies(alloc, code, 5, Ending::Spent, 0)?);
     Ok(())
+}
+
+#[test]
+fn heaps(rt: HostRuntime) -> Result<(), Fail> {
+    let code = code(rt.alloc())?;
+    make_all(&rt, rt.alloc(), &code)
+}
+
+/// Whether list and set are filled.
+fn fills(alloc: Global, code: &Code) -> Result<bool, NoMemory> {
+    let values = [Value::Ref(1), Value::Ref(2), Value::Ref(0)];
+    let run = executed(alloc, code, FILL, &values, 100)?;
+    Ok(
+        run.end == Ending::Value(Value::Int(21))
+            && run.left == 76
+            && run.heap.size_of(1) == 2
+            && run.heap.size_of(2) == 1,
+    )
 }
 
 #[test]
 fn collections(rt: HostRuntime) -> Result<(), Fail> {
-    let alloc = rt.alloc();
-    let values = [Value::Ref(1), Value::Ref(2), Value::Ref(0)];
-    let run = executed(alloc, FILL, &values, 100)?;
-    assert!(rt; run.end == Ending::Value(Value::Int(21)));
-    assert_eq!(rt; run.left, 76);
-    assert_eq!(rt; run.heap.size_of(1), 2);
-    assert_eq!(rt; run.heap.size_of(2), 1);
+    let code = code(rt.alloc())?;
+    let filled = fills(rt.alloc(), &code)?;
+    assert!(rt; filled);
     Ok(())
 }
 
 // `f` costs 6 and 9 for each call below it, `repOk` 5 more, `valid` 2 more.
-#[test]
-fn deep_calls(rt: HostRuntime) -> Result<(), Fail> {
-    let alloc = rt.alloc();
+fn call_deep(rt: &impl Abort, alloc: Global, code: &Code) -> Result<(), Fail> {
     let receiver = [Value::Ref(0)];
     for (fuel, end, left) in [
         (900_013, Ending::Value(Value::Bool(true)), 0),
         (900_012, Ending::Spent, 0),
         (1_000_000_000, Ending::Value(Value::Bool(true)), 999_099_987),
     ] {
-        let run = executed(alloc, VALID, &receiver, fuel)?;
-        assert!(rt; run.end == end);
-        assert_eq!(rt; run.left, left);
+        assert!(rt;
+            ends(alloc, code, VALID, &receiver, fuel, end, left)?,
+            "{fuel}"
+        );
     }
     Ok(())
+}
+
+#[test]
+fn deep_calls(rt: HostRuntime) -> Result<(), Fail> {
+    let code = code(rt.alloc())?;
+    call_deep(&rt, rt.alloc(), &code)
 }

@@ -2,7 +2,9 @@
 ghost use Rattle.std.specs.Prelude.{◌≡◌, ◌<◌, ◌∷◌, [], IfOk};
 ghost use Rattle.kr_machine_tests.specs.OneCell.{cells as cell_domain, one_cell};
 
+use crate::codes::{NONE, Parts, code_of, push_row};
 use kr_ast::BinaryOperator;
+use kr_base::NoMemory;
 use kr_code::{Code, Expression, MethodCode, Node, Nodes, Statement};
 use kr_fin::Listed;
 use kr_judge::{Judge, Judgement, Predicate};
@@ -13,54 +15,55 @@ use kr_value::{Class, Spot, Value};
 use kr_vector::{Slot, Vector};
 use std::alloc::Global;
 use std::marker::Brand;
+use std::process::Abort;
 use std::sync::ledger::{Blank, Ledger};
 use std::test::Fail;
 
-const NONE: Nodes = Nodes { first: 0, count: 0 };
-
-// The name of the number 1 is `v`, the method of the number 0 is `repOk`.
-fn predicate(alloc: Global) -> Result<Predicate, Fail> {
-    let nothing = Vec::new(alloc);
-    let first = vec![in alloc; Some(0)]?;
-    let nodes = vec![in alloc;
+/// `return v > 0;` and the call `this.repOk()`.
+fn push_nodes(nodes: &mut Vec<Node>) -> Result<(), NoMemory> {
+    nodes.extend_from_slice(&[
         Node::Expression(Expression::OwnField(1)),
         Node::Expression(Expression::Literal(Value::Int(0))),
         Node::Expression(Expression::Binary {
             operator: BinaryOperator::Greater,
             left: 0,
-            right: 1
+            right: 1,
         }),
         Node::Statement(Statement::Return(2)),
         Node::Expression(Expression::This),
         Node::Expression(Expression::CallOn {
             object: 4,
             method: 0,
-            arguments: NONE
+            arguments: NONE,
         }),
-    ]?;
-    let methods = vec![in alloc;
-        MethodCode {
-            parameters: 0,
-            is_void: false,
-            body: Nodes { first: 0, count: 1 }
-        },
-    ]?;
-    let code = Code {
-        nodes,
-        links: vec![in alloc; 3]?,
-        values: Vec::new(alloc),
-        methods,
-        classes: Vec::new(alloc),
-        positions: vec![in alloc; nothing, first]?,
-        spots: Vec::new(alloc),
-        dispatch: vec![in alloc; vec![in alloc; Some(0)]?]?,
-        instances: Vec::new(alloc),
-        array_instances: Vec::new(alloc),
-    };
-    Ok(Predicate {
-        code,
-        conditions: vec![in alloc; 5]?,
-    })
+    ])?;
+    Ok(())
+}
+
+/// The name of the number 1 is `v`, the method of the number 0 is `repOk`.
+fn push_all(alloc: Global, parts: &mut Parts) -> Result<(), NoMemory> {
+    push_nodes(&mut parts.nodes)?;
+    parts.links.push(3)?;
+    parts.methods.push(MethodCode {
+        parameters: 0,
+        is_void: false,
+        body: Nodes { first: 0, count: 1 },
+    })?;
+    push_row(alloc, &mut parts.positions, &[])?;
+    push_row(alloc, &mut parts.positions, &[Some(0)])?;
+    push_row(alloc, &mut parts.dispatch, &[Some(0)])
+}
+
+fn code(alloc: Global) -> Result<Code, NoMemory> {
+    let mut parts = Parts::new(alloc);
+    push_all(alloc, &mut parts)?;
+    code_of(alloc, parts)
+}
+
+fn predicate(alloc: Global) -> Result<Predicate, NoMemory> {
+    let conditions = vec![in alloc; 5]?;
+    let code = code(alloc)?;
+    Ok(Predicate { code, conditions })
 }
 
 fn cells(alloc: Global) -> Result<ClassDomain, Fail>
@@ -84,8 +87,6 @@ fn layout(alloc: Global, fuel: u64) -> Result<Layout, Fail>
 {
     let mut items = Listed::new(alloc);
     items.push(Item::Integers(0, 2))?;
-    let mut domains = Listed::new(alloc);
-    domains.push(items)?;
     let mut classes = Listed::new(alloc);
     classes.push(cells(alloc)?)?;
     let parameters = Listed::new(alloc);
@@ -96,7 +97,7 @@ fn layout(alloc: Global, fuel: u64) -> Result<Layout, Fail>
         fuel,
         parameters,
         classes,
-        domains.as_slice(),
+        [items].as_slice(),
     )?;
     Ok(layout)
 }
@@ -112,6 +113,7 @@ fn candidate(alloc: Global, value: u32) -> Result<Vector, Fail>
 fn judged<L: Ledger>(
     blank: Blank,
     alloc: Global,
+    predicate: &Predicate,
     fuel: u64,
     value: u32,
 ) -> Result<(Judgement, Judge), Fail>
@@ -120,19 +122,31 @@ fn judged<L: Ledger>(
     requires some { 0 < L.parts }
     requires value { value < 3 }
 {
-    let layout = layout(alloc, fuel)?;
-    let predicate = predicate(alloc)?;
     let vector = candidate(alloc, value)?;
+    let layout = layout(alloc, fuel)?;
     let mut runs = Steps::<L>::start(blank);
     let mut judge = Judge::new(alloc);
-    let end = judge.judge(&layout, &predicate, &vector, &mut runs)?;
+    let end = judge.judge(&layout, predicate, &vector, &mut runs)?;
     Ok((end, judge))
 }
 
+/// Whether a run ends so, and reads so many of the two slots.
+fn ends(
+    alloc: Global,
+    predicate: &Predicate,
+    fuel: u64,
+    value: u32,
+    wanted: Judgement,
+    order: &[u32],
+) -> Result<bool, Fail>
+    requires { value < 3 }
+{
+    let (end, judge) = judged::<Brand>(Blank::new(1), alloc, predicate, fuel, value)?;
+    Ok(end == wanted && judge.order() == order)
+}
+
 // A run of this predicate takes six units: the call, `this`, `return`, `>`, `v` and `0`.
-#[test]
-fn one_field(rt: HostRuntime) -> Result<(), Fail> {
-    let alloc = rt.alloc();
+fn judge_all(rt: &impl Abort, alloc: Global, predicate: &Predicate) -> Result<(), Fail> {
     for (fuel, value, wanted, length) in [
         (1000, 0, Judgement::False, 2),
         (1000, 1, Judgement::True, 2),
@@ -140,9 +154,17 @@ fn one_field(rt: HostRuntime) -> Result<(), Fail> {
         (5, 2, Judgement::Spent, 2),
         (4, 2, Judgement::Spent, 1),
     ] {
-        let (end, judge) = judged::<Brand>(Blank::new(1), alloc, fuel, value)?;
-        assert!(rt; end == wanted);
-        assert!(rt; judge.order() == &[0, 1][..length]);
+        let order = &[0, 1][..length];
+        assert!(rt;
+            ends(alloc, predicate, fuel, value, wanted, order)?,
+            "{fuel} {value}"
+        );
     }
     Ok(())
+}
+
+#[test]
+fn one_field(rt: HostRuntime) -> Result<(), Fail> {
+    let predicate = predicate(rt.alloc())?;
+    judge_all(&rt, rt.alloc(), &predicate)
 }

@@ -1,5 +1,6 @@
 // Small pieces of code, run by the machine.
 
+use crate::codes::{NONE, Parts, code_of, push_row};
 use kr_ast::{BinaryOperator, StepOperator};
 use kr_base::NoMemory;
 use kr_code::{
@@ -12,9 +13,8 @@ use kr_run::evaluate;
 use kr_value::{Class, Value};
 use kr_world::{End, Halt, Local, Reads, World};
 use std::alloc::Global;
+use std::process::Abort;
 use std::test::Fail;
-
-const NONE: Nodes = Nodes { first: 0, count: 0 };
 
 fn int(number: i32) -> Node {
     Node::Expression(Expression::Literal(Value::Int(number)))
@@ -25,8 +25,7 @@ fn local(number: u32) -> Node {
 }
 
 // boolean below(int n) { int k = 0; while (k < n) k++; return k == n; }  ·  a list's size() { return next == null ? 1 : 1 + next.size(); }
-fn nodes(alloc: Global) -> Result<Vec<Node>, NoMemory> {
-    let mut nodes = Vec::new(alloc);
+fn push_nodes(nodes: &mut Vec<Node>) -> Result<(), NoMemory> {
     for node in [
         int(0),
         Node::Declarator(Declarator {
@@ -106,43 +105,45 @@ fn nodes(alloc: Global) -> Result<Vec<Node>, NoMemory> {
     ] {
         nodes.push(node)?;
     }
-    Ok(nodes)
+    Ok(())
+}
+
+/// The methods and the class.
+fn push_declarations(parts: &mut Parts) -> Result<(), NoMemory> {
+    parts.links.extend_from_slice(&[1, 10, 7, 9, 11, 20, 0])?;
+    parts.values.push(Value::Null)?;
+    parts.methods.push(MethodCode {
+        parameters: 1,
+        is_void: false,
+        body: Nodes { first: 1, count: 3 },
+    })?;
+    parts.methods.push(MethodCode {
+        parameters: 0,
+        is_void: false,
+        body: Nodes { first: 5, count: 1 },
+    })?;
+    parts.classes.push(ClassCode {
+        defaults: Nodes { first: 0, count: 1 },
+        line: Nodes { first: 6, count: 1 },
+        initialisers: NONE,
+        constructor: None,
+    })?;
+    Ok(())
+}
+
+fn push_all(alloc: Global, parts: &mut Parts) -> Result<(), NoMemory> {
+    push_nodes(&mut parts.nodes)?;
+    push_declarations(parts)?;
+    push_row(alloc, &mut parts.positions, &[])?;
+    push_row(alloc, &mut parts.positions, &[Some(0)])?;
+    push_row(alloc, &mut parts.dispatch, &[])?;
+    push_row(alloc, &mut parts.dispatch, &[Some(1)])
 }
 
 fn code(alloc: Global) -> Result<Code, NoMemory> {
-    let row = vec![in alloc; Some(0)]?;
-    let second = vec![in alloc; Some(1)]?;
-    let nothing = Vec::new(alloc);
-    Ok(Code {
-        nodes: nodes(alloc)?,
-        links: vec![in alloc; 1, 10, 7, 9, 11, 20, 0]?,
-        values: vec![in alloc; Value::Null]?,
-        methods: vec![in alloc;
-            MethodCode {
-                parameters: 1,
-                is_void: false,
-                body: Nodes { first: 1, count: 3 }
-            },
-            MethodCode {
-                parameters: 0,
-                is_void: false,
-                body: Nodes { first: 5, count: 1 }
-            },
-        ]?,
-        classes: vec![in alloc;
-            ClassCode {
-                defaults: Nodes { first: 0, count: 1 },
-                line: Nodes { first: 6, count: 1 },
-                initialisers: NONE,
-                constructor: None,
-            },
-        ]?,
-        positions: vec![in alloc; nothing, row]?,
-        spots: Vec::new(alloc),
-        dispatch: vec![in alloc; Vec::new(alloc), second]?,
-        instances: Vec::new(alloc),
-        array_instances: Vec::new(alloc),
-    })
+    let mut parts = Parts::new(alloc);
+    push_all(alloc, &mut parts)?;
+    code_of(alloc, parts)
 }
 
 fn world(alloc: Global, this: Value, candidates: Heap, fuel: u64) -> World {
@@ -172,12 +173,9 @@ fn loops(rt: HostRuntime) -> Result<(), Fail> {
     Ok(())
 }
 
-#[test]
-fn deep_calls(rt: HostRuntime) -> Result<(), Fail> {
-    let alloc = rt.alloc();
-    let code = code(alloc)?;
-    let mut heap = Heap::new(alloc);
-    for number in 0..10000u32 {
+/// Adds objects, each with the one before it in its field.
+fn push_chain(alloc: Global, heap: &mut Heap, count: u32) -> Result<(), NoMemory> {
+    for number in 0..count {
         let next = if number == 0 {
             Value::Null
         } else {
@@ -186,6 +184,21 @@ fn deep_calls(rt: HostRuntime) -> Result<(), Fail> {
         let fields = vec![in alloc; next]?;
         let _ = heap.allocate(Class::Object(0), fields)?;
     }
+    Ok(())
+}
+
+/// A heap of so many such objects.
+fn chain(alloc: Global, count: u32) -> Result<Heap, NoMemory> {
+    let mut heap = Heap::new(alloc);
+    push_chain(alloc, &mut heap, count)?;
+    Ok(heap)
+}
+
+#[test]
+fn deep_calls(rt: HostRuntime) -> Result<(), Fail> {
+    let alloc = rt.alloc();
+    let heap = chain(alloc, 10000)?;
+    let code = code(alloc)?;
     let mut world = world(alloc, Value::Ref(9999), heap, 1000000);
     let said = evaluate(alloc, &code, &mut world, 21);
     assert!(rt; matches!(&said, Ok(Value::Int(10000))));
@@ -198,10 +211,8 @@ fn deep_calls(rt: HostRuntime) -> Result<(), Fail> {
 #[test]
 fn reads_and_traps(rt: HostRuntime) -> Result<(), Fail> {
     let alloc = rt.alloc();
+    let heap = chain(alloc, 1)?;
     let code = code(alloc)?;
-    let mut heap = Heap::new(alloc);
-    let fields = vec![in alloc; Value::Null]?;
-    let _ = heap.allocate(Class::Object(0), fields)?;
     let mut world = world(alloc, Value::Ref(0), heap, 100);
     let said = evaluate(alloc, &code, &mut world, 21);
     assert!(rt; matches!(&said, Ok(Value::Int(1))));
@@ -209,18 +220,12 @@ fn reads_and_traps(rt: HostRuntime) -> Result<(), Fail> {
     let made = evaluate(alloc, &code, &mut world, 23);
     assert!(rt; matches!(&made, Ok(Value::Ref(1))));
     let trapped = evaluate(alloc, &code, &mut world, 22);
-    assert!(rt;
-        matches!(
-            &trapped,
-            Err(Halt::Ended(End::Trapped(Kind::NullPointerException)))
-        )
-    );
+    assert!(rt; traps(&trapped, Kind::NullPointerException));
     Ok(())
 }
 
 // A list, a set, null, and calls on them: the locals are the list and the set.
-fn collection_nodes(alloc: Global) -> Result<Vec<Node>, NoMemory> {
-    let mut nodes = Vec::new(alloc);
+fn push_collection_nodes(nodes: &mut Vec<Node>) -> Result<(), NoMemory> {
     for node in [
         local(0),
         local(1),
@@ -238,7 +243,19 @@ fn collection_nodes(alloc: Global) -> Result<Vec<Node>, NoMemory> {
     ] {
         nodes.push(node)?;
     }
-    Ok(nodes)
+    Ok(())
+}
+
+fn push_collections(parts: &mut Parts) -> Result<(), NoMemory> {
+    push_collection_nodes(&mut parts.nodes)?;
+    parts.links.push(2)?;
+    Ok(())
+}
+
+fn collection_code(alloc: Global) -> Result<Code, NoMemory> {
+    let mut parts = Parts::new(alloc);
+    push_collections(&mut parts)?;
+    code_of(alloc, parts)
 }
 
 fn created(callee: Callee) -> Node {
@@ -264,13 +281,8 @@ fn traps(said: &Result<Value, Halt>, kind: Kind) -> bool {
     }
 }
 
-#[test]
-fn collections(rt: HostRuntime) -> Result<(), Fail> {
-    let alloc = rt.alloc();
-    let mut code = code(alloc)?;
-    code.nodes = collection_nodes(alloc)?;
-    code.links = vec![in alloc; 2]?;
-    let mut world = world(alloc, Value::Null, Heap::new(alloc), 1000);
+/// Evaluates the calls one after another; the first two values are the locals from then on.
+fn call_all(rt: &impl Abort, alloc: Global, code: &Code, world: &mut World) -> Result<(), Fail> {
     for (node, expected) in [
         (3, Value::Ref(0)),
         (4, Value::Ref(1)),
@@ -287,7 +299,7 @@ fn collections(rt: HostRuntime) -> Result<(), Fail> {
         (11, Value::Bool(true)),
         (8, Value::Bool(false)),
     ] {
-        let said = evaluate(alloc, &code, &mut world, node);
+        let said = evaluate(alloc, code, world, node);
         assert!(rt; matches!(&said, Ok(value) if *value == expected));
         if node < 5 {
             world.locals.push(Local {
@@ -296,9 +308,23 @@ fn collections(rt: HostRuntime) -> Result<(), Fail> {
             })?;
         }
     }
-    let empty = evaluate(alloc, &code, &mut world, 9);
+    Ok(())
+}
+
+/// Evaluates the calls that trap: of an empty list its first member, of null its size.
+fn trap_all(rt: &impl Abort, alloc: Global, code: &Code, world: &mut World) {
+    let empty = evaluate(alloc, code, world, 9);
     assert!(rt; traps(&empty, Kind::NoSuchElementException));
-    let null = evaluate(alloc, &code, &mut world, 12);
+    let null = evaluate(alloc, code, world, 12);
     assert!(rt; traps(&null, Kind::NullPointerException));
+}
+
+#[test]
+fn collections(rt: HostRuntime) -> Result<(), Fail> {
+    let alloc = rt.alloc();
+    let code = collection_code(alloc)?;
+    let mut world = world(alloc, Value::Null, Heap::new(alloc), 1000);
+    call_all(&rt, alloc, &code, &mut world)?;
+    trap_all(&rt, alloc, &code, &mut world);
     Ok(())
 }

@@ -6,8 +6,6 @@ mod constant;
 mod ints;
 mod laws;
 mod operators;
-#[cfg(test)]
-mod tests;
 
 pub use constant::Constant;
 pub use laws::worked_operators;

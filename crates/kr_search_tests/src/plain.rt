@@ -1,108 +1,38 @@
-// Two subclasses, worked by hand: a root with two fields, each in two objects of one class and two of another.
-ghost use Rattle.std.specs.Prelude.{◌≡◌, ◌<◌, [], ◌∷◌};
+// The plain listing of two subclasses, worked by hand.
+ghost use Rattle.std.specs.Prelude.{◌≡◌, ◌<◌};
 
-use kr_base::{Bound, Cut, Entry, NoMemory, Span};
-use kr_iso::{Object, Slots};
+use crate::bases::start;
+use kr_base::{Bound, Cut, Entry, Span};
 use kr_plain::{is_least, list_plain};
-use kr_step::{Ending, Next, Runner, Search};
+use kr_step::Runner;
 use kr_steps::Steps;
 use std::alloc::Global;
 use std::marker::Brand;
 use std::sync::ledger::{Blank, Ledger};
 use std::test::Fail;
 
-/// The candidate that stands, and the order of the last run.
-#[derive(Drop)]
-struct Bases {
-    indices: [u32; 3],
-    ran: [u32; 3],
-}
-
-impl Slots for Bases {
-    ghost use Rattle.kr_step.specs.Bases.{bases};
-
-    ghost space = { λ _. bases };
-
-    fn slots(&self) -> u32 {
-        3
-    }
-
-    fn size(&self, slot: u32) -> u32 {
-        if slot == 0 { 1 } else { 4 }
-    }
-
-    fn object_at(&self, slot: u32, index: u32) -> Option<Object> {
-        if slot == 0 {
-            return Some(Object {
-                domain: 0,
-                number: index,
-            });
+/// Whether the keys of entries are these.
+fn are_keys(entries: &[Entry<()>], keys: &[[u32; 3]]) -> bool {
+    for at in 0..entries.len() {
+        match (entries.get(at), keys.get(at)) {
+            (Some(entry), Some(key)) => {
+                if entry.key.numbers() != key.as_slice() {
+                    return false;
+                }
+            }
+            _ => return false,
         }
-        if index < 2 {
-            return Some(Object {
-                domain: 1,
-                number: index,
-            });
-        }
-        Some(Object {
-            domain: 2,
-            number: index - 2,
-        })
     }
+    entries.len() == keys.len()
 }
 
-impl Runner for Bases {
-    ghost use Rattle.kr_step.specs.Bases.{bases_order, bases_ending};
-
-    ghost order = { λ _. bases_order };
-
-    ghost ending = { λ _. bases_ending };
-
-    ghost vector = { λ s. s.indices };
-
-    ghost last = { λ s. s.ran };
-
-    fn set(&mut self, slot: u32, index: u32) {
-        self.indices[slot as usize] = index;
-    }
-
-    fn run(&mut self) -> Result<Ending, NoMemory> {
-        self.ran = [0, 1, 2];
-        Ok(Ending::Valid)
-    }
-
-    fn last_order(&self) -> &[u32] {
-        &self.ran
-    }
-
-    fn index(&self, slot: u32) -> u32 {
-        self.indices[slot as usize]
-    }
-
-    fn laws(&self) {}
-}
-
-fn start() -> Bases
-    ensures { result.indices ≡ 0 ∷ 0 ∷ 0 ∷ [] }
-{
-    Bases {
-        indices: [0; 3],
-        ran: [0; 3],
-    }
-}
-
-/// The keys that stand in a list of entries.
-fn keys_of(alloc: Global, entries: &[Entry<()>]) -> Result<String, Fail> {
-    let mut text = String::new(alloc);
-    for entry in entries {
-        let key = format!(in alloc; "{:?}", entry.key.numbers())?;
-        text.push_str(key.as_str())?;
-    }
-    Ok(text)
-}
-
-/// The keys of a span, by trying every candidate.
-fn plain_keys<L: Ledger>(alloc: Global, blank: Blank, span: &Span) -> Result<String, Fail>
+/// Whether the entries of a span, by trying every candidate, have these keys.
+fn has_keys<L: Ledger>(
+    alloc: Global,
+    blank: Blank,
+    span: &Span,
+    keys: &[[u32; 3]],
+) -> Result<bool, Fail>
     requires ledger { blank.name ≡ L.name }
     requires parts { blank.parts ≡ L.parts }
     requires some { 0 < L.parts }
@@ -110,28 +40,7 @@ fn plain_keys<L: Ledger>(alloc: Global, blank: Blank, span: &Span) -> Result<Str
     let mut runs = Steps::<L>::start(blank);
     let mut candidates = start();
     let entries = list_plain(alloc, &mut candidates, span, &mut runs)?;
-    keys_of(alloc, entries.as_slice())
-}
-
-/// All keys, by the search.
-fn searched_keys<L: Ledger>(alloc: Global, blank: Blank) -> Result<String, Fail>
-    requires ledger { blank.name ≡ L.name }
-    requires parts { blank.parts ≡ L.parts }
-    requires some { 0 < L.parts }
-{
-    let mut runs = Steps::<L>::start(blank);
-    let mut search = Search::seek(alloc, start(), &[], &mut runs)?;
-    let mut text = String::new(alloc);
-    for _ in 0..10 {
-        match search.next(&mut runs)? {
-            Next::Found(_) => {
-                let key = format!(in alloc; "{:?}", search.cut())?;
-                text.push_str(key.as_str())?;
-            }
-            Next::End => return Ok(text),
-        }
-    }
-    Ok(text)
+    Ok(are_keys(entries.as_slice(), keys))
 }
 
 /// Whether the first candidate is the least of its class, and whether it is with the second object of a class in a field.
@@ -148,27 +57,48 @@ fn judged<L: Ledger>(alloc: Global, blank: Blank) -> Result<(bool, bool), Fail>
     Ok((first, second))
 }
 
-#[test]
-fn two_subclasses(rt: HostRuntime) -> Result<(), Fail> {
-    let alloc = rt.alloc();
-    let whole = Span {
+fn cut_of(alloc: Global, numbers: &[u32]) -> Result<Cut, Fail> {
+    Ok(Cut::new(Vec::from_slice(alloc, numbers)?))
+}
+
+/// Whether the span between two cuts has these keys.
+fn has_keys_between(
+    alloc: Global,
+    after: &[u32],
+    upto: &[u32],
+    keys: &[[u32; 3]],
+) -> Result<bool, Fail> {
+    let after = cut_of(alloc, after)?;
+    let upto = Bound::At(cut_of(alloc, upto)?);
+    has_keys::<Brand>(alloc, Blank::new(1), &Span { after, upto }, keys)
+}
+
+/// Whether all keys are these.
+fn has_all_keys(alloc: Global, keys: &[[u32; 3]]) -> Result<bool, Fail> {
+    let span = Span {
         after: Cut::empty(alloc),
         upto: Bound::End,
     };
-    let all = plain_keys::<Brand>(alloc, Blank::new(1), &whole)?;
-    assert_eq!(rt;
-        all.as_str(),
-        "[0, 0, 0][0, 0, 1][0, 0, 2][0, 2, 0][0, 2, 2][0, 2, 3]"
-    );
-    let searched = searched_keys::<Brand>(alloc, Blank::new(1))?;
-    assert_eq!(rt; all.as_str(), searched.as_str());
-    let part = Span {
-        after: Cut::new(vec![in alloc; 0, 0, 1]?),
-        upto: Bound::At(Cut::new(vec![in alloc; 0, 2, 2]?)),
-    };
-    let some = plain_keys::<Brand>(alloc, Blank::new(1), &part)?;
-    assert_eq!(rt; some.as_str(), "[0, 0, 2][0, 2, 0][0, 2, 2]");
+    has_keys::<Brand>(alloc, Blank::new(1), &span, keys)
+}
+
+fn are_judged(alloc: Global) -> Result<bool, Fail> {
     let least = judged::<Brand>(alloc, Blank::new(1))?;
-    assert_eq!(rt; least, (true, false));
+    Ok(least == (true, false))
+}
+
+#[test]
+fn two_subclasses(rt: HostRuntime) -> Result<(), Fail> {
+    let all = [
+        [0, 0, 0],
+        [0, 0, 1],
+        [0, 0, 2],
+        [0, 2, 0],
+        [0, 2, 2],
+        [0, 2, 3],
+    ];
+    assert!(rt; has_all_keys(rt.alloc(), &all)?);
+    assert!(rt; has_keys_between(rt.alloc(), &[0, 0, 1], &[0, 2, 2], &all[2..5])?);
+    assert!(rt; are_judged(rt.alloc())?);
     Ok(())
 }

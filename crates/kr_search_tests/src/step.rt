@@ -1,93 +1,35 @@
-// A search of two subclasses, worked by hand: a root with two fields, each in two objects of one class and two of another.
-ghost use Rattle.std.specs.Prelude.{◌≡◌, ◌<◌, [], ◌∷◌};
+// A search of two subclasses, worked by hand.
+ghost use Rattle.std.specs.Prelude.{◌≡◌, ◌<◌};
 
-use kr_base::NoMemory;
-use kr_iso::{Object, Slots};
-use kr_step::{Ending, Next, Runner, Search};
+use crate::bases::{Bases, start};
+use kr_step::{Next, Search};
 use kr_steps::Steps;
 use std::alloc::Global;
 use std::marker::Brand;
 use std::sync::ledger::{Blank, Ledger};
 use std::test::Fail;
 
-/// The candidate that stands, and the order of the last run.
-#[derive(Drop)]
-struct Bases {
-    indices: [u32; 3],
-    ran: [u32; 3],
+/// Appends a key.
+fn push_key(alloc: Global, text: &mut String, key: &[u32]) -> Result<(), Fail> {
+    let key = format!(in alloc; "{:?}", key)?;
+    text.push_str(key.as_str())?;
+    Ok(())
 }
 
-impl Slots for Bases {
-    ghost use Rattle.kr_step.specs.Bases.{bases};
-
-    ghost space = { λ _. bases };
-
-    fn slots(&self) -> u32 {
-        3
-    }
-
-    fn size(&self, slot: u32) -> u32 {
-        if slot == 0 { 1 } else { 4 }
-    }
-
-    fn object_at(&self, slot: u32, index: u32) -> Option<Object> {
-        if slot == 0 {
-            return Some(Object {
-                domain: 0,
-                number: index,
-            });
+/// Appends the keys that a search finds from now on, and a dot each time that it finds none.
+fn push_keys<L: Ledger>(
+    alloc: Global,
+    text: &mut String,
+    search: &mut Search<Bases>,
+    runs: &mut Steps<L>,
+) -> Result<(), Fail> {
+    for _ in 0..10 {
+        match search.next(runs)? {
+            Next::Found(_) => push_key(alloc, text, search.cut())?,
+            Next::End => text.push('.')?,
         }
-        if index < 2 {
-            return Some(Object {
-                domain: 1,
-                number: index,
-            });
-        }
-        Some(Object {
-            domain: 2,
-            number: index - 2,
-        })
     }
-}
-
-impl Runner for Bases {
-    ghost use Rattle.kr_step.specs.Bases.{bases_order, bases_ending};
-
-    ghost order = { λ _. bases_order };
-
-    ghost ending = { λ _. bases_ending };
-
-    ghost vector = { λ s. s.indices };
-
-    ghost last = { λ s. s.ran };
-
-    fn set(&mut self, slot: u32, index: u32) {
-        self.indices[slot as usize] = index;
-    }
-
-    fn run(&mut self) -> Result<Ending, NoMemory> {
-        self.ran = [0, 1, 2];
-        Ok(Ending::Valid)
-    }
-
-    fn last_order(&self) -> &[u32] {
-        &self.ran
-    }
-
-    fn index(&self, slot: u32) -> u32 {
-        self.indices[slot as usize]
-    }
-
-    fn laws(&self) {}
-}
-
-fn start() -> Bases
-    ensures { result.indices ≡ 0 ∷ 0 ∷ 0 ∷ [] }
-{
-    Bases {
-        indices: [0; 3],
-        ran: [0; 3],
-    }
+    Ok(())
 }
 
 /// The keys above a cut, one after another.
@@ -99,30 +41,29 @@ fn keys<L: Ledger>(alloc: Global, blank: Blank, after: &[u32]) -> Result<String,
     let mut runs = Steps::<L>::start(blank);
     let mut search = Search::seek(alloc, start(), after, &mut runs)?;
     let mut text = String::new(alloc);
-    for _ in 0..10 {
-        match search.next(&mut runs)? {
-            Next::Found(_) => {
-                let key = format!(in alloc; "{:?}", search.cut())?;
-                text.push_str(key.as_str())?;
-            }
-            Next::End => text.push_str(".")?,
-        }
-    }
+    push_keys(alloc, &mut text, &mut search, &mut runs)?;
     Ok(text)
+}
+
+/// Whether the keys above a cut are these.
+fn finds(alloc: Global, after: &[u32], wanted: &str) -> Result<bool, Fail> {
+    let text = keys::<Brand>(alloc, Blank::new(1), after)?;
+    Ok(text.as_str() == wanted)
 }
 
 #[test]
 fn two_subclasses(rt: HostRuntime) -> Result<(), Fail> {
-    let all = keys::<Brand>(rt.alloc(), Blank::new(1), &[])?;
-    assert_eq!(rt;
-        all.as_str(),
-        "[0, 0, 0][0, 0, 1][0, 0, 2][0, 2, 0][0, 2, 2][0, 2, 3]...."
-    );
-    let resumed = keys::<Brand>(rt.alloc(), Blank::new(1), &[0, 0, 2])?;
-    assert_eq!(rt; resumed.as_str(), "[0, 2, 0][0, 2, 2][0, 2, 3].......");
-    let between = keys::<Brand>(rt.alloc(), Blank::new(1), &[0, 1])?;
-    assert_eq!(rt; between.as_str(), "[0, 2, 0][0, 2, 2][0, 2, 3].......");
-    let behind = keys::<Brand>(rt.alloc(), Blank::new(1), &[0, 2, 3, 0])?;
-    assert_eq!(rt; behind.as_str(), "..........");
+    let rows: [(&[u32], &str); 4] = [
+        (
+            &[],
+            "[0, 0, 0][0, 0, 1][0, 0, 2][0, 2, 0][0, 2, 2][0, 2, 3]....",
+        ),
+        (&[0, 0, 2], "[0, 2, 0][0, 2, 2][0, 2, 3]......."),
+        (&[0, 1], "[0, 2, 0][0, 2, 2][0, 2, 3]......."),
+        (&[0, 2, 3, 0], ".........."),
+    ];
+    for (after, wanted) in rows {
+        assert!(rt; finds(rt.alloc(), after, wanted)?, "{wanted}");
+    }
     Ok(())
 }

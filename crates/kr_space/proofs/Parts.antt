@@ -51,11 +51,12 @@ numbers_are problem setting old =
     (break_if ((domain_at problem problem.root).count == 0) EmptyDomain (codes "this")) (break_if (nat_lt 4096 (length (slots problem))) TooMany (codes "slots"))
 
 pub faults_are : (problem : Problem) (setting : Setting) (mode : Mode) (old : Option Fault) → fold lesser old (faults_in problem setting mode) ≡ fold lesser (fold lesser old (S1 setting)) (after_S1 problem setting mode)
-unfolding faults_in
-faults_are problem setting mode old = fold-append lesser old (S1 setting) (after_S1 problem setting mode)
+unfolding faults_in after_S1
+faults_are problem setting mode old = fold-append lesser old (S1 setting) (S2 setting mode ++ (S3_S5_S6 problem setting ++ (S4 setting ++ (S7 setting ++ (S8 setting mode ++ S9 setting)))))
 
 pub after_names : (problem : Problem) (setting : Setting) (mode : Mode) (old : Option Fault) → fold lesser old (after_S1 problem setting mode)
     ≡ fold lesser (fold lesser (fold lesser old (S2 setting mode)) (S3_S5_S6 problem setting)) (S4 setting ++ (S7 setting ++ (S8 setting mode ++ S9 setting)))
+unfolding after_S1
 after_names problem setting mode old = three old (S2 setting mode) (S3_S5_S6 problem setting) (S4 setting ++ (S7 setting ++ (S8 setting mode ++ S9 setting)))
 
 -- ---- the counts of class domains

@@ -14,5 +14,5 @@ Refuses wanted (Broken fault) = wanted ≡ Some fault
 Refuses wanted NoMemory = Unit {0}
 
 -- what breaks the rules after the first
-abbrev pub after_S1 : Problem → Setting → Mode → List Fault
+unfoldable pub after_S1 : Problem → Setting → Mode → List Fault
 after_S1 problem setting mode = S2 setting mode ++ (S3_S5_S6 problem setting ++ (S4 setting ++ (S7 setting ++ (S8 setting mode ++ S9 setting))))

@@ -69,7 +69,7 @@ fn note_types(
 }
 
 /// Notes what the document breaks of the rules after that on names.
-#[tactic(auto, using(crate::proofs::Parts::after_names, kr_numbers::proofs::Bounded::bounds_kept))]
+#[tactic(auto, using(crate::proofs::Parts::after_names, kr_meanings::proofs::Growing::node_types_kept))]
 fn note_after_names(
     least: &mut Least,
     classes: &Classes,

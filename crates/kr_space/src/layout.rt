@@ -28,7 +28,6 @@ fn number_or_none(class: Option<u32>) -> u32
 }
 
 /// The class domains of a document's problem.
-#[tactic(auto, using(crate::proofs::Laid::domains_whole))]
 fn all_domains(
     alloc: Global,
     types: &Types,
@@ -46,7 +45,6 @@ fn all_domains(
 }
 
 /// The layout over these class domains and the values of the domains that the document gives.
-#[tactic(auto, using(crate::proofs::Laid::layout_is))]
 fn layout_over(
     alloc: Global,
     basis: &Basis,
@@ -92,7 +90,7 @@ fn layout_with(
 }
 
 /// The slots and domains of a document's problem.
-#[tactic(auto, using(crate::proofs::Laid::arrays_kept, kr_numbers::proofs::Bounded::bounds_kept))]
+#[tactic(auto, using(kr_numbers::proofs::Bounded::bounds_kept))]
 pub(crate) fn layout_of(
     alloc: Global,
     types: &mut Types,

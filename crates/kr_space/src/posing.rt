@@ -83,7 +83,6 @@ fn laid_on(alloc: Global, types: &mut Types, basis: &Basis, mode: Mode) -> Resul
 }
 
 /// The same of classes and a document, by the keys of its tables and the array types that it bounds.
-#[tactic(auto, using(crate::proofs::Parts::arrays_are))]
 fn laid_by(
     alloc: Global,
     classes: &Classes,

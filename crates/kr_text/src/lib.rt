@@ -7,6 +7,3 @@ mod texts;
 pub use kr_base::put_all;
 pub use line::Line;
 pub use texts::{put_decimal, put_pieces, put_place, put_refusal, put_refusal_bytes};
-
-#[cfg(test)]
-mod tests;

@@ -12,6 +12,9 @@ judge_from_parsing-requires-clause-short c =
     let n = c.args.nodes in
     subst (λ (ts : List (List ℕ)). All (λ (text : List ℕ). length text ≤ LIMIT) ts) (sym c.in_ok-texts.ensures) (one_short n (omega (arith, c.ranges.nodes.fits)))
 
+pub judge_from_parsing-requires-clause-few : goal.judge_from_parsing-requires-clause-few
+judge_from_parsing-requires-clause-few c = subst (λ (ts : List (List ℕ)). length ts ≤ 16) (sym c.in_ok-texts.ensures) (omega arith)
+
 pub returns : goal.returns
 returns c =
     let n = c.args.nodes in

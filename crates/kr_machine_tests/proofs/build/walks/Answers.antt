@@ -5,8 +5,5 @@ use Rattle.kr_machine_tests.specs.TwoNodes.{two_nodes}
 use Rattle.kr_machine_tests.proofs.TwoNodes.{is_vector}
 use Rattle.kr_machine_tests.proofs.build.walks.Goals as goal
 
-pub walk-requires-clause-vector : goal.walk-requires-clause-vector
-walk-requires-clause-vector g c = subst (λ (b : Bounds). IsVector (space_of (bare b)) c.in_ok-vector.vector) (sym c.in_ok-layout.ensures) (subst (λ (v : List ℕ). IsVector (space_of (bare two_nodes)) v) (sym c.in_ok-vector.ensures) is_vector)
-
-pub walk-requires-2-clause-vector : goal.walk-requires-2-clause-vector
-walk-requires-2-clause-vector g c = subst (λ (b : Bounds). IsVector (space_of (bare b)) c.in_ok-vector.vector) (sym c.in_ok-layout.ensures) (subst (λ (v : List ℕ). IsVector (space_of (bare two_nodes)) v) (sym c.in_ok-vector.ensures) is_vector)
+pub walks_alike-requires-clause-vector : goal.walks_alike-requires-clause-vector
+walks_alike-requires-clause-vector g c = subst (λ (b : Bounds). IsVector (space_of (bare b)) c.in_ok-vector.vector) (sym c.in_ok-layout.ensures) (subst (λ (v : List ℕ). IsVector (space_of (bare two_nodes)) v) (sym c.in_ok-vector.ensures) is_vector)

@@ -1,4 +1,0 @@
-use Rattle.kr_machine_tests.proofs.judge.one_field.Given as goal
-
-abbrev pub ghosts-judged : goal.ghosts-judged
-ghosts-judged g a = record { name = a.blank.name; parts = a.blank.parts }

@@ -1,0 +1,9 @@
+use Rattle.kr_fitting.specs.Classes.{files_of}
+use Rattle.kr_space.proofs.Laid.{domains_whole}
+use Rattle.kr_space.proofs.layout.all_domains.Goals as goal
+
+pub returns : goal.returns
+returns c =
+    let basis = c.args.basis.now in
+    domains_whole (files_of basis.classes.now) basis.document.now c.args.types.now c.in_ok-domains.domains c.add_array_domains.new.domains basis.bounds.now
+    c.in_ok-domains.ensures c.in_ok-add_array_domains.ensures c.requires.bounds.shown

@@ -1,0 +1,1 @@
+class P { int a; int b; boolean repOk() { return b == 7 && a == 1; } }

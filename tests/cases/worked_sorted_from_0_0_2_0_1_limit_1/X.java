@@ -1,0 +1,1 @@
+class S { int[] a; boolean repOk() { for (int i = 1; i < a.length; i++) if (a[i - 1] > a[i]) return false; return true; } }

@@ -1,0 +1,1 @@
+class P { int a; int b; boolean repOk() { return a == 1; } }

@@ -1,0 +1,1 @@
+class Base {} class P extends Base {} class Q extends Base {} class R { Base x; Base y; boolean repOk() { return true; } }
