@@ -12,9 +12,9 @@ ghost use Rattle.kr_type_rules.specs.Shown.{IsVerdictWithin, verdict_shown};
 
 use crate::arguments::arguments_fit;
 use crate::known::Verdict;
-use crate::rules::TypingRule;
 use crate::members::value_of;
 use crate::relations::is_void;
+use crate::rules::TypingRule;
 use kr_ast::Tree;
 use kr_members::{Members, Method};
 use kr_scopes::{Role, Within};
@@ -59,7 +59,11 @@ fn result_rule(
     ensures says { (g : Setting) (bs : List Binding) → verdict_shown types.now result ≡ rules.result_rule (scope_in g bs here) (method_shown trees.now method) }
 {
     let number = result_type(trees, types, node_types, method);
-    Verdict::ask(may_stand(types, number, here), TypingRule::NoResult, value_of(types, number))
+    Verdict::ask(
+        may_stand(types, number, here),
+        TypingRule::NoResult,
+        value_of(types, number),
+    )
 }
 
 /// T24: the arguments fit.
@@ -88,7 +92,11 @@ fn arguments_rule(
         method.file,
         method.parameters,
     );
-    Verdict::ask(fit, TypingRule::Call, result_rule(trees, types, node_types, here, method))
+    Verdict::ask(
+        fit,
+        TypingRule::Call,
+        result_rule(trees, types, node_types, here, method),
+    )
 }
 
 /// T24: there is the method; T5: no instance method in static code.

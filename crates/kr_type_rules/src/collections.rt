@@ -11,8 +11,8 @@ ghost use Rattle.kr_type_numbers.specs.Types.{count, type_at};
 ghost use Rattle.kr_type_rules.specs.Shown.{IsVerdictWithin, Says, verdict_shown};
 
 use crate::known::Verdict;
-use crate::rules::TypingRule;
 use crate::relations::is_assignable;
+use crate::rules::TypingRule;
 use kr_members::Members;
 use kr_scopes::Within;
 use kr_type_numbers::Types;
@@ -37,7 +37,11 @@ fn plain_call_rule(types: &Types, is_list: bool, member: u32, name: &[u8]) -> Ve
     if name == b"isEmpty".as_slice() {
         return Verdict::value(types.boolean());
     }
-    Verdict::value_if(removes_first(types, is_list, member, name), TypingRule::CollectionCall, member)
+    Verdict::value_if(
+        removes_first(types, is_list, member, name),
+        TypingRule::CollectionCall,
+        member,
+    )
 }
 
 /// Whether it looks for a member, which may be null or of any class or array type.
@@ -71,7 +75,11 @@ fn member_call_rule(
             types.boolean(),
         );
     }
-    Verdict::value_if(looks_for(types, name, argument), TypingRule::CollectionCall, types.boolean())
+    Verdict::value_if(
+        looks_for(types, name, argument),
+        TypingRule::CollectionCall,
+        types.boolean(),
+    )
 }
 
 /// T25: a call of a collection.

@@ -13,9 +13,9 @@ ghost use Rattle.kr_type_numbers.specs.Numbers.{AreNodeTypes};
 ghost use Rattle.kr_type_rules.specs.Shown.{IsVerdictWithin, constant_says, initial_goes_into, returned, verdict_shown};
 
 use crate::known::Verdict;
-use crate::rules::TypingRule;
 use crate::members::value_of;
 use crate::relations::{is_boolean, is_int, is_void, takes};
+use crate::rules::TypingRule;
 use crate::statements::is_ensuring;
 use kr_ast::Tree;
 use kr_members::Members;
@@ -67,7 +67,10 @@ pub fn local_rule(
     Verdict::ask(
         is_new,
         TypingRule::RepeatedLocal,
-        Verdict::fine_if(initial_fits(types, members, declared, initial), TypingRule::LocalValue),
+        Verdict::fine_if(
+            initial_fits(types, members, declared, initial),
+            TypingRule::LocalValue,
+        ),
     )
 }
 
@@ -83,7 +86,10 @@ pub fn field_initial_rule(
     ensures within { IsVerdictWithin types.now result }
     ensures says { (files : List Arena) → AreMembers files members.now → verdict_shown types.now result ≡ rules.ask (initial_goes_into (table_in files) (type_at types.now declared) (option_map (type_at types.now) initial)) 35 rules.fine }
 {
-    Verdict::fine_if(initial_fits(types, members, declared, initial), TypingRule::FieldValue)
+    Verdict::fine_if(
+        initial_fits(types, members, declared, initial),
+        TypingRule::FieldValue,
+    )
 }
 
 /// Whether it is `int` or `boolean`.
@@ -112,9 +118,16 @@ pub fn constant_initial_rule(
     if !types.is_known(declared) {
         return Verdict::fine();
     }
-    let kind = Verdict::fine_if(is_final && is_simple(types, declared), TypingRule::StaticField);
+    let kind = Verdict::fine_if(
+        is_final && is_simple(types, declared),
+        TypingRule::StaticField,
+    );
     let valued = Verdict::ask(has_value, TypingRule::ConstantValue, kind);
-    Verdict::ask(initial_fits(types, members, declared, initial), TypingRule::FieldValue, valued)
+    Verdict::ask(
+        initial_fits(types, members, declared, initial),
+        TypingRule::FieldValue,
+        valued,
+    )
 }
 
 /// Whether a method may return without a value: it has none, or a result type of which rule T1 is broken.
@@ -139,7 +152,10 @@ pub fn return_rule(
 {
     match value {
         None => Verdict::fine_if(returns_nothing(types, result_type), TypingRule::Return),
-        Some(from) => Verdict::fine_if(takes(types, members, result_type, from), TypingRule::Return),
+        Some(from) => Verdict::fine_if(
+            takes(types, members, result_type, from),
+            TypingRule::Return,
+        ),
     }
 }
 

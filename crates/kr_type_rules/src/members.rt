@@ -11,8 +11,8 @@ ghost use Rattle.kr_type_numbers.specs.Numbers.{AreNodeTypes};
 ghost use Rattle.kr_type_rules.specs.Shown.{IsVerdictWithin, verdict_shown};
 
 use crate::known::{Typed, Verdict};
-use crate::rules::TypingRule;
 use crate::relations::is_int;
+use crate::rules::TypingRule;
 use kr_ast::Tree;
 use kr_members::{Field, Members};
 use kr_scopes::Within;
@@ -68,7 +68,11 @@ pub fn field_name_rule(
     if field.is_static {
         return value_of(types, number);
     }
-    Verdict::ask(!here.is_static, TypingRule::StaticCode, variable_of(types, number))
+    Verdict::ask(
+        !here.is_static,
+        TypingRule::StaticCode,
+        variable_of(types, number),
+    )
 }
 
 /// T22: an instance field.
@@ -86,7 +90,11 @@ fn field_rule(
         None => Verdict::Breaks(TypingRule::FieldAccess),
         Some(field) => {
             let number = field_type(trees, types, node_types, field);
-            Verdict::ask(!field.is_static, TypingRule::FieldAccess, variable_of(types, number))
+            Verdict::ask(
+                !field.is_static,
+                TypingRule::FieldAccess,
+                variable_of(types, number),
+            )
         }
     }
 }
@@ -106,7 +114,11 @@ pub fn constant_rule(
         None => Verdict::Breaks(TypingRule::FieldAccess),
         Some(field) => {
             let number = field_type(trees, types, node_types, field);
-            Verdict::ask(field.is_static, TypingRule::FieldAccess, value_of(types, number))
+            Verdict::ask(
+                field.is_static,
+                TypingRule::FieldAccess,
+                value_of(types, number),
+            )
         }
     }
 }
@@ -132,7 +144,13 @@ pub fn access_rule(
             let found = members.field_named(class, name);
             field_rule(trees, types, node_types, found)
         }
-        TypeForm::Array(_) => { Verdict::value_if(name == b"length".as_slice(), TypingRule::FieldAccess, types.int()) }
+        TypeForm::Array(_) => {
+            Verdict::value_if(
+                name == b"length".as_slice(),
+                TypingRule::FieldAccess,
+                types.int(),
+            )
+        }
         _ => Verdict::Breaks(TypingRule::FieldAccess),
     }
 }

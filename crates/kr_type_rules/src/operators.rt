@@ -5,11 +5,11 @@ ghost use Rattle.kr_type_numbers.specs.Types.{count, type_at};
 ghost use Rattle.kr_type_rules.specs.Shown.{IsVerdictWithin, Says, verdict_shown};
 
 use crate::known::Verdict;
-use crate::rules::TypingRule;
 use crate::relations::{
     are_comparable, both_boolean, both_int, cast_fits, choice_fits, instance_fits, is_boolean,
     is_int, wider,
 };
+use crate::rules::TypingRule;
 use kr_ast::{BinaryOperator, UnaryOperator};
 use kr_members::Members;
 use kr_scopes::{Role, Within};
@@ -50,7 +50,11 @@ pub fn number_rule(types: &Types, members: &Members, here: Within, value: u32) -
         Role::UnderMinus => true,
         _ => false,
     };
-    Verdict::value_if(value < 2147483648 || under_minus, TypingRule::NumberTooLarge, types.int())
+    Verdict::value_if(
+        value < 2147483648 || under_minus,
+        TypingRule::NumberTooLarge,
+        types.int(),
+    )
 }
 
 /// T13, T14.
@@ -60,10 +64,18 @@ pub fn unary_rule(types: &Types, operator: UnaryOperator, a: u32) -> Verdict
     ensures says { verdict_shown types.now result ≡ rules.unary_rule operator (type_at types.now a) }
 {
     match operator {
-        UnaryOperator::Not => Verdict::value_if(is_boolean(types, a), TypingRule::Negation, types.boolean()),
+        UnaryOperator::Not => Verdict::value_if(
+            is_boolean(types, a),
+            TypingRule::Negation,
+            types.boolean(),
+        ),
         UnaryOperator::Plus => Verdict::value_if(is_int(types, a), TypingRule::Sign, types.int()),
         UnaryOperator::Minus => Verdict::value_if(is_int(types, a), TypingRule::Sign, types.int()),
-        UnaryOperator::Complement => Verdict::value_if(is_int(types, a), TypingRule::Sign, types.int()),
+        UnaryOperator::Complement => Verdict::value_if(
+            is_int(types, a),
+            TypingRule::Sign,
+            types.int(),
+        ),
     }
 }
 
@@ -82,41 +94,113 @@ pub fn operator_rule(
     ensures says { Says members.now types.now here result (λ s. rules.operator_rule s operator (type_at types.now a) (type_at types.now b)) }
 {
     match operator {
-        BinaryOperator::Multiply => Verdict::value_if(both_int(types, a, b), TypingRule::Arithmetic, types.int()),
-        BinaryOperator::Divide => Verdict::value_if(both_int(types, a, b), TypingRule::Arithmetic, types.int()),
-        BinaryOperator::Remainder => Verdict::value_if(both_int(types, a, b), TypingRule::Arithmetic, types.int()),
-        BinaryOperator::Add => Verdict::value_if(both_int(types, a, b), TypingRule::Arithmetic, types.int()),
-        BinaryOperator::Subtract => Verdict::value_if(both_int(types, a, b), TypingRule::Arithmetic, types.int()),
-        BinaryOperator::ShiftLeft => Verdict::value_if(both_int(types, a, b), TypingRule::Shift, types.int()),
-        BinaryOperator::ShiftRight => Verdict::value_if(both_int(types, a, b), TypingRule::Shift, types.int()),
+        BinaryOperator::Multiply => Verdict::value_if(
+            both_int(types, a, b),
+            TypingRule::Arithmetic,
+            types.int(),
+        ),
+        BinaryOperator::Divide => Verdict::value_if(
+            both_int(types, a, b),
+            TypingRule::Arithmetic,
+            types.int(),
+        ),
+        BinaryOperator::Remainder => Verdict::value_if(
+            both_int(types, a, b),
+            TypingRule::Arithmetic,
+            types.int(),
+        ),
+        BinaryOperator::Add => Verdict::value_if(
+            both_int(types, a, b),
+            TypingRule::Arithmetic,
+            types.int(),
+        ),
+        BinaryOperator::Subtract => Verdict::value_if(
+            both_int(types, a, b),
+            TypingRule::Arithmetic,
+            types.int(),
+        ),
+        BinaryOperator::ShiftLeft => Verdict::value_if(
+            both_int(types, a, b),
+            TypingRule::Shift,
+            types.int(),
+        ),
+        BinaryOperator::ShiftRight => Verdict::value_if(
+            both_int(types, a, b),
+            TypingRule::Shift,
+            types.int(),
+        ),
         BinaryOperator::ShiftRightUnsigned => {
             Verdict::value_if(both_int(types, a, b), TypingRule::Shift, types.int())
         }
-        BinaryOperator::Less => Verdict::value_if(both_int(types, a, b), TypingRule::Comparison, types.boolean()),
-        BinaryOperator::Greater => Verdict::value_if(both_int(types, a, b), TypingRule::Comparison, types.boolean()),
+        BinaryOperator::Less => Verdict::value_if(
+            both_int(types, a, b),
+            TypingRule::Comparison,
+            types.boolean(),
+        ),
+        BinaryOperator::Greater => Verdict::value_if(
+            both_int(types, a, b),
+            TypingRule::Comparison,
+            types.boolean(),
+        ),
         BinaryOperator::LessOrEqual => {
-            Verdict::value_if(both_int(types, a, b), TypingRule::Comparison, types.boolean())
+            Verdict::value_if(
+                both_int(types, a, b),
+                TypingRule::Comparison,
+                types.boolean(),
+            )
         }
         BinaryOperator::GreaterOrEqual => {
-            Verdict::value_if(both_int(types, a, b), TypingRule::Comparison, types.boolean())
+            Verdict::value_if(
+                both_int(types, a, b),
+                TypingRule::Comparison,
+                types.boolean(),
+            )
         }
         BinaryOperator::Equal => {
-            Verdict::value_if(are_comparable(types, members, a, b), TypingRule::Equality, types.boolean())
+            Verdict::value_if(
+                are_comparable(types, members, a, b),
+                TypingRule::Equality,
+                types.boolean(),
+            )
         }
         BinaryOperator::NotEqual => {
-            Verdict::value_if(are_comparable(types, members, a, b), TypingRule::Equality, types.boolean())
+            Verdict::value_if(
+                are_comparable(types, members, a, b),
+                TypingRule::Equality,
+                types.boolean(),
+            )
         }
         BinaryOperator::BitAnd => {
-            Verdict::value_if(both_int(types, a, b) || both_boolean(types, a, b), TypingRule::Bitwise, a)
+            Verdict::value_if(
+                both_int(types, a, b) || both_boolean(types, a, b),
+                TypingRule::Bitwise,
+                a,
+            )
         }
         BinaryOperator::BitXor => {
-            Verdict::value_if(both_int(types, a, b) || both_boolean(types, a, b), TypingRule::Bitwise, a)
+            Verdict::value_if(
+                both_int(types, a, b) || both_boolean(types, a, b),
+                TypingRule::Bitwise,
+                a,
+            )
         }
         BinaryOperator::BitOr => {
-            Verdict::value_if(both_int(types, a, b) || both_boolean(types, a, b), TypingRule::Bitwise, a)
+            Verdict::value_if(
+                both_int(types, a, b) || both_boolean(types, a, b),
+                TypingRule::Bitwise,
+                a,
+            )
         }
-        BinaryOperator::And => Verdict::value_if(both_boolean(types, a, b), TypingRule::Logical, types.boolean()),
-        BinaryOperator::Or => Verdict::value_if(both_boolean(types, a, b), TypingRule::Logical, types.boolean()),
+        BinaryOperator::And => Verdict::value_if(
+            both_boolean(types, a, b),
+            TypingRule::Logical,
+            types.boolean(),
+        ),
+        BinaryOperator::Or => Verdict::value_if(
+            both_boolean(types, a, b),
+            TypingRule::Logical,
+            types.boolean(),
+        ),
     }
 }
 

@@ -6,8 +6,8 @@ ghost use Rattle.kr_type_numbers.specs.Types.{count, type_at};
 ghost use Rattle.kr_type_rules.specs.Shown.{IsVerdictWithin, Says, verdict_shown};
 
 use crate::known::Verdict;
-use crate::rules::TypingRule;
 use crate::relations::is_boolean;
+use crate::rules::TypingRule;
 use kr_members::Members;
 use kr_scopes::{Part, Within};
 use kr_type_numbers::Types;
@@ -58,5 +58,9 @@ pub fn old_rule(types: &Types, members: &Members, here: Within, whole: u32) -> V
     ensures within { IsVerdictWithin types.now result }
     ensures says { Says members.now types.now here result (λ s. rules.old_rule s (type_at types.now whole)) }
 {
-    Verdict::value_if(is_ensuring(here.part) && !here.is_in_old, TypingRule::ContractValue, whole)
+    Verdict::value_if(
+        is_ensuring(here.part) && !here.is_in_old,
+        TypingRule::ContractValue,
+        whole,
+    )
 }

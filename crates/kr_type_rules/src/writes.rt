@@ -6,9 +6,9 @@ ghost use Rattle.kr_type_numbers.specs.Types.{count, type_at};
 ghost use Rattle.kr_type_rules.specs.Shown.{IsVerdictWithin, Says, typed_shown, verdict_shown};
 
 use crate::known::{Typed, Verdict};
-use crate::rules::TypingRule;
 use crate::operators::operator_rule;
 use crate::relations::{is_assignable, is_int};
+use crate::rules::TypingRule;
 use kr_ast::BinaryOperator;
 use kr_members::Members;
 use kr_scopes::{Part, Within};
