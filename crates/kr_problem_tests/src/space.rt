@@ -5,16 +5,16 @@ ghost use Rattle.kr_fitting.specs.Classes.{AreClasses, AreTyped};
 ghost use Rattle.kr_members.specs.Kept.{AreMembers};
 ghost use Rattle.kr_names.specs.Shown.{AreHeads};
 
-use crate::files::one_file;
+use crate::files::{document_of, one_file};
 use kr_ast::Tree;
 use kr_base::NoMemory;
 use kr_domains::{Fault, SpaceRefusal};
-use kr_fin::{FinDoc, read_fin};
+use kr_fin::FinDoc;
 use kr_fitting::Classes;
 use kr_mean::Mode;
 use kr_members::Members;
 use kr_names::Heads;
-use kr_space::{judge_space, limits_law};
+use kr_space::judge_space;
 use kr_type_numbers::{NodeTypes, Types};
 use std::alloc::Global;
 
@@ -53,8 +53,7 @@ fn is_least_in(
     requires classes { AreClasses classes.now }
     requires typed { AreTyped classes.now types.old }
 {
-    limits_law();
-    match read_fin(alloc, text.as_bytes()) {
+    match document_of(alloc, text) {
         Err(_) => false,
         Ok(document) => is_least(alloc, classes, types, &document, code, item),
     }

@@ -1,13 +1,14 @@
 // The problem of `class A { int v; }` and `class B extends A { boolean repOk() { return true; } }`, worked by hand.
 ghost use Rattle.kr_domains.specs.Limits.{IsWithinLimits};
 
+use crate::files::document_of;
 use kr_base::NoMemory;
-use kr_fin::{FinDoc, read_fin};
+use kr_fin::FinDoc;
 use kr_mean::Mode;
 use kr_posed::Problem;
 use kr_problem::{Layout, SlotPlace};
 use kr_sources::program_of;
-use kr_space::{limits_law, problem};
+use kr_space::problem;
 use kr_value::{Class, Spot};
 use std::alloc::Global;
 
@@ -76,8 +77,7 @@ fn is_posed(alloc: Global, document: &FinDoc) -> Result<bool, NoMemory>
 
 #[test]
 fn two_classes_and_an_array(rt: HostRuntime) -> Result<(), NoMemory> {
-    limits_law();
-    match read_fin(rt.alloc(), FIN.as_bytes()) {
+    match document_of(rt.alloc(), FIN) {
         Err(_) => assert!(rt; false),
         Ok(document) => {
             let is_posed = is_posed(rt.alloc(), &document)?;
