@@ -21,7 +21,7 @@ impl Frame {
 
     /// The number of columns before the text.
     pub(crate) fn origin(self) -> u32 {
-        self.front.len() as u32
+        u32::try_from(self.front.len()).unwrap_or(u32::MAX)
     }
 }
 
@@ -50,7 +50,7 @@ fn digit(byte: u8) -> u8 {
 /// Appends what stands behind a back quote: the byte of two digits, and the rest.
 fn push_piece(bytes: &mut Vec<u8>, piece: &[u8]) -> Result<(), AllocError> {
     if piece.len() >= 2 {
-        bytes.push(digit(piece[0]) * 16 + digit(piece[1]))?;
+        bytes.push((digit(piece[0]) << 4) | digit(piece[1]))?;
         bytes.extend_from_slice(&piece[2..])?;
     }
     Ok(())
