@@ -9,10 +9,10 @@
 # answer, or none when it makes a run again, or ends otherwise, and where no run was refused. It proves nothing. `rt test` builds
 # the tests.
 set -u
-cd "$(dirname "$0")/../crates/kr_agreement_runs" || exit 1
+cd "$(dirname "$0")/../crates/kr_search_agreement" || exit 1
 work=$(mktemp -d) || exit 1
 trap 'rm -rf "$work"' EXIT
-tests=$PWD/out/kr_agreement_runs_tests
+tests=$PWD/out/kr_search_agreement_tests
 
 rt test >"$work/built" 2>&1 || { cat "$work/built"; exit 1; }
 [ -x "$tests" ] || { echo "no tests at $tests"; exit 1; }

@@ -4,8 +4,8 @@ use Rattle.std.specs.Prelude.{Option, Result, Ok, Err, IfOk}
 use Rattle.kr_mean.specs.declared.mode.Mode.TheVariants.{List as Listing}
 use Rattle.kr_args.specs.Reading.{Range}
 use Rattle.kr_demo.specs.Texts.{source_text, finitization_text}
-use Rattle.kr_posed.specs.Posed.{posed}
-use Rattle.kr_posed.specs.declared.problem.Problem.{Problem}
+use Rattle.kr_space_problem.specs.Posed.{posed}
+use Rattle.kr_space_problem.specs.declared.problem.Problem.{Problem}
 use Rattle.korat_top.specs.declared.refusal.InputFile.{InputFile}
 use Rattle.korat_top.specs.declared.refusal.InputFile.TheVariants as input
 use Rattle.korat_top.specs.declared.refusal.Stop.{Stop}

@@ -5,9 +5,9 @@ use Rattle.std.specs.Fmt.{digits}
 use Rattle.kr_base.specs.Bounds.{less}
 use Rattle.kr_mean.specs.Space.{space_of}
 use Rattle.kr_mean.specs.Heaps.{heap_of, walk}
-use Rattle.kr_table.specs.Table.{table_of}
-use Rattle.kr_table.specs.Constants.{values_of, is_constant, evaluated}
-use Rattle.kr_typing.specs.Typing.{judged}
+use Rattle.kr_classes_table.specs.Table.{table_of}
+use Rattle.kr_classes_table.specs.Constants.{values_of, is_constant, evaluated}
+use Rattle.kr_types_meaning.specs.Typing.{judged}
 use Rattle.kr_mean.specs.Steps.{bind}
 use Rattle.kr_mean.specs.Verdicts.{verdict_of}
 use Rattle.kr_mean.specs.Meaning.{eval, exec, value, body_of}
@@ -16,8 +16,8 @@ use Rattle.kr_mean.specs.Entries.{mark_of, all_of, all_entries}
 use Rattle.kr_value.specs.declared.value.Value.TheVariants.{Bool as Truth}
 use Rattle.kr_mean.specs.declared.kind.Kind.TheVariants.{NullPointerException, ArithmeticException, NoReturn}
 use Rattle.kr_mean.specs.declared.kind.Verdict.TheVariants.{Pass, Ensures, RepOk, Trap, CheckTrap, Spent as OutOfFuel}
-use Rattle.kr_mean_examples.specs.Examples.{cell, two_ints, two_nodes, two_subclasses, arrays, later_first}
-use Rattle.kr_mean_examples.specs.Listings.{loops, plus}
+use Rattle.kr_mean_rows.specs.Examples.{cell, two_ints, two_nodes, two_subclasses, arrays, later_first}
+use Rattle.kr_mean_rows.specs.Listings.{loops, plus}
 use Rattle.kr_report.specs.Texts.{structure_text, value_text, verdict_text, tested_text}
 use Rattle.kr_report.specs.Reports.{listing_answer, is_failing}
 use Rattle.korat_top.specs.Answer.{tally_of}

@@ -12,19 +12,19 @@ use Rattle.kr_lex.specs.Broken.{IsFirstBroken, rank, UnbrokenLaw}
 use Rattle.kr_ast.specs.Tree.{Tree}
 use Rattle.kr_parse.specs.Rules.{rule_code as parse_code}
 use Rattle.kr_parse.specs.Refusals.{OneRefusal, ParsedUnbroken}
-use Rattle.kr_laws.specs.Laws.{OneTree}
-use Rattle.kr_table.specs.Table.{Table}
-use Rattle.kr_table.specs.Rules.{Fault as ClassFault, class_fault}
+use Rattle.kr_parse_laws.specs.Laws.{OneTree}
+use Rattle.kr_classes_table.specs.Table.{Table}
+use Rattle.kr_classes_table.specs.Rules.{Fault as ClassFault, class_fault}
 use Rattle.kr_classes.specs.declared.refusal.ClassRule.{ClassRule}
 use Rattle.kr_classes.specs.declared.refusal.ClassRule.TheVariants as classes
 use Rattle.kr_classes.specs.Refusals.{rule_number, rule_code as class_code}
 use Rattle.kr_fin.specs.declared.document.FinDoc.{FinDoc}
 use Rattle.kr_fin.specs.declared.refusal.Fault.{Fault}
-use Rattle.kr_domains.specs.declared.refusal.Fault.{Fault as SpaceFault}
-use Rattle.kr_domains.specs.Order.{rule_code as space_code}
+use Rattle.kr_space_meaning.specs.declared.refusal.Fault.{Fault as SpaceFault}
+use Rattle.kr_space_meaning.specs.Order.{rule_code as space_code}
 use Rattle.kr_fin.specs.Order.{rule_code as fin_code}
 use Rattle.kr_mean.specs.Problem.{Problem}
-use Rattle.kr_table.specs.Rules.{is_earlier, less_or}
+use Rattle.kr_classes_table.specs.Rules.{is_earlier, less_or}
 use Rattle.kr_report.specs.Texts.{usage_text}
 use Rattle.kr_report.specs.Reports.{Answer, line_answer}
 use Rattle.korat_top.specs.declared.refusal.InputFile.{InputFile}

@@ -3,14 +3,14 @@ use Rattle.std.proofs.Common.{◌≡◌, ℕ, ◌+◌, ◌<◌, ◌≤◌, inl, 
 use Rattle.std.specs.Prelude.{Option, Some, None, IfSome, IsSome, Result, Ok, Err, All, map, slice_index_or}
 use Rattle.std.proofs.lemmas.List.{length-take, take_all}
 use Rattle.kr_ast.specs.Arena.{Arena, root}
-use Rattle.kr_posed.specs.Posed.{posed}
+use Rattle.kr_space_problem.specs.Posed.{posed}
 use Rattle.korat_top.specs.declared.refusal.InputFile.{InputFile}
 use Rattle.korat_top.specs.declared.refusal.InputFile.TheVariants as input
 use Rattle.kr_base.specs.Causes.{Rose}
 use Rattle.korat_top.specs.declared.refusal.Stop.{Stop}
 use Rattle.korat_top.specs.declared.refusal.Stop.TheVariants.{Read, Refused, Memory}
 use Rattle.kr_mean.specs.Problem.{Problem}
-use Rattle.kr_posed.specs.declared.problem.Problem as posing
+use Rattle.kr_space_problem.specs.declared.problem.Problem as posing
 use Rattle.korat_top.specs.Refusals.{Inputs, Refusal, name_of, refusal_of}
 use Rattle.korat_top.specs.Steps.{Held, LIMIT, each, growing, reading, from_texts, checking, ReadsIn, Reads, AllTold}
 use Rattle.korat_top.specs.Found.{telling, telling_source, HasRead, HasReadAll, Meets, FindsIn}

@@ -8,7 +8,7 @@ use Rattle.kr_mean.specs.Entries.{all_entries}
 use Rattle.kr_report.specs.Reports.{Answer, line_answer, listing_answer}
 use Rattle.kr_report.specs.Texts.{usage_text, checked_text}
 use Rattle.korat_top.specs.Refusals.{Inputs, Refusal, status_of_file, line_of}
-use Rattle.kr_tally.specs.Tallies.{tally_answer}
+use Rattle.kr_report_listing.specs.Tallies.{tally_answer}
 use Rattle.korat_top.specs.Steps.{Held, checking, demonstrating, Reads}
 
 -- ---- commands

@@ -7,8 +7,8 @@ use Rattle.kr_mean.specs.declared.kind.Kind.TheVariants.{NullPointerException, A
 use Rattle.kr_mean.specs.declared.kind.Verdict.TheVariants.{Pass, Ensures, RepOk, Trap, CheckTrap, Spent as OutOfFuel}
 use Rattle.kr_mean.specs.Problem.{Problem}
 use Rattle.kr_mean.specs.Entries.{all_entries}
-use Rattle.kr_mean_examples.specs.Examples.{cell, two_ints, two_nodes, two_subclasses, arrays, later_first}
-use Rattle.kr_mean_examples.specs.Listings.{loops, plus}
+use Rattle.kr_mean_rows.specs.Examples.{cell, two_ints, two_nodes, two_subclasses, arrays, later_first}
+use Rattle.kr_mean_rows.specs.Listings.{loops, plus}
 use Rattle.kr_report.specs.Texts.{row_text, value_text, verdict_text, tested_text}
 use Rattle.kr_args.specs.Worked.{files, with_files}
 use Rattle.kr_report.specs.Reports.{Answer, bytes_of, rows_in, listing_answer, is_failing}

@@ -5,9 +5,9 @@ use Rattle.kr_base.specs.Causes.{Rose}
 use Rattle.kr_ast.specs.Arena.{Arena, root}
 use Rattle.kr_mean.specs.declared.mode.Mode.TheVariants.{List as Listing}
 use Rattle.kr_mean.specs.Problem as means
-use Rattle.kr_posed.specs.Posed.{posed}
-use Rattle.kr_shapes.specs.Shapes.{AreClasses}
-use Rattle.kr_posed.specs.declared.problem.Problem.{Problem}
+use Rattle.kr_space_problem.specs.Posed.{posed}
+use Rattle.kr_laws_shapes.specs.Shapes.{AreClasses}
+use Rattle.kr_space_problem.specs.declared.problem.Problem.{Problem}
 use Rattle.korat_top.specs.Refusals.{Inputs, Refusal, too_long, name_of, refusal_of}
 use Rattle.korat_top.specs.Steps.{Held, LIMIT, MOST_NODES, each, checking, ReadsIn, Reads, AllTold}
 use Rattle.korat_top.specs.Answer.{Command, IsTold, ReadsFor, inputs_of, steps_of}

@@ -10,9 +10,9 @@ use Rattle.kr_ast.specs.Tree.{Tree}
 use Rattle.kr_parse.specs.declared.refusal.ParseRule.{ParseRule}
 use Rattle.kr_parse.specs.Rules.{rule_code as parse_code}
 use Rattle.kr_parse.specs.Refusals.{IsParsed, IsUnparsed}
-use Rattle.kr_table.specs.Table.{Table, table_of}
-use Rattle.kr_table.specs.Rules.{Fault as NodeFault, class_fault}
-use Rattle.kr_typing.specs.Typing.{type_fault}
+use Rattle.kr_classes_table.specs.Table.{Table, table_of}
+use Rattle.kr_classes_table.specs.Rules.{Fault as NodeFault, class_fault}
+use Rattle.kr_types_meaning.specs.Typing.{type_fault}
 use Rattle.kr_classes.specs.declared.refusal.ClassRule.{ClassRule}
 use Rattle.kr_classes.specs.Refusals.{rule_number, rule_code as class_code}
 use Rattle.kr_demo.specs.Texts.{source_text, finitization_text}
@@ -23,9 +23,9 @@ use Rattle.kr_fin.specs.Meaning.{meaning}
 use Rattle.kr_mean.specs.Problem.{Problem}
 use Rattle.kr_mean.specs.Purity.{IsPure, IsFirstImpure}
 use Rattle.kr_mean.specs.declared.mode.Mode.TheVariants.{List as Listing}
-use Rattle.kr_domains.specs.declared.refusal.Fault.{Fault as SpaceFault}
-use Rattle.kr_domains.specs.Order.{rule_code as space_code}
-use Rattle.kr_domains.specs.Meaning.{meaning as problem_meant}
+use Rattle.kr_space_meaning.specs.declared.refusal.Fault.{Fault as SpaceFault}
+use Rattle.kr_space_meaning.specs.Order.{rule_code as space_code}
+use Rattle.kr_space_meaning.specs.Meaning.{meaning as problem_meant}
 use Rattle.korat_top.specs.declared.refusal.InputFile.{InputFile}
 use Rattle.korat_top.specs.declared.refusal.InputFile.TheVariants as input
 use Rattle.korat_top.specs.Refusals.{Inputs, Refusal, at_place, type_code, of_finitization, too_long}

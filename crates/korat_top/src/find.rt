@@ -1,15 +1,15 @@
 // The work for a command, before anything is written: its files are read, and then judged.
 ghost use Rattle.std.specs.Prelude.{◌≡◌, ◌<◌, ◌≤◌, ◌+◌, ◌*◌, ◌^◌, ◌∷◌, [], All, IfOk, length, map};
 ghost use Rattle.kr_ast.specs.Arena.{root};
-ghost use Rattle.kr_table.specs.Table.{table_of};
+ghost use Rattle.kr_classes_table.specs.Table.{table_of};
 ghost use Rattle.kr_classes.specs.ClassTables.{IsClassTable};
 ghost use Rattle.kr_types.specs.Programs.{IsProgram, all_entries};
-ghost use Rattle.kr_shapes.specs.Shapes.{AreClasses};
-ghost use Rattle.kr_domains.specs.Limits.{IsWithinLimits};
+ghost use Rattle.kr_laws_shapes.specs.Shapes.{AreClasses};
+ghost use Rattle.kr_space_meaning.specs.Limits.{IsWithinLimits};
 ghost use Rattle.kr_mean.specs.declared.mode.Mode.TheVariants.{List as Listing};
 ghost use Rattle.kr_mean.specs.Problem.{slots};
 ghost use Rattle.kr_mean.specs.WellFormed.{IsWellFormed};
-ghost use Rattle.kr_posed.specs.Posed.{IsPosed, posed};
+ghost use Rattle.kr_space_problem.specs.Posed.{IsPosed, posed};
 ghost use Rattle.korat_top.specs.Refusals.{refusal_of, too_long as too_long_of, source_start as start_of};
 ghost use Rattle.korat_top.specs.Steps.{LIMIT, lexing, parsing, growing, classing, typing, stating, MOST_NODES, spacing, purifying, from_texts, from_grown, from_table, from_trees, from_document, from_problem, each, demonstrating};
 ghost use Rattle.korat_top.specs.Answer.{inputs_of};
@@ -25,19 +25,19 @@ use kr_ast::Tree;
 use kr_base::{NoMemory, Place, Words};
 use kr_classes::{ClassRefusal, ClassTable, classes};
 use kr_demo::{demo_finitization, demo_source};
-use kr_domains::SpaceRefusal;
 use kr_fin::{FinDoc, FinRefusal, read_fin};
 use kr_io::{Files, ReadRefusal};
+use kr_laws_shapes::shape_law;
 use kr_lex::{LexRefusal, Tokens, lex};
 use kr_mean::Mode;
 use kr_parse::{ParseRefusal, parse};
-use kr_posed::Problem;
-use kr_reach::{PureRefusal, pure};
-use kr_shapes::shape_law;
+use kr_pure::{PureRefusal, pure};
+use kr_report_listing::Accepted;
 use kr_space::{limits_law, problem};
-use kr_subject::Accepted;
+use kr_space_meaning::SpaceRefusal;
+use kr_space_problem::Problem;
 use kr_types::{Program, TypeRefusal, check};
-use kr_typing::well_typed_law;
+use kr_types_meaning::well_typed_law;
 use std::alloc::Global;
 
 /// Where a source begins.
@@ -214,7 +214,7 @@ fn document_of(alloc: Global, fin: &[u8]) -> Result<FinDoc, Stop>
 }
 
 /// The problem of the sources and the document, which breaks no rule beside them.
-#[tactic(auto, unfolding(kr_domains::specs::Meaning::meaning, kr_domains::specs::Bounds::problem_in))]
+#[tactic(auto, unfolding(kr_space_meaning::specs::Meaning::meaning, kr_space_meaning::specs::Bounds::problem_in))]
 fn problem_of(alloc: Global, program: Program, document: &FinDoc) -> Result<Problem, Stop>
     requires program { IsProgram program }
     requires limits { IsWithinLimits document.now }

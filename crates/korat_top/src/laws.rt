@@ -3,9 +3,9 @@ ghost use Rattle.korat_top.specs.Ends.{OneAnswer};
 ghost use Rattle.korat_top.specs.Examples.{WorkedCommands, WorkedLines};
 
 use kr_args::worked_words;
-use kr_laws::one_tree;
 use kr_lex::{one_list_law, unbroken_law};
 use kr_parse::one_refusal_law;
+use kr_parse_laws::one_tree;
 
 /// Words and files have at most one answer.
 pub fn one_answer()

@@ -1,12 +1,12 @@
 // What a file of the call is refused with, and why the work for a command stops.
 ghost use Rattle.std.specs.Prelude.{◌≡◌, IfOk};
-ghost use Rattle.kr_type_rules.specs.Numbers.{rule_number};
+ghost use Rattle.kr_types_judging.specs.Numbers.{rule_number};
 ghost use Rattle.korat_top.specs.Refusals.{at_place, of_finitization, refusal_of, type_code};
 ghost use Rattle.korat_top.specs.declared.refusal.Stop.TheVariants.{Memory};
 
 use itoa::Buffer;
 use kr_base::{NoMemory, Place};
-use kr_type_rules::TypingRule;
+use kr_types_judging::TypingRule;
 use std::alloc::{AllocError, AllocFailed, Global};
 
 /// A file of the call.

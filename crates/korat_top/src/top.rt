@@ -3,7 +3,7 @@ ghost use Rattle.std.specs.Prelude.{◌≡◌, ◌<◌, ◌≤◌, Some, IfOk, O
 ghost use Rattle.kr_mean.specs.declared.mode.Mode.TheVariants.{List as Listing};
 ghost use Rattle.kr_report.specs.Endings.{EndsListing};
 ghost use Rattle.korat_top.specs.Answer.{asked_of, counts_of, inputs_of, listing_of, report_of, tally_of};
-ghost use Rattle.kr_posed.specs.Posed.{posed};
+ghost use Rattle.kr_space_problem.specs.Posed.{posed};
 ghost use Rattle.korat_top.specs.Orders.{command_in, range_of};
 ghost use Rattle.korat_top.specs.Ends.{EndsFor, IsComplete};
 
@@ -11,14 +11,11 @@ use crate::command::{Order, Range, order_of};
 use crate::find::find;
 use crate::refusal::Stop;
 use crate::report::{name_of, put_refused, status_of};
-use kr_base::{Failed, NoMemory, Sink, Words};
-use kr_compiled::predicate_of;
+use kr_base::{Failed, NoMemory, Sink, Steps, Words};
 use kr_io::{Files, Gate};
-use kr_listing::put_subject;
+use kr_judge_predicate::predicate_of;
 use kr_report::{once_written, put_checked, put_out_of_memory, put_read_fault, put_usage_fault};
-use kr_steps::Steps;
-use kr_subject::{Accepted, Prepared};
-use kr_tally::put_tally;
+use kr_report_listing::{Accepted, Prepared, put_subject, put_tally};
 use std::alloc::Global;
 use std::marker::Brand;
 use std::sync::ledger::{Blank, Ledger};

@@ -6,7 +6,7 @@ use crate::tree::Tree;
 
 /// A node of one of the files.
 #[derive(Clone, Copy, Debug)]
-pub struct NodeAt {
+pub struct NodeId {
     pub file: u32,
     pub node: u32,
 }

@@ -8,7 +8,7 @@ mod node;
 mod parts;
 mod tree;
 
-pub use files::{NodeAt, tree_of};
+pub use files::{NodeId, tree_of};
 pub use forest::Forest;
 pub use node::{BinaryOperator, Entry, Name, Node, Primitive, StepOperator, UnaryOperator};
 pub use parts::{Names, Parts};

@@ -1,5 +1,5 @@
 //! What every crate of the tool speaks of: places in files, the words of a call, cuts of the candidate order with
-//! their bounds and spans, entries, the sink that takes text, and want of memory.
+//! their bounds and spans, entries, the sink that takes text, the counter of runs, and want of memory.
 #![tactic(auto)]
 
 mod cut;
@@ -10,6 +10,7 @@ mod memory;
 mod place;
 mod sink;
 mod span;
+mod steps;
 mod words;
 
 pub use cut::{Cut, CutRefusal};
@@ -20,4 +21,5 @@ pub use memory::NoMemory;
 pub use place::Place;
 pub use sink::{Failed, Sink, put_all};
 pub use span::{Bound, Span};
+pub use steps::Steps;
 pub use words::Words;

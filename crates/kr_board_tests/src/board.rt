@@ -3,10 +3,9 @@
 ghost use Rattle.std.specs.Prelude.{◌≡◌, ◌<◌};
 
 use crate::texts::{push_bound, push_cut, push_numbers, push_owner};
-use kr_base::{Bound, Cut, Entry, Mark, Span};
+use kr_base::{Bound, Cut, Entry, Mark, Span, Steps};
 use kr_board::{Board, Closed, GivenUp, Lease, Refused, Reported, Segment, Taken, is_possible};
 use kr_core::Core;
-use kr_steps::Steps;
 use kr_survey::{ListSurvey, Part, Rows, Survey};
 use std::alloc::Global;
 use std::marker::Brand;

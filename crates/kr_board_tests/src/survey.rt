@@ -2,8 +2,7 @@
 ghost use Rattle.std.specs.Prelude.{◌≡◌, ◌<◌};
 ghost use Rattle.kr_base.specs.Entries.{Ascends};
 
-use kr_base::{Bound, Cut};
-use kr_steps::Steps;
+use kr_base::{Bound, Cut, Steps};
 use kr_survey::{Entry, ListSurvey, Mark, Part, Rows, Survey};
 use std::alloc::Global;
 use std::marker::Brand;

@@ -13,11 +13,11 @@ use Rattle.kr_mean.specs.Problem.{Problem, DomainObject, choices_at, Slot, domai
 use Rattle.kr_mean.specs.Heaps.{heap_object, heap_of, is_owner, length_in, slots_owned, slots_there, value_at, values_there}
 use Rattle.kr_mean.specs.Space.{IsVector, no_choice, space_of}
 use Rattle.kr_mean.specs.WellFormed.{IsWellFormed}
-use Rattle.kr_pruning.proofs.Numbering as numbering
-use Rattle.kr_pruning.proofs.Numbering.{width_at, object, number_of_object, object_at_number, count_at, parameter_slot, object_slot, SlotCase, is_this, is_parameter, is_spot, slot_case}
+use Rattle.kr_laws_slots.proofs.Numbering as numbering
+use Rattle.kr_laws_slots.proofs.Numbering.{width_at, object, number_of_object, object_at_number, count_at, parameter_slot, object_slot, SlotCase, is_this, is_parameter, is_spot, slot_case}
 use Rattle.kr_build.specs.Renewed.{IsSameBut}
 use Rattle.kr_build.proofs.Rows.{InDomain}
-use Rattle.kr_pruning.proofs.Places.{heap_class, heap_get, heap_long, heap_values, same_objects}
+use Rattle.kr_laws_slots.proofs.Places.{heap_class, heap_get, heap_long, heap_values, same_objects}
 
 -- ---- slots at which two functions agree
 

@@ -7,13 +7,13 @@ use Rattle.std.proofs.lemmas.Bool.{eq-eqb, eqb-true}
 use Rattle.kr_mean.specs.Problem.{Problem, DomainObject, all_objects, heap_number, slots, slot_at}
 use Rattle.kr_mean.specs.WellFormed.{IsWellFormed}
 use Rattle.kr_mean.specs.Heaps.{is_same_object, slots_in, objects_at, root_slots, met_within, walk, choice_at}
-use Rattle.kr_pruning.proofs.Membership.{bool_cases}
-use Rattle.kr_pruning.proofs.Places.{one_object, same_object, same_objects}
-use Rattle.kr_pruning.proofs.SlotForks.{added}
-use Rattle.kr_bounds.proofs.Respects.{AllOf}
-use Rattle.kr_pruning.proofs.Spaces.{block_of}
-use Rattle.kr_pruning.proofs.Walked.{Valid, objects_there, walked, walk_below}
-use Rattle.kr_pruning.proofs.Reached.{settled}
+use Rattle.kr_laws_slots.proofs.Membership.{bool_cases}
+use Rattle.kr_laws_slots.proofs.Places.{one_object, same_object, same_objects}
+use Rattle.kr_laws_slots.proofs.SlotForks.{added}
+use Rattle.kr_laws_runs.proofs.Respects.{AllOf}
+use Rattle.kr_laws_slots.proofs.Spaces.{block_of}
+use Rattle.kr_laws_slots.proofs.Walked.{Valid, objects_there, walked, walk_below}
+use Rattle.kr_laws_slots.proofs.Reached.{settled}
 use Rattle.kr_build.specs.Visits.{IsMarked, IsVisit, IsVisitOf, IsMeeting}
 use Rattle.kr_build.proofs.Meetings.{is_in, unless_in, new_objects, objects_more, objects_front, in_more}
 

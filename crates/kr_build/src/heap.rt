@@ -6,13 +6,13 @@ ghost use Rattle.kr_mean.specs.Heaps.{heap_object, heap_of, value_at, values_the
 ghost use Rattle.kr_mean.specs.Problem.{domain_at, objects_of_domain, slots};
 ghost use Rattle.kr_mean.specs.Space.{IsVector, space_of};
 ghost use Rattle.kr_mean.specs.WellFormed.{IsWellFormed};
-ghost use Rattle.kr_problem.specs.Bounds.{bare};
+ghost use Rattle.kr_space_layout.specs.Bounds.{bare};
 
 use crate::objects::{Stretch, slots_of};
 use kr_base::NoMemory;
 use kr_heap::Heap;
 use kr_iso::Object;
-use kr_problem::Layout;
+use kr_space_layout::Layout;
 use kr_value::{Class, Value};
 use kr_vector::{Slot, Vector};
 use std::alloc::Global;

@@ -6,12 +6,12 @@ ghost use Rattle.kr_mean.specs.Heaps.{length_in, slots_in, value_at};
 ghost use Rattle.kr_mean.specs.Problem.{domain_at, slots};
 ghost use Rattle.kr_mean.specs.Space.{IsVector, space_of};
 ghost use Rattle.kr_mean.specs.WellFormed.{IsWellFormed};
-ghost use Rattle.kr_problem.specs.Bounds.{bare};
+ghost use Rattle.kr_space_layout.specs.Bounds.{bare};
 ghost use Rattle.kr_build.specs.Extents.{extent_of, is_array};
 
 use kr_base::NoMemory;
 use kr_iso::Object;
-use kr_problem::Layout;
+use kr_space_layout::Layout;
 use kr_value::{Class, Value};
 use kr_vector::{Slot, Vector};
 

@@ -7,7 +7,7 @@ ghost use Rattle.kr_mean.specs.Heaps.{heap_object, heap_of, value_at};
 ghost use Rattle.kr_mean.specs.Problem.{choices_at, domain_at, heap_number, slot_at, slots};
 ghost use Rattle.kr_mean.specs.Space.{IsVector, space_of};
 ghost use Rattle.kr_mean.specs.WellFormed.{IsWellFormed};
-ghost use Rattle.kr_problem.specs.Bounds.{bare};
+ghost use Rattle.kr_space_layout.specs.Bounds.{bare};
 ghost use Rattle.kr_value.specs.Heaps.{object_in};
 ghost use Rattle.kr_build.specs.Renewed.{IsBut, IsSameBut};
 
@@ -16,7 +16,7 @@ use crate::objects::{Stretch, slots_of};
 use kr_base::NoMemory;
 use kr_heap::Heap;
 use kr_iso::Object;
-use kr_problem::Layout;
+use kr_space_layout::Layout;
 use kr_value::{Class, Obj};
 use kr_vector::{Slot, Vector};
 

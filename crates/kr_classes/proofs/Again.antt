@@ -4,9 +4,9 @@ use Rattle.std.specs.Prelude.{Option, Some, find, is_some}
 use Rattle.std.specs.List.{position_from}
 use Rattle.std.proofs.lemmas.List.{map-append, take_more, take-map}
 use Rattle.kr_base.specs.declared.place.Place.{Place}
-use Rattle.kr_table.specs.Table.{is_number}
-use Rattle.kr_table.specs.Rules.{break_if, is_name_among, least, repeated, sooner}
-use Rattle.kr_names.proofs.ClassNumbers.{turned}
+use Rattle.kr_classes_table.specs.Table.{is_number}
+use Rattle.kr_classes_table.specs.Rules.{break_if, is_name_among, least, repeated, sooner}
+use Rattle.kr_classes_names.proofs.ClassNumbers.{turned}
 use Rattle.kr_classes.specs.Faults.{fault_at}
 use Rattle.kr_classes.proofs.Repeated.{among_onto, itself, onto}
 use Rattle.kr_classes.proofs.Sooner.{least_append}

@@ -5,12 +5,13 @@ use Rattle.std.proofs.lemmas.List.{length-map, take_more, take_all}
 use Rattle.std.proofs.Math.ListN.{get_or-map}
 use Rattle.kr_base.specs.declared.place.Place.{Place}
 use Rattle.kr_ast.specs.Arena.{Arena, root, tree_in}
-use Rattle.kr_table.specs.Table.{Class, Heading, class_at, headings_of, classes_from, class_of, ancestors, is_among}
-use Rattle.kr_table.specs.Rules.{Fault, C2, C3, each_class, extended_at, break_if, sooner, least}
-use Rattle.kr_names.specs.declared.headings.Heading.{Heading as Kept}
-use Rattle.kr_names.specs.declared.class_names.Heads.{Heads}
-use Rattle.kr_names.specs.Shown.{AreHeads, heading_shown, file_at}
-use Rattle.kr_members.proofs.Classes.{classes_in}
+use Rattle.kr_classes_table.specs.Table.{Class, Heading, class_at, headings_of, classes_from, class_of, ancestors, is_among}
+use Rattle.kr_classes_table.specs.Rules.{Fault, C2, C3, each_class, extended_at, break_if, sooner, least}
+use Rattle.kr_classes_names.specs.declared.headings.Heading.{Heading as Kept}
+use Rattle.kr_classes_names.specs.declared.class_names.Heads.{Heads}
+use Rattle.kr_classes_names.specs.Shown.{AreHeads, heading_shown}
+use Rattle.kr_ast.specs.Files.{file_at}
+use Rattle.kr_classes_members.proofs.Classes.{classes_in}
 use Rattle.kr_classes.specs.Faults.{ClassRule, AreSuperclasses, IsFirstIn, IsFirstOf, fault_at, first_of_rule, superclass_at, table_in}
 use Rattle.kr_classes.proofs.Sooner.{least_append}
 

@@ -3,13 +3,13 @@ use Rattle.std.proofs.Common.{◌≡◌, refl, sym, ap, ◌∙◌, ℕ, zero, su
 use Rattle.std.specs.Prelude.{Option, Some, flat_map, reverse}
 use Rattle.std.proofs.lemmas.Grind.{flat_map-append, reverse_onto}
 use Rattle.kr_base.specs.declared.place.Place.{Place}
-use Rattle.kr_table.specs.Table.{Field, Table, ancestors, fields_of, is_instance, line_of, line_within, own_fields, super_of}
-use Rattle.kr_table.specs.Rules.{break_if, least, past, sooner}
+use Rattle.kr_classes_table.specs.Table.{Field, Table, ancestors, fields_of, is_instance, line_of, line_within, own_fields, super_of}
+use Rattle.kr_classes_table.specs.Rules.{break_if, least, past, sooner}
 use Rattle.kr_classes.specs.Faults.{fault_at}
 use Rattle.kr_classes.proofs.Sooner.{least_append}
-use Rattle.kr_names.proofs.Walks.{flat_step}
-use Rattle.kr_members.proofs.Classes.{flat_flat}
-use Rattle.kr_members.proofs.Upwards.{upwards}
+use Rattle.kr_base.proofs.Added.{flat_step}
+use Rattle.kr_classes_members.proofs.Classes.{flat_flat}
+use Rattle.kr_classes_members.proofs.Upwards.{upwards}
 
 by_static : (b : Bool) (f : Field) → length (if b then [] else f ∷ []) ≡ (if b then 0 else 1)
 by_static true f = refl

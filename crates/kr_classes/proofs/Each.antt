@@ -2,10 +2,10 @@
 use Rattle.std.proofs.Common.{◌≡◌, refl, sym, ap, ◌∙◌, ℕ, ◌+◌, ◌<◌, ◌≤◌, List, [], ◌∷◌, ◌++◌, length, map, take, drop, get_or, ◌-◌, arith}
 use Rattle.std.specs.Prelude.{Option, Some, flat_map, option_to_list}
 use Rattle.kr_base.specs.declared.place.Place.{Place}
-use Rattle.kr_table.specs.Table.{Class, Table, class_at, own_fields, own_methods}
-use Rattle.kr_table.specs.Rules.{Fault, least, sooner}
-use Rattle.kr_names.proofs.Walks.{flat_step}
-use Rattle.kr_members.proofs.Classes.{declared_by}
+use Rattle.kr_classes_table.specs.Table.{Class, Table, class_at, own_fields, own_methods}
+use Rattle.kr_classes_table.specs.Rules.{Fault, least, sooner}
+use Rattle.kr_base.proofs.Added.{flat_step}
+use Rattle.kr_classes_members.proofs.Classes.{declared_by}
 use Rattle.kr_classes.specs.Faults.{class_in, fault_at, no_class}
 use Rattle.kr_classes.proofs.ByClass.{at_index}
 use Rattle.kr_classes.proofs.Sooner.{least_append}

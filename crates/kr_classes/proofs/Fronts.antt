@@ -5,14 +5,14 @@ use Rattle.std.proofs.lemmas.List.{get_or-map, length-map}
 use Rattle.kr_ast.specs.Arena.{Arena, root}
 use Rattle.kr_ast.specs.Tree as trees
 use Rattle.kr_ast.specs.Tree.{Tree, Nil}
-use Rattle.kr_table.specs.Table.{Table, Class, Heading, class_at, class_named, headings_of, is_number, number_of, outer_of, super_of}
-use Rattle.kr_table.specs.Rules.{Fault, C1, C2, C3, C4, C5, C6, C7, C8, class_fault, first_of, least}
-use Rattle.kr_names.specs.Shown.{superclass_in}
-use Rattle.kr_names.proofs.ClassNumbers.{some_below}
+use Rattle.kr_classes_table.specs.Table.{Table, Class, Heading, class_at, class_named, headings_of, is_number, number_of, outer_of, super_of}
+use Rattle.kr_classes_table.specs.Rules.{Fault, C1, C2, C3, C4, C5, C6, C7, C8, class_fault, first_of, least}
+use Rattle.kr_classes_names.specs.Shown.{superclass_in}
+use Rattle.kr_classes_names.proofs.ClassNumbers.{some_below}
 use Rattle.kr_classes.specs.Faults.{AreBelow, AreSuperclasses, first_of_rule, no_class, table_in}
 use Rattle.kr_classes.specs.Refusals.{names_fault}
 use Rattle.kr_classes.specs.MemberRules.{members_fault}
-use Rattle.kr_members.proofs.Classes.{classes_in}
+use Rattle.kr_classes_members.proofs.Classes.{classes_in}
 use Rattle.kr_classes.proofs.ByClass.{at_index, class_read, long}
 
 front : (a b c : Option Fault) (os : List (Option Fault)) (f : Fault) → first_of (a ∷ b ∷ c ∷ []) ≡ Some f → first_of (a ∷ b ∷ c ∷ os) ≡ Some f

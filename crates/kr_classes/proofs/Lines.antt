@@ -1,7 +1,7 @@
 -- The line upwards from a class, step by step.
 use Rattle.std.proofs.Common.{◌≡◌, refl, sym, ap, ◌∙◌, ℕ, zero, suc, ◌+◌, ◌-◌, ◌<◌, true, false, ◌||◌, nat_eq, List, length, arith}
 use Rattle.std.specs.Prelude.{Option, Some, None}
-use Rattle.kr_table.specs.Table.{Table, super_of, line_within, is_among, ancestors}
+use Rattle.kr_classes_table.specs.Table.{Table, super_of, line_within, is_among, ancestors}
 use Rattle.kr_classes.specs.Faults.{AreSuperclasses, IsLeft, superclass_at}
 
 pub no_line : (n : ℕ) (t : Table) (c : ℕ) → is_among c (line_within n t None) ≡ false

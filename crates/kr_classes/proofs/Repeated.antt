@@ -5,13 +5,14 @@ use Rattle.std.proofs.lemmas.List.{map-append}
 use Rattle.std.proofs.lemmas.Slice.Eq.{bytes_eq-Decides}
 use Rattle.kr_base.specs.declared.place.Place.{Place}
 use Rattle.kr_ast.specs.Arena.{Arena, name_in, root}
-use Rattle.kr_table.specs.Table.{Table, Class, Heading, classes_from, headings_of, number_from, number_of, is_number, table_of}
-use Rattle.kr_table.specs.Rules.{C1, break_if, each_class, is_name_among, least, repeated}
-use Rattle.kr_table.specs.Constants.{or_else}
-use Rattle.kr_names.proofs.ClassNumbers.{turned, number_below}
+use Rattle.kr_classes_table.specs.Table.{Table, Class, Heading, classes_from, headings_of, number_from, number_of, is_number, table_of}
+use Rattle.kr_classes_table.specs.Rules.{C1, break_if, each_class, is_name_among, least, repeated}
+use Rattle.kr_classes_table.specs.Constants.{or_else}
+use Rattle.kr_classes_names.proofs.ClassNumbers.{turned, number_below}
 use Rattle.kr_classes.specs.Faults.{collections, fault_at, first_of_rule, repeats, table_in}
-use Rattle.kr_names.specs.declared.headings.Heading.{Heading as Kept}
-use Rattle.kr_names.specs.Shown.{heading_shown, file_at}
+use Rattle.kr_classes_names.specs.declared.headings.Heading.{Heading as Kept}
+use Rattle.kr_classes_names.specs.Shown.{heading_shown}
+use Rattle.kr_ast.specs.Files.{file_at}
 use Rattle.kr_classes.proofs.ByClass.{class_kept}
 
 unfoldable pub onto : List (List ℕ) → List (List ℕ) → List (List ℕ)

@@ -2,9 +2,9 @@
 use Rattle.std.proofs.Common.{◌≡◌, refl, sym, ap, ◌∙◌, ℕ, suc, Bool, true, false, ◌&&◌, List, [], ◌∷◌, ◌++◌, length, map}
 use Rattle.std.specs.Prelude.{flat_map}
 use Rattle.std.proofs.lemmas.List.{map-append}
-use Rattle.kr_table.specs.Types.{JavaType, is_same}
-use Rattle.kr_table.specs.Table.{Parameter}
-use Rattle.kr_table.specs.Rules.{same_types}
+use Rattle.kr_classes_table.specs.Types.{JavaType, is_same}
+use Rattle.kr_classes_table.specs.Table.{Parameter}
+use Rattle.kr_classes_table.specs.Rules.{same_types}
 use Rattle.kr_classes.specs.Overriding.{are_same}
 
 pub map_flat : {A B C : Type 0} (f : B → C) (g : A → List B) (xs : List A) → flat_map (λ x. map f (g x)) xs ≡ map f (flat_map g xs)

@@ -1,8 +1,8 @@
 -- The first of several faults, part by part.
 use Rattle.std.proofs.Common.{◌≡◌, refl, sym, ap, ◌∙◌, Bool, true, false, List, [], ◌∷◌, ◌++◌, if◌then◌else◌}
 use Rattle.std.specs.Prelude.{Option, Some, None}
-use Rattle.kr_table.specs.Rules.{Fault, is_before, sooner, least}
-use Rattle.kr_table.proofs.Order.{asymmetric, onwards}
+use Rattle.kr_classes_table.specs.Rules.{Fault, is_before, sooner, least}
+use Rattle.kr_classes_table.proofs.Order.{asymmetric, onwards}
 
 no_rest : (b : Bool) (f g : Fault) → sooner (if b then Some g else Some f) None ≡ (if b then Some g else Some f)
 no_rest true f g = refl

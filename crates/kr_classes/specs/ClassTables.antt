@@ -1,12 +1,12 @@
 -- Between crates: the class table that the code keeps of files that break no class rule.
 use Rattle.std.specs.Prelude.{◌≡◌, List, None}
 use Rattle.kr_ast.specs.Arena.{Arena}
-use Rattle.kr_table.specs.Rules.{class_fault}
-use Rattle.kr_table.specs.Constants.{values_of}
-use Rattle.kr_names.specs.Shown.{AreHeads}
-use Rattle.kr_members.specs.Kept.{AreMembers}
-use Rattle.kr_type_numbers.specs.Numbers.{AreNodeTypes}
-use Rattle.kr_constants.specs.Kept.{AreValues}
+use Rattle.kr_classes_table.specs.Rules.{class_fault}
+use Rattle.kr_classes_table.specs.Constants.{values_of}
+use Rattle.kr_classes_names.specs.Shown.{AreHeads}
+use Rattle.kr_classes_members.specs.Kept.{AreMembers}
+use Rattle.kr_classes_types.specs.Numbers.{AreNodeTypes}
+use Rattle.kr_classes_constants.specs.Kept.{AreValues}
 use Rattle.kr_classes.specs.declared.class_table.ClassTable.{ClassTable}
 use Rattle.kr_classes.specs.Faults.{table_in}
 

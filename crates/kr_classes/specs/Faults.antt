@@ -3,10 +3,10 @@ use Rattle.std.specs.Prelude.{◌≡◌, ℕ, ◌-◌, ◌<◌, ◌||◌, not, L
 use Rattle.kr_base.specs.declared.place.Place.{Place}
 use Rattle.kr_ast.specs.Arena.{Arena, root}
 use Rattle.kr_ast.specs.Tree.{Nil}
-use Rattle.kr_table.specs.Table.{Table, Class, Field, Method, super_of, table_of, line_within, ancestors, is_among, is_number, number_of, own_fields}
-use Rattle.kr_table.specs.Rules.{Fault, break_if, each_class, is_name_among, least}
-use Rattle.kr_names.specs.declared.class_names.Heads.{Heads}
-use Rattle.kr_names.specs.Shown.{AreHeads}
+use Rattle.kr_classes_table.specs.Table.{Table, Class, Field, Method, super_of, table_of, line_within, ancestors, is_among, is_number, number_of, own_fields}
+use Rattle.kr_classes_table.specs.Rules.{Fault, break_if, each_class, is_name_among, least}
+use Rattle.kr_classes_names.specs.declared.class_names.Heads.{Heads}
+use Rattle.kr_classes_names.specs.Shown.{AreHeads}
 
 -- the rule's fault at this place, if there is one
 abbrev pub fault_at : ℕ → Option Place → Option Fault

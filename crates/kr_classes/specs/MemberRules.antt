@@ -1,7 +1,7 @@
 -- Between crates: the class rules on members, C4 to C8, one after another.
 use Rattle.std.specs.Prelude.{◌≡◌, ℕ, List, [], ◌∷◌, map, Option, Some, None}
-use Rattle.kr_table.specs.Table.{Table}
-use Rattle.kr_table.specs.Rules.{Fault, C4, C5, C6, C7, C8, first_of}
+use Rattle.kr_classes_table.specs.Table.{Table}
+use Rattle.kr_classes_table.specs.Rules.{Fault, C4, C5, C6, C7, C8, first_of}
 use Rattle.kr_classes.specs.declared.member_rules.MemberRule.{MemberRule}
 use Rattle.kr_classes.specs.declared.member_rules.MemberRule.TheVariants.{RepeatedMember, OtherParameters, ObjectMethod, OtherResult, TooMany}
 use Rattle.kr_classes.specs.declared.refusal.Found.{Found}

@@ -1,8 +1,8 @@
 -- Between crates: what an overriding method has to share with the one that it overrides.
 use Rattle.std.specs.Prelude.{ℕ, ◌&&◌, not, Bool, true, false, List, [], ◌∷◌, if◌then◌else◌}
-use Rattle.kr_table.specs.Types.{JavaType, is_same}
-use Rattle.kr_table.specs.Table.{Method, Table}
-use Rattle.kr_table.specs.Rules.{result_fits, same_types}
+use Rattle.kr_classes_table.specs.Types.{JavaType, is_same}
+use Rattle.kr_classes_table.specs.Table.{Method, Table}
+use Rattle.kr_classes_table.specs.Rules.{result_fits, same_types}
 use Rattle.kr_classes.specs.declared.overriding.Shared.{Shared}
 use Rattle.kr_classes.specs.declared.overriding.Shared.TheVariants.{Parameters, ResultType}
 

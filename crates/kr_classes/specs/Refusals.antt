@@ -1,9 +1,9 @@
 -- To be believed: what a refusal says of the class rules.
 use Rattle.std.specs.Prelude.{◌≡◌, ℕ, List, [], ◌∷◌, Option, Some, None, codes}
 use Rattle.kr_ast.specs.Arena.{Arena}
-use Rattle.kr_table.specs.Table.{Table}
-use Rattle.kr_table.specs.Rules.{Fault, C1, C2, C3, class_fault, first_of, least}
-use Rattle.kr_names.specs.Shown.{AreHeads}
+use Rattle.kr_classes_table.specs.Table.{Table}
+use Rattle.kr_classes_table.specs.Rules.{Fault, C1, C2, C3, class_fault, first_of, least}
+use Rattle.kr_classes_names.specs.Shown.{AreHeads}
 use Rattle.kr_classes.specs.declared.refusal.ClassRule.{ClassRule as Rule}
 use Rattle.kr_classes.specs.declared.refusal.ClassRule.TheVariants.{RepeatedClass, UnknownSuperclass, OwnAncestor, RepeatedMember, OtherParameters, ObjectMethod, OtherResult, TooMany}
 use Rattle.kr_classes.specs.declared.refusal.ClassRefusal.{ClassRefusal}

@@ -1,7 +1,7 @@
 // The class table of files that break no class rule.
 ghost use Rattle.std.specs.Prelude.{◌≡◌, ◌<◌, List, Some, None, IfOk, IfErr, length};
 ghost use Rattle.kr_ast.specs.Arena.{Arena};
-ghost use Rattle.kr_names.specs.Shown.{AreHeads};
+ghost use Rattle.kr_classes_names.specs.Shown.{AreHeads};
 ghost use Rattle.kr_classes.specs.ClassTables.{IsClassTable, IsTableOf};
 ghost use Rattle.kr_classes.specs.Refusals.{IsRefusal};
 
@@ -10,10 +10,10 @@ use crate::member_rules::first_broken_member;
 use crate::refusal::ClassRefusal;
 use kr_ast::Tree;
 use kr_base::NoMemory;
-use kr_constants::Values;
-use kr_members::Members;
-use kr_names::Heads;
-use kr_type_numbers::{NodeTypes, Types};
+use kr_classes_constants::Values;
+use kr_classes_members::Members;
+use kr_classes_names::Heads;
+use kr_classes_types::{NodeTypes, Types};
 use std::alloc::Global;
 
 /// What the classes of a program are: what their names mean, their members, the types that the nodes name, and the values

@@ -2,16 +2,15 @@
 ghost use Rattle.std.specs.Prelude.{◌≡◌, ◌<◌, ◌≤◌, ◌||◌, ◌&&◌, ◌+◌, ◌-◌, min, not, true, List, Some, None, length, map, flat_map, drop, is_some, bytes_eq, nat_lt, option_to_list, if◌then◌else◌};
 ghost use Rattle.std.specs.List.{position_from};
 ghost use Rattle.kr_ast.specs.Arena.{Arena};
-ghost use Rattle.kr_table.specs.Table.{ancestors, class_at, field_on, is_instance, is_number, own_fields};
-ghost use Rattle.kr_table.specs.Rules.{C4, C8, break_if, least, past, repeated};
-ghost use Rattle.kr_members.specs.Kept.{AreMembers, class_count};
+ghost use Rattle.kr_classes_table.specs.Table.{ancestors, class_at, field_on, is_instance, is_number, own_fields};
+ghost use Rattle.kr_classes_table.specs.Rules.{C4, C8, break_if, least, past, repeated};
+ghost use Rattle.kr_classes_members.specs.Kept.{AreMembers, class_count};
 ghost use Rattle.kr_classes.specs.Faults.{class_in, fault_at, field_places, inherited_names, table_in};
 
 use crate::places::{earlier, if_broken};
-use kr_ast::Tree;
+use kr_ast::{Tree, tree_of};
 use kr_base::Place;
-use kr_members::{Field, Members};
-use kr_names::tree_of;
+use kr_classes_members::{Field, Members};
 
 /// Whether a field has the name of an inherited one, or of one before it in its class.
 fn is_repeated_field(members: &Members, class: u32, number: usize, name: &[u8]) -> bool

@@ -1,15 +1,15 @@
 // The classes with their superclasses.
 ghost use Rattle.std.specs.Prelude.{◌≡◌, ◌<◌, List, Some, None, IfOk, IfErr, MatchOption, length};
 ghost use Rattle.kr_ast.specs.Arena.{Arena};
-ghost use Rattle.kr_table.specs.Table.{super_of};
-ghost use Rattle.kr_names.specs.Shown.{AreHeads, count_of};
+ghost use Rattle.kr_classes_table.specs.Table.{super_of};
+ghost use Rattle.kr_classes_names.specs.Shown.{AreHeads, count_of};
 ghost use Rattle.kr_classes.specs.Faults.{AreBelow, AreSuperclasses, table_in};
 ghost use Rattle.kr_classes.specs.Refusals.{IsHierarchy, IsRefusal, names_fault, rule_number};
 
 use crate::name_rules::{first_own_ancestor, first_repeated_name, first_unknown_superclass};
 use crate::refusal::{ClassRefusal, ClassRule, Found};
 use kr_ast::Tree;
-use kr_names::{Heads, superclasses};
+use kr_classes_names::{Heads, superclasses};
 use std::alloc::Global;
 
 /// The heads of the classes, and the superclass of each.

@@ -2,16 +2,15 @@
 ghost use Rattle.std.specs.Prelude.{◌≡◌, ◌<◌, not, List, [], Some, None, map, flat_map, bytes_eq};
 ghost use Rattle.std.specs.List.{position_from};
 ghost use Rattle.kr_ast.specs.Arena.{Arena};
-ghost use Rattle.kr_table.specs.Table.{is_number, own_methods};
-ghost use Rattle.kr_table.specs.Rules.{C6, break_if, is_name_among, least, object_methods, repeated};
-ghost use Rattle.kr_members.specs.Kept.{AreMembers, class_count};
+ghost use Rattle.kr_classes_table.specs.Table.{is_number, own_methods};
+ghost use Rattle.kr_classes_table.specs.Rules.{C6, break_if, is_name_among, least, object_methods, repeated};
+ghost use Rattle.kr_classes_members.specs.Kept.{AreMembers, class_count};
 ghost use Rattle.kr_classes.specs.Faults.{class_in, fault_at, method_places, table_in};
 
 use crate::places::{earlier, if_broken};
-use kr_ast::Tree;
+use kr_ast::{Tree, tree_of};
 use kr_base::Place;
-use kr_members::Members;
-use kr_names::tree_of;
+use kr_classes_members::Members;
 
 /// Whether a method has the name of one before it in its class.
 fn is_repeated_method(members: &Members, class: u32, number: usize, name: &[u8]) -> bool

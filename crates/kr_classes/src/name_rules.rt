@@ -1,15 +1,16 @@
 // The class rules on the names of classes and on what they extend.
 ghost use Rattle.std.specs.Prelude.{◌≡◌, ◌<◌, ◌||◌, not, List, Some, length, map, flat_map, is_none, option_to_list};
 ghost use Rattle.kr_ast.specs.Arena.{Arena, root, tree_in};
-ghost use Rattle.kr_table.specs.Table.{Table, ancestors, headings_of, is_among, is_number, number_of};
-ghost use Rattle.kr_table.specs.Rules.{C1, C2, C3, break_if, extended_at, is_name_among, least};
-ghost use Rattle.kr_names.specs.Shown.{AreHeads, IsHeading, count_of, file_at};
+ghost use Rattle.kr_classes_table.specs.Table.{Table, ancestors, headings_of, is_among, is_number, number_of};
+ghost use Rattle.kr_classes_table.specs.Rules.{C1, C2, C3, break_if, extended_at, is_name_among, least};
+ghost use Rattle.kr_classes_names.specs.Shown.{AreHeads, IsHeading, count_of};
+ghost use Rattle.kr_ast.specs.Files.{file_at};
 ghost use Rattle.kr_classes.specs.Faults.{AreBelow, AreSuperclasses, collections, fault_at, first_of_rule, superclass_at, table_in};
 
 use crate::places::earlier;
-use kr_ast::{Node, Tree};
+use kr_ast::{Node, Tree, tree_of};
 use kr_base::Place;
-use kr_names::{Heading, Heads, tree_of};
+use kr_classes_names::{Heading, Heads};
 
 /// Whether a name is kept for a collection.
 fn is_collection(name: &[u8]) -> bool

@@ -1,22 +1,22 @@
 // The class rules on methods that override: C5 on their parameters, C7 on `static` and their results.
 ghost use Rattle.std.specs.Prelude.{◌≡◌, ◌<◌, List, Some, None, IfOk, IfSome, length, map, All, option_map, option_to_list};
 ghost use Rattle.kr_ast.specs.Arena.{Arena, tree_in};
-ghost use Rattle.kr_table.specs.Table.{parameter_in, parameters_in};
-ghost use Rattle.kr_table.specs.Rules.{result_fits, same_types};
-ghost use Rattle.kr_names.specs.Shown.{file_at};
-ghost use Rattle.kr_members.specs.Shown.{IsMethod, headings_in, method_shown};
-ghost use Rattle.kr_members.specs.Kept.{AreMembers};
-ghost use Rattle.kr_type_numbers.specs.Types.{TypeList, count, type_at};
-ghost use Rattle.kr_type_numbers.specs.Numbers.{AreNodeTypes};
+ghost use Rattle.kr_classes_table.specs.Table.{parameter_in, parameters_in};
+ghost use Rattle.kr_classes_table.specs.Rules.{result_fits, same_types};
+ghost use Rattle.kr_ast.specs.Files.{file_at};
+ghost use Rattle.kr_classes_members.specs.Shown.{IsMethod, headings_in, method_shown};
+ghost use Rattle.kr_classes_members.specs.Kept.{AreMembers};
+ghost use Rattle.kr_classes_types.specs.Types.{TypeList, count, type_at};
+ghost use Rattle.kr_classes_types.specs.Numbers.{AreNodeTypes};
 ghost use Rattle.kr_classes.specs.Faults.{table_in};
 ghost use Rattle.kr_classes.specs.Overriding.{are_same, is_shared};
 
-use kr_ast::{Node, Tree};
-use kr_base::NoMemory;
-use kr_members::{Members, Method, add_found};
-use kr_names::{items, tree_of};
-use kr_type_numbers::{NodeTypes, Types};
-use kr_type_rules::is_assignable;
+use kr_ast::{Node, Tree, tree_of};
+use kr_base::{NoMemory, add_found};
+use kr_classes_members::{Members, Method};
+use kr_classes_names::items;
+use kr_classes_types::{NodeTypes, Types};
+use kr_types_judging::is_assignable;
 use std::alloc::Global;
 
 /// What an overriding method shares with the one that it overrides: the types of the parameters; `static` and the result.

@@ -1,6 +1,6 @@
 // The first of the places where a rule is broken.
 ghost use Rattle.std.specs.Prelude.{◌≡◌, ℕ};
-ghost use Rattle.kr_table.specs.Rules.{break_if, is_earlier as comes_before, least, sooner};
+ghost use Rattle.kr_classes_table.specs.Rules.{break_if, is_earlier as comes_before, least, sooner};
 ghost use Rattle.kr_classes.specs.Faults.{fault_at};
 
 use kr_base::Place;

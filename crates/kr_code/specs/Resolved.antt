@@ -11,12 +11,12 @@ use Rattle.kr_ast.specs.Tree.{Tree}
 use Rattle.kr_value.specs.declared.value.Value.{Value}
 use Rattle.kr_value.specs.declared.value.Value.TheVariants.{Int, Bool as Truth, Null}
 use Rattle.kr_value.specs.declared.object.Class.{Class}
-use Rattle.kr_table.specs.Types.{JavaType, ClassType, ArrayType, SetType, ListType, is_void}
-use Rattle.kr_table.specs.Table as tables
-use Rattle.kr_table.specs.Table.{Field, Method, items, fields_of, line_of, method_named}
-use Rattle.kr_table.specs.Arrays.{array_number}
-use Rattle.kr_table.specs.Constants.{constant_of, wrap, value_of as constant_value}
-use Rattle.kr_typing.specs.Scopes.{Scope, LocalName, FieldName, NoName, written, bind, after, meant, class_before, static_only, method_meant}
+use Rattle.kr_classes_table.specs.Types.{JavaType, ClassType, ArrayType, SetType, ListType, is_void}
+use Rattle.kr_classes_table.specs.Table as tables
+use Rattle.kr_classes_table.specs.Table.{Field, Method, items, fields_of, line_of, method_named}
+use Rattle.kr_classes_table.specs.Arrays.{array_number}
+use Rattle.kr_classes_table.specs.Constants.{constant_of, wrap, value_of as constant_value}
+use Rattle.kr_types_meaning.specs.Scopes.{Scope, LocalName, FieldName, NoName, written, bind, after, meant, class_before, static_only, method_meant}
 use Rattle.kr_mean.specs.Program.{Program, default_of, is_of_type, overriding, class_scope, method_scope, constructor_scope, constructor_of, declared_fields, field_position, spot_of_field}
 use Rattle.kr_mean.specs.Operators.{value_of_constant}
 use Rattle.kr_mean.specs.Meaning.{Target, LocalTarget, OwnField, FieldOf, ElementOf, NoTarget, target_of, typed_method, super_method, is_primitive, declaring_locals}

@@ -5,7 +5,7 @@ ghost use Rattle.kr_types.specs.Programs.{IsProgram};
 
 use kr_ast::{Tree, tree_of};
 use kr_base::{NoMemory, Place};
-use kr_pure::{Touch, runs_of, touch_of};
+use kr_pure_effects::{Touch, runs_of, touch_of};
 use kr_sources::program_of;
 use kr_types::Program;
 use std::alloc::Global;

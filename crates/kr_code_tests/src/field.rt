@@ -1,15 +1,14 @@
 // `class A { int v = 7; }`: where its members stand, the code of its nodes, and the code of its members.
 ghost use Rattle.std.specs.Prelude.{◌≡◌};
-ghost use Rattle.kr_member_nodes.specs.Nodes.{AreMemberNodes, AreShaped};
-ghost use Rattle.kr_roster.specs.Rosters.{IsRoster};
+ghost use Rattle.kr_code_members.specs.Nodes.{AreMemberNodes, AreShaped};
+ghost use Rattle.kr_code_members.specs.Rosters.{IsRoster};
 ghost use Rattle.kr_types.specs.Programs.{IsProgram};
 
 use kr_base::{NoMemory, Place};
-use kr_bodies::{Bodies, bodies_of};
 use kr_code::{Expression, Node};
-use kr_member_nodes::{ClassNodes, FieldNode, MemberNodes, member_nodes};
-use kr_resolver::{Links, resolve_nodes};
-use kr_roster::Roster;
+use kr_code_bodies::{Bodies, bodies_of};
+use kr_code_lowering::{Links, resolve_nodes};
+use kr_code_members::{ClassNodes, FieldNode, MemberNodes, Roster, member_nodes};
 use kr_sources::program_of;
 use kr_types::Program;
 use kr_value::Value;

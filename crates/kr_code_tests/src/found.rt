@@ -1,12 +1,11 @@
 // The nodes of one file of one node, found twice.
 ghost use Rattle.std.specs.Prelude.{◌≡◌, ◌<◌, ◌^◌, IfOk, length};
-ghost use Rattle.kr_found.specs.Found.{AreFound, all_entries};
-ghost use Rattle.kr_names.specs.Shown.{IsNode};
+ghost use Rattle.kr_pure.specs.Found.{AreFound, all_entries};
+ghost use Rattle.kr_ast.specs.Files.{IsNode};
 
-use kr_ast::{Forest, Node, Tree};
+use kr_ast::{Forest, Node, NodeId, Tree};
 use kr_base::{NoMemory, Place};
-use kr_found::{Found, count_nodes};
-use kr_names::NodeAt;
+use kr_pure::{Found, count_nodes};
 use std::alloc::Global;
 
 /// A file without classes.
@@ -23,7 +22,7 @@ fn empty(alloc: Global) -> Result<Tree, NoMemory>
     Ok(forest.finish())
 }
 
-fn add_twice(found: &mut Found, trees: &[Tree], at: NodeAt) -> Result<(), NoMemory>
+fn add_twice(found: &mut Found, trees: &[Tree], at: NodeId) -> Result<(), NoMemory>
     requires few { length (all_entries trees.now) < 2 ^ 32 }
     requires node { IsNode trees.now at }
     requires found { AreFound trees.now found.old }
@@ -33,7 +32,7 @@ fn add_twice(found: &mut Found, trees: &[Tree], at: NodeAt) -> Result<(), NoMemo
 }
 
 /// How many nodes are found where this one is added twice.
-fn found_twice(alloc: Global, trees: &[Tree], at: NodeAt) -> Result<usize, NoMemory>
+fn found_twice(alloc: Global, trees: &[Tree], at: NodeId) -> Result<usize, NoMemory>
     requires few { length (all_entries trees.now) < 2 ^ 32 }
     requires node { IsNode trees.now at }
 {
@@ -47,7 +46,7 @@ fn a_node_is_found_once(rt: HostRuntime) -> Result<(), NoMemory> {
     let tree = empty(rt.alloc())?;
     let trees = vec![in rt.alloc(); tree]?;
     let count = count_nodes(&trees);
-    let found = found_twice(rt.alloc(), &trees, NodeAt { file: 0, node: 0 })?;
+    let found = found_twice(rt.alloc(), &trees, NodeId { file: 0, node: 0 })?;
     assert_eq!(rt; count, 1);
     assert_eq!(rt; found, 1);
     Ok(())

@@ -1,13 +1,13 @@
 // Two small files, and what is made of their members.
 ghost use Rattle.std.specs.Prelude.{◌≡◌, ◌<◌, IfOk, length};
-ghost use Rattle.kr_members.specs.Kept.{AreMembers};
-ghost use Rattle.kr_names.specs.Shown.{AreHeads};
+ghost use Rattle.kr_classes_members.specs.Kept.{AreMembers};
+ghost use Rattle.kr_classes_names.specs.Shown.{AreHeads};
 
 use crate::{runnable, tables};
 use kr_ast::Tree;
 use kr_base::NoMemory;
-use kr_members::Members;
-use kr_names::Heads;
+use kr_classes_members::Members;
+use kr_classes_names::Heads;
 use kr_sources::tree_of;
 use std::alloc::Global;
 

@@ -1,14 +1,14 @@
 // Problems of one class whose `repOk` writes its own field, or calls what does, or leaves it alone.
-ghost use Rattle.kr_member_nodes.specs.Nodes.{AreShaped};
-ghost use Rattle.kr_posed.specs.Posed.{IsPosed};
+ghost use Rattle.kr_code_members.specs.Nodes.{AreShaped};
+ghost use Rattle.kr_space_problem.specs.Posed.{IsPosed};
 
 use kr_base::NoMemory;
 use kr_fin::Listed;
 use kr_mean::Mode;
-use kr_posed::Problem;
-use kr_problem::{ClassDomain, Layout};
-use kr_reach::{PureRefusal, pure};
+use kr_pure::{PureRefusal, pure};
 use kr_sources::program_of;
+use kr_space_layout::{ClassDomain, Layout};
+use kr_space_problem::Problem;
 use kr_value::Class;
 use std::alloc::Global;
 

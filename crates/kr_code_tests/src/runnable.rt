@@ -1,11 +1,11 @@
 // `class A { int m() { } }`: a call of its method may run that one, and its creation the code of `A`.
-ghost use Rattle.kr_members.specs.Kept.{AreMembers};
+ghost use Rattle.kr_classes_members.specs.Kept.{AreMembers};
 
 use kr_ast::Tree;
 use kr_base::NoMemory;
-use kr_members::Members;
-use kr_runnable::{created_classes, runnable_methods};
-use kr_type_numbers::{TypeForm, Types};
+use kr_classes_members::Members;
+use kr_classes_types::{TypeForm, Types};
+use kr_pure_effects::{created_classes, runnable_methods};
 use std::alloc::Global;
 
 /// A call of the method may run one.

@@ -6,11 +6,11 @@ use Rattle.kr_mean.specs.Places.{SlotPlace, This}
 use Rattle.kr_mean.specs.Program.{Program}
 use Rattle.kr_mean.specs.Runs.{End, accepted_walk, end_of, end_on, is_accepted, order_of, outcome_of, read_slots, slots_for}
 use Rattle.kr_mean.specs.Steps.{Outcome}
-use Rattle.kr_world.specs.Noting.{noted_once}
-use Rattle.kr_world.specs.declared.world.Halt.{Halt}
-use Rattle.kr_world.specs.declared.world.Halt.TheVariants.{Ended, Memory, Written}
-use Rattle.kr_world.specs.declared.world.World.{World}
-use Rattle.kr_problem.specs.Bounds.{Bounds, bare, problem_with}
+use Rattle.kr_run_state.specs.Noting.{noted_once}
+use Rattle.kr_run_state.specs.declared.world.Halt.{Halt}
+use Rattle.kr_run_state.specs.declared.world.Halt.TheVariants.{Ended, Memory, Written}
+use Rattle.kr_run_state.specs.declared.world.World.{World}
+use Rattle.kr_space_layout.specs.Bounds.{Bounds, bare, problem_with}
 use Rattle.kr_judge.proofs.Orders.{once, with_all, with_both}
 use Rattle.kr_judge.proofs.Programs.{walk_same}
 use Rattle.kr_judge.specs.Orders.{with_slots}

@@ -7,10 +7,10 @@ use Rattle.std.proofs.lemmas.List.{append-nil, append_assoc, map-append, reverse
 use Rattle.std.proofs.lemmas.List.Concat.{flat_map-append}
 use Rattle.kr_mean.specs.Places.{SlotPlace}
 use Rattle.kr_mean.specs.Runs.{contains_number, is_same_place}
-use Rattle.kr_pruning.proofs.Membership.{bool_cases}
-use Rattle.kr_world.specs.Shown.{place_of}
-use Rattle.kr_world.specs.declared.reads.SlotPlace.{SlotPlace as Place}
-use Rattle.kr_world.specs.Noting.{is_read}
+use Rattle.kr_laws_slots.proofs.Membership.{bool_cases}
+use Rattle.kr_mean.specs.Places.{place_of}
+use Rattle.kr_value.specs.declared.place.SlotPlace.{SlotPlace as Place}
+use Rattle.kr_run_state.specs.Noting.{is_read}
 use Rattle.kr_judge.specs.Follows.{AreOf, HaveCome, place_in}
 use Rattle.kr_judge.specs.Orders.{AreMarked, EachOnce, with_slot, with_slots}
 use Rattle.kr_judge.specs.declared.accesses.Access.{Access}

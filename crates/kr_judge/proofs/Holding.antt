@@ -11,19 +11,19 @@ use Rattle.kr_mean.specs.Runs.{hold_all, where_true}
 use Rattle.kr_code.specs.declared.code.Code.{Code}
 use Rattle.kr_code.specs.Doing.{Doing, IsMeaning}
 use Rattle.kr_code.specs.Resolved.{Numbering, IsCodeOf}
-use Rattle.kr_resolved.specs.Laws.{doing_of}
-use Rattle.kr_resolved.proofs.Resolved.{is_run_by}
-use Rattle.kr_world.specs.declared.world.World.{World}
-use Rattle.kr_world.specs.declared.world.End.{End}
-use Rattle.kr_world.specs.declared.world.Halt.{Halt}
-use Rattle.kr_world.specs.declared.world.End.TheVariants as ends
-use Rattle.kr_world.specs.Worlds.{state_at, state_of}
-use Rattle.kr_world.specs.Noting.{noting, noted_once}
-use Rattle.kr_world.specs.Shown.{stop_of}
-use Rattle.kr_frames.specs.Frames.{continued}
-use Rattle.kr_frames.specs.Leads.{HasEnded}
-use Rattle.kr_frames.proofs.Outcomes.{noted_behind, outcome_is}
-use Rattle.kr_world.specs.declared.world.Halt.TheVariants.{Ended, Memory, Written}
+use Rattle.kr_code_laws.specs.Laws.{doing_of}
+use Rattle.kr_code_laws.proofs.Resolved.{is_run_by}
+use Rattle.kr_run_state.specs.declared.world.World.{World}
+use Rattle.kr_run_state.specs.declared.world.End.{End}
+use Rattle.kr_run_state.specs.declared.world.Halt.{Halt}
+use Rattle.kr_run_state.specs.declared.world.End.TheVariants as ends
+use Rattle.kr_run_state.specs.Worlds.{state_at, state_of}
+use Rattle.kr_run_state.specs.Noting.{noting, noted_once}
+use Rattle.kr_run_state.specs.Shown.{stop_of}
+use Rattle.kr_run_frames.specs.Frames.{continued}
+use Rattle.kr_run_frames.specs.Leads.{HasEnded}
+use Rattle.kr_run_frames.proofs.Outcomes.{noted_behind, outcome_is}
+use Rattle.kr_run_state.specs.declared.world.Halt.TheVariants.{Ended, Memory, Written}
 use Rattle.kr_run.specs.Answers.{Answers}
 use Rattle.kr_judge.specs.Judged.{hold_at, HoldsAs, MeansAs, IsEnded}
 use Rattle.kr_judge.specs.One.{OneAs}

@@ -9,10 +9,10 @@ use Rattle.kr_value.specs.declared.object.Spot.TheVariants.{Field, Length, Eleme
 use Rattle.kr_mean.specs.Heaps.{distinct}
 use Rattle.kr_mean.specs.Places.{SlotPlace, This, Parameter, At}
 use Rattle.kr_mean.specs.Runs.{contains_number, is_same_number, is_same_place, is_same_spot}
-use Rattle.kr_pruning.proofs.Membership.{Has, bool_cases}
-use Rattle.kr_pruning.proofs.Reached.{has_flat}
-use Rattle.kr_pruning.proofs.SlotForks.{added, distinct_append}
-use Rattle.kr_world.specs.Noting.{is_read, with_read, noted_once}
+use Rattle.kr_laws_slots.proofs.Membership.{Has, bool_cases}
+use Rattle.kr_laws_slots.proofs.Reached.{has_flat}
+use Rattle.kr_laws_slots.proofs.SlotForks.{added, distinct_append}
+use Rattle.kr_run_state.specs.Noting.{is_read, with_read, noted_once}
 use Rattle.kr_build.specs.Visits.{IsMarked}
 use Rattle.kr_judge.specs.Orders.{AreMarked, with_slot, with_slots}
 

@@ -5,7 +5,7 @@ use Rattle.kr_mean.specs.Heaps.{heap_of, met_within, objects_at, root_slots, slo
 use Rattle.kr_mean.specs.Problem.{DomainObject, all_objects}
 use Rattle.kr_mean.specs.Program.{Program}
 use Rattle.kr_mean.specs.Runs.{start}
-use Rattle.kr_problem.specs.Bounds.{Bounds, bare, problem_with}
+use Rattle.kr_space_layout.specs.Bounds.{Bounds, bare, problem_with}
 
 module _ (program : Program) (b : Bounds) where
   pub start_same : (v : List ℕ) → start (bare b) v ≡ start (problem_with program b) v

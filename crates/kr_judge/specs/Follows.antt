@@ -2,8 +2,8 @@
 use Rattle.std.specs.Prelude.{◌≡◌, ℕ, true, List, [], ◌∷◌, reverse, take}
 use Rattle.kr_mean.specs.Places.{SlotPlace}
 use Rattle.kr_mean.specs.Runs.{contains_number}
-use Rattle.kr_world.specs.Noting.{is_read}
-use Rattle.kr_world.specs.Shown.{place_of}
+use Rattle.kr_run_state.specs.Noting.{is_read}
+use Rattle.kr_mean.specs.Places.{place_of}
 use Rattle.kr_judge.specs.Orders.{with_slots}
 use Rattle.kr_judge.specs.declared.accesses.Access.{Access}
 use Rattle.kr_judge.specs.declared.accesses.Accesses.{Accesses}

@@ -5,13 +5,13 @@ use Rattle.kr_mean.specs.Steps.{Outcome, Run, give, ◌>>=◌}
 use Rattle.kr_mean.specs.Runs.{where_true}
 use Rattle.kr_code.specs.declared.code.Code.{Code}
 use Rattle.kr_code.specs.Doing.{Doing, IsMeaning}
-use Rattle.kr_world.specs.declared.world.World.{World}
-use Rattle.kr_world.specs.declared.world.End.{End}
-use Rattle.kr_world.specs.declared.world.Halt.{Halt}
-use Rattle.kr_world.specs.declared.world.Halt.TheVariants.{Ended, Memory, Written}
-use Rattle.kr_world.specs.Noting.{noting}
-use Rattle.kr_world.specs.Shown.{stop_of}
-use Rattle.kr_world.specs.Worlds.{state_of}
+use Rattle.kr_run_state.specs.declared.world.World.{World}
+use Rattle.kr_run_state.specs.declared.world.End.{End}
+use Rattle.kr_run_state.specs.declared.world.Halt.{Halt}
+use Rattle.kr_run_state.specs.declared.world.Halt.TheVariants.{Ended, Memory, Written}
+use Rattle.kr_run_state.specs.Noting.{noting}
+use Rattle.kr_run_state.specs.Shown.{stop_of}
+use Rattle.kr_run_state.specs.Worlds.{state_of}
 
 -- whether the conditions at some nodes hold, each looked at only where those before it do
 abbrev pub hold_at : Doing → List ℕ → Run Bool

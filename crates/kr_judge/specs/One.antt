@@ -6,11 +6,11 @@ use Rattle.kr_mean.specs.Steps.{State, Run, ◌>>=◌}
 use Rattle.kr_mean.specs.Runs.{where_true}
 use Rattle.kr_code.specs.declared.code.Code.{Code}
 use Rattle.kr_code.specs.Doing.{Doing, IsMeaning}
-use Rattle.kr_world.specs.declared.world.World.{World}
-use Rattle.kr_world.specs.declared.world.Halt.{Halt}
-use Rattle.kr_world.specs.declared.world.Halt.TheVariants.{Ended, Memory, Written}
-use Rattle.kr_world.specs.Noting.{noting}
-use Rattle.kr_world.specs.Worlds.{state_of}
+use Rattle.kr_run_state.specs.declared.world.World.{World}
+use Rattle.kr_run_state.specs.declared.world.Halt.{Halt}
+use Rattle.kr_run_state.specs.declared.world.Halt.TheVariants.{Ended, Memory, Written}
+use Rattle.kr_run_state.specs.Noting.{noting}
+use Rattle.kr_run_state.specs.Worlds.{state_of}
 use Rattle.kr_judge.specs.Judged.{IsEnded}
 
 abbrev pub OneAs : Code → Result Bool Halt → World → List SlotPlace → ℕ → State → Type 0

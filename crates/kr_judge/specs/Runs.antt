@@ -4,10 +4,10 @@ use Rattle.kr_base.specs.declared.memory.NoMemory.{NoMemory}
 use Rattle.kr_mean.specs.Problem.{Problem}
 use Rattle.kr_mean.specs.Runs as runs
 use Rattle.kr_mean.specs.Runs.{End, end_of, end_on, outcome_of}
-use Rattle.kr_world.specs.Noting.{noted_once}
-use Rattle.kr_world.specs.Shown.{stop_of}
-use Rattle.kr_world.specs.declared.world.Halt.{Halt}
-use Rattle.kr_world.specs.declared.world.Halt.TheVariants.{Ended, Memory, Written}
+use Rattle.kr_run_state.specs.Noting.{noted_once}
+use Rattle.kr_run_state.specs.Shown.{stop_of}
+use Rattle.kr_run_state.specs.declared.world.Halt.{Halt}
+use Rattle.kr_run_state.specs.declared.world.Halt.TheVariants.{Ended, Memory, Written}
 use Rattle.kr_judge.specs.declared.run.Judgement.{Judgement}
 use Rattle.kr_judge.specs.declared.run.Judgement.TheVariants.{True, False, Trap, Spent}
 use Rattle.kr_judge.specs.declared.run.Ran.{Ran}

@@ -6,8 +6,8 @@ ghost use Rattle.kr_mean.specs.Problem.{slots};
 ghost use Rattle.kr_mean.specs.Runs.{is_accepted, slots_for};
 ghost use Rattle.kr_mean.specs.Space.{IsVector, space_of};
 ghost use Rattle.kr_mean.specs.WellFormed.{IsWellFormed};
-ghost use Rattle.kr_problem.specs.Bounds.{bare};
-ghost use Rattle.kr_world.specs.Shown.{place_of};
+ghost use Rattle.kr_space_layout.specs.Bounds.{bare};
+ghost use Rattle.kr_mean.specs.Places.{place_of};
 ghost use Rattle.kr_judge.specs.Follows.{AreOf, Follow, HaveCome, place_in};
 ghost use Rattle.kr_judge.specs.Orders.{with_slots};
 ghost use Rattle.kr_judge.specs.Runs.{end_said};
@@ -17,10 +17,10 @@ use crate::places::slot_of;
 use crate::run::Judgement;
 use kr_base::NoMemory;
 use kr_build::Walk;
-use kr_problem::Layout;
-use kr_value::Spot;
+use kr_run_state::Reads;
+use kr_space_layout::Layout;
+use kr_value::{SlotPlace, Spot};
 use kr_vector::Vector;
-use kr_world::{Reads, SlotPlace};
 use std::alloc::Global;
 
 /// A place that was read, and how many slots had come before it.

@@ -5,12 +5,12 @@ ghost use Rattle.kr_judge.specs.Judged.{HoldsAs, MeansAs, hold_at};
 ghost use Rattle.kr_judge.specs.One.{OneAs};
 ghost use Rattle.kr_mean.specs.Program.{Program};
 ghost use Rattle.kr_mean.specs.Runs.{hold_all as hold_all_step};
-ghost use Rattle.kr_world.specs.Worlds.{state_of};
+ghost use Rattle.kr_run_state.specs.Worlds.{state_of};
 
 use kr_code::Code;
 use kr_run::evaluate;
+use kr_run_state::{End, Halt, World};
 use kr_value::Value;
-use kr_world::{End, Halt, World};
 use std::alloc::Global;
 
 /// Whether one condition holds; a value that is no truth value has no meaning.

@@ -9,14 +9,13 @@ ghost use Rattle.kr_mean.specs.Places.{At, Parameter};
 ghost use Rattle.kr_value.specs.declared.object.Class.TheVariants.{Array};
 ghost use Rattle.kr_value.specs.declared.object.Spot.TheVariants.{Field};
 ghost use Rattle.kr_mean.specs.WellFormed.{IsWellFormed};
-ghost use Rattle.kr_problem.specs.Bounds.{bare};
-ghost use Rattle.kr_world.specs.Shown.{place_of};
+ghost use Rattle.kr_space_layout.specs.Bounds.{bare};
+ghost use Rattle.kr_mean.specs.Places.{place_of};
 
 use kr_base::NoMemory;
 use kr_iso::Object;
-use kr_problem::Layout;
-use kr_value::{Class, Obj, Spot};
-use kr_world::SlotPlace;
+use kr_space_layout::Layout;
+use kr_value::{Class, Obj, SlotPlace, Spot};
 
 /// A number that is below another.
 fn below(number: u32, bound: u32) -> Option<u32>

@@ -5,7 +5,7 @@ ghost use Rattle.kr_mean.specs.Problem.{slots};
 ghost use Rattle.kr_mean.specs.Program.{Program};
 ghost use Rattle.kr_mean.specs.Space.{IsVector, space_of};
 ghost use Rattle.kr_mean.specs.WellFormed.{IsWellFormed};
-ghost use Rattle.kr_problem.specs.Bounds.{bare, problem_with};
+ghost use Rattle.kr_space_layout.specs.Bounds.{bare, problem_with};
 ghost use Rattle.kr_judge.specs.Predicates.{IsPredicateOf};
 ghost use Rattle.kr_judge.specs.Runs.{IsJudged, IsRunOf};
 
@@ -14,9 +14,9 @@ use crate::predicate::Predicate;
 use crate::start::world_of;
 use kr_base::NoMemory;
 use kr_mean::Kind;
-use kr_problem::Layout;
+use kr_run_state::{End, Halt, Reads};
+use kr_space_layout::Layout;
 use kr_vector::Vector;
-use kr_world::{End, Halt, Reads};
 use std::alloc::Global;
 
 /// How the predicate's run ends: all conditions hold; one is false, and those behind it aren't looked at; it traps; or it

@@ -6,17 +6,17 @@ ghost use Rattle.kr_mean.specs.Heaps.{heap_of, value_at};
 ghost use Rattle.kr_mean.specs.Runs.{parameter_values, parameters_from, start};
 ghost use Rattle.kr_mean.specs.Space.{IsVector, space_of};
 ghost use Rattle.kr_mean.specs.WellFormed.{IsWellFormed};
-ghost use Rattle.kr_problem.specs.Bounds.{bare};
-ghost use Rattle.kr_world.specs.Shown.{local_of};
-ghost use Rattle.kr_world.specs.Worlds.{state_of};
+ghost use Rattle.kr_space_layout.specs.Bounds.{bare};
+ghost use Rattle.kr_run_state.specs.Shown.{local_of};
+ghost use Rattle.kr_run_state.specs.Worlds.{state_of};
 
 use kr_base::NoMemory;
 use kr_build::build;
 use kr_heap::Heap;
-use kr_problem::Layout;
-use kr_value::Value;
+use kr_run_state::{Local, Reads, World};
+use kr_space_layout::Layout;
+use kr_value::{SlotPlace, Value};
 use kr_vector::{Slot, Vector};
-use kr_world::{Local, Reads, SlotPlace, World};
 use std::alloc::Global;
 
 /// What a candidate has at a slot.

@@ -5,9 +5,9 @@ use Rattle.std.specs.List.{range_with_len}
 use Rattle.kr_ast.specs.Tree as trees
 use Rattle.kr_ast.specs.Tree.{Tree}
 use Rattle.kr_value.specs.declared.object.Class.TheVariants.{Object}
-use Rattle.kr_table.specs.Types.{JavaType, ClassType}
-use Rattle.kr_table.specs.Table.{Method, Constructor, line_of, method_named}
-use Rattle.kr_typing.specs.Scopes.{Scope, written, bind, in_old, after, class_before, static_only, method_meant}
+use Rattle.kr_classes_table.specs.Types.{JavaType, ClassType}
+use Rattle.kr_classes_table.specs.Table.{Method, Constructor, line_of, method_named}
+use Rattle.kr_types_meaning.specs.Scopes.{Scope, written, bind, in_old, after, class_before, static_only, method_meant}
 use Rattle.kr_mean.specs.Program.{Program, overriding, class_scope, method_scope, constructor_scope, constructor_of, declared_fields}
 use Rattle.kr_mean.specs.Meaning.{typed_method, super_method, declaring_locals}
 

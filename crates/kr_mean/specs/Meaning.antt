@@ -11,12 +11,12 @@ use Rattle.kr_value.specs.declared.value.Value.{Value}
 use Rattle.kr_value.specs.declared.value.Value.TheVariants.{Int, Bool as Truth, Null}
 use Rattle.kr_value.specs.declared.object.Class.{Class}
 use Rattle.kr_value.specs.declared.object.Class.TheVariants.{Object, Array, Set, List as ListClass}
-use Rattle.kr_table.specs.Types.{JavaType, ClassType, ArrayType, SetType, ListType, is_void}
-use Rattle.kr_table.specs.Table.{Table, Field, Method, Constructor, items, fields_of, line_of, field_named, method_named}
-use Rattle.kr_table.specs.Arrays.{array_number}
-use Rattle.kr_table.specs.Constants.{constant_of, wrap, value_of as constant_value}
-use Rattle.kr_typing.specs.Scopes.{Scope, Locals, Meant, LocalName, FieldName, NoName, written, declaring, bind as with_local, after, meant, class_before, static_only, method_meant, super_class}
-use Rattle.kr_typing.specs.Typing.{type_of}
+use Rattle.kr_classes_table.specs.Types.{JavaType, ClassType, ArrayType, SetType, ListType, is_void}
+use Rattle.kr_classes_table.specs.Table.{Table, Field, Method, Constructor, items, fields_of, line_of, field_named, method_named}
+use Rattle.kr_classes_table.specs.Arrays.{array_number}
+use Rattle.kr_classes_table.specs.Constants.{constant_of, wrap, value_of as constant_value}
+use Rattle.kr_types_meaning.specs.Scopes.{Scope, Locals, Meant, LocalName, FieldName, NoName, written, declaring, bind as with_local, after, meant, class_before, static_only, method_meant, super_class}
+use Rattle.kr_types_meaning.specs.Typing.{type_of}
 use Rattle.kr_mean.specs.declared.kind.Kind.TheVariants.{NegativeArraySizeException, ClassCastException, NoReturn, ArrayTooLong}
 use Rattle.kr_mean.specs.Program.{Program, default_of, is_of_type, overriding, class_scope, method_scope, constructor_scope, constructor_of, declared_fields}
 use Rattle.kr_mean.specs.Steps.{Trapped, OutOfFuel, Stuck, Run, say, give, stop, given, ◌>>=◌, ◌>>◌, tick, get_this, read_local, declare, assign, get_result, get_old, within, scoped, load_field, element, class_or_null, class_of, store, store_new, store_element, make, collect}

@@ -8,7 +8,7 @@ use Rattle.kr_ast.specs.declared.node.StepOperator.{StepOperator}
 use Rattle.kr_ast.specs.declared.node.StepOperator.TheVariants.{IncrementBefore, DecrementBefore, IncrementBehind, DecrementBehind}
 use Rattle.kr_value.specs.declared.value.Value.{Value}
 use Rattle.kr_value.specs.declared.value.Value.TheVariants.{Int, Bool as Truth, Null, Ref as Reference}
-use Rattle.kr_table.specs.Constants.{ConstantValue, Whole, Truth as TruthConstant, Absent, of_ints, of_booleans, unary_value}
+use Rattle.kr_classes_table.specs.Constants.{ConstantValue, Whole, Truth as TruthConstant, Absent, of_ints, of_booleans, unary_value}
 use Rattle.kr_mean.specs.declared.kind.Kind.TheVariants.{ArithmeticException}
 use Rattle.kr_mean.specs.Collections.{is_same_value}
 use Rattle.kr_mean.specs.Steps.{Stop, Trapped, Stuck}

@@ -6,10 +6,10 @@ use Rattle.kr_ast.specs.Tree as trees
 use Rattle.kr_ast.specs.Tree.{Tree}
 use Rattle.kr_value.specs.declared.object.Class.{Class}
 use Rattle.kr_value.specs.declared.object.Class.TheVariants.{Object}
-use Rattle.kr_table.specs.Types.{JavaType, ClassType}
-use Rattle.kr_table.specs.Table.{Method, method_named, is_below}
-use Rattle.kr_table.specs.Rules.{is_earlier}
-use Rattle.kr_typing.specs.Scopes.{Scope, written}
+use Rattle.kr_classes_table.specs.Types.{JavaType, ClassType}
+use Rattle.kr_classes_table.specs.Table.{Method, method_named, is_below}
+use Rattle.kr_classes_table.specs.Rules.{is_earlier}
+use Rattle.kr_types_meaning.specs.Scopes.{Scope, written}
 use Rattle.kr_mean.specs.Program.{Program, is_array_of}
 use Rattle.kr_mean.specs.Problem.{Problem, ClassDomain}
 use Rattle.kr_mean.specs.Meaning.{Target, OwnField, FieldOf, ElementOf, NoTarget, target_of}

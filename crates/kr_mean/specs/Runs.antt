@@ -10,8 +10,8 @@ use Rattle.kr_value.specs.declared.object.Spot.{Spot}
 use Rattle.kr_value.specs.declared.object.Spot.TheVariants.{Field, Length, Element}
 use Rattle.kr_value.specs.declared.value.Value.{Value}
 use Rattle.kr_value.specs.declared.value.Value.TheVariants.{Bool as Truth}
-use Rattle.kr_table.specs.Table.{Method, method_named}
-use Rattle.kr_typing.specs.Scopes.{Part, Requiring, Ensuring, in_contract}
+use Rattle.kr_classes_table.specs.Table.{Method, method_named}
+use Rattle.kr_types_meaning.specs.Scopes.{Part, Requiring, Ensuring, in_contract}
 use Rattle.kr_mean.specs.declared.kind.Kind.{Kind}
 use Rattle.kr_mean.specs.declared.mode.Mode.{Mode}
 use Rattle.kr_mean.specs.declared.mode.Mode.TheVariants.{List as Listing, Method as Testing}

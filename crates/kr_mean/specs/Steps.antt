@@ -9,9 +9,9 @@ use Rattle.kr_value.specs.declared.object.Class.TheVariants.{Object, Array}
 use Rattle.kr_value.specs.declared.object.Spot.{Spot}
 use Rattle.kr_value.specs.declared.object.Spot.TheVariants.{Field as FieldSpot, Length, Element}
 use Rattle.kr_value.specs.Heaps.{HeapObject, object_in, has_spot, value_of_spot}
-use Rattle.kr_table.specs.Types.{JavaType}
-use Rattle.kr_table.specs.Table.{Field}
-use Rattle.kr_table.specs.Constants.{is_same_place}
+use Rattle.kr_classes_table.specs.Types.{JavaType}
+use Rattle.kr_classes_table.specs.Table.{Field}
+use Rattle.kr_classes_table.specs.Constants.{is_same_place}
 use Rattle.kr_mean.specs.declared.kind.Kind.{Kind}
 use Rattle.kr_mean.specs.declared.kind.Kind.TheVariants.{NullPointerException, ArrayIndexOutOfBoundsException}
 use Rattle.kr_mean.specs.Program.{Program, field_position, spot_of_field, is_array_of}

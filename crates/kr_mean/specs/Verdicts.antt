@@ -6,8 +6,8 @@ use Rattle.kr_ast.specs.Tree as trees
 use Rattle.kr_ast.specs.Tree.{Tree}
 use Rattle.kr_value.specs.declared.value.Value.{Value}
 use Rattle.kr_value.specs.declared.value.Value.TheVariants.{Bool as Truth}
-use Rattle.kr_table.specs.Table.{Method}
-use Rattle.kr_typing.specs.Scopes.{Scope, in_old}
+use Rattle.kr_classes_table.specs.Table.{Method}
+use Rattle.kr_types_meaning.specs.Scopes.{Scope, in_old}
 use Rattle.kr_mean.specs.declared.kind.Kind.{Kind}
 use Rattle.kr_mean.specs.declared.kind.Verdict.{Verdict}
 use Rattle.kr_mean.specs.declared.kind.Verdict.TheVariants.{Pass, Ensures, RepOk, Trap, CheckTrap, Spent}

@@ -6,9 +6,9 @@ use Rattle.std.proofs.lemmas.Bool.{cases_lt}
 use Rattle.std.proofs.lemmas.Grind.{common_steps}
 use Rattle.kr_lex.specs.Lexemes.{Lexeme, Lexemes, lexeme_at}
 use Rattle.kr_lex.specs.declared.kind.Kind.TheVariants as kinds
-use Rattle.kr_grammar.specs.Machine.{ahead}
-use Rattle.kr_grammar.specs.State.{front}
-use Rattle.kr_grammar.specs.Terminals.{terminal_of}
+use Rattle.kr_parse_grammar.specs.Machine.{ahead}
+use Rattle.kr_parse_grammar.specs.State.{front}
+use Rattle.kr_parse_grammar.specs.Terminals.{terminal_of}
 use Rattle.kr_parse.specs.Refusals.{token_at}
 
 -- the token behind the last one

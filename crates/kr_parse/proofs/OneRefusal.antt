@@ -5,7 +5,7 @@ use Rattle.std.proofs.lemmas.Bool.{cases_lt}
 use Rattle.kr_base.specs.declared.place.Place.{Place}
 use Rattle.kr_lex.specs.Lexemes.{Lexeme, Lexemes}
 use Rattle.kr_ast.specs.Tree.{Tree}
-use Rattle.kr_grammar.specs.Grammar.{Derives}
+use Rattle.kr_parse_grammar.specs.Grammar.{Derives}
 use Rattle.kr_parse.specs.declared.refusal.ParseRule.TheVariants as rules
 use Rattle.kr_parse.specs.Refusals.{IsDead, IsViable, IsLeastDead, IsFirstTooNested, OneRefusal, ParsedUnbroken, is_unsupported, place_at}
 

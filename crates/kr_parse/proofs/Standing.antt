@@ -6,11 +6,11 @@ use Rattle.kr_lex.specs.Lexemes.{Lexeme, Lexemes}
 use Rattle.kr_lex.specs.Spelling.{is_outside_profile}
 use Rattle.kr_lex.specs.declared.kind.Kind.{Kind}
 use Rattle.kr_lex.specs.declared.kind.Kind.TheVariants as kinds
-use Rattle.kr_grammar.specs.declared.terminal.Terminal.{Terminal}
-use Rattle.kr_grammar.specs.declared.terminal.Terminal.TheVariants.{Outside}
-use Rattle.kr_grammar.specs.Terminals.{terminal_of}
-use Rattle.kr_grammar.specs.Machine.{ahead}
-use Rattle.kr_grammar.specs.State.{is_inside}
+use Rattle.kr_parse_grammar.specs.declared.terminal.Terminal.{Terminal}
+use Rattle.kr_parse_grammar.specs.declared.terminal.Terminal.TheVariants.{Outside}
+use Rattle.kr_parse_grammar.specs.Terminals.{terminal_of}
+use Rattle.kr_parse_grammar.specs.Machine.{ahead}
+use Rattle.kr_parse_grammar.specs.State.{is_inside}
 use Rattle.kr_parse.specs.Refusals.{IsTooNested, IsLeastDead, is_opening, open_behind, token_at}
 use Rattle.kr_parse.proofs.Ahead.{behind_all, no_token}
 use Rattle.kr_parse.specs.Steps.{depth_behind, IsStanding, IsLeast}

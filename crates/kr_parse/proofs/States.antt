@@ -4,20 +4,20 @@ use Rattle.std.proofs.Math.Seq.{take-length, drop-length}
 use Rattle.std.proofs.lemmas.List.{append-nil}
 use Rattle.kr_lex.specs.Lexemes.{Lexeme, Lexemes}
 use Rattle.kr_ast.specs.Tree.{Tree}
-use Rattle.kr_grammar.specs.declared.terminal.Terminal.{Terminal}
-use Rattle.kr_grammar.specs.declared.value.Form.{Form}
-use Rattle.kr_grammar.specs.declared.value.Tag.{Tag}
+use Rattle.kr_parse_grammar.specs.declared.terminal.Terminal.{Terminal}
+use Rattle.kr_parse_grammar.specs.declared.value.Form.{Form}
+use Rattle.kr_parse_grammar.specs.declared.value.Tag.{Tag}
 use Rattle.kr_base.specs.declared.place.Place.{Place}
-use Rattle.kr_grammar.specs.declared.goal.Goal.{Goal}
-use Rattle.kr_grammar.specs.declared.goal.Goal.TheVariants as goals
-use Rattle.kr_grammar.specs.declared.goal.Make.{Make}
-use Rattle.kr_grammar.specs.declared.goal.Symbol.{Symbol}
-use Rattle.kr_grammar.specs.declared.goal.Symbol.TheVariants.{Take, Keep, Word, Literal as Leaf, Spell, Want, Build}
-use Rattle.kr_grammar.specs.Values.{Item, part, tag}
-use Rattle.kr_grammar.specs.Made.{made}
-use Rattle.kr_grammar.specs.Grammar.{Derives}
-use Rattle.kr_grammar.specs.Machine.{ahead, rule, start, Runs, done, take as takes, keep, name, leaf, spell, want, build}
-use Rattle.kr_grammar.specs.State.{Good, weight, debt, debt_of, load, front, State}
+use Rattle.kr_parse_grammar.specs.declared.goal.Goal.{Goal}
+use Rattle.kr_parse_grammar.specs.declared.goal.Goal.TheVariants as goals
+use Rattle.kr_parse_grammar.specs.declared.goal.Make.{Make}
+use Rattle.kr_parse_grammar.specs.declared.goal.Symbol.{Symbol}
+use Rattle.kr_parse_grammar.specs.declared.goal.Symbol.TheVariants.{Take, Keep, Word, Literal as Leaf, Spell, Want, Build}
+use Rattle.kr_parse_grammar.specs.Values.{Item, part, tag}
+use Rattle.kr_parse_grammar.specs.Made.{made}
+use Rattle.kr_parse_grammar.specs.Grammar.{Derives}
+use Rattle.kr_parse_grammar.specs.Machine.{ahead, rule, start, Runs, done, take as takes, keep, name, leaf, spell, want, build}
+use Rattle.kr_parse_grammar.specs.State.{Good, weight, debt, debt_of, load, front, State}
 use Rattle.kr_parse.specs.Refusals.{IsDead, IsViable, IsShallow, token_at}
 use Rattle.kr_parse.proofs.Ahead.{front_ahead, through, is_token}
 use Rattle.kr_parse.specs.Steps.{AreLaws, IsAsked, AsksToken, kept_of, IsLeast}

@@ -6,7 +6,7 @@ use Rattle.kr_lex.specs.Spelling.{is_outside_profile}
 use Rattle.kr_lex.specs.declared.kind.Kind.{Kind}
 use Rattle.kr_lex.specs.declared.kind.Kind.TheVariants as kinds
 use Rattle.kr_ast.specs.Tree.{Tree}
-use Rattle.kr_grammar.specs.Grammar.{Derives}
+use Rattle.kr_parse_grammar.specs.Grammar.{Derives}
 use Rattle.kr_parse.specs.declared.refusal.ParseRefusal.{ParseRefusal}
 use Rattle.kr_parse.specs.declared.refusal.ParseRefusal.TheVariants as refusals
 use Rattle.kr_parse.specs.declared.refusal.ParseRule.{ParseRule}

@@ -2,15 +2,15 @@
 use Rattle.std.specs.Prelude.{◌≡◌, ◌+◌, ◌≤◌, ℕ, pred, if◌then◌else◌, List, ◌∷◌, length, take, drop}
 use Rattle.kr_lex.specs.Lexemes.{Lexeme, Lexemes}
 use Rattle.kr_lex.specs.declared.kind.Kind.{Kind}
-use Rattle.kr_grammar.specs.declared.terminal.Terminal.TheVariants.{Identifier, Literal}
-use Rattle.kr_grammar.specs.declared.value.Form.TheVariants as forms
-use Rattle.kr_grammar.specs.declared.goal.Symbol.{Symbol}
-use Rattle.kr_grammar.specs.declared.goal.Symbol.TheVariants.{Take, Keep, Word, Literal as Leaf, Spell, Want, Build}
-use Rattle.kr_grammar.specs.Terminals.{terminal_of}
-use Rattle.kr_grammar.specs.Values.{Item, mark, word, part}
-use Rattle.kr_grammar.specs.Made.{literal}
-use Rattle.kr_grammar.specs.Machine.{ahead, spelling}
-use Rattle.kr_laws.specs.Laws.{Soundness, Completeness, SmallTrees, Productivity, Preservation, Termination}
+use Rattle.kr_parse_grammar.specs.declared.terminal.Terminal.TheVariants.{Identifier, Literal}
+use Rattle.kr_parse_grammar.specs.declared.value.Form.TheVariants as forms
+use Rattle.kr_parse_grammar.specs.declared.goal.Symbol.{Symbol}
+use Rattle.kr_parse_grammar.specs.declared.goal.Symbol.TheVariants.{Take, Keep, Word, Literal as Leaf, Spell, Want, Build}
+use Rattle.kr_parse_grammar.specs.Terminals.{terminal_of}
+use Rattle.kr_parse_grammar.specs.Values.{Item, mark, word, part}
+use Rattle.kr_parse_grammar.specs.Made.{literal}
+use Rattle.kr_parse_grammar.specs.Machine.{ahead, spelling}
+use Rattle.kr_parse_laws.specs.Laws.{Soundness, Completeness, SmallTrees, Productivity, Preservation, Termination}
 use Rattle.kr_parse.specs.declared.cursor.Cursor.{Cursor}
 use Rattle.kr_parse.specs.Refusals.{IsDead, IsViable, IsShallow, is_opening, is_closing, open_behind}
 

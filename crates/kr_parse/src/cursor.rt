@@ -1,13 +1,13 @@
 // Where the parser stands among the tokens.
 ghost use Rattle.std.specs.Prelude.{◌≡◌, ◌+◌, ◌<◌, ◌≤◌, true, false, IfOk, IfErr, length, drop};
-ghost use Rattle.kr_grammar.specs.Terminals.{terminal_of};
-ghost use Rattle.kr_grammar.specs.Machine.{ahead, spelling};
+ghost use Rattle.kr_parse_grammar.specs.Terminals.{terminal_of};
+ghost use Rattle.kr_parse_grammar.specs.Machine.{ahead, spelling};
 ghost use Rattle.kr_parse.specs.Refusals.{is_opening, is_closing, token_at, IsViable, IsRefusal};
 ghost use Rattle.kr_parse.specs.Steps.{IsAsked, depth_behind, IsStanding, IsLeast};
 
 use crate::refusal::{ParseRefusal, ParseRule};
-use kr_grammar::{Spelled, Symbol, Terminal, terminal_of};
 use kr_lex::{Kind, Tokens};
+use kr_parse_grammar::{Spelled, Symbol, Terminal, terminal_of};
 
 /// How many brackets may be open.
 pub(crate) const OPEN_BRACKETS: u32 = 64;

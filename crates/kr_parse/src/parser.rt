@@ -2,11 +2,11 @@
 ghost use Rattle.std.specs.Prelude.{◌≡◌, ◌+◌, ◌*◌, ◌-◌, ◌<◌, ◌≤◌, ◌∷◌, [], List, ℕ, IfOk, IfErr, length};
 ghost use Rattle.kr_ast.specs.Arena.{root, parts, names, tree_of};
 ghost use Rattle.kr_ast.specs.Tree.{Tree as SyntaxTree, size};
-ghost use Rattle.kr_grammar.specs.Grammar.{Derives};
-ghost use Rattle.kr_grammar.specs.Made.{literal};
-ghost use Rattle.kr_grammar.specs.State.{State, load};
+ghost use Rattle.kr_parse_grammar.specs.Grammar.{Derives};
+ghost use Rattle.kr_parse_grammar.specs.Made.{literal};
+ghost use Rattle.kr_parse_grammar.specs.State.{State, load};
 ghost use Rattle.kr_parse.specs.Refusals.{IsRefusal, IsShallow, token_at};
-ghost use Rattle.kr_builder.specs.Built.{values_of, IsBuilt};
+ghost use Rattle.kr_parse_trees.specs.Built.{values_of, IsBuilt};
 ghost use Rattle.kr_parse.specs.Steps.{AreLaws, kept_of, IsStanding};
 
 use crate::cursor::{Cursor, dead};
@@ -14,10 +14,10 @@ use crate::refusal::ParseRefusal;
 use crate::stack::Stack;
 use kr_ast::{Node, Tree};
 use kr_base::NoMemory;
-use kr_builder::Builder;
-use kr_grammar::{Goal, Infix, Symbol, after_operand, rule};
-use kr_laws::{completeness, productivity, small_trees, soundness};
 use kr_lex::{Kind, Tokens};
+use kr_parse_grammar::{Goal, Infix, Symbol, after_operand, rule};
+use kr_parse_laws::{completeness, productivity, small_trees, soundness};
+use kr_parse_trees::Builder;
 use std::alloc::Global;
 
 /// What holds of the grammar and its machine. It does nothing.

@@ -2,7 +2,7 @@
 ghost use Rattle.std.specs.Prelude.{◌≡◌, ◌∷◌, [], ◌++◌, reverse, OnOk, MatchOption};
 
 use kr_base::NoMemory;
-use kr_grammar::Symbol;
+use kr_parse_grammar::Symbol;
 use std::alloc::Global;
 use std::marker::Model;
 
@@ -14,7 +14,7 @@ pub struct Stack {
 
 impl Model for Stack {
     ghost use Rattle.std.specs.Prelude.{List, reverse};
-    ghost use Rattle.kr_grammar.specs.declared.goal.Symbol.{Symbol};
+    ghost use Rattle.kr_parse_grammar.specs.declared.goal.Symbol.{Symbol};
 
     ghost Value = { List Symbol };
 

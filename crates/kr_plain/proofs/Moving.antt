@@ -6,9 +6,9 @@ use Rattle.std.proofs.lemmas.List.{get_or-set_same, get_or-set_other}
 use Rattle.kr_mean.specs.Problem.{DomainObject, slots, slot_at, choices_at, domain_at}
 use Rattle.kr_mean.specs.Space.{Space, IsVector, IsSpace, IsBlock, IsPart, IsRenaming, IsRenamed, no_choice, on_slot, on_index, space_of}
 use Rattle.kr_mean.specs.WellFormed.{IsWellFormed}
-use Rattle.kr_problem.specs.Bounds.{Bounds, bare}
-use Rattle.kr_pruning.proofs.Renamed.{slots_apart}
-use Rattle.kr_pruning.proofs.Spaces.{is_space}
+use Rattle.kr_space_layout.specs.Bounds.{Bounds, bare}
+use Rattle.kr_laws_slots.proofs.Renamed.{slots_apart}
+use Rattle.kr_laws_slots.proofs.Spaces.{is_space}
 
 -- ---- slots
 

@@ -11,9 +11,9 @@ use Rattle.kr_mean.specs.Space.{Space, space_of, IsVector}
 use Rattle.kr_mean.specs.Runs.{End, True, False, Trap, Spent, end_on, order_of, key_along}
 use Rattle.kr_mean.specs.Entries.{IsListed, entry_of, mark_for, mark_of, row_of, all_entries, AreAllEntries}
 use Rattle.kr_mean.specs.declared.row.Row.{Row}
-use Rattle.kr_pruning.specs.Laws.{PlainLaw}
-use Rattle.kr_pruning.proofs.Listed.{one_entry}
-use Rattle.kr_pruning.proofs.Sorting.{same_entries, ascends_sorted, among_sorted, sorted_has}
+use Rattle.kr_laws_pruning.specs.Laws.{PlainLaw}
+use Rattle.kr_laws_pruning.proofs.Listed.{one_entry}
+use Rattle.kr_laws_pruning.proofs.Sorting.{same_entries, ascends_sorted, among_sorted, sorted_has}
 use Rattle.kr_step.specs.declared.runner.Ending.{Ending}
 use Rattle.kr_scan.specs.Scans.{RunsOn, ending_of}
 use Rattle.kr_scan.proofs.Carried.{listed, turned}

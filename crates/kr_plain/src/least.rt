@@ -6,10 +6,9 @@ ghost use Rattle.kr_mean.specs.Isomorphism.{IsLeast};
 ghost use Rattle.kr_mean.specs.Readings.{AllBelow};
 ghost use Rattle.kr_mean.specs.Space.{IsVector};
 
-use kr_base::NoMemory;
+use kr_base::{NoMemory, Steps};
 use kr_iso::{Slots, choice_law, next_choice};
 use kr_step::{Ending, Runner};
-use kr_steps::Steps;
 use std::alloc::Global;
 use std::sync::ledger::Ledger;
 

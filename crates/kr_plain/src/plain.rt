@@ -11,10 +11,9 @@ ghost use Rattle.kr_plain.specs.Plain.{bare, Tries};
 use crate::counting::count_on;
 use crate::keeping::{end_at_spent, insert_entry, is_inside};
 use crate::listed::{is_listed, last_key};
-use kr_base::{Entry, Mark, NoMemory, Span};
-use kr_pruning::plain_law;
+use kr_base::{Entry, Mark, NoMemory, Span, Steps};
+use kr_laws_pruning::plain_law;
 use kr_step::{Ending, Runner};
-use kr_steps::Steps;
 use std::alloc::Global;
 use std::sync::ledger::Ledger;
 

@@ -3,13 +3,13 @@ ghost use Rattle.std.specs.Prelude.{◌≡◌, ◌<◌, ◌^◌, ◌↔◌, ℕ,
 ghost use Rattle.kr_mean.specs.Problem.{choices_at, slots};
 ghost use Rattle.kr_mean.specs.Space.{IsRenamed, IsRenaming, IsVector, on_index, on_slot, space_of};
 ghost use Rattle.kr_mean.specs.WellFormed.{IsWellFormed};
-ghost use Rattle.kr_problem.specs.Bounds.{bare};
+ghost use Rattle.kr_space_layout.specs.Bounds.{bare};
 ghost use Rattle.kr_mean.specs.Entries.{name_in};
 ghost use Rattle.kr_plain.specs.Names.{IsNew, Permutes, rows_of};
 
 use kr_base::NoMemory;
 use kr_iso::Object;
-use kr_problem::Layout;
+use kr_space_layout::Layout;
 use kr_vector::{Slot, Vector};
 use std::alloc::Global;
 use std::marker::Model;

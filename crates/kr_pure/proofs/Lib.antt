@@ -1,4 +1,13 @@
-pub mod Finitized
-pub mod Found
-pub mod Parts
-pub mod Scanning
+pub mod Numbers
+pub mod Adding
+pub mod Gathered
+pub mod Nodes
+pub mod Walk
+pub mod Lists
+pub mod Files
+pub mod Reached
+pub mod Named
+pub mod Entered
+pub mod ContractLines
+pub mod Steps
+pub mod Touching

@@ -1,2 +1,6 @@
-pub mod Nodes
-pub mod Touches
+pub mod Found
+pub mod Seen
+pub mod Walk
+pub mod Entries
+pub mod Reach
+pub mod Touched

@@ -1,17 +1,19 @@
-//! What a node of a predicate's code touches and may run: which objects it creates or may write, whether these are of a problem's
-//! candidates, and which methods and classes it may run code of.
+//! All code that the predicate may run, found by a walk over the nodes of the program's files, and whether some of it touches
+//! candidates (I1).
 #![tactic(auto)]
 
-mod callees;
-mod candidates;
-mod known;
-mod nodes;
-mod runs;
-mod targets;
-mod touch;
-mod writes;
+mod conditions;
+mod entries;
+mod found;
+mod laws;
+mod members;
+mod purity;
+mod reaching;
+mod roots;
 
-pub use candidates::touches_candidates;
-pub use nodes::touch_of;
-pub use runs::{Runs, runs_of};
-pub use touch::Touch;
+pub use found::{Found, count_nodes};
+pub use laws::{
+    all_law, expression_law, expressions_law, maybe_law, statements_law, super_law, walk_law,
+};
+pub use purity::{PureRefusal, pure};
+pub use reaching::predicate_nodes;

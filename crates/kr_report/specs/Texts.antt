@@ -3,7 +3,7 @@ use Rattle.std.specs.Prelude.{ℕ, ◌-◌, ◌^◌, true, false, List, [], ◌�
 use Rattle.std.specs.Fmt.{signed_decimal}
 use Rattle.std.proofs.Common.{get_or}
 use Rattle.kr_base.specs.Cuts.{cut_text}
-use Rattle.kr_table.specs.Table.{Table, Method, fields_of}
+use Rattle.kr_classes_table.specs.Table.{Table, Method, fields_of}
 use Rattle.kr_mean.specs.Places.{SlotPlace, This, Parameter, At}
 use Rattle.kr_mean.specs.Problem.{Problem, DomainObject, all_objects, domain_at, slot_at}
 use Rattle.kr_mean.specs.Heaps.{distinct, is_same_object, is_owner}

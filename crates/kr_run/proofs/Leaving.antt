@@ -6,16 +6,16 @@ use Rattle.kr_mean.specs.Steps as steps
 use Rattle.kr_mean.specs.Steps.{State, Outcome, give}
 use Rattle.kr_code.specs.declared.code.Code.{Code}
 use Rattle.kr_code.specs.Doing.{Doing, IsMeaning}
-use Rattle.kr_world.specs.declared.world.World.{World}
-use Rattle.kr_world.specs.Noting.{noting}
-use Rattle.kr_world.specs.Shown.{local_of}
-use Rattle.kr_world.specs.Worlds.{Others, Allows, Keeps, state_at}
-use Rattle.kr_frames.specs.declared.task.Flow.{Flow}
-use Rattle.kr_frames.specs.declared.task.Task.TheVariants as tasks
-use Rattle.kr_frames.specs.Frame.{Frame}
-use Rattle.kr_frames.specs.Frame as frames
-use Rattle.kr_frames.specs.Frames.{cut_to, flow_of, out_flow, resumed}
-use Rattle.kr_frames.specs.Leads.{Leads}
+use Rattle.kr_run_state.specs.declared.world.World.{World}
+use Rattle.kr_run_state.specs.Noting.{noting}
+use Rattle.kr_run_state.specs.Shown.{local_of}
+use Rattle.kr_run_state.specs.Worlds.{Others, Allows, Keeps, state_at}
+use Rattle.kr_run_frames.specs.declared.task.Flow.{Flow}
+use Rattle.kr_run_frames.specs.declared.task.Task.TheVariants as tasks
+use Rattle.kr_run_frames.specs.Frame.{Frame}
+use Rattle.kr_run_frames.specs.Frame as frames
+use Rattle.kr_run_frames.specs.Frames.{cut_to, flow_of, out_flow, resumed}
+use Rattle.kr_run_frames.specs.Leads.{Leads}
 use Rattle.kr_run.proofs.Machine.{locals_cut}
 
 -- a block ends

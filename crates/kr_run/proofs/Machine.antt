@@ -12,20 +12,20 @@ use Rattle.kr_mean.specs.Operators.{operated}
 use Rattle.kr_mean.specs.Meaning.{Change, change_to}
 use Rattle.kr_code.specs.declared.code.Code.{Code}
 use Rattle.kr_code.specs.Doing.{Doing, constructed}
-use Rattle.kr_world.specs.declared.world.Local.{Local}
-use Rattle.kr_world.specs.declared.action.Cell.{Cell}
-use Rattle.kr_world.specs.Actions.{written}
-use Rattle.kr_world.specs.Shown.{local_of}
-use Rattle.kr_frames.specs.declared.frame.Change.TheVariants as changes
-use Rattle.kr_world.specs.declared.world.World.{World}
-use Rattle.kr_world.specs.declared.world.Halt.{Halt}
-use Rattle.kr_world.specs.Worlds.{Others}
-use Rattle.kr_frames.specs.declared.task.Task.{Task}
-use Rattle.kr_frames.specs.Frame.{Frame}
-use Rattle.kr_frames.specs.Kept.{values_on}
-use Rattle.kr_frames.specs.Leads.{Leads}
-use Rattle.kr_frames.specs.Frames.{continued, altered}
-use Rattle.kr_frames.proofs.Outcomes.{continued_reads, leads_alike}
+use Rattle.kr_run_state.specs.declared.world.Local.{Local}
+use Rattle.kr_run_state.specs.declared.action.Cell.{Cell}
+use Rattle.kr_run_state.specs.Actions.{written}
+use Rattle.kr_run_state.specs.Shown.{local_of}
+use Rattle.kr_run_frames.specs.declared.frame.Change.TheVariants as changes
+use Rattle.kr_run_state.specs.declared.world.World.{World}
+use Rattle.kr_run_state.specs.declared.world.Halt.{Halt}
+use Rattle.kr_run_state.specs.Worlds.{Others}
+use Rattle.kr_run_frames.specs.declared.task.Task.{Task}
+use Rattle.kr_run_frames.specs.Frame.{Frame}
+use Rattle.kr_run_frames.specs.Kept.{values_on}
+use Rattle.kr_run_frames.specs.Leads.{Leads}
+use Rattle.kr_run_frames.specs.Frames.{continued, altered}
+use Rattle.kr_run_frames.proofs.Outcomes.{continued_reads, leads_alike}
 
 pub locals_cut : (locals : List Local) (n : ℕ) → take n (map local_of locals) ≡ map local_of (take n locals)
 locals_cut locals n = take-map local_of n locals

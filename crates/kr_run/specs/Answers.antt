@@ -4,15 +4,15 @@ use Rattle.kr_value.specs.declared.value.Value.{Value}
 use Rattle.kr_mean.specs.Steps.{Outcome}
 use Rattle.kr_code.specs.declared.code.Code.{Code}
 use Rattle.kr_code.specs.Doing.{Doing, IsMeaning}
-use Rattle.kr_world.specs.declared.world.World.{World}
-use Rattle.kr_world.specs.declared.world.End.{End}
-use Rattle.kr_world.specs.declared.world.Halt.{Halt}
-use Rattle.kr_world.specs.declared.world.Halt.TheVariants.{Ended, Memory, Written}
-use Rattle.kr_world.specs.Noting.{noting}
-use Rattle.kr_world.specs.Worlds.{Others, Allows, Keeps, state_at}
-use Rattle.kr_frames.specs.Frame.{Frame}
-use Rattle.kr_frames.specs.declared.task.Task.{Task}
-use Rattle.kr_frames.specs.Leads.{Leads, HasEnded}
+use Rattle.kr_run_state.specs.declared.world.World.{World}
+use Rattle.kr_run_state.specs.declared.world.End.{End}
+use Rattle.kr_run_state.specs.declared.world.Halt.{Halt}
+use Rattle.kr_run_state.specs.declared.world.Halt.TheVariants.{Ended, Memory, Written}
+use Rattle.kr_run_state.specs.Noting.{noting}
+use Rattle.kr_run_state.specs.Worlds.{Others, Allows, Keeps, state_at}
+use Rattle.kr_run_frames.specs.Frame.{Frame}
+use Rattle.kr_run_frames.specs.declared.task.Task.{Task}
+use Rattle.kr_run_frames.specs.Leads.{Leads, HasEnded}
 use Rattle.kr_run.specs.declared.steps.Step.{Step}
 use Rattle.kr_run.specs.declared.steps.Step.TheVariants.{More, Finished}
 

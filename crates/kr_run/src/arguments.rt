@@ -3,22 +3,22 @@ ghost use Rattle.std.specs.Prelude.{◌≡◌, ◌∷◌, List, drop, reverse, I
 ghost use Rattle.kr_value.specs.declared.value.Value.{Value as Argument};
 ghost use Rattle.kr_code.specs.Doing.{values_at};
 ghost use Rattle.kr_code.specs.Tables.{listed};
-ghost use Rattle.kr_frames.specs.Frame.{Frame};
-ghost use Rattle.kr_frames.specs.Frame as frames;
-ghost use Rattle.kr_frames.specs.Frames.{applied, continued, onto, out_arguments, out_unit, out_value, upwards};
-ghost use Rattle.kr_frames.specs.Kept.{values_on};
-ghost use Rattle.kr_frames.specs.Leads.{Leads, next_task};
+ghost use Rattle.kr_run_frames.specs.Frame.{Frame};
+ghost use Rattle.kr_run_frames.specs.Frame as frames;
+ghost use Rattle.kr_run_frames.specs.Frames.{applied, continued, onto, out_arguments, out_unit, out_value, upwards};
+ghost use Rattle.kr_run_frames.specs.Kept.{values_on};
+ghost use Rattle.kr_run_frames.specs.Leads.{Leads, next_task};
 ghost use Rattle.kr_mean.specs.Steps.{bind, give};
-ghost use Rattle.kr_world.specs.declared.world.Halt.TheVariants.{Memory};
-ghost use Rattle.kr_world.specs.Worlds.{state_at};
+ghost use Rattle.kr_run_state.specs.declared.world.Halt.TheVariants.{Memory};
+ghost use Rattle.kr_run_state.specs.Worlds.{state_at};
 
 use crate::calls::apply;
 use crate::create::await_construct;
 use kr_code::{Code, Nodes};
-use kr_frames::{Goal, Stack, Task, UnitFrame, Up, Waiting};
-use kr_moves::{await_arguments, unit};
+use kr_run_frames::{Goal, Stack, Task, UnitFrame, Up, Waiting};
+use kr_run_moves::{await_arguments, unit};
+use kr_run_state::{End, Halt, World};
 use kr_value::Value;
-use kr_world::{End, Halt, World};
 use std::alloc::Global;
 
 /// The topmost frame goes, with the values that it has.
@@ -35,7 +35,7 @@ pub(crate) fn take_found(alloc: Global, stack: &mut Stack) -> Result<Vec<Value>,
 }
 
 /// Values with one more.
-#[tactic(auto, using(kr_moves::proofs::Moves::one_more))]
+#[tactic(auto, using(kr_run_moves::proofs::Moves::one_more))]
 fn with_value(found: Vec<Value>, given: Value) -> Result<Vec<Value>, Halt>
     ensures more { IfOk result (λ values. reverse values.items ≡ given ∷ reverse found.items) }
     ensures memory { IfErr result (λ halt. halt ≡ Memory) }
@@ -48,7 +48,7 @@ fn with_value(found: Vec<Value>, given: Value) -> Result<Vec<Value>, Halt>
 }
 
 /// Arguments that are left, behind those that are there, and then what is done with all.
-#[tactic(auto, using(kr_moves::proofs::Moves::onto_all), unfolding(kr_mean::specs::Steps::bind))]
+#[tactic(auto, using(kr_run_moves::proofs::Moves::onto_all), unfolding(kr_mean::specs::Steps::bind))]
 fn next_of(
     alloc: Global,
     code: &Code,
@@ -72,7 +72,7 @@ fn next_of(
 }
 
 /// Arguments of a superclass's constructor that are left, and then the constructors.
-#[tactic(auto, using(kr_moves::proofs::Moves::onto_all), unfolding(kr_mean::specs::Steps::bind))]
+#[tactic(auto, using(kr_run_moves::proofs::Moves::onto_all), unfolding(kr_mean::specs::Steps::bind))]
 fn next_upwards(
     code: &Code,
     world: &World,

@@ -5,19 +5,19 @@ ghost use Rattle.kr_mean.specs.Steps.{bind, class_of as class_step, plain_local,
 ghost use Rattle.kr_code.specs.Collections.{name_of, new_collection as collection_step};
 ghost use Rattle.kr_code.specs.Tables.{method_at};
 ghost use Rattle.kr_code.specs.Doing.{run_method as run_step, run_numbered as numbered_step, run_on as on_step};
-ghost use Rattle.kr_frames.specs.Frame as frames;
-ghost use Rattle.kr_world.specs.declared.world.Halt.TheVariants.{Memory};
-ghost use Rattle.kr_frames.specs.Frames.{out_value, applied};
-ghost use Rattle.kr_frames.specs.Leads.{Leads, next_task};
-ghost use Rattle.kr_world.specs.Shown.{local_of};
-ghost use Rattle.kr_world.specs.Worlds.{state_at};
+ghost use Rattle.kr_run_frames.specs.Frame as frames;
+ghost use Rattle.kr_run_state.specs.declared.world.Halt.TheVariants.{Memory};
+ghost use Rattle.kr_run_frames.specs.Frames.{out_value, applied};
+ghost use Rattle.kr_run_frames.specs.Leads.{Leads, next_task};
+ghost use Rattle.kr_run_state.specs.Shown.{local_of};
+ghost use Rattle.kr_run_state.specs.Worlds.{state_at};
 
 use crate::create::create;
 use kr_code::{Code, CollectionCall, MethodCode};
-use kr_frames::{Goal, Stack, Task};
 use kr_mean::Kind;
+use kr_run_frames::{Goal, Stack, Task};
+use kr_run_state::{Action, End, Halt, Local, World, class_of, collect};
 use kr_value::{Class, Value};
-use kr_world::{Action, End, Halt, Local, World, class_of, collect};
 use std::alloc::Global;
 
 fn plain(value: Value) -> Local

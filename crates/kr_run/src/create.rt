@@ -1,21 +1,21 @@
 // Creation: the constructors of a line of classes, and the initial values of fields.
 ghost use Rattle.std.specs.Prelude.{◌≡◌, ◌∷◌, [], map, OnOk, IfErr};
-ghost use Rattle.kr_frames.specs.Frame as frames;
-ghost use Rattle.kr_world.specs.declared.world.Halt.TheVariants.{Memory};
+ghost use Rattle.kr_run_frames.specs.Frame as frames;
+ghost use Rattle.kr_run_state.specs.declared.world.Halt.TheVariants.{Memory};
 ghost use Rattle.kr_code.specs.Tables.{class_at, listed};
 ghost use Rattle.kr_code.specs.Doing.{create as create_step, constructed, constructed_in, super_values, initialised as initialised_step};
-ghost use Rattle.kr_frames.specs.Frames.{out_value, out_unit, done, upwards};
-ghost use Rattle.kr_frames.specs.Leads.{Leads, next_task};
+ghost use Rattle.kr_run_frames.specs.Frames.{out_value, out_unit, done, upwards};
+ghost use Rattle.kr_run_frames.specs.Leads.{Leads, next_task};
 ghost use Rattle.kr_mean.specs.Steps.{Stuck, bind, within, stop as stop_step};
-ghost use Rattle.kr_world.specs.Shown.{local_of};
-ghost use Rattle.kr_world.specs.Worlds.{state_at};
+ghost use Rattle.kr_run_state.specs.Shown.{local_of};
+ghost use Rattle.kr_run_state.specs.Worlds.{state_at};
 
 use crate::calls::become_arguments;
 use kr_code::{ClassCode, Code, Constructor, Nodes};
-use kr_frames::{Stack, Task, UnitFrame, Up, Waiting};
-use kr_moves::{push, unit};
+use kr_run_frames::{Stack, Task, UnitFrame, Up, Waiting};
+use kr_run_moves::{push, unit};
+use kr_run_state::{Action, End, Halt, Local, World, new_object};
 use kr_value::Value;
-use kr_world::{Action, End, Halt, Local, World, new_object};
 use std::alloc::Global;
 
 /// A new object of a class.
@@ -118,7 +118,7 @@ fn construct_plain(
 }
 
 /// The constructor that a class declares, with its arguments.
-#[tactic(auto, using(crate::proofs::Machine::runs, kr_moves::proofs::Moves::assoc, kr_moves::proofs::Moves::given_then), unfolding(kr_mean::specs::Steps::bind))]
+#[tactic(auto, using(crate::proofs::Machine::runs, kr_run_moves::proofs::Moves::assoc, kr_run_moves::proofs::Moves::given_then), unfolding(kr_mean::specs::Steps::bind))]
 fn construct_declared(
     alloc: Global,
     code: &Code,

@@ -1,24 +1,24 @@
 // The machine: one task after another, until the run ends.
 ghost use Rattle.std.specs.Prelude.{◌≡◌, ◌∷◌, List, MatchOption, Ok, true};
 ghost use Rattle.kr_value.specs.declared.value.Value.{Value as Argument};
-ghost use Rattle.kr_frames.specs.Frame.{Frame};
-ghost use Rattle.kr_frames.specs.Frame as frames;
-ghost use Rattle.kr_frames.specs.Kept.{IsOnTop};
+ghost use Rattle.kr_run_frames.specs.Frame.{Frame};
+ghost use Rattle.kr_run_frames.specs.Frame as frames;
+ghost use Rattle.kr_run_frames.specs.Kept.{IsOnTop};
 ghost use Rattle.kr_code.specs.declared.statement.Statement.TheVariants.{Declare as Declarations};
 ghost use Rattle.kr_run.specs.Statements.{IsTicked};
 ghost use Rattle.kr_run.specs.Leaving.{IsLeaving};
-ghost use Rattle.kr_frames.specs.declared.task.Task.TheVariants as tasks;
+ghost use Rattle.kr_run_frames.specs.declared.task.Task.TheVariants as tasks;
 ghost use Rattle.kr_code.specs.Doing.{statement_done, flow_of as statement_flow};
 ghost use Rattle.kr_code.specs.Steps.{store_initial as store_step};
-ghost use Rattle.kr_frames.specs.declared.frame.Change.TheVariants as changes;
-ghost use Rattle.kr_frames.specs.Frames.{resumed, out_value, out_flow, out_unit, flow_of, altered, restored, cut_to};
+ghost use Rattle.kr_run_frames.specs.declared.frame.Change.TheVariants as changes;
+ghost use Rattle.kr_run_frames.specs.Frames.{resumed, out_value, out_flow, out_unit, flow_of, altered, restored, cut_to};
 ghost use Rattle.kr_mean.specs.Meaning.{returned, completed};
 ghost use Rattle.kr_mean.specs.Operators.{step_operator as operator_of_step};
-ghost use Rattle.kr_world.specs.Actions.{acted};
-ghost use Rattle.kr_frames.specs.Leads.{Leads, next_task};
+ghost use Rattle.kr_run_state.specs.Actions.{acted};
+ghost use Rattle.kr_run_frames.specs.Leads.{Leads, next_task};
 ghost use Rattle.kr_mean.specs.Steps.{bind, give, tick};
 ghost use Rattle.kr_run.specs.Answers.{StepsTo, Answers};
-ghost use Rattle.kr_world.specs.Worlds.{state_at};
+ghost use Rattle.kr_run_state.specs.Worlds.{state_at};
 
 use crate::arguments::{
     await_upwards, next_arguments, take_argument, take_found, take_up_argument,
@@ -27,15 +27,15 @@ use crate::create::{construct, initialise, stop_unit, take_unit};
 use crate::steps::Step;
 use kr_ast::{BinaryOperator, StepOperator};
 use kr_code::{Code, Nodes, Statement};
-use kr_frames::{Change, Flow, Stack, Task, ValueFrame, Waiting, WriteFrame};
-use kr_known::{at_once, statement_at};
 use kr_mean::Kind;
-use kr_moves::{
+use kr_run_frames::{Change, Flow, Stack, Task, ValueFrame, Waiting, WriteFrame};
+use kr_run_known::{at_once, statement_at};
+use kr_run_moves::{
     all, declare, enter_node, enter_statement, feed, repeat, take_flow, take_test, take_value,
     update, value, write,
 };
+use kr_run_state::{Action, Cell, End, Halt, Local, World, act, store_initial, tick};
 use kr_value::Value;
-use kr_world::{Action, Cell, End, Halt, Local, World, act, store_initial, tick};
 use std::alloc::Global;
 
 /// An expression: at once where its value is known, else part by part.

@@ -1,22 +1,22 @@
 // A problem that is read from one source and its finitization. Whatever is refused is told as want of memory.
 ghost use Rattle.std.specs.Prelude.{◌≡◌, ◌≤◌, IfOk, length};
-ghost use Rattle.kr_domains.specs.Limits.{IsWithinLimits};
+ghost use Rattle.kr_space_meaning.specs.Limits.{IsWithinLimits};
 ghost use Rattle.kr_mean.specs.declared.mode.Mode.TheVariants.{List as Listing};
 ghost use Rattle.kr_mean.specs.Problem.{slots};
 ghost use Rattle.kr_mean.specs.WellFormed.{IsWellFormed};
-ghost use Rattle.kr_member_nodes.specs.Nodes.{AreShaped};
-ghost use Rattle.kr_posed.specs.Posed.{IsPosed, posed};
+ghost use Rattle.kr_code_members.specs.Nodes.{AreShaped};
+ghost use Rattle.kr_space_problem.specs.Posed.{IsPosed, posed};
 ghost use Rattle.kr_types.specs.Programs.{IsProgram};
 
 use kr_base::NoMemory;
-use kr_compiled::predicate_of;
 use kr_fin::{FinDoc, read_fin};
+use kr_judge_predicate::predicate_of;
 use kr_mean::Mode;
-use kr_posed::Problem;
-use kr_reach::pure;
+use kr_pure::pure;
+use kr_report_listing::{Accepted, Prepared};
 use kr_sources::program_of;
 use kr_space::{limits_law, problem};
-use kr_subject::{Accepted, Prepared};
+use kr_space_problem::Problem;
 use kr_types::Program;
 use std::alloc::Global;
 
@@ -30,7 +30,7 @@ fn document_of(alloc: Global, text: &str) -> Result<FinDoc, NoMemory>
     }
 }
 
-#[tactic(auto, unfolding(kr_domains::specs::Meaning::meaning, kr_domains::specs::Bounds::problem_in))]
+#[tactic(auto, unfolding(kr_space_meaning::specs::Meaning::meaning, kr_space_meaning::specs::Bounds::problem_in))]
 fn problem_of(alloc: Global, program: Program, document: &FinDoc) -> Result<Problem, NoMemory>
     requires program { IsProgram program }
     requires shaped { AreShaped program }

@@ -3,13 +3,13 @@ ghost use Rattle.std.specs.Prelude.{◌≡◌, ◌<◌, ◌^◌, IfOk, length, r
 ghost use Rattle.kr_mean.specs.Problem.{slots};
 ghost use Rattle.kr_mean.specs.Space.{IsVector, space_of};
 ghost use Rattle.kr_mean.specs.WellFormed.{IsWellFormed};
-ghost use Rattle.kr_problem.specs.Bounds.{bare};
+ghost use Rattle.kr_space_layout.specs.Bounds.{bare};
 
 use kr_base::NoMemory;
-use kr_candidates::Subject;
-use kr_problem::Layout;
+use kr_judge_again::Subject;
+use kr_report_listing::Prepared;
+use kr_space_layout::Layout;
 use kr_step::Runner;
-use kr_subject::Prepared;
 use kr_vector::{Slot, Vector};
 use std::alloc::Global;
 

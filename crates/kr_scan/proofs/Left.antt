@@ -13,7 +13,7 @@ use Rattle.kr_mean.specs.Space.{Space, space_of, IsVector}
 use Rattle.kr_mean.specs.Runs.{end_on, order_of, key_of, key_along}
 use Rattle.kr_mean.specs.Entries.{IsListed, mark_of, all_entries}
 use Rattle.kr_mean.specs.declared.row.Row.{Row}
-use Rattle.kr_pruning.specs.Laws.{PlainLaw}
+use Rattle.kr_laws_pruning.specs.Laws.{PlainLaw}
 use Rattle.kr_step.specs.declared.runner.Ending.{Ending}
 use Rattle.kr_step.specs.Steps.{IsFirst, above}
 use Rattle.kr_step.specs.Stages.{FirstLaw}

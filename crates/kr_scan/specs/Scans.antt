@@ -10,7 +10,7 @@ use Rattle.kr_mean.specs.Runs.{End, end_on, order_of, key_of}
 use Rattle.kr_mean.specs.Runs as runs
 use Rattle.kr_mean.specs.Entries.{mark_of, entry_of, all_entries}
 use Rattle.kr_mean.specs.declared.row.Row.{Row}
-use Rattle.kr_pruning.specs.Laws.{IsLawful}
+use Rattle.kr_laws_pruning.specs.Laws.{IsLawful}
 use Rattle.kr_step.specs.declared.runner.Ending.{Ending}
 use Rattle.kr_step.specs.declared.runner.Ending.TheVariants.{Valid, Invalid, Spent}
 use Rattle.kr_step.specs.declared.stage.Next.{Next}

@@ -5,11 +5,10 @@ ghost use Rattle.kr_scan.specs.Scans.{RunsOn, Scans};
 
 use crate::bounds::{is_before, is_behind};
 use crate::{Next, Runner};
-use kr_base::{Bound, NoMemory};
+use kr_base::{Bound, NoMemory, Steps};
+use kr_laws_pruning::plain_law;
 use kr_mean::Row;
-use kr_pruning::plain_law;
 use kr_step::{Search, first_law};
-use kr_steps::Steps;
 use std::alloc::Global;
 use std::marker::Model;
 use std::sync::ledger::Ledger;

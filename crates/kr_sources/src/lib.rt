@@ -3,17 +3,17 @@
 
 ghost use Rattle.std.specs.Prelude.{◌≡◌, ◌<◌, ◌^◌, IfOk, length};
 ghost use Rattle.kr_ast.specs.Arena.{root};
-ghost use Rattle.kr_shapes.specs.Shapes.{AreClasses};
+ghost use Rattle.kr_laws_shapes.specs.Shapes.{AreClasses};
 ghost use Rattle.kr_classes.specs.ClassTables.{IsClassTable};
-ghost use Rattle.kr_member_nodes.specs.Nodes.{AreShaped};
+ghost use Rattle.kr_code_members.specs.Nodes.{AreShaped};
 ghost use Rattle.kr_types.specs.Programs.{IsProgram};
 
 use kr_ast::Tree;
 use kr_base::NoMemory;
 use kr_classes::{ClassTable, classes};
+use kr_laws_shapes::shape_law;
 use kr_lex::{Tokens, lex};
 use kr_parse::parse;
-use kr_shapes::shape_law;
 use kr_types::{Program, check};
 use std::alloc::Global;
 

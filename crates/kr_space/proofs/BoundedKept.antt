@@ -5,20 +5,20 @@ use Rattle.std.specs.List.{AllByRecursion}
 use Rattle.std.proofs.lemmas.Bool.{and_parts, leb-true, le-leb}
 use Rattle.std.proofs.lemmas.List.{drop_more}
 use Rattle.std.proofs.lemmas.List.Sums.{fold-append}
-use Rattle.kr_type_numbers.specs.Types.{TypeList, Extends}
+use Rattle.kr_classes_types.specs.Types.{TypeList, Extends}
 use Rattle.kr_mean.specs.Problem.{Problem, Choice, Domain, choices_in}
 use Rattle.kr_fin.specs.declared.document.Item.{Item as FinItem}
 use Rattle.kr_fin.specs.declared.document.Item.TheVariants.{Number, Range, Truth, Name}
-use Rattle.kr_problem.specs.declared.item.Item.{Item}
-use Rattle.kr_problem.specs.declared.stretch.Block.{Block}
-use Rattle.kr_problem.specs.Items.{domain_of}
-use Rattle.kr_problem.specs.Stretches.{all_choices, stretch_of}
-use Rattle.kr_domains.specs.declared.refusal.Fault.{Fault}
-use Rattle.kr_domains.specs.Bounds.{Setting, lengths_of, values_of}
-use Rattle.kr_domains.specs.Faults.{number_faults}
-use Rattle.kr_domains.specs.Limits.{AreLengths, IsInt, IsLength, IsSmall}
-use Rattle.kr_domains.specs.Order.{lesser}
-use Rattle.kr_numbers.proofs.Bounded.{bounds_kept}
+use Rattle.kr_space_layout.specs.declared.item.Item.{Item}
+use Rattle.kr_space_layout.specs.declared.stretch.Block.{Block}
+use Rattle.kr_space_layout.specs.Items.{domain_of}
+use Rattle.kr_space_layout.specs.Stretches.{all_choices, stretch_of}
+use Rattle.kr_space_meaning.specs.declared.refusal.Fault.{Fault}
+use Rattle.kr_space_meaning.specs.Bounds.{Setting, lengths_of, values_of}
+use Rattle.kr_space_meaning.specs.Faults.{number_faults}
+use Rattle.kr_space_meaning.specs.Limits.{AreLengths, IsInt, IsLength, IsSmall}
+use Rattle.kr_space_meaning.specs.Order.{lesser}
+use Rattle.kr_space_rules.proofs.Bounded.{bounds_kept}
 use Rattle.kr_space.specs.declared.bounded.Bounded.{Bounded}
 use Rattle.kr_space.specs.Bounded.{IsBounded, setting_in}
 use Rattle.kr_space.specs.Sizes.{AreBlocks}

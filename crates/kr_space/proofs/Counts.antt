@@ -3,17 +3,17 @@ use Rattle.std.proofs.Common.{◌≡◌, ℕ, zero, suc, ◌+◌, ◌<◌, List,
 use Rattle.std.proofs.lemmas.List.{append_assoc, drop_more}
 use Rattle.kr_value.specs.declared.value.Value.TheVariants.{Ref as Reference}
 use Rattle.kr_ast.specs.Tree.{Tree}
-use Rattle.kr_table.specs.Table.{Heading, headings_of, table_of}
+use Rattle.kr_classes_table.specs.Table.{Heading, headings_of, table_of}
 use Rattle.kr_mean.specs.Problem as problems
 use Rattle.kr_mean.specs.Problem.{Problem, Choice, Domain, Plain, Objects, choices_in, domain_at, item_choices, no_objects, object_choice, objects_before, objects_of_domain, upto}
-use Rattle.kr_problem.specs.declared.stretch.Block.{Block}
-use Rattle.kr_problem.specs.Items.{domain_of}
-use Rattle.kr_problem.specs.Stretches.{all_choices, stretch_of}
-use Rattle.kr_problem.specs.Bounds.{class_domain}
-use Rattle.kr_problem.specs.Tables.{blocks_from}
-use Rattle.kr_problem.proofs.Choices.{choices_are}
+use Rattle.kr_space_layout.specs.declared.stretch.Block.{Block}
+use Rattle.kr_space_layout.specs.Items.{domain_of}
+use Rattle.kr_space_layout.specs.Stretches.{all_choices, stretch_of}
+use Rattle.kr_space_layout.specs.Bounds.{class_domain}
+use Rattle.kr_space_layout.specs.Tables.{blocks_from}
+use Rattle.kr_space_layout.proofs.Choices.{choices_are}
 use Rattle.kr_fin.specs.declared.document.FinDoc.{FinDoc}
-use Rattle.kr_domains.specs.Bounds.{class_name, count_named, setting_of}
+use Rattle.kr_space_meaning.specs.Bounds.{class_name, count_named, setting_of}
 use Rattle.kr_space.specs.Headings.{heading_at, no_heading}
 use Rattle.kr_space.specs.Sizes.{AreBlocks, bare_class, class_counts, counts_of}
 use Rattle.kr_space.proofs.ClassFaults.{name_at}

@@ -3,12 +3,12 @@ use Rattle.std.proofs.Common.{◌≡◌, ℕ, zero, suc, ◌+◌, ◌-◌, ◌<�
 use Rattle.std.specs.Prelude.{Result, IfOk, unwrap_or}
 use Rattle.std.proofs.lemmas.List.{drop_more, map-append}
 use Rattle.kr_ast.specs.Tree.{Tree}
-use Rattle.kr_table.specs.Types.{JavaType}
-use Rattle.kr_table.specs.Arrays.{array_number}
-use Rattle.kr_table.specs.Table.{Field, Table, fields_of, headings_of, table_of}
-use Rattle.kr_type_numbers.specs.Types.{TypeList, Extends, type_at}
-use Rattle.kr_arrays.specs.Collected.{types_shown}
-use Rattle.kr_arrays.proofs.Collecting.{numbers_kept, shown_kept}
+use Rattle.kr_classes_table.specs.Types.{JavaType}
+use Rattle.kr_classes_table.specs.Arrays.{array_number}
+use Rattle.kr_classes_table.specs.Table.{Field, Table, fields_of, headings_of, table_of}
+use Rattle.kr_classes_types.specs.Types.{TypeList, Extends, type_at}
+use Rattle.kr_space_names.specs.Collected.{types_shown}
+use Rattle.kr_space_names.proofs.Collecting.{numbers_kept, shown_kept}
 use Rattle.kr_value.specs.declared.object.Class.TheVariants.{Object, Array}
 use Rattle.kr_value.specs.declared.object.Spot.TheVariants.{Field as FieldSpot, Length, Element}
 use Rattle.kr_mean.specs.declared.mode.Mode.{Mode}
@@ -16,15 +16,15 @@ use Rattle.kr_mean.specs.Problem as problems
 use Rattle.kr_mean.specs.Problem.{Domain}
 use Rattle.kr_fin.specs.declared.document.ArrayBound.{ArrayBound}
 use Rattle.kr_fin.specs.declared.document.FinDoc.{FinDoc}
-use Rattle.kr_problem.specs.declared.classes.ClassDomain.{ClassDomain}
-use Rattle.kr_problem.specs.declared.classes.Spotted.{Spotted}
-use Rattle.kr_problem.specs.declared.item.Item.{Item}
-use Rattle.kr_problem.specs.Bounds.{Bounds, bounds_of, spotted}
-use Rattle.kr_problem.specs.Bounds as shapes
-use Rattle.kr_problem.specs.Items.{domain_of}
-use Rattle.kr_domains.specs.Bounds.{Setting, array_class_domain, array_spots, class_domain, class_domains, class_name, count_named, domains_of, element_spots, elements_key, field_key, field_spots, greatest, lengths_of, parameter_key, root_of, setting_of, tested_parameters, values_given}
-use Rattle.kr_numbers.specs.declared.bounds.Bound.{Bound}
-use Rattle.kr_numbers.specs.Entries.{bound_shown, no_bound}
+use Rattle.kr_space_layout.specs.declared.classes.ClassDomain.{ClassDomain}
+use Rattle.kr_space_layout.specs.declared.classes.Spotted.{Spotted}
+use Rattle.kr_space_layout.specs.declared.item.Item.{Item}
+use Rattle.kr_space_layout.specs.Bounds.{Bounds, bounds_of, spotted}
+use Rattle.kr_space_layout.specs.Bounds as shapes
+use Rattle.kr_space_layout.specs.Items.{domain_of}
+use Rattle.kr_space_meaning.specs.Bounds.{Setting, array_class_domain, array_spots, class_domain, class_domains, class_name, count_named, domains_of, element_spots, elements_key, field_key, field_spots, greatest, lengths_of, parameter_key, root_of, setting_of, tested_parameters, values_given}
+use Rattle.kr_space_rules.specs.declared.bounds.Bound.{Bound}
+use Rattle.kr_space_rules.specs.Entries.{bound_shown, no_bound}
 use Rattle.kr_space.specs.Basis.{AreArrays, bounds_on}
 use Rattle.kr_space.specs.Headings.{heading_at}
 use Rattle.kr_space.specs.Pools.{pool}

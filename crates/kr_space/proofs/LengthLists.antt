@@ -10,9 +10,9 @@ use Rattle.kr_mean.specs.Problem.{Domain, Plain, Objects}
 use Rattle.kr_mean.specs.Problem as problems
 use Rattle.kr_fin.specs.declared.document.Item.{Item}
 use Rattle.kr_fin.specs.declared.document.Item.TheVariants.{Number, Range, Truth, Name}
-use Rattle.kr_problem.specs.Items.{integers_from, magnitude, width_between}
-use Rattle.kr_domains.specs.Bounds.{Setting, greatest, item_values, lengths_in, lengths_of, values_of}
-use Rattle.kr_domains.specs.Limits.{AreLengths}
+use Rattle.kr_space_layout.specs.Items.{integers_from, magnitude, width_between}
+use Rattle.kr_space_meaning.specs.Bounds.{Setting, greatest, item_values, lengths_in, lengths_of, values_of}
+use Rattle.kr_space_meaning.specs.Limits.{AreLengths}
 
 abbrev integer : ℤ → problems.Item
 integer z = Plain (Int z)

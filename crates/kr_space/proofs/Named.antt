@@ -4,11 +4,11 @@ use Rattle.std.specs.Prelude.{find, is_none, option_and_then, option_map, slice_
 use Rattle.std.specs.List.{position_from}
 use Rattle.kr_fin.specs.declared.document.Count.{Count}
 use Rattle.kr_fin.specs.declared.document.NamedDomain.{NamedDomain}
-use Rattle.kr_names.specs.Listed.{IsIndexOf, place_of}
-use Rattle.kr_names.proofs.ClassNumbers.{turned}
-use Rattle.kr_members.proofs.Names.{first_of_name}
+use Rattle.kr_classes_names.specs.Listed.{IsIndexOf, place_of}
+use Rattle.kr_classes_names.proofs.ClassNumbers.{turned}
+use Rattle.kr_classes_members.proofs.Names.{first_of_name}
 use Rattle.kr_space.specs.Headings.{no_count}
-use Rattle.kr_domains.specs.Bounds.{count_named, given}
+use Rattle.kr_space_meaning.specs.Bounds.{count_named, given}
 
 counts_found : (n : List ℕ) (cs : List Count) → unwrap_or (option_map (λ c. c.count) (find (λ c. bytes_eq n c.name) cs)) 0 ≡ count_named cs n
 counts_found n [] = refl

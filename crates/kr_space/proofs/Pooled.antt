@@ -4,17 +4,17 @@ use Rattle.std.specs.Prelude.{is_none, unwrap_or}
 use Rattle.std.specs.List.{position_from}
 use Rattle.std.proofs.lemmas.List.{drop_more, get_or_append_left, get_or-append-add, get_or_past, get_or-map, length-append, length-map}
 use Rattle.kr_mean.specs.Problem.{Domain}
-use Rattle.kr_names.specs.Listed.{IsIndexOf, place_of}
-use Rattle.kr_names.proofs.ClassNumbers.{turned}
+use Rattle.kr_classes_names.specs.Listed.{IsIndexOf, place_of}
+use Rattle.kr_classes_names.proofs.ClassNumbers.{turned}
 use Rattle.kr_fin.specs.declared.document.ArrayBound.{ArrayBound}
 use Rattle.kr_fin.specs.declared.document.FinDoc.{FinDoc}
 use Rattle.kr_fin.specs.declared.document.Item.{Item as FinItem}
 use Rattle.kr_fin.specs.declared.document.NamedDomain.{NamedDomain}
-use Rattle.kr_problem.specs.declared.item.Item.{Item}
-use Rattle.kr_problem.specs.Items.{domain_of}
-use Rattle.kr_domains.specs.Bounds.{Setting, given, lengths_of, setting_of, values_given, values_of}
-use Rattle.kr_domains.specs.Limits.{AreLengths}
-use Rattle.kr_numbers.specs.Entries.{no_bound}
+use Rattle.kr_space_layout.specs.declared.item.Item.{Item}
+use Rattle.kr_space_layout.specs.Items.{domain_of}
+use Rattle.kr_space_meaning.specs.Bounds.{Setting, given, lengths_of, setting_of, values_given, values_of}
+use Rattle.kr_space_meaning.specs.Limits.{AreLengths}
+use Rattle.kr_space_rules.specs.Entries.{no_bound}
 use Rattle.kr_space.specs.Keys.{AreKeys}
 use Rattle.kr_space.specs.declared.keys.Keys.{Keys}
 use Rattle.kr_space.specs.Pools.{all_lengths, all_values, pool}

@@ -3,14 +3,14 @@ use Rattle.std.proofs.Common.{◌≡◌, ℕ, List, map, ap, sym, subst, ◌∙�
 use Rattle.std.specs.Prelude.{flat_map}
 use Rattle.kr_ast.specs.Arena.{Arena, root}
 use Rattle.kr_ast.specs.Tree.{Tree}
-use Rattle.kr_table.specs.Types.{JavaType}
-use Rattle.kr_table.specs.Nodes.{nodes}
-use Rattle.kr_table.specs.Table.{headings_of, table_of}
-use Rattle.kr_table.specs.Arrays.{array_types_of, arrays_in, arrays_named}
-use Rattle.kr_type_numbers.specs.Types.{TypeList, Extends, type_at}
-use Rattle.kr_arrays.specs.Collected.{collected, types_shown}
-use Rattle.kr_arrays.proofs.Once.{once_more}
-use Rattle.kr_arrays.proofs.Collecting.{node_types_kept}
+use Rattle.kr_classes_table.specs.Types.{JavaType}
+use Rattle.kr_classes_table.specs.Nodes.{nodes}
+use Rattle.kr_classes_table.specs.Table.{headings_of, table_of}
+use Rattle.kr_classes_table.specs.Arrays.{array_types_of, arrays_in, arrays_named}
+use Rattle.kr_classes_types.specs.Types.{TypeList, Extends, type_at}
+use Rattle.kr_space_names.specs.Collected.{collected, types_shown}
+use Rattle.kr_space_names.proofs.Once.{once_more}
+use Rattle.kr_space_names.proofs.Collecting.{node_types_kept}
 use Rattle.kr_types.specs.declared.program.Program.{Program}
 use Rattle.kr_types.specs.Programs.{IsProgram}
 use Rattle.kr_types.proofs.Faults.{typed_kept}
@@ -18,10 +18,10 @@ use Rattle.kr_mean.specs.declared.mode.Mode.{Mode}
 use Rattle.kr_mean.specs.Program as meaning
 use Rattle.kr_fin.specs.declared.document.ArrayBound.{ArrayBound}
 use Rattle.kr_fin.specs.declared.document.FinDoc.{FinDoc}
-use Rattle.kr_problem.specs.Bounds.{Bounds, problem_with}
-use Rattle.kr_domains.specs.Bounds.{bounded, problem_in, problem_of, setting_of}
-use Rattle.kr_numbers.specs.declared.bounds.Bound.{Bound}
-use Rattle.kr_numbers.specs.Entries.{AreBounds, bound_shown}
+use Rattle.kr_space_layout.specs.Bounds.{Bounds, problem_with}
+use Rattle.kr_space_meaning.specs.Bounds.{bounded, problem_in, problem_of, setting_of}
+use Rattle.kr_space_rules.specs.declared.bounds.Bound.{Bound}
+use Rattle.kr_space_rules.specs.Entries.{AreBounds, bound_shown}
 use Rattle.kr_space.specs.Basis.{AreArrays, bounds_on}
 use Rattle.kr_space.proofs.Parts.{arrays_are}
 

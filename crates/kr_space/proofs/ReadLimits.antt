@@ -21,8 +21,8 @@ use Rattle.kr_fin.specs.Order.{broken, least}
 use Rattle.kr_fin.specs.Shapes.{have, item_of as item_at, limits_of, name_of}
 use Rattle.kr_fin.specs.Laws.{IsLeast}
 use Rattle.kr_fin.proofs.Leasts.{least_of_all}
-use Rattle.kr_domains.specs.Limits.{AreLengths, IsSmall, IsWithinLimits}
-use Rattle.kr_domains.proofs.Each.{each_at}
+use Rattle.kr_space_meaning.specs.Limits.{AreLengths, IsSmall, IsWithinLimits}
+use Rattle.kr_space_meaning.proofs.Each.{each_at}
 
 both_empty : (xs ys : List Fault) → xs ++ ys ≡ [] → (xs ≡ []) × (ys ≡ [])
 both_empty [] ys e = (refl, e)

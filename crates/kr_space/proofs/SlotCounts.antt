@@ -6,15 +6,15 @@ use Rattle.std.proofs.lemmas.List.{drop_more, length-append, length-map}
 use Rattle.std.proofs.lemmas.List.Concat.{flat_map-append}
 use Rattle.std.proofs.lemmas.Bool.{cases_lt, le-ltb, lt-ltb}
 use Rattle.kr_ast.specs.Tree.{Tree}
-use Rattle.kr_table.specs.Types.{JavaType}
-use Rattle.kr_table.specs.Table.{Heading, Field, fields_of, headings_of, table_of}
+use Rattle.kr_classes_table.specs.Types.{JavaType}
+use Rattle.kr_classes_table.specs.Table.{Heading, Field, fields_of, headings_of, table_of}
 use Rattle.kr_mean.specs.declared.mode.Mode.{Mode}
 use Rattle.kr_mean.specs.Program.{Program}
 use Rattle.kr_mean.specs.Problem.{Problem, ClassDomain, Domain, Slot, domain_at, no_objects, objects_from, objects_of_domain, parameter_slots, slots, slots_of_object}
 use Rattle.kr_fin.specs.declared.document.ArrayBound.{ArrayBound}
 use Rattle.kr_fin.specs.declared.document.FinDoc.{FinDoc}
-use Rattle.kr_domains.specs.Bounds.{Setting, array_class_domain, class_domains, class_name, count_named, elements_key, field_spots, greatest, lengths_of, parameter_key, problem_in, program_in, setting_of, tested_parameters, values_given}
-use Rattle.kr_domains.proofs.Plain.{length-element_spots}
+use Rattle.kr_space_meaning.specs.Bounds.{Setting, array_class_domain, class_domains, class_name, count_named, elements_key, field_spots, greatest, lengths_of, parameter_key, problem_in, program_in, setting_of, tested_parameters, values_given}
+use Rattle.kr_space_meaning.proofs.Plain.{length-element_spots}
 use Rattle.kr_space.specs.Headings.{heading_at, no_heading}
 use Rattle.kr_space.specs.Slots.{slots_of_arrays, slots_of_classes}
 use Rattle.kr_space.proofs.ClassFaults.{name_at}

@@ -7,16 +7,16 @@ use Rattle.kr_mean.specs.declared.mode.Mode.{Mode}
 use Rattle.kr_mean.specs.Problem.{Problem, domain_at, slots}
 use Rattle.kr_mean.specs.WellFormed.{IsWellFormed}
 use Rattle.kr_fin.specs.declared.document.FinDoc.{FinDoc}
-use Rattle.kr_domains.specs.declared.refusal.Fault.{Fault}
-use Rattle.kr_domains.specs.declared.refusal.SpaceRule.TheVariants.{EmptyDomain, TooMany}
-use Rattle.kr_domains.specs.Bounds.{Setting, problem_of, setting_of}
-use Rattle.kr_domains.specs.Faults.{S1, S2, S3_S5_S6, S4, S7, S8, S9, faults_in, numbers_of, numbers_of_lengths}
-use Rattle.kr_domains.specs.Laws.{IsLeast}
-use Rattle.kr_domains.specs.Meaning.{faults_of}
-use Rattle.kr_domains.specs.Order.{break_if, least}
-use Rattle.kr_domains.proofs.Each.{both_none, unbroken}
-use Rattle.kr_domains.proofs.Leasts.{least_of_all}
-use Rattle.kr_domains.proofs.WellFormed.{well_formed}
+use Rattle.kr_space_meaning.specs.declared.refusal.Fault.{Fault}
+use Rattle.kr_space_meaning.specs.declared.refusal.SpaceRule.TheVariants.{EmptyDomain, TooMany}
+use Rattle.kr_space_meaning.specs.Bounds.{Setting, problem_of, setting_of}
+use Rattle.kr_space_meaning.specs.Faults.{S1, S2, S3_S5_S6, S4, S7, S8, S9, faults_in, numbers_of, numbers_of_lengths}
+use Rattle.kr_space_meaning.specs.Laws.{IsLeast}
+use Rattle.kr_space_meaning.specs.Meaning.{faults_of}
+use Rattle.kr_space_meaning.specs.Order.{break_if, least}
+use Rattle.kr_space_meaning.proofs.Each.{both_none, unbroken}
+use Rattle.kr_space_meaning.proofs.Leasts.{least_of_all}
+use Rattle.kr_space_meaning.proofs.WellFormed.{well_formed}
 
 none_broken : (faults : List Fault) → least faults ≡ None → faults ≡ []
 none_broken faults e = subst (λ (o : Option Fault). MatchOption o (faults ≡ []) (IsLeast faults)) e (least_of_all faults)

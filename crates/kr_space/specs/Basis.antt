@@ -1,15 +1,15 @@
 -- Between crates: what the problem of a document is made of, with what is known of it.
 use Rattle.std.specs.Prelude.{◌≡◌, ℕ, ◌+◌, ◌^◌, ◌<◌, List, length, map, unwrap_or}
-use Rattle.kr_table.specs.Table.{headings_of}
-use Rattle.kr_type_numbers.specs.Types.{TypeList}
-use Rattle.kr_arrays.specs.Collected.{AreNumbers, types_shown}
+use Rattle.kr_classes_table.specs.Table.{headings_of}
+use Rattle.kr_classes_types.specs.Types.{TypeList}
+use Rattle.kr_space_names.specs.Collected.{AreNumbers, types_shown}
 use Rattle.kr_fin.specs.declared.document.FinDoc.{FinDoc}
 use Rattle.kr_mean.specs.declared.mode.Mode.{Mode}
-use Rattle.kr_problem.specs.Bounds.{Bounds}
-use Rattle.kr_domains.specs.Bounds.{Setting, domains_of, parameter_key, root_of, setting_of, tested_parameters, values_given}
-use Rattle.kr_domains.specs.Limits.{IsWithinLimits}
-use Rattle.kr_fitting.specs.Classes.{AreClasses, files_of}
-use Rattle.kr_numbers.specs.Entries.{AreBounds}
+use Rattle.kr_space_layout.specs.Bounds.{Bounds}
+use Rattle.kr_space_meaning.specs.Bounds.{Setting, domains_of, parameter_key, root_of, setting_of, tested_parameters, values_given}
+use Rattle.kr_space_meaning.specs.Limits.{IsWithinLimits}
+use Rattle.kr_space_rules.specs.Classes.{AreClasses, files_of}
+use Rattle.kr_space_rules.specs.Entries.{AreBounds}
 use Rattle.kr_space.specs.Keys.{AreKeys}
 use Rattle.kr_space.specs.declared.basis.Basis.{Basis}
 

@@ -1,12 +1,12 @@
 -- Between crates: a document beside a program, with what is known of both.
 use Rattle.std.specs.Prelude.{◌+◌, ◌^◌, ◌<◌, length, All}
-use Rattle.kr_table.specs.Table.{headings_of}
+use Rattle.kr_classes_table.specs.Table.{headings_of}
 use Rattle.kr_mean.specs.Problem.{Problem}
-use Rattle.kr_type_numbers.specs.Types.{TypeList}
-use Rattle.kr_problem.specs.Stretches.{IsNumbered}
-use Rattle.kr_domains.specs.Bounds.{Setting, problem_of, setting_of}
-use Rattle.kr_fitting.specs.Classes.{AreClasses, files_of}
-use Rattle.kr_numbers.specs.Entries.{AreBounds}
+use Rattle.kr_classes_types.specs.Types.{TypeList}
+use Rattle.kr_space_layout.specs.Stretches.{IsNumbered}
+use Rattle.kr_space_meaning.specs.Bounds.{Setting, problem_of, setting_of}
+use Rattle.kr_space_rules.specs.Classes.{AreClasses, files_of}
+use Rattle.kr_space_rules.specs.Entries.{AreBounds}
 use Rattle.kr_space.specs.Sizes.{AreBlocks}
 use Rattle.kr_space.specs.declared.bounded.Bounded.{Bounded}
 

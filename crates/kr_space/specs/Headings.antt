@@ -3,7 +3,7 @@ use Rattle.std.specs.Prelude.{ℕ, List, [], None}
 use Rattle.std.proofs.Common.{get_or}
 use Rattle.kr_fin.specs.declared.document.Count.{Count}
 use Rattle.kr_ast.specs.Tree.{Nil}
-use Rattle.kr_table.specs.Table.{Heading}
+use Rattle.kr_classes_table.specs.Table.{Heading}
 
 abbrev pub no_count : Count
 no_count = record { name = []; count = 0 }

@@ -1,6 +1,6 @@
 -- Between crates: the keys of a document's tables by their places.
 use Rattle.std.specs.Prelude.{map}
-use Rattle.kr_names.specs.Listed.{IsIndexOf}
+use Rattle.kr_classes_names.specs.Listed.{IsIndexOf}
 use Rattle.kr_fin.specs.declared.document.FinDoc.{FinDoc}
 use Rattle.kr_space.specs.declared.keys.Keys.{Keys}
 

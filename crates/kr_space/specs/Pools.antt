@@ -4,11 +4,11 @@ use Rattle.kr_mean.specs.Problem.{Domain}
 use Rattle.kr_fin.specs.declared.document.ArrayBound.{ArrayBound}
 use Rattle.kr_fin.specs.declared.document.FinDoc.{FinDoc}
 use Rattle.kr_fin.specs.declared.document.NamedDomain.{NamedDomain}
-use Rattle.kr_problem.specs.declared.classes.ClassDomain.{ClassDomain}
-use Rattle.kr_problem.specs.declared.item.Item.{Item}
-use Rattle.kr_problem.specs.Bounds.{class_domain as domain_shown}
-use Rattle.kr_problem.specs.Items.{domain_of}
-use Rattle.kr_domains.specs.Bounds.{Setting, domains_of, lengths_of, values_of}
+use Rattle.kr_space_layout.specs.declared.classes.ClassDomain.{ClassDomain}
+use Rattle.kr_space_layout.specs.declared.item.Item.{Item}
+use Rattle.kr_space_layout.specs.Bounds.{class_domain as domain_shown}
+use Rattle.kr_space_layout.specs.Items.{domain_of}
+use Rattle.kr_space_meaning.specs.Bounds.{Setting, domains_of, lengths_of, values_of}
 use Rattle.kr_space.specs.Basis.{setting_on}
 use Rattle.kr_space.specs.declared.basis.Basis.{Basis}
 

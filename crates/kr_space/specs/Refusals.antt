@@ -2,11 +2,11 @@
 use Rattle.std.specs.Prelude.{◌≡◌, List, ◌++◌, Option, Some}
 use Rattle.kr_mean.specs.declared.mode.Mode.{Mode}
 use Rattle.kr_mean.specs.Problem.{Problem}
-use Rattle.kr_domains.specs.Bounds.{Setting}
-use Rattle.kr_domains.specs.Faults.{S2, S3_S5_S6, S4, S7, S8, S9}
-use Rattle.kr_domains.specs.declared.refusal.Fault.{Fault}
-use Rattle.kr_domains.specs.declared.refusal.SpaceRefusal.{SpaceRefusal}
-use Rattle.kr_domains.specs.declared.refusal.SpaceRefusal.TheVariants.{Broken, NoMemory}
+use Rattle.kr_space_meaning.specs.Bounds.{Setting}
+use Rattle.kr_space_meaning.specs.Faults.{S2, S3_S5_S6, S4, S7, S8, S9}
+use Rattle.kr_space_meaning.specs.declared.refusal.Fault.{Fault}
+use Rattle.kr_space_meaning.specs.declared.refusal.SpaceRefusal.{SpaceRefusal}
+use Rattle.kr_space_meaning.specs.declared.refusal.SpaceRefusal.TheVariants.{Broken, NoMemory}
 
 -- the refusal is for want of memory, or for the fault that is wanted
 abbrev pub Refuses : Option Fault → SpaceRefusal → Type 0

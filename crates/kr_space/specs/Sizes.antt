@@ -1,15 +1,15 @@
 -- Between crates: how many objects and slots there are, by class domains.
 use Rattle.std.specs.Prelude.{◌≡◌, ℕ, List, [], map}
-use Rattle.kr_table.specs.Table.{Heading}
+use Rattle.kr_classes_table.specs.Table.{Heading}
 use Rattle.kr_value.specs.declared.object.Class.TheVariants.{Object}
 use Rattle.kr_mean.specs.Problem as problems
 use Rattle.kr_mean.specs.Problem.{Problem, choices_in}
-use Rattle.kr_problem.specs.declared.item.Item.{Item}
-use Rattle.kr_problem.specs.declared.stretch.Block.{Block}
-use Rattle.kr_problem.specs.declared.classes.ClassDomain.{ClassDomain}
-use Rattle.kr_problem.specs.Items.{domain_of}
-use Rattle.kr_problem.specs.Stretches.{all_choices, stretch_of}
-use Rattle.kr_domains.specs.Bounds.{Setting, count_named}
+use Rattle.kr_space_layout.specs.declared.item.Item.{Item}
+use Rattle.kr_space_layout.specs.declared.stretch.Block.{Block}
+use Rattle.kr_space_layout.specs.declared.classes.ClassDomain.{ClassDomain}
+use Rattle.kr_space_layout.specs.Items.{domain_of}
+use Rattle.kr_space_layout.specs.Stretches.{all_choices, stretch_of}
+use Rattle.kr_space_meaning.specs.Bounds.{Setting, count_named}
 
 -- the values of each domain are those of its entries, where these are the objects
 abbrev pub AreBlocks : Problem → List Block → Type 0

@@ -1,9 +1,9 @@
 -- Between crates: how many slots a problem has, by classes and array types.
 use Rattle.std.specs.Prelude.{ℕ, ◌+◌, ◌*◌, List, [], ◌∷◌, length}
-use Rattle.kr_table.specs.Types.{JavaType}
-use Rattle.kr_table.specs.Table.{Heading, fields_of}
+use Rattle.kr_classes_table.specs.Types.{JavaType}
+use Rattle.kr_classes_table.specs.Table.{Heading, fields_of}
 use Rattle.kr_fin.specs.declared.document.ArrayBound.{ArrayBound}
-use Rattle.kr_domains.specs.Bounds.{Setting, count_named, greatest, lengths_of}
+use Rattle.kr_space_meaning.specs.Bounds.{Setting, count_named, greatest, lengths_of}
 
 -- each object of a class has its fields
 abbrev pub slots_of_classes : Setting → ℕ → List Heading → ℕ

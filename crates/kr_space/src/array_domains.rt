@@ -1,13 +1,13 @@
 // The class domains of array types.
 ghost use Rattle.std.specs.Prelude.{◌≡◌, ◌<◌, ◌^◌, ◌++◌, [], IfOk, List, OnOk, length, map, unwrap_or};
 ghost use Rattle.std.proofs.Common.{get_or};
-ghost use Rattle.kr_table.specs.Arrays.{array_number as number_of_array};
-ghost use Rattle.kr_type_numbers.specs.Types.{count, type_at};
-ghost use Rattle.kr_arrays.specs.Collected.{AreNumbers, types_shown};
+ghost use Rattle.kr_classes_table.specs.Arrays.{array_number as number_of_array};
+ghost use Rattle.kr_classes_types.specs.Types.{count, type_at};
+ghost use Rattle.kr_space_names.specs.Collected.{AreNumbers, types_shown};
 ghost use Rattle.kr_mean.specs.Problem.{Domain};
-ghost use Rattle.kr_problem.specs.Bounds.{class_domain as domain_shown, spotted};
-ghost use Rattle.kr_domains.specs.Bounds.{Setting, array_class_domain, array_spots as spots_of_array, element_spots, elements_key, lengths_of, values_given};
-ghost use Rattle.kr_numbers.specs.Entries.{IsBound, bound_shown, no_bound};
+ghost use Rattle.kr_space_layout.specs.Bounds.{class_domain as domain_shown, spotted};
+ghost use Rattle.kr_space_meaning.specs.Bounds.{Setting, array_class_domain, array_spots as spots_of_array, element_spots, elements_key, lengths_of, values_given};
+ghost use Rattle.kr_space_rules.specs.Entries.{IsBound, bound_shown, no_bound};
 ghost use Rattle.kr_space.specs.Basis.{AreArrays, AreBoundsOn, IsBasis, setting_on};
 ghost use Rattle.kr_space.specs.Pools.{pool};
 
@@ -16,10 +16,10 @@ use crate::elements::greatest_of;
 use crate::keys::joined;
 use crate::places::{field_domain, lengths_domain};
 use kr_base::NoMemory;
+use kr_classes_types::Types;
 use kr_fin::{ArrayBound, Listed};
-use kr_numbers::Bound;
-use kr_problem::{ClassDomain, Spotted};
-use kr_type_numbers::Types;
+use kr_space_layout::{ClassDomain, Spotted};
+use kr_space_rules::Bound;
 use kr_value::{Class, Spot};
 use std::alloc::Global;
 

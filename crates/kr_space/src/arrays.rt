@@ -1,18 +1,18 @@
 // The array types of a problem, by number.
 ghost use Rattle.std.specs.Prelude.{◌≡◌, ◌<◌, All, IfOk, OnOk, flat_map, length, map};
-ghost use Rattle.kr_table.specs.Arrays.{arrays_in};
-ghost use Rattle.kr_type_numbers.specs.Types.{Extends};
-ghost use Rattle.kr_arrays.specs.Collected.{AreNumbers, IsClosed, collected, types_shown};
-ghost use Rattle.kr_fitting.specs.Classes.{AreTyped};
-ghost use Rattle.kr_numbers.specs.Entries.{IsBound, bound_shown};
+ghost use Rattle.kr_classes_table.specs.Arrays.{arrays_in};
+ghost use Rattle.kr_classes_types.specs.Types.{Extends};
+ghost use Rattle.kr_space_names.specs.Collected.{AreNumbers, IsClosed, collected, types_shown};
+ghost use Rattle.kr_space_rules.specs.Classes.{AreTyped};
+ghost use Rattle.kr_space_rules.specs.Entries.{IsBound, bound_shown};
 ghost use Rattle.kr_space.specs.Basis.{AreArrays, AreBoundsOn, setting_on};
 
 use crate::basis::Basis;
-use kr_arrays::{Arrays, add_arrays_in, array_types};
 use kr_base::NoMemory;
+use kr_classes_types::Types;
 use kr_fin::ArrayBound;
-use kr_numbers::Bound;
-use kr_type_numbers::Types;
+use kr_space_names::{Arrays, add_arrays_in, array_types};
+use kr_space_rules::Bound;
 use std::alloc::Global;
 
 /// Adds the array types that the document bounds, where they aren't there yet.
@@ -37,7 +37,7 @@ fn add_bounded(
 }
 
 /// The array types that the files name, and behind them those that only the document does.
-#[tactic(auto, using(crate::proofs::Problems::arrays_whole, kr_numbers::proofs::Bounded::bounds_kept))]
+#[tactic(auto, using(crate::proofs::Problems::arrays_whole, kr_space_rules::proofs::Bounded::bounds_kept))]
 pub(crate) fn arrays_of(
     alloc: Global,
     types: &mut Types,

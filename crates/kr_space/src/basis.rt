@@ -2,8 +2,7 @@
 
 use crate::keys::Keys;
 use kr_fin::FinDoc;
-use kr_fitting::Classes;
-use kr_numbers::Bound;
+use kr_space_rules::{Bound, Classes};
 
 /// The classes and a document beside them, with the keys of its tables and the array types that it bounds.
 #[derive(Drop)]

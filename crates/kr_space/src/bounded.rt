@@ -1,10 +1,9 @@
 // A document beside a program, as the rules on numbers ask of them.
 
 use kr_fin::FinDoc;
-use kr_fitting::Classes;
 use kr_mean::Mode;
-use kr_numbers::Bound;
-use kr_problem::Block;
+use kr_space_layout::Block;
+use kr_space_rules::{Bound, Classes};
 
 /// The classes, the document and the mode, with the array types that the document bounds and the objects of the class
 /// domains.

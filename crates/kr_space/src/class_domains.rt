@@ -1,9 +1,9 @@
 // The class domains of classes.
 ghost use Rattle.std.specs.Prelude.{◌≡◌, ◌<◌, IfOk, length, map};
-ghost use Rattle.kr_table.specs.Table.{fields_of, headings_of};
-ghost use Rattle.kr_problem.specs.Bounds.{class_domain as domain_shown, spotted};
-ghost use Rattle.kr_domains.specs.Bounds.{class_domain as domain_of_class, class_domains, field_spots as spots_of_fields};
-ghost use Rattle.kr_fitting.specs.Classes.{files_of, table_of};
+ghost use Rattle.kr_classes_table.specs.Table.{fields_of, headings_of};
+ghost use Rattle.kr_space_layout.specs.Bounds.{class_domain as domain_shown, spotted};
+ghost use Rattle.kr_space_meaning.specs.Bounds.{class_domain as domain_of_class, class_domains, field_spots as spots_of_fields};
+ghost use Rattle.kr_space_rules.specs.Classes.{files_of, table_of};
 ghost use Rattle.kr_space.specs.Basis.{IsBasis, setting_on};
 ghost use Rattle.kr_space.specs.Headings.{heading_at};
 ghost use Rattle.kr_space.specs.Pools.{pool};
@@ -14,7 +14,7 @@ use crate::places::field_domain;
 use crate::undefined::{class_name, field_key};
 use kr_base::NoMemory;
 use kr_fin::Listed;
-use kr_problem::{ClassDomain, Spotted};
+use kr_space_layout::{ClassDomain, Spotted};
 use kr_value::{Class, Spot};
 use std::alloc::Global;
 

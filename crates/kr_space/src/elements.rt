@@ -1,26 +1,26 @@
 // Rule S2 of the elements of arrays, and of the parameters of the method under test.
 ghost use Rattle.std.specs.Prelude.{◌≡◌, ◌&&◌, nat_lt, ◌++◌, All, IfOk, OnOk, codes, flat_map, fold, map};
-ghost use Rattle.kr_names.specs.Listed.{IsIndexOf};
+ghost use Rattle.kr_classes_names.specs.Listed.{IsIndexOf};
 ghost use Rattle.kr_mean.specs.declared.mode.Mode.TheVariants.{Method as Testing};
-ghost use Rattle.kr_domains.specs.Bounds.{greatest, lengths_of, root_of, setting_of, tested_parameters};
-ghost use Rattle.kr_domains.specs.Faults.{array_S2, parameter_S2};
-ghost use Rattle.kr_domains.specs.Limits.{AreLengths};
-ghost use Rattle.kr_domains.specs.Order.{lesser};
-ghost use Rattle.kr_fitting.specs.Classes.{AreClasses, files_of};
-ghost use Rattle.kr_fitting.specs.Parameters.{IsParameter, parameter_shown};
-ghost use Rattle.kr_numbers.specs.Entries.{IsBound, bound_shown};
+ghost use Rattle.kr_space_meaning.specs.Bounds.{greatest, lengths_of, root_of, setting_of, tested_parameters};
+ghost use Rattle.kr_space_meaning.specs.Faults.{array_S2, parameter_S2};
+ghost use Rattle.kr_space_meaning.specs.Limits.{AreLengths};
+ghost use Rattle.kr_space_meaning.specs.Order.{lesser};
+ghost use Rattle.kr_space_rules.specs.Classes.{AreClasses, files_of};
+ghost use Rattle.kr_space_rules.specs.Parameters.{IsParameter, parameter_shown};
+ghost use Rattle.kr_space_rules.specs.Entries.{IsBound, bound_shown};
 
 use crate::keys::joined;
 use crate::lengths::greatest_length;
 use crate::undefined::note_absent;
+use kr_ast::tree_of;
 use kr_base::NoMemory;
+use kr_classes_names::Index;
+use kr_classes_types::Types;
 use kr_fin::{ArrayBound, FinDoc};
-use kr_fitting::{Classes, Parameter, parameters_of};
 use kr_mean::Mode;
-use kr_meanings::Least;
-use kr_names::{Index, tree_of};
-use kr_numbers::Bound;
-use kr_type_numbers::Types;
+use kr_space_names::Least;
+use kr_space_rules::{Bound, Classes, Parameter, parameters_of};
 
 /// The greatest of the lengths of an array type.
 pub(crate) fn greatest_of(classes: &Classes, document: &FinDoc, bound: &ArrayBound) -> u32
@@ -40,7 +40,7 @@ fn has_elements(count: u32, greatest: u32) -> bool
 }
 
 /// The elements of an array type that has arrays with elements have a domain.
-#[tactic(auto, unfolding(kr_domains::specs::Bounds::setting_of))]
+#[tactic(auto, unfolding(kr_space_meaning::specs::Bounds::setting_of))]
 fn note_elements(
     least: &mut Least,
     classes: &Classes,
@@ -92,7 +92,7 @@ pub(crate) fn note_all_elements(
 }
 
 /// A parameter of the method under test has a domain.
-#[tactic(auto, unfolding(kr_domains::specs::Bounds::setting_of))]
+#[tactic(auto, unfolding(kr_space_meaning::specs::Bounds::setting_of))]
 fn note_parameter(
     least: &mut Least,
     classes: &Classes,
@@ -137,7 +137,7 @@ fn note_each_parameter(
 }
 
 /// The parameters of the method under test have domains, where one is tested.
-#[tactic(auto, unfolding(kr_domains::specs::Bounds::setting_of, kr_table::specs::Table::table_of))]
+#[tactic(auto, unfolding(kr_space_meaning::specs::Bounds::setting_of, kr_classes_table::specs::Table::table_of))]
 pub(crate) fn note_parameters(
     least: &mut Least,
     classes: &Classes,

@@ -1,11 +1,11 @@
 // Rule S2 as a whole.
 ghost use Rattle.std.specs.Prelude.{◌≡◌, All, OnOk, fold};
-ghost use Rattle.kr_domains.specs.Bounds.{root_of, setting_of};
-ghost use Rattle.kr_domains.specs.Faults.{S2};
-ghost use Rattle.kr_domains.specs.Limits.{AreLengths};
-ghost use Rattle.kr_domains.specs.Order.{lesser};
-ghost use Rattle.kr_fitting.specs.Classes.{AreClasses, files_of};
-ghost use Rattle.kr_numbers.specs.Entries.{AreBounds};
+ghost use Rattle.kr_space_meaning.specs.Bounds.{root_of, setting_of};
+ghost use Rattle.kr_space_meaning.specs.Faults.{S2};
+ghost use Rattle.kr_space_meaning.specs.Limits.{AreLengths};
+ghost use Rattle.kr_space_meaning.specs.Order.{lesser};
+ghost use Rattle.kr_space_rules.specs.Classes.{AreClasses, files_of};
+ghost use Rattle.kr_space_rules.specs.Entries.{AreBounds};
 ghost use Rattle.kr_space.specs.Keys.{AreKeys};
 
 use crate::elements::{note_all_elements, note_parameters};
@@ -13,12 +13,11 @@ use crate::keys::Keys;
 use crate::slots::root_number;
 use crate::undefined::note_undefined;
 use kr_base::NoMemory;
+use kr_classes_types::Types;
 use kr_fin::FinDoc;
-use kr_fitting::Classes;
 use kr_mean::Mode;
-use kr_meanings::Least;
-use kr_numbers::Bound;
-use kr_type_numbers::Types;
+use kr_space_names::Least;
+use kr_space_rules::{Bound, Classes};
 
 /// S2: each field, element and parameter that has slots has a domain.
 pub(crate) fn note_given(

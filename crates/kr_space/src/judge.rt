@@ -1,13 +1,13 @@
 // All rules: whether a document is one of a program, or the least rule that it breaks.
 ghost use Rattle.std.specs.Prelude.{◌≡◌, ◌++◌, None, IfErr, IfOk, OnOk, fold};
-ghost use Rattle.kr_type_numbers.specs.Types.{Extends};
-ghost use Rattle.kr_domains.specs.Bounds.{problem_of, root_of, setting_of};
-ghost use Rattle.kr_domains.specs.Faults.{S4, S7, S8, S9, faults_in};
-ghost use Rattle.kr_domains.specs.Limits.{IsWithinLimits};
-ghost use Rattle.kr_domains.specs.Meaning.{faults_of};
-ghost use Rattle.kr_domains.specs.Order.{least as least_of, lesser};
-ghost use Rattle.kr_fitting.specs.Classes.{AreClasses, AreTyped, files_of};
-ghost use Rattle.kr_numbers.specs.Entries.{AreBounds};
+ghost use Rattle.kr_classes_types.specs.Types.{Extends};
+ghost use Rattle.kr_space_meaning.specs.Bounds.{problem_of, root_of, setting_of};
+ghost use Rattle.kr_space_meaning.specs.Faults.{S4, S7, S8, S9, faults_in};
+ghost use Rattle.kr_space_meaning.specs.Limits.{IsWithinLimits};
+ghost use Rattle.kr_space_meaning.specs.Meaning.{faults_of};
+ghost use Rattle.kr_space_meaning.specs.Order.{least as least_of, lesser};
+ghost use Rattle.kr_space_rules.specs.Classes.{AreClasses, AreTyped, files_of};
+ghost use Rattle.kr_space_rules.specs.Entries.{AreBounds};
 ghost use Rattle.kr_space.specs.Keys.{AreKeys};
 ghost use Rattle.kr_space.specs.Refusals.{Refuses, after_S1};
 
@@ -16,17 +16,18 @@ use crate::keys::Keys;
 use crate::slots::root_number;
 use crate::whole::note_numbers;
 use kr_base::NoMemory;
-use kr_domains::SpaceRefusal;
+use kr_classes_types::Types;
 use kr_fin::FinDoc;
-use kr_fitting::{Classes, note_method, note_predicate, note_slots, note_unfit};
 use kr_mean::Mode;
-use kr_meanings::{Least, note_names};
-use kr_numbers::{Bound, bounds_of};
-use kr_type_numbers::Types;
+use kr_space_meaning::SpaceRefusal;
+use kr_space_names::{Least, note_names};
+use kr_space_rules::{
+    Bound, Classes, bounds_of, note_method, note_predicate, note_slots, note_unfit,
+};
 use std::alloc::Global;
 
 /// S8, where a method is tested.
-#[tactic(auto, unfolding(kr_domains::specs::Bounds::setting_of, kr_table::specs::Table::table_of))]
+#[tactic(auto, unfolding(kr_space_meaning::specs::Bounds::setting_of, kr_classes_table::specs::Table::table_of))]
 fn note_tested(
     least: &mut Least,
     classes: &Classes,
@@ -45,7 +46,7 @@ fn note_tested(
     }
 }
 
-#[tactic(auto, using(crate::proofs::Parts::types_are, kr_meanings::proofs::Growing::node_types_kept), unfolding(kr_domains::specs::Bounds::setting_of))]
+#[tactic(auto, using(crate::proofs::Parts::types_are, kr_space_names::proofs::Growing::node_types_kept), unfolding(kr_space_meaning::specs::Bounds::setting_of))]
 /// The rules on types and methods: S4, S7, S8 and S9.
 fn note_types(
     least: &mut Least,
@@ -69,7 +70,7 @@ fn note_types(
 }
 
 /// Notes what the document breaks of the rules after that on names.
-#[tactic(auto, using(crate::proofs::Parts::after_names, kr_meanings::proofs::Growing::node_types_kept))]
+#[tactic(auto, using(crate::proofs::Parts::after_names, kr_space_names::proofs::Growing::node_types_kept))]
 fn note_after_names(
     least: &mut Least,
     classes: &Classes,
@@ -93,7 +94,7 @@ fn note_after_names(
 }
 
 /// Notes all that the document breaks.
-#[tactic(auto, using(crate::proofs::Parts::faults_are, crate::proofs::Parts::arrays_are, kr_meanings::proofs::Growing::node_types_kept))]
+#[tactic(auto, using(crate::proofs::Parts::faults_are, crate::proofs::Parts::arrays_are, kr_space_names::proofs::Growing::node_types_kept))]
 fn note_faults(
     least: &mut Least,
     classes: &Classes,

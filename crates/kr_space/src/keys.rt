@@ -1,14 +1,14 @@
 // The keys of a document's tables, found by their names.
 ghost use Rattle.std.specs.Prelude.{◌≡◌, ◌++◌, IfOk, is_none, map};
 ghost use Rattle.std.proofs.Common.{get_or};
-ghost use Rattle.kr_names.specs.Listed.{IsIndexOf};
-ghost use Rattle.kr_domains.specs.Bounds.{count_named as count_in, given};
+ghost use Rattle.kr_classes_names.specs.Listed.{IsIndexOf};
+ghost use Rattle.kr_space_meaning.specs.Bounds.{count_named as count_in, given};
 ghost use Rattle.kr_space.specs.Headings.{no_count};
 ghost use Rattle.kr_space.specs.Keys.{AreKeys};
 
 use kr_base::NoMemory;
+use kr_classes_names::Index;
 use kr_fin::{Count, FinDoc, NamedDomain};
-use kr_names::Index;
 use std::alloc::Global;
 
 /// Two texts, one behind the other.

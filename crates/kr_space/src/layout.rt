@@ -1,6 +1,6 @@
 // The layout of a document's problem.
 ghost use Rattle.std.specs.Prelude.{◌≡◌, IfOk, unwrap_or};
-ghost use Rattle.kr_type_numbers.specs.Types.{Extends};
+ghost use Rattle.kr_classes_types.specs.Types.{Extends};
 ghost use Rattle.kr_space.specs.Basis.{AreArrays, AreBoundsOn, IsBasis, bounds_on, setting_on};
 ghost use Rattle.kr_space.specs.Pools.{AreDomainsOn, AreValuesOn};
 
@@ -11,10 +11,10 @@ use crate::parameters::parameter_domains;
 use crate::pool::pool_of;
 use crate::slots::root_number;
 use kr_base::NoMemory;
+use kr_classes_types::Types;
 use kr_fin::Listed;
 use kr_mean::Mode;
-use kr_problem::{ClassDomain, Item, Layout};
-use kr_type_numbers::Types;
+use kr_space_layout::{ClassDomain, Item, Layout};
 use std::alloc::Global;
 
 /// The number of a class; 0 where there is none.
@@ -90,7 +90,7 @@ fn layout_with(
 }
 
 /// The slots and domains of a document's problem.
-#[tactic(auto, using(kr_numbers::proofs::Bounded::bounds_kept))]
+#[tactic(auto, using(kr_space_rules::proofs::Bounded::bounds_kept))]
 pub(crate) fn layout_of(
     alloc: Global,
     types: &mut Types,

@@ -1,7 +1,7 @@
 // The greatest of the lengths that arrays may have.
 ghost use Rattle.std.specs.Prelude.{◌≡◌, All, max, pos};
-ghost use Rattle.kr_domains.specs.Bounds.{Setting, greatest, item_values, lengths_in, lengths_of};
-ghost use Rattle.kr_domains.specs.Limits.{AreLengths, IsLength};
+ghost use Rattle.kr_space_meaning.specs.Bounds.{Setting, greatest, item_values, lengths_in, lengths_of};
+ghost use Rattle.kr_space_meaning.specs.Limits.{AreLengths, IsLength};
 ghost use Rattle.kr_fin.specs.declared.document.Item.TheVariants.{Range};
 
 use kr_fin::Item;

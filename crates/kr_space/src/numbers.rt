@@ -1,19 +1,19 @@
 // Rules S3, S5 and S6 of the domains that are given.
 ghost use Rattle.std.specs.Prelude.{◌≡◌, ◌++◌, All, OnOk, fold};
-ghost use Rattle.kr_type_numbers.specs.Types.{Extends};
+ghost use Rattle.kr_classes_types.specs.Types.{Extends};
 ghost use Rattle.kr_mean.specs.Problem.{choices_in};
-ghost use Rattle.kr_domains.specs.Bounds.{lengths_of, values_of};
-ghost use Rattle.kr_domains.specs.Faults.{number_faults, numbers_of, numbers_of_lengths, of_arrays};
-ghost use Rattle.kr_domains.specs.Limits.{AreLengths, IsSmall};
-ghost use Rattle.kr_domains.specs.Order.{lesser};
+ghost use Rattle.kr_space_meaning.specs.Bounds.{lengths_of, values_of};
+ghost use Rattle.kr_space_meaning.specs.Faults.{number_faults, numbers_of, numbers_of_lengths, of_arrays};
+ghost use Rattle.kr_space_meaning.specs.Limits.{AreLengths, IsSmall};
+ghost use Rattle.kr_space_meaning.specs.Order.{lesser};
 ghost use Rattle.kr_space.specs.Bounded.{IsBounded, problem_in, setting_in};
 
 use crate::bounded::Bounded;
 use kr_base::NoMemory;
+use kr_classes_types::Types;
 use kr_fin::{ArrayBound, Item, NamedDomain};
-use kr_meanings::{Least, item_of};
-use kr_numbers::{entries_of, note_numbers};
-use kr_type_numbers::Types;
+use kr_space_names::{Least, item_of};
+use kr_space_rules::{entries_of, note_numbers};
 
 #[tactic(auto, using(crate::proofs::BoundedKept::numbers_same))]
 /// The numbers of the values of a domain, under its item.

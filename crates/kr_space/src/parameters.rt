@@ -2,19 +2,19 @@
 ghost use Rattle.std.specs.Prelude.{◌≡◌, [], All, IfOk, map};
 ghost use Rattle.std.proofs.Common.{get_or};
 ghost use Rattle.kr_mean.specs.declared.mode.Mode.TheVariants.{Method as Testing};
-ghost use Rattle.kr_domains.specs.Bounds.{parameter_key as key_of_parameter, root_of, tested_parameters, values_given};
-ghost use Rattle.kr_fitting.specs.Parameters.{IsParameter, parameter_shown};
+ghost use Rattle.kr_space_meaning.specs.Bounds.{parameter_key as key_of_parameter, root_of, tested_parameters, values_given};
+ghost use Rattle.kr_space_rules.specs.Parameters.{IsParameter, parameter_shown};
 ghost use Rattle.kr_space.specs.Basis.{IsBasis, setting_on};
 ghost use Rattle.kr_space.specs.Pools.{pool};
 
 use crate::basis::Basis;
 use crate::keys::joined;
 use crate::places::parameter_domain;
+use kr_ast::tree_of;
 use kr_base::NoMemory;
 use kr_fin::Listed;
-use kr_fitting::{Parameter, parameters_of};
 use kr_mean::Mode;
-use kr_names::tree_of;
+use kr_space_rules::{Parameter, parameters_of};
 use std::alloc::Global;
 
 /// The key of a parameter of a method.
@@ -52,7 +52,7 @@ fn numbers_of(
 }
 
 /// The numbers of the domains of the parameters of the method under test, where one is tested.
-#[tactic(auto, unfolding(kr_domains::specs::Bounds::setting_of, kr_table::specs::Table::table_of))]
+#[tactic(auto, unfolding(kr_space_meaning::specs::Bounds::setting_of, kr_classes_table::specs::Table::table_of))]
 pub(crate) fn parameter_domains(
     alloc: Global,
     basis: &Basis,

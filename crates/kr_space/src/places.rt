@@ -1,8 +1,8 @@
 // The numbers of the domains that a document gives.
 ghost use Rattle.std.specs.Prelude.{◌≡◌, ◌<◌, ◌+◌, [], length};
 ghost use Rattle.std.proofs.Common.{get_or};
-ghost use Rattle.kr_domains.specs.Bounds.{Setting, lengths_of, values_given};
-ghost use Rattle.kr_numbers.specs.Entries.{no_bound};
+ghost use Rattle.kr_space_meaning.specs.Bounds.{Setting, lengths_of, values_given};
+ghost use Rattle.kr_space_rules.specs.Entries.{no_bound};
 ghost use Rattle.kr_space.specs.Basis.{HasFewDomains};
 ghost use Rattle.kr_space.specs.Keys.{AreKeys};
 ghost use Rattle.kr_space.specs.Pools.{pool};

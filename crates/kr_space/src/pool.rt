@@ -1,18 +1,18 @@
 // The domains that a document gives, with their values.
 ghost use Rattle.std.specs.Prelude.{◌≡◌, ◌++◌, ◌∷◌, [], All, IfOk, OnOk, map};
-ghost use Rattle.kr_type_numbers.specs.Types.{Extends};
-ghost use Rattle.kr_problem.specs.Items.{domain_of};
-ghost use Rattle.kr_domains.specs.Bounds.{lengths_of, values_of};
-ghost use Rattle.kr_domains.specs.Limits.{AreLengths, IsSmall};
+ghost use Rattle.kr_classes_types.specs.Types.{Extends};
+ghost use Rattle.kr_space_layout.specs.Items.{domain_of};
+ghost use Rattle.kr_space_meaning.specs.Bounds.{lengths_of, values_of};
+ghost use Rattle.kr_space_meaning.specs.Limits.{AreLengths, IsSmall};
 ghost use Rattle.kr_space.specs.Basis.{AreBoundsOn, IsBasis, setting_on};
 ghost use Rattle.kr_space.specs.Pools.{all_lengths, all_values, pool};
 
 use crate::basis::Basis;
 use kr_base::NoMemory;
+use kr_classes_types::Types;
 use kr_fin::{ArrayBound, Item as FinItem, Listed, NamedDomain};
-use kr_numbers::entries_of;
-use kr_problem::Item;
-use kr_type_numbers::Types;
+use kr_space_layout::Item;
+use kr_space_rules::entries_of;
 use std::alloc::Global;
 
 /// Adds the values of a domain.
@@ -102,7 +102,7 @@ fn add_lengths(
 }
 
 /// Adds the domains that a document gives.
-#[tactic(auto, using(kr_numbers::proofs::Bounded::bounds_kept, crate::proofs::Pooled::pool_whole))]
+#[tactic(auto, using(kr_space_rules::proofs::Bounded::bounds_kept, crate::proofs::Pooled::pool_whole))]
 fn add_pool(
     alloc: Global,
     types: &mut Types,

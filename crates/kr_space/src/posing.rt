@@ -1,18 +1,18 @@
 // A program with a document beside it, posed as a problem.
 ghost use Rattle.std.specs.Prelude.{◌≡◌, IsTrue, ◌+◌, ◌^◌, ◌<◌, ◌≤◌, None, IfErr, IfOk, length, map, nat_lt};
 ghost use Rattle.kr_ast.specs.Arena.{root};
-ghost use Rattle.kr_table.specs.Table.{headings_of};
-ghost use Rattle.kr_type_numbers.specs.Types.{Extends};
+ghost use Rattle.kr_classes_table.specs.Table.{headings_of};
+ghost use Rattle.kr_classes_types.specs.Types.{Extends};
 ghost use Rattle.kr_types.specs.Programs.{IsProgram};
-ghost use Rattle.kr_posed.specs.Posed.{IsPosed, posed};
+ghost use Rattle.kr_space_problem.specs.Posed.{IsPosed, posed};
 ghost use Rattle.kr_mean.specs.Problem.{slots};
 ghost use Rattle.kr_mean.specs.WellFormed.{IsWellFormed};
-ghost use Rattle.kr_domains.specs.Bounds.{problem_of, setting_of};
-ghost use Rattle.kr_domains.specs.Limits.{IsWithinLimits};
-ghost use Rattle.kr_domains.specs.Meaning.{faults_of};
-ghost use Rattle.kr_domains.specs.Order.{least as least_of};
-ghost use Rattle.kr_fitting.specs.Classes.{AreClasses, AreTyped, files_of};
-ghost use Rattle.kr_numbers.specs.Entries.{AreBounds};
+ghost use Rattle.kr_space_meaning.specs.Bounds.{problem_of, setting_of};
+ghost use Rattle.kr_space_meaning.specs.Limits.{IsWithinLimits};
+ghost use Rattle.kr_space_meaning.specs.Meaning.{faults_of};
+ghost use Rattle.kr_space_meaning.specs.Order.{least as least_of};
+ghost use Rattle.kr_space_rules.specs.Classes.{AreClasses, AreTyped, files_of};
+ghost use Rattle.kr_space_rules.specs.Entries.{AreBounds};
 ghost use Rattle.kr_space.specs.Basis.{AreArrays, AreBoundsOn, HasFewDomains, IsBasis, bounds_on, setting_on};
 ghost use Rattle.kr_space.specs.Keys.{AreKeys};
 ghost use Rattle.kr_space.specs.Refusals.{Refuses};
@@ -24,14 +24,13 @@ use crate::keys::Keys;
 use crate::layout::layout_of;
 use kr_base::NoMemory;
 use kr_classes::ClassTable;
-use kr_domains::SpaceRefusal;
+use kr_classes_types::Types;
 use kr_fin::FinDoc;
-use kr_fitting::Classes;
 use kr_mean::Mode;
-use kr_numbers::{Bound, bounds_of};
-use kr_posed::Problem;
-use kr_problem::Layout;
-use kr_type_numbers::Types;
+use kr_space_layout::Layout;
+use kr_space_meaning::SpaceRefusal;
+use kr_space_problem::Problem;
+use kr_space_rules::{Bound, Classes, bounds_of};
 use kr_types::Program;
 use std::alloc::Global;
 
@@ -67,7 +66,7 @@ struct Laid {
 }
 
 /// The array types and the layout of the problem that is made of these.
-#[tactic(auto, using(kr_numbers::proofs::Bounded::bounds_kept))]
+#[tactic(auto, using(kr_space_rules::proofs::Bounded::bounds_kept))]
 fn laid_on(alloc: Global, types: &mut Types, basis: &Basis, mode: Mode) -> Result<Laid, NoMemory>
     requires few { length basis.now.classes.now.trees.now < 65 }
     requires basis { IsBasis basis.now }
@@ -115,7 +114,7 @@ fn laid_by(
 }
 
 /// The array types and the layout of a document's problem.
-#[tactic(auto, using(crate::proofs::Parts::arrays_are, kr_meanings::proofs::Growing::node_types_kept))]
+#[tactic(auto, using(crate::proofs::Parts::arrays_are, kr_space_names::proofs::Growing::node_types_kept))]
 fn lay(
     alloc: Global,
     classes: &Classes,
@@ -139,7 +138,7 @@ fn lay(
 
 /// What a document gives a program to be a problem; or the least of the rules that it breaks, and there the least item in
 /// the order of bytes.
-#[tactic(auto, using(kr_meanings::proofs::Growing::node_types_kept))]
+#[tactic(auto, using(kr_space_names::proofs::Growing::node_types_kept))]
 fn judge_and_lay(
     alloc: Global,
     classes: &Classes,

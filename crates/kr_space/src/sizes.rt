@@ -1,27 +1,26 @@
 // How many objects each class domain has, and which numbers they have in the heap.
 ghost use Rattle.std.specs.Prelude.{◌≡◌, ◌+◌, ◌++◌, All, IfOk, OnOk, map};
-ghost use Rattle.kr_table.specs.Table.{headings_of};
-ghost use Rattle.kr_names.specs.Listed.{IsIndexOf};
-ghost use Rattle.kr_problem.specs.Stretches.{IsNumbered};
-ghost use Rattle.kr_problem.specs.Tables.{blocks_from};
-ghost use Rattle.kr_domains.specs.Bounds.{setting_of};
-ghost use Rattle.kr_fitting.specs.Classes.{AreClasses, files_of};
-ghost use Rattle.kr_numbers.specs.Entries.{IsBound, bound_shown};
+ghost use Rattle.kr_classes_table.specs.Table.{headings_of};
+ghost use Rattle.kr_classes_names.specs.Listed.{IsIndexOf};
+ghost use Rattle.kr_space_layout.specs.Stretches.{IsNumbered};
+ghost use Rattle.kr_space_layout.specs.Tables.{blocks_from};
+ghost use Rattle.kr_space_meaning.specs.Bounds.{setting_of};
+ghost use Rattle.kr_space_rules.specs.Classes.{AreClasses, files_of};
+ghost use Rattle.kr_space_rules.specs.Entries.{IsBound, bound_shown};
 ghost use Rattle.kr_space.specs.Sizes.{bare_class, class_counts};
 
 use crate::keys::count_named;
 use crate::undefined::class_name;
 use kr_base::NoMemory;
+use kr_classes_names::Index;
+use kr_classes_types::Types;
 use kr_fin::FinDoc;
-use kr_fitting::Classes;
-use kr_names::Index;
-use kr_numbers::Bound;
-use kr_problem::Block;
-use kr_type_numbers::Types;
+use kr_space_layout::Block;
+use kr_space_rules::{Bound, Classes};
 use std::alloc::Global;
 
 /// Adds how many objects each class has.
-#[tactic(auto, using(crate::proofs::Counts::counts_more), unfolding(kr_domains::specs::Bounds::setting_of))]
+#[tactic(auto, using(crate::proofs::Counts::counts_more), unfolding(kr_space_meaning::specs::Bounds::setting_of))]
 fn add_classes(
     counts: &mut Vec<u32>,
     classes: &Classes,

@@ -1,23 +1,22 @@
 // How many slots there are, as far as the number goes.
 ghost use Rattle.std.specs.Prelude.{◌≡◌, ◌+◌, ◌*◌, ◌-◌, ◌^◌, All, IfOk, length, map, min};
-ghost use Rattle.kr_table.specs.Table.{fields_of, headings_of};
-ghost use Rattle.kr_names.specs.Listed.{IsIndexOf};
-ghost use Rattle.kr_domains.specs.Bounds.{class_name as class_name_in, count_named as count_in, greatest, lengths_of, root_of, setting_of, tested_parameters};
-ghost use Rattle.kr_domains.specs.Limits.{AreLengths};
-ghost use Rattle.kr_fitting.specs.Classes.{AreClasses, files_of, table_of};
-ghost use Rattle.kr_numbers.specs.Entries.{IsBound, bound_shown};
+ghost use Rattle.kr_classes_table.specs.Table.{fields_of, headings_of};
+ghost use Rattle.kr_classes_names.specs.Listed.{IsIndexOf};
+ghost use Rattle.kr_space_meaning.specs.Bounds.{class_name as class_name_in, count_named as count_in, greatest, lengths_of, root_of, setting_of, tested_parameters};
+ghost use Rattle.kr_space_meaning.specs.Limits.{AreLengths};
+ghost use Rattle.kr_space_rules.specs.Classes.{AreClasses, files_of, table_of};
+ghost use Rattle.kr_space_rules.specs.Entries.{IsBound, bound_shown};
 ghost use Rattle.kr_space.specs.Slots.{slots_of_arrays, slots_of_classes};
 
 use crate::elements::greatest_of;
 use crate::keys::count_named;
 use crate::undefined::class_name;
 use kr_base::NoMemory;
+use kr_classes_names::Index;
+use kr_classes_types::Types;
 use kr_fin::FinDoc;
-use kr_fitting::{Classes, parameters_of};
 use kr_mean::Mode;
-use kr_names::Index;
-use kr_numbers::Bound;
-use kr_type_numbers::Types;
+use kr_space_rules::{Bound, Classes, parameters_of};
 use std::alloc::Global;
 
 /// How many instance fields each object of a class has.
@@ -97,7 +96,7 @@ fn all_array_slots(classes: &Classes, types: &Types, document: &FinDoc, bounds: 
 }
 
 /// How many parameters the method under test has, where one is tested.
-#[tactic(auto, unfolding(kr_domains::specs::Bounds::setting_of, kr_table::specs::Table::table_of), using(crate::proofs::SlotCounts::shown_long))]
+#[tactic(auto, unfolding(kr_space_meaning::specs::Bounds::setting_of, kr_classes_table::specs::Table::table_of), using(crate::proofs::SlotCounts::shown_long))]
 fn parameter_count(
     alloc: Global,
     classes: &Classes,
@@ -148,7 +147,7 @@ pub(crate) fn slot_count(
 }
 
 /// The class that is the root, if it is one.
-#[tactic(auto, unfolding(kr_domains::specs::Bounds::setting_of, kr_table::specs::Table::table_of))]
+#[tactic(auto, unfolding(kr_space_meaning::specs::Bounds::setting_of, kr_classes_table::specs::Table::table_of))]
 pub(crate) fn root_number(classes: &Classes, document: &FinDoc) -> Option<u32>
     requires { AreClasses classes.now }
     ensures { result ≡ root_of (setting_of (files_of classes.now) document.now) }

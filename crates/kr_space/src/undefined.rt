@@ -1,23 +1,24 @@
 // Rule S2: each field, element and parameter that has slots has a domain.
 ghost use Rattle.std.specs.Prelude.{◌≡◌, ◌<◌, ◌++◌, All, IfOk, OnOk, codes, flat_map, fold, length, map};
 ghost use Rattle.kr_ast.specs.Arena.{Arena};
-ghost use Rattle.kr_table.specs.Table.{headings_of};
-ghost use Rattle.kr_names.specs.Listed.{IsIndexOf};
-ghost use Rattle.kr_members.specs.Shown.{IsField, field_shown};
-ghost use Rattle.kr_domains.specs.Bounds.{class_name as class_name_in, field_key as key_of_field, setting_of};
-ghost use Rattle.kr_domains.specs.Faults.{class_S2, classes_S2, no_domain};
-ghost use Rattle.kr_domains.specs.Order.{lesser};
-ghost use Rattle.kr_fitting.specs.Classes.{AreClasses, files_of, table_of};
+ghost use Rattle.kr_classes_table.specs.Table.{headings_of};
+ghost use Rattle.kr_classes_names.specs.Listed.{IsIndexOf};
+ghost use Rattle.kr_classes_members.specs.Shown.{IsField, field_shown};
+ghost use Rattle.kr_space_meaning.specs.Bounds.{class_name as class_name_in, field_key as key_of_field, setting_of};
+ghost use Rattle.kr_space_meaning.specs.Faults.{class_S2, classes_S2, no_domain};
+ghost use Rattle.kr_space_meaning.specs.Order.{lesser};
+ghost use Rattle.kr_space_rules.specs.Classes.{AreClasses, files_of, table_of};
 ghost use Rattle.kr_space.specs.Headings.{heading_at};
 
 use crate::keys::{count_named, is_absent, joined};
+use kr_ast::tree_of;
 use kr_base::NoMemory;
-use kr_domains::SpaceRule;
+use kr_classes_members::Field;
+use kr_classes_names::Index;
 use kr_fin::{FinDoc, NamedDomain};
-use kr_fitting::Classes;
-use kr_meanings::Least;
-use kr_members::Field;
-use kr_names::{Index, tree_of};
+use kr_space_meaning::SpaceRule;
+use kr_space_names::Least;
+use kr_space_rules::Classes;
 use std::alloc::Global;
 
 /// Notes a key that no domain is given for.
@@ -40,7 +41,7 @@ pub(crate) fn note_absent(
 }
 
 /// The name of a class.
-#[tactic(auto, unfolding(kr_table::specs::Table::table_of))]
+#[tactic(auto, unfolding(kr_classes_table::specs::Table::table_of))]
 pub(crate) fn class_name<'p>(classes: &Classes<'p>, class: u32) -> &'p [u8]
     requires { AreClasses classes.now }
     ensures { result.now ≡ class_name_in (table_of classes.now) class }

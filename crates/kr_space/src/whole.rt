@@ -1,14 +1,14 @@
 // Rules S3, S5 and S6 as a whole.
 ghost use Rattle.std.specs.Prelude.{◌≡◌, ◌==◌, All, OnOk, fold, length, nat_lt, unwrap_or};
 ghost use Rattle.std.proofs.Common.{get_or};
-ghost use Rattle.kr_type_numbers.specs.Types.{Extends};
+ghost use Rattle.kr_classes_types.specs.Types.{Extends};
 ghost use Rattle.kr_mean.specs.Problem.{domain_at, slots};
-ghost use Rattle.kr_domains.specs.Bounds.{problem_of, setting_of};
-ghost use Rattle.kr_domains.specs.Faults.{S3_S5_S6};
-ghost use Rattle.kr_domains.specs.Limits.{IsWithinLimits};
-ghost use Rattle.kr_domains.specs.Order.{lesser};
-ghost use Rattle.kr_fitting.specs.Classes.{AreClasses, files_of};
-ghost use Rattle.kr_numbers.specs.Entries.{AreBounds};
+ghost use Rattle.kr_space_meaning.specs.Bounds.{problem_of, setting_of};
+ghost use Rattle.kr_space_meaning.specs.Faults.{S3_S5_S6};
+ghost use Rattle.kr_space_meaning.specs.Limits.{IsWithinLimits};
+ghost use Rattle.kr_space_meaning.specs.Order.{lesser};
+ghost use Rattle.kr_space_rules.specs.Classes.{AreClasses, files_of};
+ghost use Rattle.kr_space_rules.specs.Entries.{AreBounds};
 ghost use Rattle.kr_space.specs.Bounded.{IsBounded, problem_in, setting_in};
 ghost use Rattle.kr_space.specs.Keys.{AreKeys};
 
@@ -18,13 +18,12 @@ use crate::numbers::{note_all_lengths, note_domains};
 use crate::sizes::{blocks_of, counts_of};
 use crate::slots::{root_number, slot_count};
 use kr_base::NoMemory;
-use kr_domains::SpaceRule;
+use kr_classes_types::Types;
 use kr_fin::FinDoc;
-use kr_fitting::Classes;
 use kr_mean::Mode;
-use kr_meanings::Least;
-use kr_numbers::{Bound, note_if};
-use kr_type_numbers::Types;
+use kr_space_meaning::SpaceRule;
+use kr_space_names::Least;
+use kr_space_rules::{Bound, Classes, note_if};
 
 /// The count of a root's class domain; 0 where there is none.
 fn count_of_root(counts: &[u32], root: Option<u32>) -> u32
@@ -37,7 +36,7 @@ fn count_of_root(counts: &[u32], root: Option<u32>) -> u32
     if at < counts.len() { counts[at] } else { 0 }
 }
 
-#[tactic(auto, using(crate::proofs::Parts::numbers_are, crate::proofs::BoundedKept::bounded_kept), unfolding(kr_domains::specs::Bounds::setting_of))]
+#[tactic(auto, using(crate::proofs::Parts::numbers_are, crate::proofs::BoundedKept::bounded_kept), unfolding(kr_space_meaning::specs::Bounds::setting_of))]
 /// S3, S5 and S6 of each domain that is given, of the root's objects and of the slots.
 fn note_numbers_of(
     least: &mut Least,

@@ -8,9 +8,8 @@ ghost use Rattle.kr_step.specs.Stages.{StandsAt, ahead_of};
 use crate::path::extend;
 use crate::stage::Stage;
 use crate::{Ending, Runner};
-use kr_base::NoMemory;
+use kr_base::{NoMemory, Steps};
 use kr_iso::next_choice;
-use kr_steps::Steps;
 use std::sync::ledger::Ledger;
 
 /// What one number of a cut leads to: the path goes on; to a candidate past the cut; or nowhere.

@@ -5,8 +5,7 @@ ghost use Rattle.kr_survey.specs.Scans.{IsScan, row_of};
 ghost use Rattle.kr_survey.specs.Ascents.{ascends_from};
 
 use crate::{Part, RowList, Survey};
-use kr_base::{Bound, Cut, Entry, Mark, NoMemory};
-use kr_steps::Steps;
+use kr_base::{Bound, Cut, Entry, Mark, NoMemory, Steps};
 use std::alloc::Global;
 use std::marker::Model;
 use std::sync::ledger::Ledger;

@@ -5,8 +5,7 @@ ghost use Rattle.kr_base.specs.Entries.{Ascends};
 ghost use Rattle.kr_survey.specs.Scans.{IsScan};
 
 use crate::Part;
-use kr_base::{Bound, Cut, NoMemory};
-use kr_steps::Steps;
+use kr_base::{Bound, Cut, NoMemory, Steps};
 use std::sync::ledger::Ledger;
 
 /// Entries in order. A survey never changes, so that workers may share it.

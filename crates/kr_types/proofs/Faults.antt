@@ -3,20 +3,20 @@ use Rattle.std.proofs.Common.{◌≡◌, refl, sym, ap, ◌∙◌, ℕ, zero, su
 use Rattle.std.specs.Prelude.{Option, Some, None, flat_map, option_map, slice_get}
 use Rattle.std.proofs.lemmas.List.{length-append, length-map, take_all}
 use Rattle.kr_ast.specs.Arena.{Arena, root, tree_in}
-use Rattle.kr_names.proofs.Walks.{flat_step}
-use Rattle.kr_names.specs.Shown.{file_at, no_file}
-use Rattle.kr_table.specs.Rules.{Fault, least, sooner}
-use Rattle.kr_table.specs.Constants.{values_of}
-use Rattle.kr_typing.specs.Scopes.{Scope}
-use Rattle.kr_typing.specs.Typing.{IsWellTyped, judged, outside, type_fault, type_in}
-use Rattle.kr_scopes.specs.Noting as noting
-use Rattle.kr_scopes.proofs.Noted.{least-append}
-use Rattle.kr_members.specs.Shown.{table_in}
-use Rattle.kr_type_numbers.specs.Types.{TypeList, Extends, type_at}
-use Rattle.kr_type_rules.specs.declared.notes.Note.{Note}
-use Rattle.kr_type_rules.specs.Shown.{known_shown, least_shown}
-use Rattle.kr_expressions.specs.Notes.{typed_in}
-use Rattle.kr_expressions.proofs.Notes.{notes_same, shown_at, within_kept}
+use Rattle.kr_base.proofs.Added.{flat_step}
+use Rattle.kr_ast.specs.Files.{file_at, no_file}
+use Rattle.kr_classes_table.specs.Rules.{Fault, least, sooner}
+use Rattle.kr_classes_table.specs.Constants.{values_of}
+use Rattle.kr_types_meaning.specs.Scopes.{Scope}
+use Rattle.kr_types_meaning.specs.Typing.{IsWellTyped, judged, outside, type_fault, type_in}
+use Rattle.kr_types_meaning.specs.Noting as noting
+use Rattle.kr_types_scopes.proofs.Noted.{least-append}
+use Rattle.kr_classes_members.specs.Shown.{table_in}
+use Rattle.kr_classes_types.specs.Types.{TypeList, Extends, type_at}
+use Rattle.kr_types_judging.specs.declared.notes.Note.{Note}
+use Rattle.kr_types_judging.specs.Shown.{known_shown, least_shown}
+use Rattle.kr_types_expressions.specs.Notes.{typed_in}
+use Rattle.kr_types_expressions.proofs.Notes.{notes_same, shown_at, within_kept}
 use Rattle.kr_types.specs.declared.program.TypedFile.{TypedFile}
 use Rattle.kr_types.specs.Programs.{AreTypedFiles, IsTypedFile, scope_there}
 use Rattle.kr_types.proofs.Single.{none_broken}

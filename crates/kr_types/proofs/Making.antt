@@ -3,15 +3,15 @@ use Rattle.std.proofs.Common.{◌≡◌, sym, ap, ◌∙◌, subst, ℕ, ◌<◌
 use Rattle.std.specs.Prelude.{Result, Ok, Err, IfOk}
 use Rattle.kr_base.specs.declared.place.Place.{Place}
 use Rattle.kr_ast.specs.declared.node.Node.{Node}
-use Rattle.kr_typing.specs.Scopes.{Scope}
-use Rattle.kr_scopes.specs.Noting as noting
-use Rattle.kr_type_numbers.specs.Types.{TypeList, Extends}
-use Rattle.kr_type_rules.specs.declared.known.Known.{Known}
-use Rattle.kr_type_rules.specs.declared.known.Known.TheVariants as known
-use Rattle.kr_type_rules.specs.declared.notes.Note.{Note}
-use Rattle.kr_type_rules.specs.Shown.{HasNoRest, IsNoteWithin, note_shown}
-use Rattle.kr_expressions.specs.Notes.{AreNotesWithin, IsRestBelow, shown_notes, typed_in}
-use Rattle.kr_expressions.proofs.Notes.{no_rest_below, no_rest_linked, notes_same}
+use Rattle.kr_types_meaning.specs.Scopes.{Scope}
+use Rattle.kr_types_meaning.specs.Noting as noting
+use Rattle.kr_classes_types.specs.Types.{TypeList, Extends}
+use Rattle.kr_types_judging.specs.declared.known.Known.{Known}
+use Rattle.kr_types_judging.specs.declared.known.Known.TheVariants as known
+use Rattle.kr_types_judging.specs.declared.notes.Note.{Note}
+use Rattle.kr_types_judging.specs.Shown.{HasNoRest, IsNoteWithin, note_shown}
+use Rattle.kr_types_expressions.specs.Notes.{AreNotesWithin, IsRestBelow, shown_notes, typed_in}
+use Rattle.kr_types_expressions.proofs.Notes.{no_rest_below, no_rest_linked, notes_same}
 use Rattle.kr_types.specs.declared.site.Site.{Site}
 use Rattle.kr_types.specs.Sites.{IsNoteOf, noted_there}
 

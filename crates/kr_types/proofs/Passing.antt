@@ -11,19 +11,19 @@ use Rattle.kr_ast.specs.declared.node.Node.TheVariants as nodes
 use Rattle.kr_ast.specs.declared.node.Entry.{Entry}
 use Rattle.kr_ast.specs.Arena.{IsArena, IsForest, ArePartsFrom, parts, tree_in, tree_of}
 use Rattle.kr_ast.proofs.Trees.{tree_stands}
-use Rattle.kr_table.specs.Constants.{values_of}
-use Rattle.kr_members.specs.Shown.{table_in}
-use Rattle.kr_constants.specs.Frames.{AreBelow}
-use Rattle.kr_typing.specs.Rules.{Untyped}
-use Rattle.kr_typing.specs.Scopes.{Scope}
-use Rattle.kr_typing.specs.Typing.{judged}
-use Rattle.kr_scopes.specs.Noting as noting
-use Rattle.kr_scopes.proofs.Notes.{all_judged}
-use Rattle.kr_type_numbers.specs.Types.{TypeList, Extends}
-use Rattle.kr_type_numbers.proofs.Growing.{number_kept}
-use Rattle.kr_type_rules.specs.declared.notes.Note.{Note}
-use Rattle.kr_expressions.specs.Notes.{shown_notes}
-use Rattle.kr_expressions.proofs.Notes.{notes_same, shown_before, shown_last, within_kept, within_pushed}
+use Rattle.kr_classes_table.specs.Constants.{values_of}
+use Rattle.kr_classes_members.specs.Shown.{table_in}
+use Rattle.kr_ast.specs.Arena.{AreBelow}
+use Rattle.kr_types_meaning.specs.Rules.{Untyped}
+use Rattle.kr_types_meaning.specs.Scopes.{Scope}
+use Rattle.kr_types_meaning.specs.Typing.{judged}
+use Rattle.kr_types_meaning.specs.Noting as noting
+use Rattle.kr_types_scopes.proofs.Notes.{all_judged}
+use Rattle.kr_classes_types.specs.Types.{TypeList, Extends}
+use Rattle.kr_classes_types.proofs.Growing.{number_kept}
+use Rattle.kr_types_judging.specs.declared.notes.Note.{Note}
+use Rattle.kr_types_expressions.specs.Notes.{shown_notes}
+use Rattle.kr_types_expressions.proofs.Notes.{notes_same, shown_before, shown_last, within_kept, within_pushed}
 use Rattle.kr_types.specs.declared.site.Site.{Site}
 use Rattle.kr_types.specs.Programs.{setting_in}
 use Rattle.kr_types.specs.Sites.{IsSite, IsNoteOf, AreNoted, scope_of, tree_there}

@@ -1,9 +1,9 @@
 -- Classes of which no rule is broken have at most one constructor each.
 use Rattle.std.proofs.Common.{◌≡◌, refl, ℕ, zero, suc, ◌+◌, ◌<◌, List, [], ◌∷◌, ◌++◌, length, true, false, if◌then◌else◌, append-nil, arith}
 use Rattle.std.specs.Prelude.{Option, Some, None, drop, flat_map, option_to_list}
-use Rattle.kr_table.specs.Table.{Table, Class, Constructor, class_at}
-use Rattle.kr_table.specs.Rules.{Fault, C1, C2, C3, C4, C5, C6, C7, C8, break_if, class_fault, each_class, first_of, is_before, least, sooner}
-use Rattle.kr_expressions.specs.Constructors.{AreSingle}
+use Rattle.kr_classes_table.specs.Table.{Table, Class, Constructor, class_at}
+use Rattle.kr_classes_table.specs.Rules.{Fault, C1, C2, C3, C4, C5, C6, C7, C8, break_if, class_fault, each_class, first_of, is_before, least, sooner}
+use Rattle.kr_types_expressions.specs.Constructors.{AreSingle}
 
 sooner_some : (f : Fault) (g : Option Fault) → sooner (Some f) g ≡ None → ⊥
 sooner_some f None e = cc

@@ -2,17 +2,17 @@
 use Rattle.std.specs.Prelude.{◌≡◌, ℕ, ◌<◌, ◌^◌, List, length, map, flat_map, Some, slice_get}
 use Rattle.kr_ast.specs.declared.node.Entry.{Entry}
 use Rattle.kr_ast.specs.Arena.{Arena, root, tree_in}
-use Rattle.kr_table.specs.Constants.{values_of}
-use Rattle.kr_typing.specs.Scopes.{Scope}
-use Rattle.kr_typing.specs.Typing.{judged, IsWellTyped}
-use Rattle.kr_scopes.specs.Settings.{Setting, setting}
-use Rattle.kr_scopes.specs.Scoped.{AreScopes, scope_at}
-use Rattle.kr_scopes.specs.Noting.{kept, note_at}
-use Rattle.kr_names.specs.Shown.{file_at}
-use Rattle.kr_members.specs.Shown.{table_in}
-use Rattle.kr_type_numbers.specs.Types.{TypeList}
+use Rattle.kr_classes_table.specs.Constants.{values_of}
+use Rattle.kr_types_meaning.specs.Scopes.{Scope}
+use Rattle.kr_types_meaning.specs.Typing.{judged, IsWellTyped}
+use Rattle.kr_types_scopes.specs.Settings.{Setting, setting}
+use Rattle.kr_types_scopes.specs.Scoped.{AreScopes, scope_at}
+use Rattle.kr_types_meaning.specs.Noting.{kept, note_at}
+use Rattle.kr_ast.specs.Files.{file_at}
+use Rattle.kr_classes_members.specs.Shown.{table_in}
+use Rattle.kr_classes_types.specs.Types.{TypeList}
 use Rattle.kr_classes.specs.ClassTables.{IsClassTable}
-use Rattle.kr_expressions.specs.Notes.{AreNotesWithin, shown_notes}
+use Rattle.kr_types_expressions.specs.Notes.{AreNotesWithin, shown_notes}
 use Rattle.kr_types.specs.declared.program.TypedFile.{TypedFile}
 use Rattle.kr_types.specs.declared.program.Program.{Program}
 

@@ -2,11 +2,11 @@
 use Rattle.std.specs.Prelude.{◌≡◌, ℕ, List, map, take, flat_map, Some}
 use Rattle.kr_ast.specs.Arena.{Arena, root}
 use Rattle.kr_ast.specs.Tree.{Tree}
-use Rattle.kr_table.specs.Rules.{Fault}
-use Rattle.kr_typing.specs.Typing.{judged, outside, type_fault}
-use Rattle.kr_names.specs.Shown.{file_at}
-use Rattle.kr_members.specs.Shown.{table_in}
-use Rattle.kr_type_rules.specs.Numbers.{rule_number}
+use Rattle.kr_classes_table.specs.Rules.{Fault}
+use Rattle.kr_types_meaning.specs.Typing.{judged, outside, type_fault}
+use Rattle.kr_ast.specs.Files.{file_at}
+use Rattle.kr_classes_members.specs.Shown.{table_in}
+use Rattle.kr_types_judging.specs.Numbers.{rule_number}
 use Rattle.kr_types.specs.declared.refusal.TypeRefusal.{TypeRefusal}
 use Rattle.kr_types.specs.declared.refusal.TypeRefusal.TheVariants.{Broken, NoMemory}
 

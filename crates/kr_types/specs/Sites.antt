@@ -4,23 +4,24 @@ use Rattle.kr_base.specs.declared.place.Place.{Place}
 use Rattle.kr_ast.specs.declared.node.Node.{Node}
 use Rattle.kr_ast.specs.declared.node.Entry.{Entry}
 use Rattle.kr_ast.specs.Arena.{Arena, tree_in, tree_of}
-use Rattle.kr_table.specs.Constants.{values_of}
-use Rattle.kr_typing.specs.Scopes.{Scope}
-use Rattle.kr_scopes.specs.declared.within.Within.{Within}
-use Rattle.kr_scopes.specs.Settings.{scope_in}
-use Rattle.kr_scopes.specs.Scoped.{AreScopes, scope_at}
-use Rattle.kr_scopes.specs.Noting as noting
-use Rattle.kr_names.specs.Shown.{AreHeads, file_at}
-use Rattle.kr_members.specs.Shown.{table_in}
-use Rattle.kr_members.specs.Kept.{AreMembers}
-use Rattle.kr_type_numbers.specs.Types.{TypeList}
-use Rattle.kr_type_numbers.specs.Numbers.{AreNodeTypes}
-use Rattle.kr_constants.specs.Kept.{AreValues}
-use Rattle.kr_type_rules.specs.declared.notes.Note.{Note}
-use Rattle.kr_type_rules.specs.Shown.{IsNoteWithin, note_shown}
-use Rattle.kr_expressions.specs.Constructors.{AreSingle}
-use Rattle.kr_expressions.specs.Links.{IsLinked}
-use Rattle.kr_expressions.specs.Notes.{AreNotesWithin, IsRestBelow, shown_notes, typed_in}
+use Rattle.kr_classes_table.specs.Constants.{values_of}
+use Rattle.kr_types_meaning.specs.Scopes.{Scope}
+use Rattle.kr_types_scopes.specs.declared.within.Within.{Within}
+use Rattle.kr_types_scopes.specs.Settings.{scope_in}
+use Rattle.kr_types_scopes.specs.Scoped.{AreScopes, scope_at}
+use Rattle.kr_types_meaning.specs.Noting as noting
+use Rattle.kr_classes_names.specs.Shown.{AreHeads}
+use Rattle.kr_ast.specs.Files.{file_at}
+use Rattle.kr_classes_members.specs.Shown.{table_in}
+use Rattle.kr_classes_members.specs.Kept.{AreMembers}
+use Rattle.kr_classes_types.specs.Types.{TypeList}
+use Rattle.kr_classes_types.specs.Numbers.{AreNodeTypes}
+use Rattle.kr_classes_constants.specs.Kept.{AreValues}
+use Rattle.kr_types_judging.specs.declared.notes.Note.{Note}
+use Rattle.kr_types_judging.specs.Shown.{IsNoteWithin, note_shown}
+use Rattle.kr_types_expressions.specs.Constructors.{AreSingle}
+use Rattle.kr_types_expressions.specs.Links.{IsLinked}
+use Rattle.kr_types_expressions.specs.Notes.{AreNotesWithin, IsRestBelow, shown_notes, typed_in}
 use Rattle.kr_types.specs.Programs.{setting_in}
 use Rattle.kr_types.specs.declared.site.Site.{Site}
 

@@ -1,18 +1,20 @@
 // Notes of calls without a dot but `super.`, and of creations of objects.
 ghost use Rattle.std.specs.Prelude.{length, IfOk};
 ghost use Rattle.kr_ast.specs.Arena.{AreNamesIn, names, parts};
-ghost use Rattle.kr_constants.specs.Frames.{AreBelow};
-ghost use Rattle.kr_expressions.specs.Notes.{AreNotesWithin};
+ghost use Rattle.kr_ast.specs.Arena.{AreBelow};
+ghost use Rattle.kr_types_expressions.specs.Notes.{AreNotesWithin};
 ghost use Rattle.kr_types.specs.Sites.{IsNoteOf, IsSite, scope_here, tree_there};
 ghost use Rattle.kr_types.specs.Kinds.{IsCall};
 
 use crate::site::{Site, part_note};
 use kr_ast::Node;
 use kr_base::{NoMemory, Place};
-use kr_expressions::{NoteList, call_note, constructor_call_note, creation_note, super_call_note};
-use kr_scopes::Within;
-use kr_type_numbers::Types;
-use kr_type_rules::{Note, plain};
+use kr_classes_types::Types;
+use kr_types_expressions::{
+    NoteList, call_note, constructor_call_note, creation_note, super_call_note,
+};
+use kr_types_judging::{Note, plain};
+use kr_types_scopes::Within;
 use std::alloc::Global;
 
 /// The note of a call of a method of the class or of an ancestor, or of a constructor.

@@ -1,19 +1,19 @@
 // Notes of fields, constants and calls behind a dot.
 ghost use Rattle.std.specs.Prelude.{◌≡◌, ◌<◌, length, slice_index_or, IfOk};
 ghost use Rattle.kr_ast.specs.Arena.{AreNamesIn, names, parts};
-ghost use Rattle.kr_scopes.specs.Scoped.{nowhere};
-ghost use Rattle.kr_constants.specs.Frames.{AreBelow};
-ghost use Rattle.kr_expressions.specs.Notes.{AreNotesWithin};
+ghost use Rattle.kr_types_scopes.specs.Scoped.{nowhere};
+ghost use Rattle.kr_ast.specs.Arena.{AreBelow};
+ghost use Rattle.kr_types_expressions.specs.Notes.{AreNotesWithin};
 ghost use Rattle.kr_types.specs.Sites.{IsNoteOf, IsSite, scope_here, tree_there};
 ghost use Rattle.kr_types.specs.Kinds.{IsAccess};
 
 use crate::site::{Site, part_note};
 use kr_ast::Node;
 use kr_base::{NoMemory, Place};
-use kr_expressions::{NoteList, field_note, method_call_note};
-use kr_scopes::Within;
-use kr_type_numbers::Types;
-use kr_type_rules::{Note, plain};
+use kr_classes_types::Types;
+use kr_types_expressions::{NoteList, field_note, method_call_note};
+use kr_types_judging::{Note, plain};
+use kr_types_scopes::Within;
 use std::alloc::Global;
 
 /// The note of what stands behind a dot: the node of a number, in its scope.

@@ -1,32 +1,33 @@
 // The typing rules over all files.
 ghost use Rattle.std.specs.Prelude.{◌≡◌, ◌<◌, ◌^◌, length, Some, IfOk, IfErr, slice_get};
 ghost use Rattle.kr_ast.specs.Arena.{root};
-ghost use Rattle.kr_table.specs.Constants.{values_of};
-ghost use Rattle.kr_table.specs.Rules.{least};
-ghost use Rattle.kr_names.specs.Shown.{AreHeads, file_at};
-ghost use Rattle.kr_members.specs.Shown.{table_in};
-ghost use Rattle.kr_members.specs.Kept.{AreMembers};
-ghost use Rattle.kr_type_numbers.specs.Types.{Extends};
-ghost use Rattle.kr_type_numbers.specs.Numbers.{AreNodeTypes};
-ghost use Rattle.kr_constants.specs.Kept.{AreValues};
-ghost use Rattle.kr_type_rules.specs.Shown.{least_shown};
+ghost use Rattle.kr_classes_table.specs.Constants.{values_of};
+ghost use Rattle.kr_classes_table.specs.Rules.{least};
+ghost use Rattle.kr_classes_names.specs.Shown.{AreHeads};
+ghost use Rattle.kr_ast.specs.Files.{file_at};
+ghost use Rattle.kr_classes_members.specs.Shown.{table_in};
+ghost use Rattle.kr_classes_members.specs.Kept.{AreMembers};
+ghost use Rattle.kr_classes_types.specs.Types.{Extends};
+ghost use Rattle.kr_classes_types.specs.Numbers.{AreNodeTypes};
+ghost use Rattle.kr_classes_constants.specs.Kept.{AreValues};
+ghost use Rattle.kr_types_judging.specs.Shown.{least_shown};
 ghost use Rattle.kr_classes.specs.ClassTables.{IsClassTable};
-ghost use Rattle.kr_expressions.specs.Constructors.{AreSingle};
+ghost use Rattle.kr_types_expressions.specs.Constructors.{AreSingle};
 ghost use Rattle.kr_types.specs.Programs.{AreTypedFiles, IsProgram, IsTypedFile, all_entries};
 ghost use Rattle.kr_types.specs.Refusals.{IsRefusal, faults_in, root_faults};
 
 use crate::notes::notes_of;
 use crate::site::Site;
 use crate::{Program, TypeRefusal, TypedFile};
-use kr_ast::Tree;
+use kr_ast::{Tree, tree_of};
 use kr_base::NoMemory;
 use kr_classes::ClassTable;
-use kr_constants::Values;
-use kr_members::Members;
-use kr_names::{Heads, tree_of};
-use kr_scopes::Scopes;
-use kr_type_numbers::{NodeTypes, Types};
-use kr_type_rules::{Fault, earlier};
+use kr_classes_constants::Values;
+use kr_classes_members::Members;
+use kr_classes_names::Heads;
+use kr_classes_types::{NodeTypes, Types};
+use kr_types_judging::{Fault, earlier};
+use kr_types_scopes::Scopes;
 use std::alloc::Global;
 
 /// What is known of the nodes of a file.

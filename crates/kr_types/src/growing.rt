@@ -1,19 +1,19 @@
 // Notes of nodes whose types may be new: `this` and creations of arrays.
 ghost use Rattle.std.specs.Prelude.{length, IfOk};
 ghost use Rattle.kr_ast.specs.Arena.{parts};
-ghost use Rattle.kr_constants.specs.Frames.{AreBelow};
-ghost use Rattle.kr_type_numbers.specs.Types.{Extends};
-ghost use Rattle.kr_expressions.specs.Notes.{AreNotesWithin};
+ghost use Rattle.kr_ast.specs.Arena.{AreBelow};
+ghost use Rattle.kr_classes_types.specs.Types.{Extends};
+ghost use Rattle.kr_types_expressions.specs.Notes.{AreNotesWithin};
 ghost use Rattle.kr_types.specs.Sites.{IsNoteOf, IsSite, scope_here};
 ghost use Rattle.kr_types.specs.Kinds.{IsGrowing};
 
 use crate::site::{Site, part_note};
 use kr_ast::Node;
 use kr_base::{NoMemory, Place};
-use kr_expressions::{NoteList, array_creation_note, this_note};
-use kr_scopes::Within;
-use kr_type_numbers::Types;
-use kr_type_rules::{Note, plain};
+use kr_classes_types::Types;
+use kr_types_expressions::{NoteList, array_creation_note, this_note};
+use kr_types_judging::{Note, plain};
+use kr_types_scopes::Within;
 
 /// The note of `this` or of the creation of an array.
 pub(crate) fn growing_note(

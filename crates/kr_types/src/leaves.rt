@@ -1,16 +1,16 @@
 // Notes of nodes without parts.
 ghost use Rattle.std.specs.Prelude.{List, length};
-ghost use Rattle.kr_type_rules.specs.declared.notes.Note.{Note as NoteKept};
+ghost use Rattle.kr_types_judging.specs.declared.notes.Note.{Note as NoteKept};
 ghost use Rattle.kr_types.specs.Sites.{IsNoteOf, IsSite, scope_here};
 ghost use Rattle.kr_types.specs.Kinds.{IsLeaf};
 
 use crate::site::Site;
 use kr_ast::Node;
 use kr_base::Place;
-use kr_expressions::{jump_note, null_note, number_note, truth_note};
-use kr_scopes::Within;
-use kr_type_numbers::Types;
-use kr_type_rules::{Note, plain};
+use kr_classes_types::Types;
+use kr_types_expressions::{jump_note, null_note, number_note, truth_note};
+use kr_types_judging::{Note, plain};
+use kr_types_scopes::Within;
 
 /// The note of a node without parts, in a scope, whatever notes stand before it.
 pub(crate) fn leaf_note(

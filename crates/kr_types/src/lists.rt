@@ -2,18 +2,18 @@
 ghost use Rattle.std.specs.Prelude.{length};
 ghost use Rattle.kr_base.specs.declared.place.Place.{Place};
 ghost use Rattle.kr_ast.specs.Arena.{parts};
-ghost use Rattle.kr_typing.specs.Scopes.{Scope};
-ghost use Rattle.kr_constants.specs.Frames.{AreBelow};
-ghost use Rattle.kr_expressions.specs.Notes.{AreNotesWithin};
+ghost use Rattle.kr_types_meaning.specs.Scopes.{Scope};
+ghost use Rattle.kr_ast.specs.Arena.{AreBelow};
+ghost use Rattle.kr_types_expressions.specs.Notes.{AreNotesWithin};
 ghost use Rattle.kr_types.specs.declared.site.Site.{Site as SiteSeen};
 ghost use Rattle.kr_types.specs.Sites.{IsNoteOf};
 ghost use Rattle.kr_types.specs.Kinds.{IsList};
 
 use crate::site::part_note;
 use kr_ast::Node;
-use kr_expressions::{NoteList, absent_note, list_note};
-use kr_type_numbers::Types;
-use kr_type_rules::{Note, plain};
+use kr_classes_types::Types;
+use kr_types_expressions::{NoteList, absent_note, list_note};
+use kr_types_judging::{Note, plain};
 
 /// The note of a list, or of what is absent, wherever it stands.
 pub(crate) fn link_note(types: &Types, notes: &NoteList, node: Node) -> Note

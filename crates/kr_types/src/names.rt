@@ -1,20 +1,20 @@
 // Notes of names that are used or declared.
 ghost use Rattle.std.specs.Prelude.{◌≡◌, ◌<◌, length, slice_index_or};
 ghost use Rattle.kr_ast.specs.Arena.{AreNamesIn, names, parts};
-ghost use Rattle.kr_scopes.specs.Scoped.{nowhere};
-ghost use Rattle.kr_constants.specs.Frames.{AreBelow};
-ghost use Rattle.kr_expressions.specs.Notes.{AreNotesWithin};
+ghost use Rattle.kr_types_scopes.specs.Scoped.{nowhere};
+ghost use Rattle.kr_ast.specs.Arena.{AreBelow};
+ghost use Rattle.kr_types_expressions.specs.Notes.{AreNotesWithin};
 ghost use Rattle.kr_types.specs.Sites.{IsNoteOf, IsSite, scope_here, tree_there};
 ghost use Rattle.kr_types.specs.Kinds.{IsNamed};
 
 use crate::site::{Site, part_note};
 use kr_ast::Node;
 use kr_base::Place;
-use kr_expressions::{NoteList, variable_note};
-use kr_scopes::Within;
-use kr_statements::{declarator_note, parameter_note};
-use kr_type_numbers::Types;
-use kr_type_rules::{Note, plain};
+use kr_classes_types::Types;
+use kr_types_expressions::{NoteList, variable_note};
+use kr_types_judging::{Note, plain};
+use kr_types_scopes::Within;
+use kr_types_statements::{declarator_note, parameter_note};
 
 /// The note of a variable, of a declarator or of a parameter: the node of a number, in its scope.
 pub(crate) fn name_note(

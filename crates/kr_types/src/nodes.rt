@@ -1,10 +1,10 @@
 // The note of a node of any kind.
 ghost use Rattle.std.specs.Prelude.{◌≡◌, ◌<◌, IfOk, length, slice_index_or};
 ghost use Rattle.kr_ast.specs.Arena.{AreNamesIn, names, parts, tree_in, tree_of};
-ghost use Rattle.kr_constants.specs.Frames.{AreBelow};
-ghost use Rattle.kr_scopes.specs.Scoped.{nowhere};
-ghost use Rattle.kr_type_numbers.specs.Types.{Extends};
-ghost use Rattle.kr_expressions.specs.Notes.{AreNotesWithin};
+ghost use Rattle.kr_ast.specs.Arena.{AreBelow};
+ghost use Rattle.kr_types_scopes.specs.Scoped.{nowhere};
+ghost use Rattle.kr_classes_types.specs.Types.{Extends};
+ghost use Rattle.kr_types_expressions.specs.Notes.{AreNotesWithin};
 ghost use Rattle.kr_types.specs.Sites.{IsNoteOf, IsSite, scope_here, tree_there};
 
 use crate::calls::call_group_note;
@@ -25,10 +25,10 @@ use crate::types::type_note;
 use crate::writes::write_note;
 use kr_ast::Node;
 use kr_base::{NoMemory, Place};
-use kr_expressions::NoteList;
-use kr_scopes::Within;
-use kr_type_numbers::Types;
-use kr_type_rules::Note;
+use kr_classes_types::Types;
+use kr_types_expressions::NoteList;
+use kr_types_judging::Note;
+use kr_types_scopes::Within;
 use std::alloc::Global;
 
 /// The note of the node of a number, in its scope, behind the notes of the nodes before it.

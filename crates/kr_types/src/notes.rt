@@ -2,18 +2,18 @@
 ghost use Rattle.std.specs.Prelude.{◌≡◌, ◌<◌, ℕ, IfOk, Some, length, slice_get};
 ghost use Rattle.kr_ast.specs.declared.node.Entry.{Entry};
 ghost use Rattle.kr_ast.specs.Arena.{tree_in};
-ghost use Rattle.kr_typing.specs.Typing.{judged};
-ghost use Rattle.kr_scopes.specs.Noting.{kept, note_at};
-ghost use Rattle.kr_type_numbers.specs.Types.{Extends};
-ghost use Rattle.kr_expressions.specs.Notes.{AreNotesWithin, shown_notes};
+ghost use Rattle.kr_types_meaning.specs.Typing.{judged};
+ghost use Rattle.kr_types_meaning.specs.Noting.{kept, note_at};
+ghost use Rattle.kr_classes_types.specs.Types.{Extends};
+ghost use Rattle.kr_types_expressions.specs.Notes.{AreNotesWithin, shown_notes};
 ghost use Rattle.kr_types.specs.Sites.{AreNoted, IsNoteOf, IsSite, scope_of, tree_there};
 
 use crate::nodes::node_note;
 use crate::site::Site;
 use kr_base::NoMemory;
-use kr_expressions::NoteList;
-use kr_type_numbers::Types;
-use kr_type_rules::Note;
+use kr_classes_types::Types;
+use kr_types_expressions::NoteList;
+use kr_types_judging::Note;
 use std::alloc::Global;
 
 /// The note of a node behind those of the nodes before it.

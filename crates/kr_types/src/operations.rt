@@ -1,20 +1,20 @@
 // Notes of operators, choices and elements of arrays.
 ghost use Rattle.std.specs.Prelude.{length};
 ghost use Rattle.kr_ast.specs.Arena.{parts};
-ghost use Rattle.kr_constants.specs.Frames.{AreBelow};
-ghost use Rattle.kr_expressions.specs.Notes.{AreNotesWithin};
+ghost use Rattle.kr_ast.specs.Arena.{AreBelow};
+ghost use Rattle.kr_types_expressions.specs.Notes.{AreNotesWithin};
 ghost use Rattle.kr_types.specs.Sites.{IsNoteOf, IsSite, scope_here};
 ghost use Rattle.kr_types.specs.Kinds.{IsOperation};
 
 use crate::site::{Site, part_note};
 use kr_ast::Node;
 use kr_base::Place;
-use kr_expressions::{
+use kr_classes_types::Types;
+use kr_types_expressions::{
     NoteList, binary_note, cast_note, choice_note, element_note, instance_note, unary_note,
 };
-use kr_scopes::Within;
-use kr_type_numbers::Types;
-use kr_type_rules::{Note, plain};
+use kr_types_judging::{Note, plain};
+use kr_types_scopes::Within;
 
 /// The note of a node that makes a value from those of its parts.
 pub(crate) fn operation_note(

@@ -1,19 +1,19 @@
 // Notes of nodes without a rule of their own.
 ghost use Rattle.std.specs.Prelude.{length};
 ghost use Rattle.kr_ast.specs.Arena.{parts};
-ghost use Rattle.kr_constants.specs.Frames.{AreBelow};
-ghost use Rattle.kr_expressions.specs.Notes.{AreNotesWithin};
+ghost use Rattle.kr_ast.specs.Arena.{AreBelow};
+ghost use Rattle.kr_types_expressions.specs.Notes.{AreNotesWithin};
 ghost use Rattle.kr_types.specs.Sites.{IsNoteOf, IsSite, scope_here};
 ghost use Rattle.kr_types.specs.Kinds.{IsPlain};
 
 use crate::site::{Site, part_note};
 use kr_ast::Node;
 use kr_base::Place;
-use kr_expressions::NoteList;
-use kr_scopes::Within;
-use kr_statements::{one_part_note, three_parts_note, two_parts_note};
-use kr_type_numbers::Types;
-use kr_type_rules::{Note, plain};
+use kr_classes_types::Types;
+use kr_types_expressions::NoteList;
+use kr_types_judging::{Note, plain};
+use kr_types_scopes::Within;
+use kr_types_statements::{one_part_note, three_parts_note, two_parts_note};
 
 /// The note of a node that has but its parts.
 pub(crate) fn plain_note(

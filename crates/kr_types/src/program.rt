@@ -2,17 +2,17 @@
 ghost use Rattle.std.specs.Prelude.{◌≡◌, ◌<◌, length, Some, slice_get, IfSome, option_map};
 ghost use Rattle.kr_ast.specs.Arena.{tree_in};
 ghost use Rattle.kr_ast.specs.declared.node.Entry.{Entry as NodeEntry};
-ghost use Rattle.kr_typing.specs.Typing.{judged, type_in};
-ghost use Rattle.kr_names.specs.Shown.{file_at};
-ghost use Rattle.kr_type_numbers.specs.Types.{count, type_at};
+ghost use Rattle.kr_types_meaning.specs.Typing.{judged, type_in};
+ghost use Rattle.kr_ast.specs.Files.{file_at};
+ghost use Rattle.kr_classes_types.specs.Types.{count, type_at};
 ghost use Rattle.kr_types.specs.Programs.{IsProgram, all_entries, scope_there};
 ghost use Rattle.kr_types.specs.declared.program.TypedFile.{TypedFile as Typed};
 
 use kr_ast::Tree;
 use kr_base::Place;
 use kr_classes::ClassTable;
-use kr_expressions::{NoteList, part_type};
-use kr_scopes::Scopes;
+use kr_types_expressions::{NoteList, part_type};
+use kr_types_scopes::Scopes;
 
 /// What is known of the nodes of a file: the scope of each, and its type.
 #[derive(Drop)]

@@ -3,7 +3,7 @@ ghost use Rattle.std.specs.Prelude.{◌≡◌};
 ghost use Rattle.kr_types.specs.declared.refusal.TypeRefusal.TheVariants.{NoMemory as Lacking};
 
 use kr_base::{NoMemory, Place};
-use kr_type_rules::TypingRule;
+use kr_types_judging::TypingRule;
 
 /// The program was refused: a node breaks a typing rule, or memory was refused.
 #[derive(Clone, Copy, Debug, PartialEq, Eq)]

@@ -1,26 +1,26 @@
 // What the notes of a file's nodes are made from.
 ghost use Rattle.std.specs.Prelude.{◌≡◌, ◌<◌, length, slice_index_or};
 ghost use Rattle.kr_ast.specs.Arena.{tree_in};
-ghost use Rattle.kr_typing.specs.Scopes.{class_before};
-ghost use Rattle.kr_scopes.specs.Settings.{class_there};
-ghost use Rattle.kr_scopes.specs.Scoped.{AreScopes, nowhere};
-ghost use Rattle.kr_scopes.specs.Noting.{note_at};
-ghost use Rattle.kr_names.specs.Shown.{AreHeads};
-ghost use Rattle.kr_members.specs.Kept.{AreMembers};
-ghost use Rattle.kr_type_rules.specs.Shown.{IsNoteWithin, note_shown};
-ghost use Rattle.kr_expressions.specs.Links.{IsLinked};
-ghost use Rattle.kr_expressions.specs.Notes.{AreNotesWithin, IsRestBelow, shown_notes, typed_in};
+ghost use Rattle.kr_types_meaning.specs.Scopes.{class_before};
+ghost use Rattle.kr_types_scopes.specs.Settings.{class_there};
+ghost use Rattle.kr_types_scopes.specs.Scoped.{AreScopes, nowhere};
+ghost use Rattle.kr_types_meaning.specs.Noting.{note_at};
+ghost use Rattle.kr_classes_names.specs.Shown.{AreHeads};
+ghost use Rattle.kr_classes_members.specs.Kept.{AreMembers};
+ghost use Rattle.kr_types_judging.specs.Shown.{IsNoteWithin, note_shown};
+ghost use Rattle.kr_types_expressions.specs.Links.{IsLinked};
+ghost use Rattle.kr_types_expressions.specs.Notes.{AreNotesWithin, IsRestBelow, shown_notes, typed_in};
 ghost use Rattle.kr_types.specs.Programs.{setting_in};
 ghost use Rattle.kr_types.specs.Sites.{scope_here, tree_there};
 
-use kr_ast::Tree;
-use kr_constants::Values;
-use kr_expressions::{NoteList, class_before, class_of};
-use kr_members::Members;
-use kr_names::{Heads, tree_of};
-use kr_scopes::{Scopes, Within};
-use kr_type_numbers::{NodeTypes, Types};
-use kr_type_rules::Note;
+use kr_ast::{Tree, tree_of};
+use kr_classes_constants::Values;
+use kr_classes_members::Members;
+use kr_classes_names::Heads;
+use kr_classes_types::{NodeTypes, Types};
+use kr_types_expressions::{NoteList, class_before, class_of};
+use kr_types_judging::Note;
+use kr_types_scopes::{Scopes, Within};
 
 /// A file of a program: the class table but for its types, which grow, and the scopes of the file's nodes.
 #[derive(Clone, Copy)]

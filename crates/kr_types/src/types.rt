@@ -1,21 +1,21 @@
 // Notes of types as they are written.
 ghost use Rattle.std.specs.Prelude.{◌≡◌, List, length, IfOk};
 ghost use Rattle.kr_ast.specs.Arena.{parts, tree_in, tree_of};
-ghost use Rattle.kr_constants.specs.Frames.{AreBelow};
-ghost use Rattle.kr_type_numbers.specs.Types.{Extends};
-ghost use Rattle.kr_type_rules.specs.declared.notes.Note.{Note as NoteKept};
-ghost use Rattle.kr_expressions.specs.Notes.{AreNotesWithin};
+ghost use Rattle.kr_ast.specs.Arena.{AreBelow};
+ghost use Rattle.kr_classes_types.specs.Types.{Extends};
+ghost use Rattle.kr_types_judging.specs.declared.notes.Note.{Note as NoteKept};
+ghost use Rattle.kr_types_expressions.specs.Notes.{AreNotesWithin};
 ghost use Rattle.kr_types.specs.Sites.{IsNoteOf, IsSite, scope_here, tree_there};
 ghost use Rattle.kr_types.specs.Kinds.{IsType, IsTypeName};
 
 use crate::site::{Site, part_note};
 use kr_ast::Node;
 use kr_base::{NoMemory, Place};
-use kr_expressions::NoteList;
-use kr_scopes::Within;
-use kr_statements::{array_type_note, diamond_type_note, generic_type_note, named_type_note};
-use kr_type_numbers::Types;
-use kr_type_rules::{Note, plain};
+use kr_classes_types::Types;
+use kr_types_expressions::NoteList;
+use kr_types_judging::{Note, plain};
+use kr_types_scopes::Within;
+use kr_types_statements::{array_type_note, diamond_type_note, generic_type_note, named_type_note};
 
 /// The note of a type that is told by its names alone, whatever notes stand before it.
 fn type_name_note(

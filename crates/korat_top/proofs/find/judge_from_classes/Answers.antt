@@ -1,7 +1,7 @@
 use Rattle.std.specs.Prelude.{map}
 use Rattle.kr_ast.specs.Arena.{root}
-use Rattle.kr_table.specs.Table.{table_of}
-use Rattle.kr_posed.specs.Posed.{posed}
+use Rattle.kr_classes_table.specs.Table.{table_of}
+use Rattle.kr_space_problem.specs.Posed.{posed}
 use Rattle.korat_top.specs.Steps.{classing, from_table}
 use Rattle.korat_top.proofs.Outcomes.{meets_next}
 use Rattle.korat_top.proofs.find.judge_from_classes.Goals as goal

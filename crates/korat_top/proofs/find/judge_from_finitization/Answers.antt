@@ -1,6 +1,6 @@
 use Rattle.std.specs.Prelude.{map}
 use Rattle.kr_ast.specs.Arena.{root}
-use Rattle.kr_posed.specs.Posed.{posed}
+use Rattle.kr_space_problem.specs.Posed.{posed}
 use Rattle.korat_top.specs.Steps.{stating, from_document}
 use Rattle.korat_top.proofs.Outcomes.{meets_next}
 use Rattle.korat_top.proofs.find.judge_from_finitization.Goals as goal

@@ -1,7 +1,7 @@
 use Rattle.std.proofs.Common.{arith}
 use Rattle.std.specs.Prelude.{map}
 use Rattle.kr_ast.specs.Arena.{root}
-use Rattle.kr_posed.specs.Posed.{posed}
+use Rattle.kr_space_problem.specs.Posed.{posed}
 use Rattle.korat_top.specs.Steps.{each, growing, from_grown}
 use Rattle.korat_top.proofs.Outcomes.{meets_next}
 use Rattle.korat_top.proofs.Told.{grown_many}

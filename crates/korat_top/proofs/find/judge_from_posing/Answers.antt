@@ -1,7 +1,7 @@
 use Rattle.std.proofs.Common.{List, sym, subst}
 use Rattle.std.specs.Prelude.{map}
 use Rattle.kr_ast.specs.Arena.{Arena, root}
-use Rattle.kr_posed.specs.Posed.{posed}
+use Rattle.kr_space_problem.specs.Posed.{posed}
 use Rattle.korat_top.specs.Steps.{spacing, from_problem}
 use Rattle.korat_top.specs.Found.{AreShaped}
 use Rattle.korat_top.proofs.Outcomes.{meets_next}

@@ -1,5 +1,5 @@
 use Rattle.std.proofs.Common.{sym, ap}
-use Rattle.kr_posed.specs.Posed.{posed}
+use Rattle.kr_space_problem.specs.Posed.{posed}
 use Rattle.korat_top.proofs.find.judge_from_purity.Goals as goal
 
 pub returns-clause-judged : goal.returns-clause-judged

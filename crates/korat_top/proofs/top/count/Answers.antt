@@ -1,7 +1,7 @@
 use Rattle.std.proofs.Common.{subst, ℕ}
 use Rattle.std.specs.Prelude.{length}
-use Rattle.kr_posed.specs.declared.problem.Problem.{Problem}
-use Rattle.kr_posed.specs.Posed.{posed}
+use Rattle.kr_space_problem.specs.declared.problem.Problem.{Problem}
+use Rattle.kr_space_problem.specs.Posed.{posed}
 use Rattle.kr_report.specs.Endings.{EndsListing}
 use Rattle.kr_report.specs.Reports.{line_answer}
 use Rattle.kr_report.specs.Texts.{checked_text}

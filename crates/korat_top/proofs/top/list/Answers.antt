@@ -1,6 +1,6 @@
 use Rattle.std.proofs.Common.{subst}
 use Rattle.kr_base.specs.Told.{Writes}
-use Rattle.kr_posed.specs.Posed.{posed}
+use Rattle.kr_space_problem.specs.Posed.{posed}
 use Rattle.kr_report.specs.Texts.{memory_text}
 use Rattle.korat_top.specs.Answer.{listing_of}
 use Rattle.korat_top.specs.Orders.{range_of}

@@ -1,7 +1,7 @@
 use Rattle.std.proofs.Common.{subst}
-use Rattle.kr_candidates.specs.Subjects.{IsRunBy}
-use Rattle.kr_posed.specs.declared.problem.Problem.{Problem}
-use Rattle.kr_posed.specs.Posed.{posed}
+use Rattle.kr_judge_again.specs.Subjects.{IsRunBy}
+use Rattle.kr_space_problem.specs.declared.problem.Problem.{Problem}
+use Rattle.kr_space_problem.specs.Posed.{posed}
 use Rattle.korat_top.proofs.top.prepare.Goals as goal
 
 pub new-requires-clause-run : goal.new-requires-clause-run

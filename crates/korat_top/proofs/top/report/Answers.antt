@@ -1,6 +1,6 @@
 use Rattle.std.proofs.Common.{sym, subst}
 use Rattle.kr_report.specs.Endings.{EndsListing}
-use Rattle.kr_posed.specs.Posed.{posed}
+use Rattle.kr_space_problem.specs.Posed.{posed}
 use Rattle.korat_top.specs.Answer.{report_of}
 use Rattle.korat_top.specs.Orders.{command_in}
 use Rattle.korat_top.specs.declared.command.Order.{Order}

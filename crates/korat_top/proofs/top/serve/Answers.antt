@@ -1,6 +1,6 @@
 use Rattle.std.proofs.Common.{List, ℕ, subst}
 use Rattle.kr_base.specs.Told.{Writes}
-use Rattle.kr_posed.specs.Posed.{posed}
+use Rattle.kr_space_problem.specs.Posed.{posed}
 use Rattle.kr_report.specs.Texts.{read_fault_text}
 use Rattle.kr_text.specs.Texts.{refusal_text}
 use Rattle.korat_top.specs.Refusals.{name_of, refusal_of}

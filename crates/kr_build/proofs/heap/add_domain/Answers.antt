@@ -4,7 +4,7 @@ use Rattle.std.specs.List.{range_with_len}
 use Rattle.kr_value.specs.Heaps.{HeapObject}
 use Rattle.kr_mean.specs.Heaps.{heap_object}
 use Rattle.kr_mean.specs.Problem.{DomainObject, domain_at}
-use Rattle.kr_problem.specs.Bounds.{bare}
+use Rattle.kr_space_layout.specs.Bounds.{bare}
 use Rattle.kr_build.proofs.heap.add_domain.Goals as goal
 
 pub loop-number-preserved : goal.loop-number-preserved

@@ -3,7 +3,7 @@ use Rattle.std.specs.Prelude.{map}
 use Rattle.std.specs.List.{range_with_len}
 use Rattle.kr_mean.specs.Heaps.{heap_object}
 use Rattle.kr_mean.specs.Problem.{domain_at}
-use Rattle.kr_problem.specs.Bounds.{bare}
+use Rattle.kr_space_layout.specs.Bounds.{bare}
 use Rattle.kr_build.proofs.heap.add_domain.Given as goal
 
 abbrev pub invariant-loop-number : goal.invariant-loop-number

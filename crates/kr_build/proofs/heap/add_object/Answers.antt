@@ -3,7 +3,7 @@ use Rattle.std.proofs.lemmas.List.FromFn.{length-map-range_with_len}
 use Rattle.kr_value.specs.declared.value.Value.{Value}
 use Rattle.kr_mean.specs.Heaps.{value_at}
 use Rattle.kr_mean.specs.Problem.{slots}
-use Rattle.kr_problem.specs.Bounds.{bare}
+use Rattle.kr_space_layout.specs.Bounds.{bare}
 use Rattle.kr_build.proofs.heap.add_object.Goals as goal
 
 few : (n first total : ℕ) → ((j : ℕ) → j < n → first + j < total) → total < 2 ^ 31 → (m k : ℕ) → m ≤ n → k ≡ m → k ≤ 2147483647

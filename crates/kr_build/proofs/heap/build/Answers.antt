@@ -3,7 +3,7 @@ use Rattle.std.specs.Prelude.{map}
 use Rattle.std.proofs.lemmas.List.{drop_all, append-nil}
 use Rattle.kr_mean.specs.Heaps.{heap_object, heap_of}
 use Rattle.kr_mean.specs.Problem.{ClassDomain, objects_from}
-use Rattle.kr_problem.specs.Bounds.{bare}
+use Rattle.kr_space_layout.specs.Bounds.{bare}
 use Rattle.kr_build.proofs.heap.build.Goals as goal
 
 pub returns : goal.returns

@@ -2,7 +2,7 @@ use Rattle.std.proofs.Common.{◌≡◌, ◌++◌, drop}
 use Rattle.std.specs.Prelude.{map}
 use Rattle.kr_mean.specs.Heaps.{heap_object}
 use Rattle.kr_mean.specs.Problem.{objects_from}
-use Rattle.kr_problem.specs.Bounds.{bare}
+use Rattle.kr_space_layout.specs.Bounds.{bare}
 use Rattle.kr_build.proofs.heap.build.Given as goal
 
 abbrev pub invariant-loop-domain : goal.invariant-loop-domain

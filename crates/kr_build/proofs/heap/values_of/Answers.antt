@@ -5,7 +5,7 @@ use Rattle.kr_value.specs.declared.value.Value.{Value}
 use Rattle.kr_mean.specs.Heaps.{value_at}
 use Rattle.kr_mean.specs.Space.{no_choice}
 use Rattle.kr_mean.specs.Problem.{choices_at}
-use Rattle.kr_problem.specs.Bounds.{bare}
+use Rattle.kr_space_layout.specs.Bounds.{bare}
 use Rattle.kr_build.proofs.Rows.{in_vector}
 use Rattle.kr_build.proofs.heap.values_of.Goals as goal
 

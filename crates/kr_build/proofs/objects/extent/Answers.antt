@@ -1,6 +1,6 @@
 use Rattle.std.proofs.Common.{◌<◌, ℕ, ap, sym, subst, length}
 use Rattle.kr_mean.specs.Problem.{choices_at}
-use Rattle.kr_problem.specs.Bounds.{bare}
+use Rattle.kr_space_layout.specs.Bounds.{bare}
 use Rattle.kr_build.specs.Extents.{is_array}
 use Rattle.kr_build.proofs.Rows.{in_vector}
 use Rattle.kr_build.proofs.objects.extent.Goals as goal

@@ -3,8 +3,8 @@ use Rattle.std.specs.List.{range_with_len}
 use Rattle.kr_value.specs.declared.object.Class.{Class}
 use Rattle.kr_mean.specs.Heaps.{value_at}
 use Rattle.kr_mean.specs.Problem.{Problem, slots}
-use Rattle.kr_problem.specs.Bounds.{bare}
-use Rattle.kr_problem.specs.Layouts.{first_slot}
+use Rattle.kr_space_layout.specs.Bounds.{bare}
+use Rattle.kr_space_layout.specs.Layouts.{first_slot}
 use Rattle.kr_iso.specs.Objects.{object_of}
 use Rattle.kr_build.specs.Extents.{extent_of, is_array}
 use Rattle.kr_build.proofs.Rows.{row, narrow}

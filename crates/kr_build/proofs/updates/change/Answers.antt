@@ -1,7 +1,7 @@
 use Rattle.std.proofs.Common.{List, ℕ, ap, sym, subst, ◌∙◌}
 use Rattle.kr_iso.specs.Objects.{shown}
 use Rattle.kr_mean.specs.Space.{IsVector, space_of}
-use Rattle.kr_problem.specs.Bounds.{bare}
+use Rattle.kr_space_layout.specs.Bounds.{bare}
 use Rattle.kr_build.proofs.Changed.{heap_without, vector_set}
 use Rattle.kr_build.proofs.Rows.{in_vector}
 use Rattle.kr_build.proofs.updates.change.Goals as goal

@@ -2,7 +2,7 @@ use Rattle.std.proofs.Common.{◌≡◌, ◌+◌, ◌<◌, ℕ, ap, sym, subst, 
 use Rattle.kr_mean.specs.Heaps.{value_at}
 use Rattle.kr_mean.specs.Space.{no_choice}
 use Rattle.kr_mean.specs.Problem.{choices_at}
-use Rattle.kr_problem.specs.Bounds.{bare}
+use Rattle.kr_space_layout.specs.Bounds.{bare}
 use Rattle.kr_value.specs.Heaps.{object_in}
 use Rattle.kr_build.proofs.Changed.{with_next}
 use Rattle.kr_build.proofs.Rows.{in_vector}

@@ -3,7 +3,7 @@ use Rattle.std.specs.Prelude.{map}
 use Rattle.std.specs.List.{range_with_len}
 use Rattle.kr_heap.specs.Objects.{with_values}
 use Rattle.kr_mean.specs.Heaps.{value_at}
-use Rattle.kr_problem.specs.Bounds.{bare}
+use Rattle.kr_space_layout.specs.Bounds.{bare}
 use Rattle.kr_value.specs.Heaps.{object_in}
 use Rattle.kr_build.proofs.updates.push_values.Given as goal
 

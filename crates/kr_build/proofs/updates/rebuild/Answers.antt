@@ -5,7 +5,7 @@ use Rattle.kr_iso.specs.Objects.{object_of}
 use Rattle.kr_value.specs.declared.object.Class.{Class}
 use Rattle.kr_mean.specs.Heaps.{heap_object, slots_in, value_at, values_there}
 use Rattle.kr_mean.specs.Problem.{slots}
-use Rattle.kr_problem.specs.Bounds.{bare}
+use Rattle.kr_space_layout.specs.Bounds.{bare}
 use Rattle.kr_build.proofs.Changed.{with_anew}
 use Rattle.kr_build.proofs.updates.rebuild.Goals as goal
 

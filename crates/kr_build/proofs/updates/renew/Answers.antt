@@ -6,9 +6,9 @@ use Rattle.kr_value.specs.declared.value.Value.{Value}
 use Rattle.kr_mean.specs.Heaps.{heap_object, value_at}
 use Rattle.kr_mean.specs.Problem.{choices_at, heap_number}
 use Rattle.kr_mean.specs.Space.{no_choice}
-use Rattle.kr_problem.specs.Bounds.{bare}
-use Rattle.kr_pruning.proofs.Numbering as numbering
-use Rattle.kr_pruning.proofs.Numbering.{width_at}
+use Rattle.kr_space_layout.specs.Bounds.{bare}
+use Rattle.kr_laws_slots.proofs.Numbering as numbering
+use Rattle.kr_laws_slots.proofs.Numbering.{width_at}
 use Rattle.kr_build.proofs.Changed.{field_set, heap_with, owner_in, stands_in}
 use Rattle.kr_build.proofs.Rows.{first_same, in_vector}
 use Rattle.kr_build.proofs.updates.renew.Goals as goal

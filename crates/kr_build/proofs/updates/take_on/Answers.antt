@@ -1,4 +1,4 @@
-use Rattle.kr_problem.specs.Bounds.{bare}
+use Rattle.kr_space_layout.specs.Bounds.{bare}
 use Rattle.kr_build.proofs.Rows.{in_vector}
 use Rattle.kr_build.proofs.updates.take_on.Goals as goal
 

@@ -4,7 +4,7 @@ use Rattle.std.proofs.lemmas.List.{length-set}
 use Rattle.kr_mean.specs.Heaps.{heap_of}
 use Rattle.kr_mean.specs.Problem.{choices_at, slots}
 use Rattle.kr_mean.specs.Space.{IsVector, space_of}
-use Rattle.kr_problem.specs.Bounds.{bare}
+use Rattle.kr_space_layout.specs.Bounds.{bare}
 use Rattle.kr_build.specs.Renewed.{IsSameBut}
 use Rattle.kr_build.proofs.Changed.{all_within, vector_long, vector_set, within_more}
 use Rattle.kr_build.proofs.Rows.{in_vector}

@@ -1,7 +1,7 @@
 use Rattle.std.proofs.Common.{◌≡◌, length}
 use Rattle.kr_mean.specs.Heaps.{heap_of}
 use Rattle.kr_mean.specs.Space.{IsVector, space_of}
-use Rattle.kr_problem.specs.Bounds.{bare}
+use Rattle.kr_space_layout.specs.Bounds.{bare}
 use Rattle.kr_build.specs.Renewed.{IsSameBut}
 use Rattle.kr_build.proofs.updates.update_within.Given as goal
 

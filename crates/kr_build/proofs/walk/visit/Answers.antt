@@ -2,7 +2,7 @@ use Rattle.std.proofs.Common.{◌≡◌, ◌<◌, ℕ, ap, sym, subst, length, g
 use Rattle.kr_mean.specs.Problem.{Choice, choices_at}
 use Rattle.kr_mean.specs.Heaps.{choice_at}
 use Rattle.kr_mean.specs.Space.{no_choice}
-use Rattle.kr_problem.specs.Bounds.{bare}
+use Rattle.kr_space_layout.specs.Bounds.{bare}
 use Rattle.kr_iso.specs.Objects.{object_of, shown}
 use Rattle.kr_build.proofs.Rows.{in_vector, in_domain}
 use Rattle.kr_build.proofs.walk.visit.Goals as goal

@@ -1,7 +1,7 @@
 use Rattle.std.proofs.Common.{◌≡◌, ◌<◌, ◌≤◌, ℕ, sym, subst, length, get_or, ◌∙◌, arith}
 use Rattle.std.proofs.lemmas.List.{get_or_default}
 use Rattle.kr_mean.specs.Problem.{slots}
-use Rattle.kr_problem.specs.Bounds.{bare}
+use Rattle.kr_space_layout.specs.Bounds.{bare}
 use Rattle.kr_build.specs.Visits.{IsVisit}
 use Rattle.kr_build.proofs.Walking.{no_longer, slot_below, step, done}
 use Rattle.kr_build.proofs.walk.walk_on.Goals as goal

@@ -1,7 +1,7 @@
 use Rattle.std.proofs.Common.{◌-◌, List, length}
 use Rattle.kr_mean.specs.Problem.{DomainObject}
 use Rattle.kr_mean.specs.Heaps.{walk}
-use Rattle.kr_problem.specs.Bounds.{bare}
+use Rattle.kr_space_layout.specs.Bounds.{bare}
 use Rattle.kr_build.proofs.Walking.{IsWalked}
 use Rattle.kr_build.proofs.walk.walk_on.Given as goal
 

@@ -1,9 +1,9 @@
 use Rattle.std.proofs.Common.{◌<◌, sym, ap, ◌∙◌, false, length, get_or, arith}
-use Rattle.kr_table.specs.Table.{is_instance}
-use Rattle.kr_table.specs.Rules.{least, past}
-use Rattle.kr_names.proofs.Walks.{flat_all}
-use Rattle.kr_members.specs.declared.fields.Field.{Field}
-use Rattle.kr_members.specs.Shown.{field_shown}
+use Rattle.kr_classes_table.specs.Table.{is_instance}
+use Rattle.kr_classes_table.specs.Rules.{least, past}
+use Rattle.kr_base.proofs.Added.{flat_all}
+use Rattle.kr_classes_members.specs.declared.fields.Field.{Field}
+use Rattle.kr_classes_members.specs.Shown.{field_shown}
 use Rattle.kr_classes.proofs.Counts.{counted_more, one_length, past_each}
 use Rattle.kr_classes.proofs.field_rules.extra_field.Goals as goal
 

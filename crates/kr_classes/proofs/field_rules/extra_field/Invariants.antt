@@ -1,9 +1,9 @@
 use Rattle.std.proofs.Common.{◌≡◌, ◌≤◌, List, length, take}
 use Rattle.std.specs.Prelude.{flat_map}
 use Rattle.kr_ast.specs.Arena.{Arena}
-use Rattle.kr_table.specs.Table.{is_instance}
-use Rattle.kr_table.specs.Rules.{least, past}
-use Rattle.kr_members.specs.Shown.{field_shown}
+use Rattle.kr_classes_table.specs.Table.{is_instance}
+use Rattle.kr_classes_table.specs.Rules.{least, past}
+use Rattle.kr_classes_members.specs.Shown.{field_shown}
 use Rattle.kr_classes.specs.Faults.{fault_at}
 use Rattle.kr_classes.proofs.field_rules.extra_field.Given as goal
 

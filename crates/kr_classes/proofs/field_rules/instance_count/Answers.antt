@@ -1,7 +1,7 @@
 use Rattle.std.proofs.Common.{ap, ◌∙◌, length, arith}
-use Rattle.kr_table.specs.Table.{is_instance}
-use Rattle.kr_names.proofs.Walks.{flat_all}
-use Rattle.kr_members.specs.Shown.{field_shown}
+use Rattle.kr_classes_table.specs.Table.{is_instance}
+use Rattle.kr_base.proofs.Added.{flat_all}
+use Rattle.kr_classes_members.specs.Shown.{field_shown}
 use Rattle.kr_classes.proofs.field_rules.instance_count.Goals as goal
 
 pub returns : goal.returns

@@ -1,10 +1,10 @@
 use Rattle.std.proofs.Common.{◌<◌, ◌-◌, ap, ◌∙◌, true, drop, length, map, take, arith}
 use Rattle.std.proofs.lemmas.List.{take_all}
-use Rattle.kr_table.specs.Table as table
-use Rattle.kr_table.specs.Rules.{break_if, least}
-use Rattle.kr_names.proofs.Walks.{flat_all}
-use Rattle.kr_members.specs.declared.methods.Constructor.{Constructor}
-use Rattle.kr_members.specs.Shown.{constructor_shown}
+use Rattle.kr_classes_table.specs.Table as table
+use Rattle.kr_classes_table.specs.Rules.{break_if, least}
+use Rattle.kr_base.proofs.Added.{flat_all}
+use Rattle.kr_classes_members.specs.declared.methods.Constructor.{Constructor}
+use Rattle.kr_classes_members.specs.Shown.{constructor_shown}
 use Rattle.kr_classes.proofs.Each.{behind_first, length_behind, one_each}
 use Rattle.kr_classes.proofs.field_rules.later_constructor.Goals as goal
 

@@ -1,6 +1,6 @@
 use Rattle.std.proofs.Common.{◌≡◌, true, take}
 use Rattle.std.specs.Prelude.{flat_map}
-use Rattle.kr_table.specs.Rules.{break_if, least}
+use Rattle.kr_classes_table.specs.Rules.{break_if, least}
 use Rattle.kr_classes.specs.Faults.{fault_at}
 use Rattle.kr_classes.proofs.field_rules.later_constructor.Given as goal
 

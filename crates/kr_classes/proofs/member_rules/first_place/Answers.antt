@@ -1,12 +1,12 @@
 use Rattle.std.proofs.Common.{◌≡◌, ◌<◌, sym, ap, ◌∙◌, length, map, arith}
 use Rattle.std.proofs.lemmas.List.{length-map}
 use Rattle.kr_ast.specs.Arena.{root}
-use Rattle.kr_table.specs.Table.{headings_of}
-use Rattle.kr_names.specs.Shown.{heading_shown}
-use Rattle.kr_members.proofs.Upwards.{kept_count}
+use Rattle.kr_classes_table.specs.Table.{headings_of}
+use Rattle.kr_classes_names.specs.Shown.{heading_shown}
+use Rattle.kr_classes_members.proofs.Upwards.{kept_count}
 use Rattle.kr_classes.specs.Faults.{no_class, table_in}
 use Rattle.kr_classes.specs.MemberRules.{member_number, rule_of}
-use Rattle.kr_members.proofs.Classes.{classes_in}
+use Rattle.kr_classes_members.proofs.Classes.{classes_in}
 use Rattle.kr_classes.proofs.ByClass.{all_in, long, more_in}
 use Rattle.kr_classes.proofs.member_rules.first_place.Goals as goal
 

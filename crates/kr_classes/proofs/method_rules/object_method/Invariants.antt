@@ -1,7 +1,7 @@
 use Rattle.std.proofs.Common.{◌≡◌, take}
 use Rattle.std.specs.Prelude.{flat_map}
-use Rattle.kr_table.specs.Rules.{break_if, is_name_among, least, object_methods}
-use Rattle.kr_members.specs.Shown.{method_name}
+use Rattle.kr_classes_table.specs.Rules.{break_if, is_name_among, least, object_methods}
+use Rattle.kr_classes_members.specs.Shown.{method_name}
 use Rattle.kr_classes.specs.Faults.{fault_at}
 use Rattle.kr_classes.proofs.method_rules.object_method.Given as goal
 

@@ -1,6 +1,6 @@
 use Rattle.std.proofs.Common.{◌≡◌, [], map, take}
-use Rattle.kr_table.specs.Rules.{least, repeated}
-use Rattle.kr_members.specs.Shown.{method_name}
+use Rattle.kr_classes_table.specs.Rules.{least, repeated}
+use Rattle.kr_classes_members.specs.Shown.{method_name}
 use Rattle.kr_classes.specs.Faults.{fault_at}
 use Rattle.kr_classes.proofs.method_rules.repeated_method.Given as goal
 

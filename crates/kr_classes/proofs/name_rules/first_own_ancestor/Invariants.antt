@@ -1,4 +1,4 @@
-use Rattle.kr_table.specs.Rules.{C3}
+use Rattle.kr_classes_table.specs.Rules.{C3}
 use Rattle.kr_classes.specs.Faults.{IsFirstOf}
 use Rattle.kr_classes.proofs.name_rules.first_own_ancestor.Given as goal
 

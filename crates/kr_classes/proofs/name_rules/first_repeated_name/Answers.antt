@@ -1,8 +1,8 @@
 use Rattle.std.proofs.Common.{◌≡◌, ◌<◌, ap, ◌∙◌, length, get_or, arith}
 use Rattle.std.specs.Prelude.{None}
 use Rattle.kr_ast.specs.Arena.{Arena, name_in}
-use Rattle.kr_names.specs.declared.headings.Heading.{Heading}
-use Rattle.kr_names.specs.Shown.{file_at}
+use Rattle.kr_classes_names.specs.declared.headings.Heading.{Heading}
+use Rattle.kr_ast.specs.Files.{file_at}
 use Rattle.kr_classes.specs.Faults.{no_class, repeats}
 use Rattle.kr_classes.proofs.ByClass.{more_in, all_in, same_item}
 use Rattle.kr_classes.proofs.Repeated.{repeated_here, first_repeated}

@@ -1,7 +1,7 @@
 use Rattle.std.proofs.Common.{◌≡◌, ◌<◌, length, get_or, arith}
 use Rattle.std.specs.Prelude.{None}
-use Rattle.kr_table.specs.Rules.{C2}
-use Rattle.kr_names.specs.declared.headings.Heading.{Heading}
+use Rattle.kr_classes_table.specs.Rules.{C2}
+use Rattle.kr_classes_names.specs.declared.headings.Heading.{Heading}
 use Rattle.kr_classes.specs.Faults.{no_class}
 use Rattle.kr_classes.proofs.ByClass.{more_in, all_in, unknown, same_item}
 use Rattle.kr_classes.proofs.name_rules.first_unknown_superclass.Goals as goal

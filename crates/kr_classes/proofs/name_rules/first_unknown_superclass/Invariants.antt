@@ -1,4 +1,4 @@
-use Rattle.kr_table.specs.Rules.{C2}
+use Rattle.kr_classes_table.specs.Rules.{C2}
 use Rattle.kr_classes.specs.Faults.{IsFirstIn, table_in}
 use Rattle.kr_classes.proofs.name_rules.first_unknown_superclass.Given as goal
 

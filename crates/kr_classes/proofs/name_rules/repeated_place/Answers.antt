@@ -1,8 +1,8 @@
 use Rattle.std.proofs.Common.{◌≡◌, sym, ap, ◌∙◌, ◌||◌, not, true, map}
 use Rattle.std.specs.Prelude.{Some}
 use Rattle.kr_ast.specs.Arena.{root}
-use Rattle.kr_table.specs.Table.{headings_of, is_number, number_of}
-use Rattle.kr_table.specs.Rules.{break_if, is_name_among, least}
+use Rattle.kr_classes_table.specs.Table.{headings_of, is_number, number_of}
+use Rattle.kr_classes_table.specs.Rules.{break_if, is_name_among, least}
 use Rattle.kr_classes.specs.Faults.{collections}
 use Rattle.kr_classes.proofs.name_rules.repeated_place.Goals as goal
 

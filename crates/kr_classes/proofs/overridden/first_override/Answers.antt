@@ -1,8 +1,8 @@
 use Rattle.std.proofs.Common.{◌<◌, ap, ◌∙◌, false, length, arith}
-use Rattle.kr_table.specs.Rules.{least, overrides}
-use Rattle.kr_names.proofs.Walks.{flat_all}
-use Rattle.kr_members.specs.declared.methods.Method.{Method}
-use Rattle.kr_members.specs.Shown.{method_shown}
+use Rattle.kr_classes_table.specs.Rules.{least, overrides}
+use Rattle.kr_base.proofs.Added.{flat_all}
+use Rattle.kr_classes_members.specs.declared.methods.Method.{Method}
+use Rattle.kr_classes_members.specs.Shown.{method_shown}
 use Rattle.kr_classes.specs.Faults.{table_in}
 use Rattle.kr_classes.specs.Overriding.{is_shared, rule_for}
 use Rattle.kr_classes.proofs.Each.{one_each}

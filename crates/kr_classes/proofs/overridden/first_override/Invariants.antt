@@ -1,7 +1,7 @@
 use Rattle.std.proofs.Common.{◌≡◌, take}
 use Rattle.std.specs.Prelude.{flat_map}
-use Rattle.kr_table.specs.Rules.{least, overrides}
-use Rattle.kr_members.specs.Shown.{method_shown}
+use Rattle.kr_classes_table.specs.Rules.{least, overrides}
+use Rattle.kr_classes_members.specs.Shown.{method_shown}
 use Rattle.kr_classes.specs.Faults.{fault_at, table_in}
 use Rattle.kr_classes.specs.Overriding.{is_shared, rule_for}
 use Rattle.kr_classes.proofs.overridden.first_override.Given as goal

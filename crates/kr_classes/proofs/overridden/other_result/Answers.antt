@@ -1,7 +1,7 @@
 use Rattle.std.proofs.Common.{◌<◌, ap, ◌∙◌, length, arith}
 use Rattle.std.specs.Prelude.{flat_map}
-use Rattle.kr_table.specs.Rules.{least, overrides}
-use Rattle.kr_members.proofs.Upwards.{kept_count}
+use Rattle.kr_classes_table.specs.Rules.{least, overrides}
+use Rattle.kr_classes_members.proofs.Upwards.{kept_count}
 use Rattle.kr_classes.specs.declared.overriding.Shared.TheVariants.{ResultType}
 use Rattle.kr_classes.specs.Faults.{table_in}
 use Rattle.kr_classes.specs.Overriding.{is_shared}

@@ -1,11 +1,11 @@
 use Rattle.std.proofs.Common.{◌≡◌, ◌<◌, ap, subst, ◌∙◌, [], map, arith}
 use Rattle.kr_ast.specs.Arena.{Arena, tree_in}
-use Rattle.kr_table.specs.Table.{Parameter, items, parameter_in}
-use Rattle.kr_names.specs.Shown.{file_at}
-use Rattle.kr_names.proofs.Walks.{flat_all}
-use Rattle.kr_members.specs.Shown.{headings_in}
-use Rattle.kr_members.proofs.Added.{found_shown, found_stands}
-use Rattle.kr_type_numbers.specs.Types.{count, type_at}
+use Rattle.kr_classes_table.specs.Table.{Parameter, items, parameter_in}
+use Rattle.kr_ast.specs.Files.{file_at}
+use Rattle.kr_base.proofs.Added.{flat_all}
+use Rattle.kr_classes_members.specs.Shown.{headings_in}
+use Rattle.kr_base.proofs.Added.{found_shown, found_stands}
+use Rattle.kr_classes_types.specs.Types.{count, type_at}
 use Rattle.kr_classes.proofs.SameTypes.{map_flat}
 use Rattle.kr_classes.proofs.overriding.parameter_types.Goals as goal
 

@@ -1,11 +1,11 @@
 use Rattle.std.proofs.Common.{◌≡◌, ◌<◌, map, All, take}
 use Rattle.std.specs.Prelude.{flat_map}
 use Rattle.kr_ast.specs.Arena.{tree_in}
-use Rattle.kr_table.specs.Table.{parameter_in}
-use Rattle.kr_names.specs.Shown.{file_at}
-use Rattle.kr_members.specs.Shown.{headings_in}
-use Rattle.kr_type_numbers.specs.Types.{TypeList, count, type_at}
-use Rattle.kr_type_numbers.specs.Numbers.{AreNodeTypes}
+use Rattle.kr_classes_table.specs.Table.{parameter_in}
+use Rattle.kr_ast.specs.Files.{file_at}
+use Rattle.kr_classes_members.specs.Shown.{headings_in}
+use Rattle.kr_classes_types.specs.Types.{TypeList, count, type_at}
+use Rattle.kr_classes_types.specs.Numbers.{AreNodeTypes}
 use Rattle.kr_classes.proofs.overriding.parameter_types.Given as goal
 
 abbrev pub invariant-loop-node : goal.invariant-loop-node

@@ -1,10 +1,10 @@
 use Rattle.std.proofs.Common.{ap, ◌∙◌, List, map}
 use Rattle.kr_ast.specs.Arena.{tree_in}
-use Rattle.kr_table.specs.Types.{JavaType}
-use Rattle.kr_table.specs.Table.{parameters_in}
-use Rattle.kr_names.specs.Shown.{file_at}
-use Rattle.kr_members.specs.Shown.{headings_in}
-use Rattle.kr_type_numbers.specs.Types.{type_at}
+use Rattle.kr_classes_table.specs.Types.{JavaType}
+use Rattle.kr_classes_table.specs.Table.{parameters_in}
+use Rattle.kr_ast.specs.Files.{file_at}
+use Rattle.kr_classes_members.specs.Shown.{headings_in}
+use Rattle.kr_classes_types.specs.Types.{type_at}
 use Rattle.kr_classes.specs.Overriding.{are_same}
 use Rattle.kr_classes.proofs.SameTypes.{by_types}
 use Rattle.kr_classes.proofs.overriding.same_parameters.Goals as goal

@@ -3,9 +3,9 @@ use Rattle.std.specs.Prelude.{map, reverse}
 use Rattle.std.proofs.lemmas.List.{append_assoc, map-append, map_more}
 use Rattle.kr_mean.specs.Places.{SlotPlace}
 use Rattle.kr_mean.specs.Runs.{slots_for}
-use Rattle.kr_problem.specs.Bounds.{bare}
-use Rattle.kr_world.specs.Shown.{place_of}
-use Rattle.kr_world.specs.declared.reads.SlotPlace.TheVariants.{This}
+use Rattle.kr_space_layout.specs.Bounds.{bare}
+use Rattle.kr_mean.specs.Places.{place_of}
+use Rattle.kr_value.specs.declared.place.SlotPlace.TheVariants.{This}
 use Rattle.kr_judge.specs.Follows.{AreOf, place_in}
 use Rattle.kr_judge.specs.declared.accesses.Access.{Access}
 use Rattle.kr_judge.proofs.Follows.{come}

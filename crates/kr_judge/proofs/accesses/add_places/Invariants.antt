@@ -1,8 +1,8 @@
 use Rattle.std.proofs.Common.{◌≡◌, ◌++◌, take}
 use Rattle.std.specs.Prelude.{map, reverse}
 use Rattle.kr_mean.specs.Runs.{slots_for}
-use Rattle.kr_problem.specs.Bounds.{bare}
-use Rattle.kr_world.specs.Shown.{place_of}
+use Rattle.kr_space_layout.specs.Bounds.{bare}
+use Rattle.kr_mean.specs.Places.{place_of}
 use Rattle.kr_judge.specs.Follows.{AreOf, place_in}
 use Rattle.kr_judge.proofs.accesses.add_places.Given as goal
 

@@ -2,8 +2,8 @@ use Rattle.std.proofs.Common.{◌≡◌, ◌⊎◌, ◌++◌, ◌+◌, ◌-◌, 
 use Rattle.std.specs.Prelude.{map}
 use Rattle.std.proofs.lemmas.List.{map-append, take-map, take_all, take_rest}
 use Rattle.kr_mean.specs.Places.{SlotPlace}
-use Rattle.kr_world.specs.Shown.{place_of}
-use Rattle.kr_world.specs.declared.reads.SlotPlace.{SlotPlace as Place}
+use Rattle.kr_mean.specs.Places.{place_of}
+use Rattle.kr_value.specs.declared.place.SlotPlace.{SlotPlace as Place}
 use Rattle.kr_judge.specs.Follows.{place_in}
 use Rattle.kr_judge.specs.declared.accesses.Access.{Access}
 use Rattle.kr_judge.proofs.accesses.alike.Goals as goal

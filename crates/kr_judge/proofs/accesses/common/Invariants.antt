@@ -1,6 +1,6 @@
 use Rattle.std.proofs.Common.{◌≡◌, ◌≤◌, ◌-◌, take, length}
 use Rattle.std.specs.Prelude.{map}
-use Rattle.kr_world.specs.Shown.{place_of}
+use Rattle.kr_mean.specs.Places.{place_of}
 use Rattle.kr_judge.specs.Follows.{place_in}
 use Rattle.kr_judge.proofs.accesses.common.Given as goal
 

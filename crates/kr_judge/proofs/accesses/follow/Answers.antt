@@ -3,9 +3,9 @@ use Rattle.std.specs.Prelude.{flat_map, map}
 use Rattle.std.proofs.lemmas.List.{map-append, take-append-drop, take_rest}
 use Rattle.kr_mean.specs.Places.{SlotPlace}
 use Rattle.kr_mean.specs.Runs.{slots_for}
-use Rattle.kr_problem.specs.Bounds.{bare}
-use Rattle.kr_world.specs.Shown.{place_of}
-use Rattle.kr_world.specs.declared.reads.SlotPlace.{SlotPlace as Place}
+use Rattle.kr_space_layout.specs.Bounds.{bare}
+use Rattle.kr_mean.specs.Places.{place_of}
+use Rattle.kr_value.specs.declared.place.SlotPlace.{SlotPlace as Place}
 use Rattle.kr_judge.specs.Follows.{place_in}
 use Rattle.kr_judge.specs.Orders.{with_slots}
 use Rattle.kr_judge.specs.declared.accesses.Access.{Access}

@@ -1,5 +1,5 @@
 use Rattle.std.proofs.Common.{drop}
-use Rattle.kr_world.specs.Worlds.{state_of}
+use Rattle.kr_run_state.specs.Worlds.{state_of}
 use Rattle.kr_judge.proofs.Holding.{LeadsOn}
 use Rattle.kr_judge.proofs.conditions.hold.Given as goal
 

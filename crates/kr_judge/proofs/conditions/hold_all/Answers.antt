@@ -1,4 +1,4 @@
-use Rattle.kr_world.specs.Worlds.{state_of}
+use Rattle.kr_run_state.specs.Worlds.{state_of}
 use Rattle.kr_judge.proofs.Holding.{means}
 use Rattle.kr_judge.proofs.conditions.hold_all.Goals as goal
 

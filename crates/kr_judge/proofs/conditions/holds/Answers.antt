@@ -1,8 +1,8 @@
 use Rattle.std.proofs.Common.{None, ap, ◌∙◌}
 use Rattle.kr_value.specs.declared.value.Value.{Value}
 use Rattle.kr_mean.specs.Runs.{where_true}
-use Rattle.kr_world.specs.Noting.{noting}
-use Rattle.kr_world.specs.Worlds.{state_of}
+use Rattle.kr_run_state.specs.Noting.{noting}
+use Rattle.kr_run_state.specs.Worlds.{state_of}
 use Rattle.kr_judge.proofs.Holding.{followed, halted, stuck}
 use Rattle.kr_judge.proofs.conditions.holds.Goals as goal
 

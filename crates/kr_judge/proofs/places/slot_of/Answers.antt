@@ -2,10 +2,10 @@ use Rattle.std.proofs.Common.{◌≡◌, ◌∷◌, [], List, ℕ, sym, subst}
 use Rattle.std.specs.Prelude.{Option}
 use Rattle.kr_iso.specs.declared.object.Object.{Object}
 use Rattle.kr_mean.specs.Runs.{slots_for}
-use Rattle.kr_problem.specs.Bounds.{bare}
-use Rattle.kr_pruning.proofs.Places.{this_slots}
-use Rattle.kr_world.specs.Shown.{place_of}
-use Rattle.kr_world.specs.declared.reads.SlotPlace.{SlotPlace}
+use Rattle.kr_space_layout.specs.Bounds.{bare}
+use Rattle.kr_laws_slots.proofs.Places.{this_slots}
+use Rattle.kr_mean.specs.Places.{place_of}
+use Rattle.kr_value.specs.declared.place.SlotPlace.{SlotPlace}
 use Rattle.kr_judge.specs.Places.{IsFound}
 use Rattle.kr_judge.proofs.Spots.{no_object}
 use Rattle.kr_judge.proofs.places.slot_of.Goals as goal

@@ -1,7 +1,7 @@
 use Rattle.std.proofs.Common.{◌≡◌, ◌∷◌, [], ◌<◌, ◌+◌, ◌^◌, ℕ, ◌∙◌, arith, rules, ap, subst}
 use Rattle.kr_value.specs.declared.object.Class.{Class}
 use Rattle.kr_iso.specs.Objects.{object_of}
-use Rattle.kr_problem.specs.Bounds.{bare}
+use Rattle.kr_space_layout.specs.Bounds.{bare}
 use Rattle.kr_build.proofs.Rows.{row, narrow}
 use Rattle.kr_judge.specs.Columns.{spot_at}
 use Rattle.kr_judge.proofs.Spots.{there, not_there}

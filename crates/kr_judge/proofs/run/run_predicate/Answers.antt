@@ -4,8 +4,8 @@ use Rattle.kr_mean.specs.Code.{Node}
 use Rattle.kr_mean.specs.Places.{SlotPlace, This}
 use Rattle.kr_mean.specs.Runs.{conditions, end_on, hold_all, start}
 use Rattle.kr_mean.specs.Steps.{State}
-use Rattle.kr_problem.specs.Bounds.{problem_with}
-use Rattle.kr_world.specs.Worlds.{state_of}
+use Rattle.kr_space_layout.specs.Bounds.{problem_with}
+use Rattle.kr_run_state.specs.Worlds.{state_of}
 use Rattle.kr_judge.specs.Judged.{MeansAs}
 use Rattle.kr_judge.proofs.Ends.{ran}
 use Rattle.kr_judge.proofs.Programs.{start_same}

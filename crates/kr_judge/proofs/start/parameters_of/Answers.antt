@@ -7,9 +7,9 @@ use Rattle.kr_mean.specs.Heaps.{value_at}
 use Rattle.kr_mean.specs.Places.{Parameter}
 use Rattle.kr_mean.specs.Problem.{slots}
 use Rattle.kr_mean.specs.Steps.{Local}
-use Rattle.kr_problem.specs.Bounds.{bare}
-use Rattle.kr_world.specs.Shown.{local_of}
-use Rattle.kr_world.specs.declared.world.Local as code
+use Rattle.kr_space_layout.specs.Bounds.{bare}
+use Rattle.kr_run_state.specs.Shown.{local_of}
+use Rattle.kr_run_state.specs.declared.world.Local as code
 use Rattle.kr_build.proofs.Rows.{roots_inside}
 use Rattle.kr_judge.proofs.Starts.{parameter_local, parameters_are}
 use Rattle.kr_judge.proofs.start.parameters_of.Goals as goal

@@ -1,8 +1,8 @@
 use Rattle.std.proofs.Common.{◌≡◌, ◌-◌, ◌++◌}
 use Rattle.std.specs.Prelude.{map}
 use Rattle.std.specs.List.{range_with_len}
-use Rattle.kr_problem.specs.Bounds.{bare}
-use Rattle.kr_world.specs.Shown.{local_of}
+use Rattle.kr_space_layout.specs.Bounds.{bare}
+use Rattle.kr_run_state.specs.Shown.{local_of}
 use Rattle.kr_judge.proofs.Starts.{parameter_local}
 use Rattle.kr_judge.proofs.start.parameters_of.Given as goal
 

@@ -2,9 +2,9 @@ use Rattle.std.proofs.Common.{◌++◌, ap, ◌∙◌, length, List}
 use Rattle.std.specs.Prelude.{map}
 use Rattle.std.proofs.lemmas.List.{append-nil}
 use Rattle.kr_value.specs.Heaps.{HeapObject}
-use Rattle.kr_problem.specs.Bounds.{bare}
-use Rattle.kr_world.specs.Shown.{old_of}
-use Rattle.kr_world.specs.declared.world.Old.{Old}
+use Rattle.kr_space_layout.specs.Bounds.{bare}
+use Rattle.kr_run_state.specs.Shown.{old_of}
+use Rattle.kr_run_state.specs.declared.world.Old.{Old}
 use Rattle.kr_judge.proofs.Starts.{begins, heap_long}
 use Rattle.kr_judge.proofs.start.world_of.Goals as goal
 

@@ -1,8 +1,8 @@
 use Rattle.std.proofs.Common.{◌≡◌, ◌≤◌, length, sym, ap, subst, ◌∙◌, false, true, arith}
 use Rattle.kr_base.specs.declared.place.Place.{Place}
 use Rattle.kr_lex.specs.Lexemes.{Lexeme}
-use Rattle.kr_grammar.specs.declared.terminal.Terminal.TheVariants.{Outside}
-use Rattle.kr_grammar.specs.Terminals.{terminal_of}
+use Rattle.kr_parse_grammar.specs.declared.terminal.Terminal.TheVariants.{Outside}
+use Rattle.kr_parse_grammar.specs.Terminals.{terminal_of}
 use Rattle.kr_parse.specs.Refusals.{IsLeastDead, token_at}
 use Rattle.kr_parse.proofs.Ahead.{same_token}
 use Rattle.kr_parse.proofs.Standing.{least_inside, least_outside, least_end}

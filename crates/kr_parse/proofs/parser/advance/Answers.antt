@@ -1,12 +1,12 @@
 use Rattle.std.proofs.Common.{◌≡◌, ◌∷◌, ◌+◌, ◌*◌, ◌-◌, ◌<◌, ◌⊎◌, inl, inr, ℕ, List, length, sym, subst}
-use Rattle.kr_grammar.specs.declared.terminal.Terminal.{Terminal}
-use Rattle.kr_grammar.specs.declared.goal.Spelled.{Spelled}
-use Rattle.kr_grammar.specs.declared.goal.Symbol.{Symbol}
-use Rattle.kr_grammar.specs.declared.goal.Symbol.TheVariants.{Take, Keep, Word, Literal as Leaf, Spell}
-use Rattle.kr_grammar.specs.Values.{Item}
-use Rattle.kr_grammar.specs.State.{State, load}
+use Rattle.kr_parse_grammar.specs.declared.terminal.Terminal.{Terminal}
+use Rattle.kr_parse_grammar.specs.declared.goal.Spelled.{Spelled}
+use Rattle.kr_parse_grammar.specs.declared.goal.Symbol.{Symbol}
+use Rattle.kr_parse_grammar.specs.declared.goal.Symbol.TheVariants.{Take, Keep, Word, Literal as Leaf, Spell}
+use Rattle.kr_parse_grammar.specs.Values.{Item}
+use Rattle.kr_parse_grammar.specs.State.{State, load}
 use Rattle.kr_parse.specs.Refusals.{token_at}
-use Rattle.kr_builder.specs.Built.{values_of}
+use Rattle.kr_parse_trees.specs.Built.{values_of}
 use Rattle.kr_parse.specs.Steps.{AsksToken, kept_of}
 use Rattle.kr_parse.proofs.States.{fits_asks, least_token, viable, state_token, state_build, token_falls}
 use Rattle.kr_parse.proofs.parser.advance.Goals as goal

@@ -1,8 +1,8 @@
 use Rattle.std.proofs.Common.{[], Some, None, refl, sym, drop}
-use Rattle.kr_grammar.specs.declared.goal.Goal.TheVariants as goals
-use Rattle.kr_grammar.specs.Machine.{ahead}
-use Rattle.kr_grammar.specs.Values.{tag}
-use Rattle.kr_builder.specs.Built.{values_of}
+use Rattle.kr_parse_grammar.specs.declared.goal.Goal.TheVariants as goals
+use Rattle.kr_parse_grammar.specs.Machine.{ahead}
+use Rattle.kr_parse_grammar.specs.Values.{tag}
+use Rattle.kr_parse_trees.specs.Built.{values_of}
 use Rattle.kr_parse.proofs.States.{same_rule, least_want, expanded, expanding_falls}
 use Rattle.kr_parse.proofs.parser.expand.Goals as goal
 

@@ -1,9 +1,9 @@
 use Rattle.std.proofs.Common.{◌+◌, ◌*◌, ◌<◌, ◌≤◌, ℕ, List, length, sym, subst, ap, ◌∙◌, arith}
 use Rattle.kr_ast.specs.Tree.{Tree, size}
-use Rattle.kr_grammar.specs.declared.goal.Symbol.{Symbol}
-use Rattle.kr_grammar.specs.Grammar.{Derives}
-use Rattle.kr_grammar.specs.State.{State}
-use Rattle.kr_builder.specs.Built.{values_of}
+use Rattle.kr_parse_grammar.specs.declared.goal.Symbol.{Symbol}
+use Rattle.kr_parse_grammar.specs.Grammar.{Derives}
+use Rattle.kr_parse_grammar.specs.State.{State}
+use Rattle.kr_parse_trees.specs.Built.{values_of}
 use Rattle.kr_parse.proofs.States.{state_start, least_left, derived}
 use Rattle.kr_parse.proofs.parser.parse.Goals as goal
 

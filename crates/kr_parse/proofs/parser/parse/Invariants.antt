@@ -1,6 +1,6 @@
 use Rattle.std.proofs.Common.{◌+◌, ◌*◌, ◌-◌, length}
-use Rattle.kr_grammar.specs.State.{State, load}
-use Rattle.kr_builder.specs.Built.{values_of, IsBuilt}
+use Rattle.kr_parse_grammar.specs.State.{State, load}
+use Rattle.kr_parse_trees.specs.Built.{values_of, IsBuilt}
 use Rattle.kr_parse.specs.Steps.{IsStanding}
 use Rattle.kr_parse.proofs.parser.parse.Given as goal
 

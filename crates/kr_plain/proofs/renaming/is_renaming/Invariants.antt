@@ -1,7 +1,7 @@
 use Rattle.std.proofs.Common.{ℕ, ◌<◌}
 use Rattle.kr_mean.specs.Entries.{name_in}
 use Rattle.kr_mean.specs.Problem.{domain_at}
-use Rattle.kr_problem.specs.Bounds.{bare}
+use Rattle.kr_space_layout.specs.Bounds.{bare}
 use Rattle.kr_plain.specs.Names.{Permutes}
 use Rattle.kr_plain.proofs.renaming.is_renaming.Given as goal
 

@@ -1,6 +1,6 @@
 use Rattle.kr_mean.specs.Entries.{name_in}
 use Rattle.kr_mean.specs.Space.{space_of}
-use Rattle.kr_problem.specs.Bounds.{bare}
+use Rattle.kr_space_layout.specs.Bounds.{bare}
 use Rattle.kr_plain.proofs.Moving.{Renames}
 use Rattle.kr_plain.proofs.renaming.rename.Given as goal
 

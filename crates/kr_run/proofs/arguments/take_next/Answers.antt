@@ -4,11 +4,11 @@ use Rattle.kr_value.specs.declared.value.Value.{Value}
 use Rattle.kr_mean.specs.Steps.{bind, give}
 use Rattle.kr_code.specs.Doing.{values_at}
 use Rattle.kr_code.specs.Tables.{listed}
-use Rattle.kr_world.specs.Worlds.{state_at}
-use Rattle.kr_frames.specs.Frames.{continued, onto, applied, out_value}
-use Rattle.kr_frames.specs.Leads.{next_task}
-use Rattle.kr_frames.proofs.Outcomes.{leads_alike}
-use Rattle.kr_moves.proofs.Moves.{mapped}
+use Rattle.kr_run_state.specs.Worlds.{state_at}
+use Rattle.kr_run_frames.specs.Frames.{continued, onto, applied, out_value}
+use Rattle.kr_run_frames.specs.Leads.{next_task}
+use Rattle.kr_run_frames.proofs.Outcomes.{leads_alike}
+use Rattle.kr_run_moves.proofs.Moves.{mapped}
 use Rattle.kr_run.proofs.arguments.take_next.Goals as goal
 
 pub returns-in-Ok : goal.returns-in-Ok

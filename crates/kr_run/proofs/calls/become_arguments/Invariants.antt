@@ -1,7 +1,7 @@
 use Rattle.std.proofs.Common.{◌≡◌, take}
 use Rattle.std.specs.Prelude.{map}
 use Rattle.kr_mean.specs.Steps.{plain_local}
-use Rattle.kr_world.specs.Shown.{local_of}
+use Rattle.kr_run_state.specs.Shown.{local_of}
 use Rattle.kr_run.proofs.calls.become_arguments.Given as goal
 
 abbrev pub invariant-loop-argument : goal.invariant-loop-argument

@@ -1,7 +1,7 @@
 use Rattle.kr_mean.specs.Steps.{collect}
 use Rattle.kr_code.specs.Collections.{name_of}
-use Rattle.kr_world.specs.Worlds.{state_at}
-use Rattle.kr_frames.proofs.Outcomes.{gave_value, value_halts}
+use Rattle.kr_run_state.specs.Worlds.{state_at}
+use Rattle.kr_run_frames.proofs.Outcomes.{gave_value, value_halts}
 use Rattle.kr_run.proofs.calls.collect_on.Goals as goal
 
 pub returns-in-Ok : goal.returns-in-Ok

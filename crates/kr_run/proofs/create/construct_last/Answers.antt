@@ -1,11 +1,11 @@
 use Rattle.std.proofs.Common.{◌<◌, [], length, arith, ap}
 use Rattle.kr_mean.specs.Steps.{Outcome, Stuck, stop}
 use Rattle.kr_code.specs.Doing.{constructed}
-use Rattle.kr_world.specs.Worlds.{state_at}
-use Rattle.kr_frames.specs.Frames.{out_unit}
-use Rattle.kr_frames.proofs.Outcomes.{leads_alike}
+use Rattle.kr_run_state.specs.Worlds.{state_at}
+use Rattle.kr_run_frames.specs.Frames.{out_unit}
+use Rattle.kr_run_frames.proofs.Outcomes.{leads_alike}
 use Rattle.kr_run.proofs.Machine.{last_stuck}
-use Rattle.kr_frames.specs.Leads.{next_task}
+use Rattle.kr_run_frames.specs.Leads.{next_task}
 use Rattle.kr_run.proofs.create.construct_last.Goals as goal
 
 pub returns : goal.returns

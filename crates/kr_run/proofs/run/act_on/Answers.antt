@@ -1,9 +1,9 @@
 use Rattle.kr_mean.specs.Steps.{give}
-use Rattle.kr_world.specs.Worlds.{state_at}
-use Rattle.kr_world.specs.Actions.{acted}
-use Rattle.kr_frames.specs.Frames.{out_value}
-use Rattle.kr_frames.specs.Leads.{next_task}
-use Rattle.kr_frames.proofs.Outcomes.{gave_value, leads_same, value_halts}
+use Rattle.kr_run_state.specs.Worlds.{state_at}
+use Rattle.kr_run_state.specs.Actions.{acted}
+use Rattle.kr_run_frames.specs.Frames.{out_value}
+use Rattle.kr_run_frames.specs.Leads.{next_task}
+use Rattle.kr_run_frames.proofs.Outcomes.{gave_value, leads_same, value_halts}
 use Rattle.kr_run.proofs.run.act_on.Goals as goal
 
 pub returns-in-Ok : goal.returns-in-Ok

@@ -4,10 +4,10 @@ use Rattle.kr_value.specs.declared.value.Value.{Value}
 use Rattle.kr_mean.specs.Steps.{bind, give}
 use Rattle.kr_code.specs.Doing.{values_at, constructed}
 use Rattle.kr_code.specs.Tables.{listed}
-use Rattle.kr_world.specs.Worlds.{state_at}
-use Rattle.kr_frames.specs.Frame as frames
-use Rattle.kr_frames.specs.Frames.{out_unit}
-use Rattle.kr_frames.specs.Leads.{next_task}
+use Rattle.kr_run_state.specs.Worlds.{state_at}
+use Rattle.kr_run_frames.specs.Frame as frames
+use Rattle.kr_run_frames.specs.Frames.{out_unit}
+use Rattle.kr_run_frames.specs.Leads.{next_task}
 use Rattle.kr_run.proofs.Machine.{taken}
 use Rattle.kr_run.proofs.run.construct_on.Goals as goal
 

@@ -1,6 +1,6 @@
 use Rattle.std.specs.Prelude.{Ok}
-use Rattle.kr_world.specs.Worlds.{state_at}
-use Rattle.kr_frames.specs.Leads.{Leads}
+use Rattle.kr_run_state.specs.Worlds.{state_at}
+use Rattle.kr_run_frames.specs.Leads.{Leads}
 use Rattle.kr_run.proofs.run.evaluate.Given as goal
 
 -- what is left to do is the run

@@ -1,5 +1,5 @@
-use Rattle.kr_world.specs.Worlds.{state_at}
-use Rattle.kr_frames.proofs.Outcomes.{gave_value}
+use Rattle.kr_run_state.specs.Worlds.{state_at}
+use Rattle.kr_run_frames.proofs.Outcomes.{gave_value}
 use Rattle.kr_run.proofs.run.evaluate_node.Goals as goal
 
 pub returns-in-Some : goal.returns-in-Some

@@ -4,10 +4,10 @@ use Rattle.kr_mean.specs.Meaning.{Flow}
 use Rattle.kr_code.specs.Doing.{statement_done, flow_of, all_declared}
 use Rattle.kr_code.specs.Tables.{listed}
 use Rattle.kr_code.specs.declared.statement.Statement.{Statement}
-use Rattle.kr_world.specs.Worlds.{state_at}
-use Rattle.kr_frames.specs.Frames.{out_flow}
-use Rattle.kr_frames.specs.Leads.{next_task}
-use Rattle.kr_frames.proofs.Outcomes.{leads_alike}
+use Rattle.kr_run_state.specs.Worlds.{state_at}
+use Rattle.kr_run_frames.specs.Frames.{out_flow}
+use Rattle.kr_run_frames.specs.Leads.{next_task}
+use Rattle.kr_run_frames.proofs.Outcomes.{leads_alike}
 use Rattle.kr_run.proofs.run.execute_statement.Goals as goal
 
 pub returns-in-None : goal.returns-in-None

@@ -1,12 +1,12 @@
 use Rattle.std.proofs.Common.{List, ◌∷◌, refl, ap, ◌∙◌}
 use Rattle.std.specs.Prelude.{map}
 use Rattle.kr_mean.specs.Steps.{give}
-use Rattle.kr_world.specs.declared.world.Local.{Local}
-use Rattle.kr_world.specs.Shown.{local_of}
-use Rattle.kr_world.specs.Worlds.{state_at}
-use Rattle.kr_frames.specs.declared.frame.Waiting.{Waiting}
-use Rattle.kr_frames.specs.Frames.{flow_of, out_flow}
-use Rattle.kr_frames.specs.Kept.{frame_of}
+use Rattle.kr_run_state.specs.declared.world.Local.{Local}
+use Rattle.kr_run_state.specs.Shown.{local_of}
+use Rattle.kr_run_state.specs.Worlds.{state_at}
+use Rattle.kr_run_frames.specs.declared.frame.Waiting.{Waiting}
+use Rattle.kr_run_frames.specs.Frames.{flow_of, out_flow}
+use Rattle.kr_run_frames.specs.Kept.{frame_of}
 use Rattle.kr_run.proofs.Leaving.{scope_goes}
 use Rattle.kr_run.proofs.run.pass_by.Goals as goal
 

@@ -1,9 +1,9 @@
 use Rattle.std.specs.Prelude.{Ok}
-use Rattle.kr_frames.specs.declared.task.Task.TheVariants as tasks
-use Rattle.kr_frames.specs.Frames.{out_flow, flow_of}
-use Rattle.kr_frames.specs.Leads.{Leads}
+use Rattle.kr_run_frames.specs.declared.task.Task.TheVariants as tasks
+use Rattle.kr_run_frames.specs.Frames.{out_flow, flow_of}
+use Rattle.kr_run_frames.specs.Leads.{Leads}
 use Rattle.kr_mean.specs.Steps.{give}
-use Rattle.kr_world.specs.Worlds.{state_at}
+use Rattle.kr_run_state.specs.Worlds.{state_at}
 use Rattle.kr_run.proofs.run.pass_by.Given as goal
 
 -- what is left to do is what there was to do

@@ -1,6 +1,6 @@
 use Rattle.kr_code.specs.Steps.{store_initial}
-use Rattle.kr_world.specs.Worlds.{state_at}
-use Rattle.kr_frames.proofs.Outcomes.{unit_halts}
+use Rattle.kr_run_state.specs.Worlds.{state_at}
+use Rattle.kr_run_frames.proofs.Outcomes.{unit_halts}
 use Rattle.kr_run.proofs.run.store.Goals as goal
 
 pub returns-in-Err : goal.returns-in-Err

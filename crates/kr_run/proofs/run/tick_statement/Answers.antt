@@ -1,9 +1,9 @@
 use Rattle.kr_code.specs.Doing.{Doing, flow_of}
-use Rattle.kr_world.specs.Worlds.{state_at}
-use Rattle.kr_frames.specs.Frames.{out_flow}
-use Rattle.kr_frames.proofs.Outcomes.{leads_same, flow_reads}
-use Rattle.kr_moves.proofs.Going.{ticked, no_flow_tick}
-use Rattle.kr_frames.specs.Leads.{next_task}
+use Rattle.kr_run_state.specs.Worlds.{state_at}
+use Rattle.kr_run_frames.specs.Frames.{out_flow}
+use Rattle.kr_run_frames.proofs.Outcomes.{leads_same, flow_reads}
+use Rattle.kr_run_moves.proofs.Going.{ticked, no_flow_tick}
+use Rattle.kr_run_frames.specs.Leads.{next_task}
 use Rattle.kr_run.proofs.run.tick_statement.Goals as goal
 
 pub returns-in-Err : goal.returns-in-Err

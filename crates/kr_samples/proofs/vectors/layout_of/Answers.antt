@@ -1,7 +1,7 @@
 use Rattle.std.proofs.Common.{◌<◌, ◌^◌, length, subst}
-use Rattle.kr_candidates.proofs.Runs.{well_formed}
+use Rattle.kr_judge_again.proofs.Runs.{well_formed}
 use Rattle.kr_mean.specs.Problem.{Problem, slots}
-use Rattle.kr_posed.specs.Posed.{posed}
+use Rattle.kr_space_problem.specs.Posed.{posed}
 use Rattle.kr_samples.proofs.vectors.layout_of.Goals as goal
 
 pub returns-clause-well : goal.returns-clause-well

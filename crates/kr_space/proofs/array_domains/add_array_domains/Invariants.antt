@@ -1,7 +1,7 @@
 use Rattle.std.proofs.Common.{◌≡◌, ◌++◌, map, drop}
-use Rattle.kr_problem.specs.Bounds.{class_domain}
-use Rattle.kr_domains.specs.Bounds.{array_class_domain}
-use Rattle.kr_numbers.specs.Entries.{bound_shown}
+use Rattle.kr_space_layout.specs.Bounds.{class_domain}
+use Rattle.kr_space_meaning.specs.Bounds.{array_class_domain}
+use Rattle.kr_space_rules.specs.Entries.{bound_shown}
 use Rattle.kr_space.specs.Basis.{setting_on}
 use Rattle.kr_space.specs.Pools.{pool}
 use Rattle.kr_space.proofs.array_domains.add_array_domains.Given as goal

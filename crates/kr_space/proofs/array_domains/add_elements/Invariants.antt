@@ -1,7 +1,7 @@
 use Rattle.std.proofs.Common.{◌≡◌, ◌++◌, ◌-◌, [], List, map, get_or}
 use Rattle.kr_mean.specs.Problem.{Domain}
-use Rattle.kr_problem.specs.Bounds.{spotted}
-use Rattle.kr_domains.specs.Bounds.{element_spots}
+use Rattle.kr_space_layout.specs.Bounds.{spotted}
+use Rattle.kr_space_meaning.specs.Bounds.{element_spots}
 use Rattle.kr_space.proofs.array_domains.add_elements.Given as goal
 
 abbrev pub invariant-loop-at : goal.invariant-loop-at

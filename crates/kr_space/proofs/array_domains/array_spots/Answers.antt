@@ -1,7 +1,7 @@
 use Rattle.std.proofs.Common.{◌≡◌, ◌∙◌, ap, get_or}
 use Rattle.kr_fin.specs.declared.document.ArrayBound.{ArrayBound}
-use Rattle.kr_domains.specs.Bounds.{elements_key, greatest, lengths_of, values_given}
-use Rattle.kr_numbers.specs.Entries.{no_bound}
+use Rattle.kr_space_meaning.specs.Bounds.{elements_key, greatest, lengths_of, values_given}
+use Rattle.kr_space_rules.specs.Entries.{no_bound}
 use Rattle.kr_space.specs.Basis.{setting_on}
 use Rattle.kr_space.specs.Pools.{pool}
 use Rattle.kr_space.proofs.Laid.{array_spots_are, got_there}

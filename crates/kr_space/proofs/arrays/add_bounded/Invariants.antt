@@ -1,8 +1,8 @@
 use Rattle.std.proofs.Common.{◌≡◌, drop, map}
 use Rattle.std.specs.Prelude.{flat_map}
-use Rattle.kr_table.specs.Arrays.{arrays_in}
-use Rattle.kr_arrays.specs.Collected.{AreNumbers, IsClosed, collected, types_shown}
-use Rattle.kr_numbers.specs.Entries.{bound_shown}
+use Rattle.kr_classes_table.specs.Arrays.{arrays_in}
+use Rattle.kr_space_names.specs.Collected.{AreNumbers, IsClosed, collected, types_shown}
+use Rattle.kr_space_rules.specs.Entries.{bound_shown}
 use Rattle.kr_space.proofs.arrays.add_bounded.Given as goal
 
 abbrev pub invariant-loop-bound : goal.invariant-loop-bound

@@ -1,8 +1,8 @@
 use Rattle.std.proofs.Common.{◌≡◌, ◌++◌, map, drop}
-use Rattle.kr_table.specs.Table.{headings_of}
-use Rattle.kr_problem.specs.Bounds.{class_domain}
-use Rattle.kr_domains.specs.Bounds.{class_domains}
-use Rattle.kr_fitting.specs.Classes.{files_of}
+use Rattle.kr_classes_table.specs.Table.{headings_of}
+use Rattle.kr_space_layout.specs.Bounds.{class_domain}
+use Rattle.kr_space_meaning.specs.Bounds.{class_domains}
+use Rattle.kr_space_rules.specs.Classes.{files_of}
 use Rattle.kr_space.specs.Basis.{setting_on}
 use Rattle.kr_space.specs.Pools.{pool}
 use Rattle.kr_space.proofs.class_domains.class_domains.Given as goal

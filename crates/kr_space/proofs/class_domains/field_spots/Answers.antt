@@ -1,7 +1,7 @@
 use Rattle.std.proofs.Common.{◌<◌, ◌∙◌, List, ℕ, ap, length, rules}
-use Rattle.kr_members.specs.Shown.{field_shown}
-use Rattle.kr_domains.specs.Bounds.{values_given}
-use Rattle.kr_fitting.specs.Classes.{files_of}
+use Rattle.kr_classes_members.specs.Shown.{field_shown}
+use Rattle.kr_space_meaning.specs.Bounds.{values_given}
+use Rattle.kr_space_rules.specs.Classes.{files_of}
 use Rattle.kr_space.specs.Basis.{setting_on}
 use Rattle.kr_space.specs.Pools.{pool}
 use Rattle.kr_space.proofs.Laid.{spots_next}

@@ -1,9 +1,9 @@
 use Rattle.std.proofs.Common.{◌≡◌, ◌++◌, map, drop}
-use Rattle.kr_table.specs.Table.{fields_of}
-use Rattle.kr_members.specs.Shown.{field_shown}
-use Rattle.kr_problem.specs.Bounds.{spotted}
-use Rattle.kr_domains.specs.Bounds.{field_spots}
-use Rattle.kr_fitting.specs.Classes.{table_of}
+use Rattle.kr_classes_table.specs.Table.{fields_of}
+use Rattle.kr_classes_members.specs.Shown.{field_shown}
+use Rattle.kr_space_layout.specs.Bounds.{spotted}
+use Rattle.kr_space_meaning.specs.Bounds.{field_spots}
+use Rattle.kr_space_rules.specs.Classes.{table_of}
 use Rattle.kr_space.specs.Basis.{setting_on}
 use Rattle.kr_space.specs.Pools.{pool}
 use Rattle.kr_space.proofs.class_domains.field_spots.Given as goal

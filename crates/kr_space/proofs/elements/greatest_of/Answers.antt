@@ -1,7 +1,7 @@
 use Rattle.std.proofs.Common.{List, ap, ◌∙◌}
 use Rattle.kr_fin.specs.declared.document.Item.{Item}
-use Rattle.kr_domains.specs.Bounds.{greatest, lengths_of, setting_of}
-use Rattle.kr_fitting.specs.Classes.{files_of}
+use Rattle.kr_space_meaning.specs.Bounds.{greatest, lengths_of, setting_of}
+use Rattle.kr_space_rules.specs.Classes.{files_of}
 use Rattle.kr_space.proofs.elements.greatest_of.Goals as goal
 
 pub returns : goal.returns

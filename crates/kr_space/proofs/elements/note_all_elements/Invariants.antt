@@ -1,10 +1,10 @@
 use Rattle.std.proofs.Common.{◌≡◌, fold, map, drop}
 use Rattle.std.specs.Prelude.{flat_map}
-use Rattle.kr_domains.specs.Bounds.{setting_of}
-use Rattle.kr_domains.specs.Faults.{array_S2}
-use Rattle.kr_domains.specs.Order.{lesser}
-use Rattle.kr_fitting.specs.Classes.{files_of}
-use Rattle.kr_numbers.specs.Entries.{bound_shown}
+use Rattle.kr_space_meaning.specs.Bounds.{setting_of}
+use Rattle.kr_space_meaning.specs.Faults.{array_S2}
+use Rattle.kr_space_meaning.specs.Order.{lesser}
+use Rattle.kr_space_rules.specs.Classes.{files_of}
+use Rattle.kr_space_rules.specs.Entries.{bound_shown}
 use Rattle.kr_space.proofs.elements.note_all_elements.Given as goal
 
 abbrev pub invariant-loop-bound : goal.invariant-loop-bound

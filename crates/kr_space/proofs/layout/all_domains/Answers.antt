@@ -1,4 +1,4 @@
-use Rattle.kr_fitting.specs.Classes.{files_of}
+use Rattle.kr_space_rules.specs.Classes.{files_of}
 use Rattle.kr_space.proofs.Laid.{domains_whole}
 use Rattle.kr_space.proofs.layout.all_domains.Goals as goal
 

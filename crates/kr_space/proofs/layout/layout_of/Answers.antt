@@ -1,6 +1,6 @@
 use Rattle.std.proofs.Common.{◌∙◌, List, ap, map}
-use Rattle.kr_problem.specs.declared.item.Item.{Item}
-use Rattle.kr_problem.specs.Items.{domain_of}
+use Rattle.kr_space_layout.specs.declared.item.Item.{Item}
+use Rattle.kr_space_layout.specs.Items.{domain_of}
 use Rattle.kr_space.specs.Basis.{setting_on}
 use Rattle.kr_space.proofs.Laid.{arrays_kept}
 use Rattle.kr_space.proofs.layout.layout_of.Goals as goal

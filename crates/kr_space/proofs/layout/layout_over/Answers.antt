@@ -1,4 +1,4 @@
-use Rattle.kr_fitting.specs.Classes.{files_of}
+use Rattle.kr_space_rules.specs.Classes.{files_of}
 use Rattle.kr_space.proofs.Laid.{layout_is, ok_same}
 use Rattle.kr_space.proofs.layout.layout_over.Goals as goal
 

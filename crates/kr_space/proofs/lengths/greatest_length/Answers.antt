@@ -1,7 +1,7 @@
 use Rattle.std.proofs.Common.{◌≡◌, ℕ, List, max, ap, ◌∙◌, drop, arith}
 use Rattle.std.proofs.lemmas.List.{drop_all}
 use Rattle.kr_fin.specs.declared.document.Item.{Item}
-use Rattle.kr_domains.specs.Bounds.{greatest, item_values, lengths_in, lengths_of}
+use Rattle.kr_space_meaning.specs.Bounds.{greatest, item_values, lengths_in, lengths_of}
 use Rattle.kr_space.proofs.LengthLists.{greatest_more}
 use Rattle.kr_space.proofs.lengths.greatest_length.Goals as goal
 

@@ -1,5 +1,5 @@
 use Rattle.std.proofs.Common.{◌≡◌, max, drop}
-use Rattle.kr_domains.specs.Bounds.{Setting, greatest, lengths_of}
+use Rattle.kr_space_meaning.specs.Bounds.{Setting, greatest, lengths_of}
 use Rattle.kr_space.proofs.lengths.greatest_length.Given as goal
 
 abbrev pub invariant-loop-item : goal.invariant-loop-item

@@ -1,7 +1,7 @@
 use Rattle.std.proofs.Common.{◌≡◌, fold, drop}
-use Rattle.kr_type_numbers.specs.Types.{Extends}
-use Rattle.kr_domains.specs.Faults.{numbers_of_lengths}
-use Rattle.kr_domains.specs.Order.{lesser}
+use Rattle.kr_classes_types.specs.Types.{Extends}
+use Rattle.kr_space_meaning.specs.Faults.{numbers_of_lengths}
+use Rattle.kr_space_meaning.specs.Order.{lesser}
 use Rattle.kr_space.specs.Bounded.{IsBounded, problem_in, setting_in}
 use Rattle.kr_space.proofs.numbers.note_all_lengths.Given as goal
 

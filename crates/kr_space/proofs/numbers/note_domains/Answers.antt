@@ -1,9 +1,9 @@
 use Rattle.std.proofs.Common.{◌++◌, ◌∙◌}
-use Rattle.kr_type_numbers.proofs.Growing.{extends_on}
+use Rattle.kr_classes_types.proofs.Growing.{extends_on}
 use Rattle.kr_mean.specs.Problem.{choices_in}
 use Rattle.kr_fin.specs.declared.document.NamedDomain.{NamedDomain}
-use Rattle.kr_domains.specs.Bounds.{values_of}
-use Rattle.kr_domains.specs.Faults.{number_faults}
+use Rattle.kr_space_meaning.specs.Bounds.{values_of}
+use Rattle.kr_space_meaning.specs.Faults.{number_faults}
 use Rattle.kr_space.specs.Bounded.{problem_in, setting_in}
 use Rattle.kr_space.proofs.BoundedKept.{bounded_kept, noted_more}
 use Rattle.kr_space.proofs.numbers.note_domains.Goals as goal

@@ -1,5 +1,5 @@
 use Rattle.std.proofs.lemmas.Result.{on_ok_weaker}
-use Rattle.kr_domains.specs.Faults.{of_arrays}
+use Rattle.kr_space_meaning.specs.Faults.{of_arrays}
 use Rattle.kr_space.specs.Bounded.{problem_in, setting_in}
 use Rattle.kr_space.proofs.BoundedKept.{lengths_noted}
 use Rattle.kr_space.proofs.numbers.note_lengths.Goals as goal

@@ -1,7 +1,7 @@
 use Rattle.std.proofs.Common.{◌≡◌, ◌++◌, [], map, drop, get_or}
 use Rattle.kr_mean.specs.declared.mode.Mode.TheVariants.{Method as Testing}
-use Rattle.kr_domains.specs.Bounds.{parameter_key, values_given}
-use Rattle.kr_fitting.specs.Parameters.{parameter_shown}
+use Rattle.kr_space_meaning.specs.Bounds.{parameter_key, values_given}
+use Rattle.kr_space_rules.specs.Parameters.{parameter_shown}
 use Rattle.kr_space.specs.Basis.{setting_on}
 use Rattle.kr_space.specs.Pools.{pool}
 use Rattle.kr_space.proofs.parameters.numbers_of.Given as goal

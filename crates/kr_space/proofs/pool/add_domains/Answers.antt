@@ -1,10 +1,10 @@
 use Rattle.std.proofs.Common.{◌∙◌, ◌++◌, ◌∷◌, [], List, ap, map}
 use Rattle.kr_fin.specs.declared.document.Item.{Item as FinItem}
-use Rattle.kr_problem.specs.Items.{domain_of}
-use Rattle.kr_type_numbers.proofs.Growing.{extends_on}
+use Rattle.kr_space_layout.specs.Items.{domain_of}
+use Rattle.kr_classes_types.proofs.Growing.{extends_on}
 use Rattle.kr_fin.specs.declared.document.NamedDomain.{NamedDomain}
-use Rattle.kr_domains.specs.Bounds.{values_of}
-use Rattle.kr_numbers.proofs.Bounded.{bounds_kept}
+use Rattle.kr_space_meaning.specs.Bounds.{values_of}
+use Rattle.kr_space_rules.proofs.Bounded.{bounds_kept}
 use Rattle.kr_space.specs.Basis.{setting_on}
 use Rattle.kr_space.proofs.Pooled.{domains_next}
 use Rattle.kr_space.proofs.pool.add_domains.Goals as goal

@@ -1,8 +1,8 @@
 use Rattle.std.proofs.Common.{◌∙◌, ◌++◌, ◌∷◌, [], List, ap, map}
 use Rattle.std.proofs.lemmas.Result.{on_ok_weaker}
 use Rattle.kr_fin.specs.declared.document.Item.{Item as FinItem}
-use Rattle.kr_problem.specs.Items.{domain_of}
-use Rattle.kr_domains.specs.Bounds.{values_of}
+use Rattle.kr_space_layout.specs.Items.{domain_of}
+use Rattle.kr_space_meaning.specs.Bounds.{values_of}
 use Rattle.kr_space.specs.Basis.{setting_on}
 use Rattle.kr_space.proofs.Pooled.{lengths_added}
 use Rattle.kr_space.proofs.pool.add_length.Goals as goal

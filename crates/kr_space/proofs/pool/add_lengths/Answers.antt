@@ -1,7 +1,7 @@
-use Rattle.kr_type_numbers.proofs.Growing.{extends_on}
+use Rattle.kr_classes_types.proofs.Growing.{extends_on}
 use Rattle.kr_fin.specs.declared.document.ArrayBound.{ArrayBound}
-use Rattle.kr_domains.specs.Bounds.{lengths_of}
-use Rattle.kr_numbers.proofs.Bounded.{bounds_kept}
+use Rattle.kr_space_meaning.specs.Bounds.{lengths_of}
+use Rattle.kr_space_rules.proofs.Bounded.{bounds_kept}
 use Rattle.kr_space.specs.Basis.{setting_on}
 use Rattle.kr_space.proofs.Pooled.{domains_next}
 use Rattle.kr_space.proofs.pool.add_lengths.Goals as goal

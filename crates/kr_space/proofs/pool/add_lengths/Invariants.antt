@@ -1,6 +1,6 @@
 use Rattle.std.proofs.Common.{◌≡◌, ◌++◌, map, drop}
-use Rattle.kr_type_numbers.specs.Types.{Extends}
-use Rattle.kr_problem.specs.Items.{domain_of}
+use Rattle.kr_classes_types.specs.Types.{Extends}
+use Rattle.kr_space_layout.specs.Items.{domain_of}
 use Rattle.kr_space.specs.Basis.{AreBoundsOn, setting_on}
 use Rattle.kr_space.specs.Pools.{all_lengths}
 use Rattle.kr_space.proofs.pool.add_lengths.Given as goal

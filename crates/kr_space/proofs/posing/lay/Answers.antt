@@ -1,4 +1,4 @@
-use Rattle.kr_fitting.specs.Classes.{files_of}
+use Rattle.kr_space_rules.specs.Classes.{files_of}
 use Rattle.kr_space.proofs.Problems.{bounds_here}
 use Rattle.kr_space.proofs.posing.lay.Goals as goal
 

@@ -1,5 +1,5 @@
 use Rattle.std.proofs.Common.{◌≡◌, ◌++◌, map, drop}
-use Rattle.kr_numbers.specs.Entries.{bound_shown}
+use Rattle.kr_space_rules.specs.Entries.{bound_shown}
 use Rattle.kr_space.proofs.sizes.add_arrays.Given as goal
 
 abbrev pub invariant-loop-bound : goal.invariant-loop-bound

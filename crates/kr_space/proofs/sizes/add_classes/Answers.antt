@@ -1,8 +1,8 @@
 use Rattle.std.proofs.Common.{◌<◌, rules, List, length, ap, ◌∙◌, ℕ}
-use Rattle.kr_table.specs.Table.{headings_of}
+use Rattle.kr_classes_table.specs.Table.{headings_of}
 use Rattle.kr_fin.specs.declared.document.Count.{Count}
-use Rattle.kr_domains.specs.Bounds.{count_named}
-use Rattle.kr_fitting.specs.Classes.{files_of}
+use Rattle.kr_space_meaning.specs.Bounds.{count_named}
+use Rattle.kr_space_rules.specs.Classes.{files_of}
 use Rattle.kr_space.proofs.Counts.{counts_more}
 use Rattle.kr_space.proofs.sizes.add_classes.Goals as goal
 

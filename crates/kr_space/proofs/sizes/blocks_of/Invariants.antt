@@ -1,7 +1,7 @@
 use Rattle.std.proofs.Common.{◌≡◌, ◌++◌, drop}
 use Rattle.std.specs.Prelude.{All, map}
-use Rattle.kr_problem.specs.Stretches.{IsNumbered}
-use Rattle.kr_problem.specs.Tables.{blocks_from}
+use Rattle.kr_space_layout.specs.Stretches.{IsNumbered}
+use Rattle.kr_space_layout.specs.Tables.{blocks_from}
 use Rattle.kr_space.specs.Sizes.{bare_class}
 use Rattle.kr_space.proofs.sizes.blocks_of.Given as goal
 

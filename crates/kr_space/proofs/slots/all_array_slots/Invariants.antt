@@ -1,7 +1,7 @@
 use Rattle.std.proofs.Common.{◌≡◌, ◌<◌, ◌+◌, ◌-◌, ◌^◌, map, min, drop}
-use Rattle.kr_domains.specs.Bounds.{setting_of}
-use Rattle.kr_fitting.specs.Classes.{files_of}
-use Rattle.kr_numbers.specs.Entries.{bound_shown}
+use Rattle.kr_space_meaning.specs.Bounds.{setting_of}
+use Rattle.kr_space_rules.specs.Classes.{files_of}
+use Rattle.kr_space_rules.specs.Entries.{bound_shown}
 use Rattle.kr_space.specs.Slots.{slots_of_arrays}
 use Rattle.kr_space.proofs.slots.all_array_slots.Given as goal
 

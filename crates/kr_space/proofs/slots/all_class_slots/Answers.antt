@@ -1,6 +1,6 @@
 use Rattle.std.proofs.Common.{◌<◌, rules, length}
-use Rattle.kr_table.specs.Table.{headings_of}
-use Rattle.kr_fitting.specs.Classes.{files_of}
+use Rattle.kr_classes_table.specs.Table.{headings_of}
+use Rattle.kr_space_rules.specs.Classes.{files_of}
 use Rattle.kr_space.proofs.SlotCounts.{class_more}
 use Rattle.kr_space.proofs.slots.all_class_slots.Goals as goal
 

@@ -1,7 +1,7 @@
 use Rattle.std.proofs.Common.{◌≡◌, ◌<◌, ◌+◌, ◌-◌, ◌^◌, min, drop}
-use Rattle.kr_table.specs.Table.{headings_of}
-use Rattle.kr_domains.specs.Bounds.{setting_of}
-use Rattle.kr_fitting.specs.Classes.{files_of}
+use Rattle.kr_classes_table.specs.Table.{headings_of}
+use Rattle.kr_space_meaning.specs.Bounds.{setting_of}
+use Rattle.kr_space_rules.specs.Classes.{files_of}
 use Rattle.kr_space.specs.Slots.{slots_of_classes}
 use Rattle.kr_space.proofs.slots.all_class_slots.Given as goal
 

@@ -1,9 +1,9 @@
 use Rattle.std.proofs.Common.{◌≡◌, fold, drop}
-use Rattle.kr_table.specs.Table.{headings_of}
-use Rattle.kr_domains.specs.Bounds.{setting_of}
-use Rattle.kr_domains.specs.Faults.{classes_S2}
-use Rattle.kr_domains.specs.Order.{lesser}
-use Rattle.kr_fitting.specs.Classes.{files_of}
+use Rattle.kr_classes_table.specs.Table.{headings_of}
+use Rattle.kr_space_meaning.specs.Bounds.{setting_of}
+use Rattle.kr_space_meaning.specs.Faults.{classes_S2}
+use Rattle.kr_space_meaning.specs.Order.{lesser}
+use Rattle.kr_space_rules.specs.Classes.{files_of}
 use Rattle.kr_space.proofs.undefined.note_undefined.Given as goal
 
 abbrev pub invariant-loop-class : goal.invariant-loop-class

@@ -1,12 +1,12 @@
 use Rattle.std.proofs.Common.{◌≡◌, ◌==◌, ◌+◌, ℕ, List, All, length, map, ap, sym, subst, ◌∙◌, arith}
 use Rattle.std.proofs.lemmas.List.{length-map}
-use Rattle.kr_table.specs.Table.{headings_of}
+use Rattle.kr_classes_table.specs.Table.{headings_of}
 use Rattle.kr_mean.specs.Problem.{slots}
-use Rattle.kr_problem.specs.declared.stretch.Block.{Block}
-use Rattle.kr_problem.specs.Stretches.{IsNumbered}
-use Rattle.kr_domains.specs.Bounds.{problem_of, setting_of, tested_parameters}
-use Rattle.kr_fitting.specs.Classes.{files_of}
-use Rattle.kr_numbers.specs.Entries.{bound_shown}
+use Rattle.kr_space_layout.specs.declared.stretch.Block.{Block}
+use Rattle.kr_space_layout.specs.Stretches.{IsNumbered}
+use Rattle.kr_space_meaning.specs.Bounds.{problem_of, setting_of, tested_parameters}
+use Rattle.kr_space_rules.specs.Classes.{files_of}
+use Rattle.kr_space_rules.specs.Entries.{bound_shown}
 use Rattle.kr_space.specs.Sizes.{counts_of}
 use Rattle.kr_space.specs.Slots.{slots_of_arrays, slots_of_classes}
 use Rattle.kr_space.proofs.Counts.{are_blocks}

@@ -1,10 +1,10 @@
 use Rattle.std.proofs.Common.{refl, ap, ◌∙◌, length, ℕ, List}
 use Rattle.kr_ast.specs.Arena.{Arena, name_in}
-use Rattle.kr_typing.specs.Scopes.{in_class}
-use Rattle.kr_typing.specs.Typing.{class_rule, has_constructor}
-use Rattle.kr_scopes.specs.Noting as noting
-use Rattle.kr_type_rules.specs.Shown.{note_shown}
-use Rattle.kr_expressions.specs.Notes.{typed_in}
+use Rattle.kr_types_meaning.specs.Scopes.{in_class}
+use Rattle.kr_types_meaning.specs.Typing.{class_rule, has_constructor}
+use Rattle.kr_types_meaning.specs.Noting as noting
+use Rattle.kr_types_judging.specs.Shown.{note_shown}
+use Rattle.kr_types_expressions.specs.Notes.{typed_in}
 use Rattle.kr_types.specs.Sites.{scope_here, tree_there}
 use Rattle.kr_types.proofs.Making.{made_of}
 use Rattle.kr_types.proofs.classes.declaration_note.Goals as goal

@@ -1,10 +1,10 @@
 use Rattle.std.proofs.Common.{refl, ap, ◌∙◌, length, ℕ, List}
 use Rattle.std.specs.Prelude.{Option}
 use Rattle.kr_ast.specs.Arena.{Arena, name_in, tree_in}
-use Rattle.kr_typing.specs.Scopes.{class_before}
-use Rattle.kr_scopes.specs.Noting as noting
-use Rattle.kr_type_rules.specs.Shown.{note_shown}
-use Rattle.kr_expressions.specs.Notes.{shown_notes, typed_in}
+use Rattle.kr_types_meaning.specs.Scopes.{class_before}
+use Rattle.kr_types_meaning.specs.Noting as noting
+use Rattle.kr_types_judging.specs.Shown.{note_shown}
+use Rattle.kr_types_expressions.specs.Notes.{shown_notes, typed_in}
 use Rattle.kr_types.specs.Programs.{setting_in}
 use Rattle.kr_types.specs.Sites.{scope_here, tree_there}
 use Rattle.kr_types.proofs.Making.{made_of, made_if}

@@ -1,10 +1,10 @@
 use Rattle.std.proofs.Common.{sym, ap, ◌∙◌, subst, List, length}
 use Rattle.kr_ast.specs.Arena.{Arena}
-use Rattle.kr_table.specs.Rules.{least}
-use Rattle.kr_members.specs.Shown.{table_in}
-use Rattle.kr_type_numbers.proofs.Growing.{number_kept}
-use Rattle.kr_type_rules.specs.Shown.{least_shown}
-use Rattle.kr_expressions.specs.Constructors.{AreSingle}
+use Rattle.kr_classes_table.specs.Rules.{least}
+use Rattle.kr_classes_members.specs.Shown.{table_in}
+use Rattle.kr_classes_types.proofs.Growing.{number_kept}
+use Rattle.kr_types_judging.specs.Shown.{least_shown}
+use Rattle.kr_types_expressions.specs.Constructors.{AreSingle}
 use Rattle.kr_types.specs.Programs.{AreTypedFiles}
 use Rattle.kr_types.specs.Refusals.{faults_in}
 use Rattle.kr_types.proofs.Faults.{all_faults, well_typed}

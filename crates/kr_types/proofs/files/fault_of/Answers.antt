@@ -1,6 +1,6 @@
 use Rattle.std.proofs.Common.{ap, ◌+◌, ◌-◌, ◌≡◌, length, arith}
 use Rattle.kr_ast.specs.Arena.{Arena}
-use Rattle.kr_names.specs.Shown.{file_at}
+use Rattle.kr_ast.specs.Files.{file_at}
 use Rattle.kr_types.proofs.Faults.{root_least}
 use Rattle.kr_types.proofs.files.fault_of.Goals as goal
 

@@ -1,6 +1,6 @@
 use Rattle.std.proofs.Common.{◌≡◌}
-use Rattle.kr_table.specs.Rules.{least}
-use Rattle.kr_type_rules.specs.Shown.{least_shown}
+use Rattle.kr_classes_table.specs.Rules.{least}
+use Rattle.kr_types_judging.specs.Shown.{least_shown}
 use Rattle.kr_types.specs.Refusals.{faults_in}
 use Rattle.kr_types.proofs.files.first_fault.Given as goal
 

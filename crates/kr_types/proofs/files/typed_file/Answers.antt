@@ -1,6 +1,6 @@
 use Rattle.std.proofs.Common.{subst}
 use Rattle.kr_ast.specs.Arena.{Arena}
-use Rattle.kr_scopes.specs.Scoped.{AreScopes}
+use Rattle.kr_types_scopes.specs.Scoped.{AreScopes}
 use Rattle.kr_types.proofs.files.typed_file.Goals as goal
 
 pub notes_of-requires : goal.notes_of-requires

@@ -1,10 +1,10 @@
 use Rattle.std.proofs.Common.{sym, ap, ◌∙◌, subst, length}
 use Rattle.kr_ast.specs.declared.node.Node.{Node}
 use Rattle.kr_ast.specs.Arena.{parts}
-use Rattle.kr_constants.specs.Frames.{AreBelow}
-use Rattle.kr_scopes.specs.Noting as noting
-use Rattle.kr_type_rules.specs.Shown.{note_shown}
-use Rattle.kr_expressions.specs.Notes.{shown_notes, typed_in}
+use Rattle.kr_ast.specs.Arena.{AreBelow}
+use Rattle.kr_types_meaning.specs.Noting as noting
+use Rattle.kr_types_judging.specs.Shown.{note_shown}
+use Rattle.kr_types_expressions.specs.Notes.{shown_notes, typed_in}
 use Rattle.kr_types.specs.Sites.{IsNoteOf}
 use Rattle.kr_types.proofs.Making.{made_of}
 use Rattle.kr_types.proofs.lists.link_note.Goals as goal

@@ -1,12 +1,12 @@
 use Rattle.std.proofs.Common.{sym, ap, ◌∙◌, length, ℕ, List}
 use Rattle.kr_ast.specs.Arena.{Arena, name_in}
-use Rattle.kr_table.specs.Constants.{values_of}
-use Rattle.kr_typing.specs.Rules as rules
-use Rattle.kr_scopes.specs.declared.within.Within.{Within}
-use Rattle.kr_members.specs.Shown.{table_in}
-use Rattle.kr_scopes.specs.Noting as noting
-use Rattle.kr_type_rules.specs.Shown.{note_shown}
-use Rattle.kr_expressions.specs.Notes.{typed_in}
+use Rattle.kr_classes_table.specs.Constants.{values_of}
+use Rattle.kr_types_meaning.specs.Rules as rules
+use Rattle.kr_types_scopes.specs.declared.within.Within.{Within}
+use Rattle.kr_classes_members.specs.Shown.{table_in}
+use Rattle.kr_types_meaning.specs.Noting as noting
+use Rattle.kr_types_judging.specs.Shown.{note_shown}
+use Rattle.kr_types_expressions.specs.Notes.{typed_in}
 use Rattle.kr_types.specs.Sites.{scope_here, scope_of, tree_there}
 use Rattle.kr_types.proofs.Making.{made_of}
 use Rattle.kr_types.proofs.names.name_note.Goals as goal

@@ -1,8 +1,8 @@
 use Rattle.std.proofs.Common.{refl, sym, ap, subst, ◌<◌, ◌≡◌, length, arith}
 use Rattle.std.proofs.lemmas.List.{length-append}
 use Rattle.kr_ast.specs.Arena.{Arena, IsArena}
-use Rattle.kr_type_numbers.proofs.Growing.{extends_on}
-use Rattle.kr_type_rules.specs.declared.notes.Note.{Note}
+use Rattle.kr_classes_types.proofs.Growing.{extends_on}
+use Rattle.kr_types_judging.specs.declared.notes.Note.{Note}
 use Rattle.kr_types.specs.Sites.{AreNoted, tree_there}
 use Rattle.kr_types.proofs.Passing.{judged_there, noted_more, site_kept}
 use Rattle.kr_types.proofs.notes.notes_of.Goals as goal

@@ -1,5 +1,5 @@
 use Rattle.std.proofs.Common.{sym}
-use Rattle.kr_expressions.proofs.Notes.{shown_at}
+use Rattle.kr_types_expressions.proofs.Notes.{shown_at}
 use Rattle.kr_types.proofs.Making.{rest_on}
 use Rattle.kr_types.proofs.site.part_note.Goals as goal
 

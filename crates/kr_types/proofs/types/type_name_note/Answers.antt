@@ -2,10 +2,10 @@ use Rattle.std.proofs.Common.{refl, ap, ◌∙◌, length}
 use Rattle.kr_ast.specs.declared.node.Node.{Node}
 use Rattle.kr_ast.specs.Arena.{tree_in, tree_of}
 use Rattle.kr_ast.specs.Tree.{Tree}
-use Rattle.kr_typing.specs.Rules as rules
-use Rattle.kr_typing.specs.Scopes.{written}
-use Rattle.kr_scopes.specs.Noting as noting
-use Rattle.kr_expressions.specs.Notes.{typed_in}
+use Rattle.kr_types_meaning.specs.Rules as rules
+use Rattle.kr_types_meaning.specs.Scopes.{written}
+use Rattle.kr_types_meaning.specs.Noting as noting
+use Rattle.kr_types_expressions.specs.Notes.{typed_in}
 use Rattle.kr_types.specs.Sites.{scope_here, tree_there}
 use Rattle.kr_types.proofs.Making.{made_of}
 use Rattle.kr_types.proofs.types.type_name_note.Goals as goal

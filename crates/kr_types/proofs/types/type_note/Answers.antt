@@ -1,11 +1,11 @@
 use Rattle.std.proofs.Common.{refl, ap, ◌∙◌, length}
 use Rattle.kr_ast.specs.Arena.{tree_in}
-use Rattle.kr_table.specs.Table.{applied}
-use Rattle.kr_typing.specs.Rules as rules
-use Rattle.kr_typing.specs.Scopes.{written}
-use Rattle.kr_scopes.specs.Noting as noting
-use Rattle.kr_type_numbers.proofs.Growing.{extends_itself}
-use Rattle.kr_expressions.specs.Notes.{typed_in}
+use Rattle.kr_classes_table.specs.Table.{applied}
+use Rattle.kr_types_meaning.specs.Rules as rules
+use Rattle.kr_types_meaning.specs.Scopes.{written}
+use Rattle.kr_types_meaning.specs.Noting as noting
+use Rattle.kr_classes_types.proofs.Growing.{extends_itself}
+use Rattle.kr_types_expressions.specs.Notes.{typed_in}
 use Rattle.kr_types.specs.Sites.{scope_here, tree_there}
 use Rattle.kr_types.proofs.Making.{made_if, part_grown}
 use Rattle.kr_types.proofs.types.type_note.Goals as goal

@@ -1,8 +1,8 @@
 use Rattle.std.proofs.Common.{refl, ap, ◌∙◌, length}
-use Rattle.kr_scopes.specs.Noting as noting
-use Rattle.kr_typing.specs.Rules as rules
-use Rattle.kr_type_rules.specs.Shown.{note_shown}
-use Rattle.kr_expressions.specs.Notes.{shown_notes, typed_in}
+use Rattle.kr_types_meaning.specs.Noting as noting
+use Rattle.kr_types_meaning.specs.Rules as rules
+use Rattle.kr_types_judging.specs.Shown.{note_shown}
+use Rattle.kr_types_expressions.specs.Notes.{shown_notes, typed_in}
 use Rattle.kr_types.specs.Programs.{setting_in}
 use Rattle.kr_types.specs.Sites.{scope_here}
 use Rattle.kr_types.proofs.Making.{made_of}

@@ -1,5 +1,5 @@
 use Rattle.std.proofs.Common.{◌<◌, ◌+◌, ◌^◌, arith, rules}
-use Rattle.kr_problem.specs.Bounds.{bare}
+use Rattle.kr_space_layout.specs.Bounds.{bare}
 use Rattle.kr_build.proofs.Rows.{roots_inside}
 use Rattle.kr_build.proofs.walk.Walk.walk.Goals as goal
 

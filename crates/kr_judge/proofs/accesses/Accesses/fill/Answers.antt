@@ -2,7 +2,7 @@ use Rattle.std.proofs.Common.{◌≡◌, ◌∙◌, [], List, ℕ, ap, length, s
 use Rattle.std.specs.Prelude.{if◌then◌else◌, reverse}
 use Rattle.kr_mean.specs.Heaps.{walk}
 use Rattle.kr_mean.specs.Runs.{is_accepted, slots_for}
-use Rattle.kr_problem.specs.Bounds.{bare}
+use Rattle.kr_space_layout.specs.Bounds.{bare}
 use Rattle.kr_judge.specs.Follows.{AreOf}
 use Rattle.kr_judge.specs.Runs.{end_said}
 use Rattle.kr_judge.proofs.Follows.{front_is}

@@ -1,7 +1,7 @@
 use Rattle.std.proofs.Common.{[], refl}
 use Rattle.std.specs.Prelude.{flat_map}
 use Rattle.kr_mean.specs.Runs.{slots_for}
-use Rattle.kr_problem.specs.Bounds.{bare}
+use Rattle.kr_space_layout.specs.Bounds.{bare}
 use Rattle.kr_judge.specs.Orders.{with_slots}
 use Rattle.kr_judge.proofs.Ends.{order_is}
 use Rattle.kr_judge.proofs.judge.Judge.run.Goals as goal

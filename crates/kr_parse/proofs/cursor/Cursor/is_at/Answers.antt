@@ -1,6 +1,6 @@
 use Rattle.std.proofs.Common.{rules, ◌<◌, length, sym, ◌∙◌, arith}
 use denote.Enum.Bare.{same_true, same_false}
-use Rattle.kr_grammar.specs.contracts.terminal.Terminal.{the_type}
+use Rattle.kr_parse_grammar.specs.contracts.terminal.Terminal.{the_type}
 use Rattle.kr_parse.proofs.Ahead.{terminal_ahead}
 use Rattle.kr_parse.proofs.cursor.Cursor.is_at.Goals as goal
 

@@ -2,7 +2,7 @@ use Rattle.std.proofs.Common.{◌≡◌, refl, sym, ◌∙◌, subst, length, ar
 use Rattle.std.specs.Prelude.{Some, slice_get}
 use Rattle.std.proofs.lemmas.Option.{slice_get_read}
 use Rattle.kr_types.specs.declared.program.TypedFile.{TypedFile}
-use Rattle.kr_expressions.specs.Notes.{typed_in}
+use Rattle.kr_types_expressions.specs.Notes.{typed_in}
 use Rattle.kr_types.proofs.Faults.{type_there}
 use Rattle.kr_types.proofs.program.Program.type_of.Goals as goal
 

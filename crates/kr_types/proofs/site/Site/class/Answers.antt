@@ -1,9 +1,9 @@
 use Rattle.std.proofs.Common.{ap, ◌∙◌, arith}
 use Rattle.kr_ast.specs.Arena.{Arena}
 use Rattle.std.proofs.Common.{length}
-use Rattle.kr_table.specs.Constants.{values_of}
-use Rattle.kr_members.specs.Shown.{table_in}
-use Rattle.kr_scopes.specs.Settings.{class_number, class_there}
+use Rattle.kr_classes_table.specs.Constants.{values_of}
+use Rattle.kr_classes_members.specs.Shown.{table_in}
+use Rattle.kr_types_scopes.specs.Settings.{class_number, class_there}
 use Rattle.kr_types.specs.Programs.{setting_in}
 use Rattle.kr_types.specs.Sites.{tree_there}
 use Rattle.kr_types.proofs.Absent.{no_tree}

@@ -1,5 +1,5 @@
 use Rattle.std.proofs.Common.{[], arith}
-use Rattle.kr_members.specs.Shown.{table_in}
+use Rattle.kr_classes_members.specs.Shown.{table_in}
 use Rattle.kr_types.proofs.site.Site.here.Goals as goal
 
 pub at-requires : goal.at-requires

@@ -1,3 +1,0 @@
-pub mod Walks
-pub mod Collected
-pub mod Numbers

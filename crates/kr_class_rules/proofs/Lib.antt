@@ -1,4 +1,0 @@
-pub mod Unbroken
-pub mod Chains
-pub mod Declared
-pub mod Overriding

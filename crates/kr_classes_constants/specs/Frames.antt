@@ -1,0 +1,95 @@
+-- Between crates: what an expression comes to, with what is still to be done on the way.
+use Rattle.std.specs.Prelude.{ℕ, ◌+◌, ◌*◌, ◌<◌, pos, List, [], ◌∷◌, if◌then◌else◌, Some, None}
+use Rattle.kr_base.specs.declared.place.Place.{Place}
+use Rattle.kr_ast.specs.Tree.{size}
+use Rattle.kr_ast.specs.declared.node.Node.{Node}
+use Rattle.kr_ast.specs.declared.node.Node.TheVariants as nodes
+use Rattle.kr_ast.specs.Arena.{Arena, name_in, tree_in, tree_of}
+use Rattle.kr_classes_table.specs.Table.{Table}
+use Rattle.kr_classes_table.specs.Constants.{Known, Absent, whole as whole_value, truth, value_of, field_meant, constant_of, class_meant, is_primitive}
+use Rattle.kr_classes_constants.specs.declared.frames.Frame.{Frame}
+use Rattle.kr_classes_constants.specs.declared.frames.Frame.TheVariants.{Operand, Left, Right, Condition, Holds, Fails}
+use Rattle.kr_classes_constants.specs.declared.frames.Task.{Task}
+use Rattle.kr_classes_constants.specs.declared.frames.Task.TheVariants.{Look, Give}
+use Rattle.kr_classes_constants.specs.Outcomes.{Outcome, outcome_of, unary_outcome, binary_outcome, conditional_outcome, known_outcome, note_shown}
+
+-- where an expression stands: the class table, the constants that are known, the class, and the tree of its file
+pub record Setting : Type 0 where
+  pub table : Table
+  pub known : List Known
+  pub class : ℕ
+  pub tree : Arena
+
+abbrev pub setting : Table → List Known → ℕ → Arena → Setting
+setting t known c a = record { table = t; known = known; class = c; tree = a }
+
+-- what the expression at a node comes to
+abbrev pub outcome_at : Setting → ℕ → Outcome
+outcome_at s i = outcome_of s.table s.known s.class (tree_in s.tree i)
+
+-- what it comes to from what its parts come to
+abbrev pub node_outcome : Setting → Node → Outcome
+node_outcome s (nodes.Number n) = Some (whole_value (pos n))
+node_outcome s (nodes.Truth b) = Some (truth b)
+node_outcome s nodes.Null = Some (Some Absent)
+node_outcome s (nodes.Variable n) = known_outcome (value_of s.known (field_meant s.table s.class (name_in s.tree.text n)))
+node_outcome s (nodes.FieldAccess x n) = known_outcome (value_of s.known (constant_of s.table (class_meant s.table s.class (tree_in s.tree x)) (name_in s.tree.text n)))
+node_outcome s (nodes.Unary o x) = unary_outcome o (outcome_at s x)
+node_outcome s (nodes.Binary o x y) = binary_outcome o (outcome_at s x) (outcome_at s y)
+node_outcome s (nodes.Conditional x y z) = conditional_outcome (outcome_at s x) (outcome_at s y) (outcome_at s z)
+node_outcome s (nodes.Cast k x) = if is_primitive (tree_in s.tree k) then outcome_at s x else None
+node_outcome s _ = None
+
+abbrev pub given : Setting → Task → Outcome
+given s (Look i) = outcome_at s i
+given s (Give v) = note_shown v
+
+-- what the whole comes to, where what the innermost frame waits for comes to this
+abbrev pub resumed : Setting → List Frame → Outcome → Outcome
+resumed s [] v = v
+resumed s (Operand o ∷ fs) v = resumed s fs (unary_outcome o v)
+resumed s (Left o b ∷ fs) v = resumed s fs (binary_outcome o v (outcome_at s b))
+resumed s (Right o a ∷ fs) v = resumed s fs (binary_outcome o (note_shown a) v)
+resumed s (Condition a b ∷ fs) v = resumed s fs (conditional_outcome v (outcome_at s a) (outcome_at s b))
+resumed s (Holds c b ∷ fs) v = resumed s fs (conditional_outcome (note_shown c) v (outcome_at s b))
+resumed s (Fails c a ∷ fs) v = resumed s fs (conditional_outcome (note_shown c) (note_shown a) v)
+
+abbrev pub whole : Setting → Task → List Frame → Outcome
+whole s task fs = resumed s fs (given s task)
+
+-- ---- each node is one of the tree
+
+abbrev pub IsWithin : ℕ → Task → Type 0
+IsWithin n (Look i) = i < n
+IsWithin n (Give v) = Unit {0}
+
+abbrev pub AreWithin : ℕ → List Frame → Type 0
+AreWithin n [] = Unit {0}
+AreWithin n (Operand o ∷ fs) = AreWithin n fs
+AreWithin n (Left o b ∷ fs) = (b < n) × AreWithin n fs
+AreWithin n (Right o a ∷ fs) = AreWithin n fs
+AreWithin n (Condition a b ∷ fs) = (a < n) × (b < n) × AreWithin n fs
+AreWithin n (Holds c b ∷ fs) = (b < n) × AreWithin n fs
+AreWithin n (Fails c a ∷ fs) = AreWithin n fs
+
+-- ---- how much is still to be done
+
+abbrev pub node_weight : Arena → ℕ → ℕ
+node_weight a i = 2 * size (tree_in a i)
+
+-- the same of a node with these parts
+abbrev pub tree_weight : Arena → Place → Node → ℕ
+tree_weight a p n = 2 * size (tree_of a.text (tree_in a) p n)
+
+abbrev pub frame_weights : Arena → List Frame → ℕ
+frame_weights a [] = 0
+frame_weights a (Operand o ∷ fs) = 1 + frame_weights a fs
+frame_weights a (Left o r ∷ fs) = node_weight a r + (1 + frame_weights a fs)
+frame_weights a (Right o l ∷ fs) = 1 + frame_weights a fs
+frame_weights a (Condition h f ∷ fs) = node_weight a h + (node_weight a f + (1 + frame_weights a fs))
+frame_weights a (Holds c f ∷ fs) = node_weight a f + (1 + frame_weights a fs)
+frame_weights a (Fails c h ∷ fs) = 1 + frame_weights a fs
+
+abbrev pub weights : Arena → Task → List Frame → ℕ
+weights a (Look i) fs = node_weight a i + frame_weights a fs
+weights a (Give v) fs = 1 + frame_weights a fs

@@ -1,0 +1,120 @@
+// What is still to be done with what is found of a part of an expression, up to the whole.
+ghost use Rattle.std.specs.Prelude.{◌≡◌, ◌<◌, ℕ, ◌∷◌, [], IfOk, OnOk, MatchOption};
+ghost use Rattle.kr_ast.specs.Arena.{Arena};
+ghost use Rattle.kr_classes_constants.specs.declared.frames.Task.TheVariants.{Give};
+ghost use Rattle.kr_classes_constants.specs.Frames.{AreWithin, IsWithin, Setting, weights, whole};
+
+use crate::note::{Note, binary_note, conditional_note, unary_note};
+use kr_ast::{BinaryOperator, UnaryOperator};
+use kr_base::NoMemory;
+use std::alloc::Global;
+use std::marker::Model;
+
+/// What is waited for, with what was found before: the operand of a unary operator, the left operand, the right one, the
+/// condition, and the two arms.
+#[derive(Clone, Copy, Debug)]
+pub(crate) enum Frame {
+    Operand(UnaryOperator),
+    Left {
+        operator: BinaryOperator,
+        right: u32,
+    },
+    Right {
+        operator: BinaryOperator,
+        left: Note,
+    },
+    Condition {
+        holds: u32,
+        fails: u32,
+    },
+    Holds {
+        condition: Note,
+        fails: u32,
+    },
+    Fails {
+        condition: Note,
+        holds: Note,
+    },
+}
+
+/// A node to be looked at, or what was found of one.
+#[derive(Clone, Copy, Debug)]
+pub(crate) enum Task {
+    Look(u32),
+    Give(Note),
+}
+
+/// Frames, the innermost on top. Contracts see the list of them, the innermost first.
+#[derive(Drop)]
+pub(crate) struct Frames {
+    items: Vec<Frame>,
+}
+
+impl Model for Frames {
+    ghost use Rattle.std.specs.Prelude.{List, reverse};
+    ghost use Rattle.kr_classes_constants.specs.declared.frames.Frame.{Frame};
+
+    ghost Value = { List Frame };
+
+    ghost view = { λ s. reverse s.items.items };
+}
+
+impl Frames {
+    /// No frames. It takes no memory.
+    pub(crate) fn new(alloc: Global) -> Self
+        ensures { result ≡ [] }
+    {
+        Frames {
+            items: Vec::new(alloc),
+        }
+    }
+
+    pub(crate) fn push(&mut self, frame: Frame) -> Result<(), NoMemory>
+        ensures { OnOk result (self.new ≡ frame ∷ self.old) }
+    {
+        self.items.push(frame)?;
+        Ok(())
+    }
+
+    pub(crate) fn pop(&mut self) -> Option<Frame>
+        ensures { MatchOption result ((self.old ≡ []) × (self.new ≡ [])) (λ frame. self.old ≡ frame ∷ self.new) }
+    {
+        self.items.pop()
+    }
+}
+
+/// Goes on behind a frame with what it waited for.
+pub(crate) fn resume(frames: &mut Frames, frame: Frame, note: Note) -> Result<Task, NoMemory>
+    ensures within { IfOk result (λ task. (n : ℕ) → AreWithin n (frame ∷ frames.old) → IsWithin n task × AreWithin n frames.new) }
+    ensures light { IfOk result (λ task. (a : Arena) → weights a task frames.new < weights a (Give note) (frame ∷ frames.old)) }
+    ensures same { IfOk result (λ task. (s : Setting) → whole s task frames.new ≡ whole s (Give note) (frame ∷ frames.old)) }
+{
+    match frame {
+        Frame::Operand(operator) => Ok(Task::Give(unary_note(operator, note))),
+        Frame::Left { operator, right } => {
+            frames.push(Frame::Right {
+                operator,
+                left: note,
+            })?;
+            Ok(Task::Look(right))
+        }
+        Frame::Right { operator, left } => Ok(Task::Give(binary_note(operator, left, note))),
+        Frame::Condition { holds, fails } => {
+            frames.push(Frame::Holds {
+                condition: note,
+                fails,
+            })?;
+            Ok(Task::Look(holds))
+        }
+        Frame::Holds { condition, fails } => {
+            frames.push(Frame::Fails {
+                condition,
+                holds: note,
+            })?;
+            Ok(Task::Look(fails))
+        }
+        Frame::Fails { condition, holds } => {
+            Ok(Task::Give(conditional_note(condition, holds, note)))
+        }
+    }
+}

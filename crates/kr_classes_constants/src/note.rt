@@ -1,0 +1,75 @@
+// What is found of an expression that may be a constant one, and how it follows from what is found of its operands.
+ghost use Rattle.std.specs.Prelude.{◌≡◌, Some};
+ghost use Rattle.kr_classes_operators.specs.Shown.{shown};
+ghost use Rattle.kr_classes_constants.specs.Outcomes.{binary_outcome, conditional_outcome, known_outcome, note_shown, unary_outcome};
+
+use kr_ast::{BinaryOperator, UnaryOperator};
+use kr_classes_operators::{Constant, binary, unary};
+
+/// What is found of an expression.
+#[derive(Clone, Copy, Debug)]
+pub(crate) enum Note {
+    /// It is no constant expression.
+    NotConstant,
+    /// It is one, but a zero divisor is met.
+    NoValue,
+    Value(Constant),
+}
+
+impl Note {
+    /// Of a constant expression with this value, if any.
+    pub(crate) fn of(value: Option<Constant>) -> Note
+        ensures { note_shown result ≡ Some (shown value) }
+    {
+        match value {
+            None => Note::NoValue,
+            Some(value) => Note::Value(value),
+        }
+    }
+
+    /// Of a name that means a constant with this value, or none.
+    pub(crate) fn of_known(value: Option<Constant>) -> Note
+        ensures { note_shown result ≡ known_outcome (shown value) }
+    {
+        match value {
+            None => Note::NotConstant,
+            Some(value) => Note::Value(value),
+        }
+    }
+}
+
+pub(crate) fn unary_note(operator: UnaryOperator, operand: Note) -> Note
+    ensures { note_shown result ≡ unary_outcome operator (note_shown operand) }
+{
+    match operand {
+        Note::NotConstant => Note::NotConstant,
+        Note::NoValue => Note::NoValue,
+        Note::Value(value) => Note::of(unary(operator, value)),
+    }
+}
+
+/// The right operand counts only where it is needed.
+pub(crate) fn binary_note(operator: BinaryOperator, left: Note, right: Note) -> Note
+    ensures { note_shown result ≡ binary_outcome operator (note_shown left) (note_shown right) }
+{
+    match (operator, left, right) {
+        (_, Note::NotConstant, _) | (_, _, Note::NotConstant) => Note::NotConstant,
+        (BinaryOperator::And, Note::Value(Constant::Boolean(false)), _) => left,
+        (BinaryOperator::Or, Note::Value(Constant::Boolean(true)), _) => left,
+        (_, Note::Value(a), Note::Value(b)) => Note::of(binary(operator, a, b)),
+        _ => Note::NoValue,
+    }
+}
+
+pub(crate) fn conditional_note(condition: Note, holds: Note, fails: Note) -> Note
+    ensures { note_shown result ≡ conditional_outcome (note_shown condition) (note_shown holds) (note_shown fails) }
+{
+    match (condition, holds, fails) {
+        (Note::NotConstant, _, _) | (_, Note::NotConstant, _) | (_, _, Note::NotConstant) => {
+            Note::NotConstant
+        }
+        (Note::Value(Constant::Boolean(true)), _, _) => holds,
+        (Note::Value(Constant::Boolean(false)), _, _) => fails,
+        _ => Note::NoValue,
+    }
+}

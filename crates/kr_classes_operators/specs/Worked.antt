@@ -1,0 +1,141 @@
+-- Between crates: what the operators give, worked by hand from the Java Language Specification 15.15 to 15.24, most of it at the
+-- edges of the ints.
+use Rattle.std.specs.Prelude.{◌≡◌, ℤ, pos, negsuc, true, false, List, [], ◌∷◌, Option, Some, None}
+use Rattle.kr_ast.specs.declared.node.UnaryOperator.TheVariants.{Plus, Minus, Complement, Not}
+use Rattle.kr_ast.specs.declared.node.BinaryOperator.{BinaryOperator}
+use Rattle.kr_ast.specs.declared.node.BinaryOperator.TheVariants.{Multiply, Divide, Remainder, Add, Subtract, ShiftLeft, ShiftRight, ShiftRightUnsigned, Less, Greater, LessOrEqual, GreaterOrEqual, Equal, NotEqual, BitAnd, BitXor, BitOr, And, Or}
+use Rattle.kr_classes_table.specs.Constants.{ConstantValue, Whole, Truth, Absent, unary_value, of_values, binary_value, chosen}
+
+-- -n
+abbrev pub minus_one : ℤ
+minus_one = negsuc 0
+
+abbrev pub least : ℤ
+least = negsuc 2147483647
+
+abbrev pub greatest : ℤ
+greatest = pos 2147483647
+
+abbrev pub on_ints : BinaryOperator → ℤ → ℤ → Option ConstantValue
+on_ints o a b = of_values o (Whole a) (Whole b)
+
+-- -5 with 3, 4 with 4, 3 with -5
+abbrev pub compared : BinaryOperator → List (Option ConstantValue)
+compared o = on_ints o (negsuc 4) (pos 3) ∷ on_ints o (pos 4) (pos 4) ∷ on_ints o (pos 3) (negsuc 4) ∷ []
+
+-- true with true, true with false, false with true, false with false
+abbrev pub on_truths : BinaryOperator → List (Option ConstantValue)
+on_truths o =
+    of_values o (Truth true) (Truth true)
+    ∷ of_values o (Truth true) (Truth false)
+    ∷ of_values o (Truth false) (Truth true)
+    ∷ of_values o (Truth false) (Truth false)
+    ∷ []
+
+abbrev pub int : ℤ → Option ConstantValue
+int z = Some (Whole z)
+
+abbrev pub holds : Option ConstantValue
+holds = Some (Truth true)
+
+abbrev pub fails : Option ConstantValue
+fails = Some (Truth false)
+
+pub record WorkedOperators : Type 0 where
+  -- one operand
+  pub plus : unary_value Plus (Whole least) ≡ int least
+  pub minus : unary_value Minus (Whole (pos 5)) ≡ int (negsuc 4)
+  pub minus_least : unary_value Minus (Whole least) ≡ int least
+  pub complement : unary_value Complement (Whole (pos 7)) ≡ int (negsuc 7)
+  pub minus_negative : unary_value Minus (Whole (negsuc 4)) ≡ int (pos 5)
+  pub complement_least : unary_value Complement (Whole least) ≡ int greatest
+  pub «not» : unary_value Not (Truth true) ≡ fails
+  pub not_false : unary_value Not (Truth false) ≡ holds
+  pub not_of_int : unary_value Not (Whole (pos 1)) ≡ None
+  pub minus_of_truth : unary_value Minus (Truth true) ≡ None
+  -- sums and products wrap
+  pub sum : on_ints Add (negsuc 6) (pos 3) ≡ int (negsuc 3)
+  pub difference : on_ints Subtract (pos 3) (negsuc 6) ≡ int (pos 10)
+  pub over : on_ints Add greatest (pos 1) ≡ int least
+  pub under : on_ints Subtract least (pos 1) ≡ int greatest
+  pub least_less_itself : on_ints Subtract (pos 0) least ≡ int least
+  pub squared : on_ints Multiply (pos 65536) (pos 65536) ≡ int (pos 0)
+  pub half : on_ints Multiply (pos 65536) (pos 32768) ≡ int least
+  pub greatest_squared : on_ints Multiply greatest greatest ≡ int (pos 1)
+  pub opposite : on_ints Multiply least minus_one ≡ int least
+  pub mixed : on_ints Multiply (negsuc 2) (pos 4) ≡ int (negsuc 11)
+  -- quotients are rounded toward zero, remainders have the dividend's sign
+  pub divided : on_ints Divide (negsuc 6) (pos 2) ≡ int (negsuc 2)
+  pub divided_by_negative : on_ints Divide (pos 7) (negsuc 1) ≡ int (negsuc 2)
+  pub negatives_divided : on_ints Divide (negsuc 6) (negsuc 1) ≡ int (pos 3)
+  pub least_divided : on_ints Divide least minus_one ≡ int least
+  pub by_zero : on_ints Divide (pos 1) (pos 0) ≡ None
+  pub left_over : on_ints Remainder (negsuc 6) (pos 4) ≡ int (negsuc 2)
+  pub left_over_by_negative : on_ints Remainder (pos 7) (negsuc 3) ≡ int (pos 3)
+  pub least_left_over : on_ints Remainder least minus_one ≡ int (pos 0)
+  pub left_over_by_zero : on_ints Remainder (pos 0) (pos 0) ≡ None
+  -- shifts go by the low five bits of the distance
+  pub left_31 : on_ints ShiftLeft (pos 1) (pos 31) ≡ int least
+  pub left_32 : on_ints ShiftLeft (pos 1) (pos 32) ≡ int (pos 1)
+  pub left_33 : on_ints ShiftLeft (pos 1) (pos 33) ≡ int (pos 2)
+  pub left_by_negative : on_ints ShiftLeft (pos 3) minus_one ≡ int least
+  pub left_lost : on_ints ShiftLeft greatest (pos 1) ≡ int (negsuc 1)
+  pub right : on_ints ShiftRight (negsuc 8) (pos 1) ≡ int (negsuc 4)
+  pub right_31 : on_ints ShiftRight least (pos 31) ≡ int minus_one
+  pub right_32 : on_ints ShiftRight least (pos 32) ≡ int least
+  pub right_33 : on_ints ShiftRight greatest (pos 33) ≡ int (pos 1073741823)
+  pub right_by_negative : on_ints ShiftRight least minus_one ≡ int minus_one
+  pub unsigned : on_ints ShiftRightUnsigned minus_one (pos 1) ≡ int greatest
+  pub unsigned_31 : on_ints ShiftRightUnsigned least (pos 31) ≡ int (pos 1)
+  pub unsigned_32 : on_ints ShiftRightUnsigned minus_one (pos 32) ≡ int minus_one
+  pub unsigned_33 : on_ints ShiftRightUnsigned least (pos 33) ≡ int (pos 1073741824)
+  pub unsigned_by_negative : on_ints ShiftRightUnsigned minus_one minus_one ≡ int (pos 1)
+  -- comparisons know signs
+  pub less : compared Less ≡ holds ∷ fails ∷ fails ∷ []
+  pub greater : compared Greater ≡ fails ∷ fails ∷ holds ∷ []
+  pub at_most : compared LessOrEqual ≡ holds ∷ holds ∷ fails ∷ []
+  pub at_least : compared GreaterOrEqual ≡ fails ∷ holds ∷ holds ∷ []
+  pub equal : compared Equal ≡ fails ∷ holds ∷ fails ∷ []
+  pub unequal : compared NotEqual ≡ holds ∷ fails ∷ holds ∷ []
+  pub edges : on_ints Less greatest least ≡ fails
+  pub negatives : on_ints Less (negsuc 4) (negsuc 3) ≡ holds
+  pub same_digits : on_ints Equal (pos 1) (negsuc 1) ≡ fails
+  -- bit by bit
+  pub both : on_ints BitAnd (pos 12) (pos 10) ≡ int (pos 8)
+  pub both_negative : on_ints BitAnd minus_one least ≡ int least
+  pub either : on_ints BitOr (pos 12) least ≡ int (negsuc 2147483635)
+  pub either_positive : on_ints BitOr (pos 12) (pos 10) ≡ int (pos 14)
+  pub differing : on_ints BitXor (pos 12) (pos 10) ≡ int (pos 6)
+  pub differing_negative : on_ints BitXor minus_one greatest ≡ int least
+  pub and_of_ints : on_ints And (pos 1) (pos 1) ≡ None
+  pub or_of_ints : on_ints Or (pos 1) (pos 1) ≡ None
+  -- booleans
+  pub truths_equal : on_truths Equal ≡ holds ∷ fails ∷ fails ∷ holds ∷ []
+  pub truths_unequal : on_truths NotEqual ≡ fails ∷ holds ∷ holds ∷ fails ∷ []
+  pub truths_both : on_truths BitAnd ≡ holds ∷ fails ∷ fails ∷ fails ∷ []
+  pub truths_differ : on_truths BitXor ≡ fails ∷ holds ∷ holds ∷ fails ∷ []
+  pub truths_either : on_truths BitOr ≡ holds ∷ holds ∷ holds ∷ fails ∷ []
+  pub truths_and : on_truths And ≡ holds ∷ fails ∷ fails ∷ fails ∷ []
+  pub truths_or : on_truths Or ≡ holds ∷ holds ∷ holds ∷ fails ∷ []
+  pub truths_less : on_truths Less ≡ None ∷ None ∷ None ∷ None ∷ []
+  pub truths_added : on_truths Add ≡ None ∷ None ∷ None ∷ None ∷ []
+  -- null, and operands that don't fit together
+  pub nulls_equal : of_values Equal Absent Absent ≡ holds
+  pub nulls_unequal : of_values NotEqual Absent Absent ≡ fails
+  pub nulls_less : of_values Less Absent Absent ≡ None
+  pub unlike : of_values Equal (Whole (pos 0)) (Truth false) ≡ None
+  pub unlike_null : of_values Equal Absent (Whole (pos 0)) ≡ None
+  -- `&&` and `||` need their right operand only where the left one doesn't settle them; `&` needs both
+  pub and_settled : binary_value And (Some (Truth false)) None ≡ fails
+  pub or_settled : binary_value Or (Some (Truth true)) None ≡ holds
+  pub and_needed : binary_value And (Some (Truth true)) None ≡ None
+  pub or_needed : binary_value Or (Some (Truth false)) (Some (Truth true)) ≡ holds
+  pub and_right : binary_value And (Some (Truth true)) (Some (Truth false)) ≡ fails
+  pub both_needed : binary_value BitAnd (Some (Truth false)) None ≡ None
+  pub left_needed : binary_value Or None (Some (Truth true)) ≡ None
+  -- of `?:` only the arm that is chosen counts
+  pub chosen_first : chosen (Some (Truth true)) (int (pos 1)) None ≡ int (pos 1)
+  pub chosen_second : chosen (Some (Truth false)) None (int (pos 2)) ≡ int (pos 2)
+  pub chosen_without : chosen (Some (Truth true)) None (int (pos 2)) ≡ None
+  pub condition_needed : chosen None (int (pos 1)) (int (pos 1)) ≡ None
+  pub condition_of_int : chosen (Some (Whole (pos 1))) (int (pos 1)) (int (pos 1)) ≡ None

@@ -1,0 +1,11 @@
+pub mod There
+pub mod Upward
+pub mod Declared
+pub mod Initial
+pub mod Assembled
+pub mod Rows
+pub mod Lines
+pub mod Nowhere
+pub mod Names
+pub mod Numbered
+pub mod Forms

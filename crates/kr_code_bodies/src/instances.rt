@@ -1,0 +1,120 @@
+// Which classes and array types are instances of a type.
+ghost use Rattle.std.specs.Prelude.{◌≡◌, ◌<◌, List, IfOk, All, false, map};
+ghost use Rattle.kr_ast.specs.Arena.{Arena};
+ghost use Rattle.kr_classes_table.specs.Types.{JavaType, is_same};
+ghost use Rattle.kr_classes_table.specs.Table.{is_below};
+ghost use Rattle.kr_classes_members.specs.Shown.{table_in};
+ghost use Rattle.kr_classes_members.specs.Kept.{AreMembers};
+ghost use Rattle.kr_classes_types.specs.Types.{count, type_at};
+ghost use Rattle.kr_code_bodies.specs.Rows.{AreRows, IsRow};
+ghost use Rattle.kr_code_bodies.specs.Tabled.{IsArrayInstance, IsInstance};
+
+use kr_base::NoMemory;
+use kr_classes_members::Members;
+use kr_classes_types::{TypeForm, Types};
+use std::alloc::Global;
+
+/// Of each class whether it is the given one or below it. The given one has a column, though no class may have the number.
+fn heirs(alloc: Global, members: &Members, class: u32) -> Result<Vec<bool>, NoMemory>
+    ensures { (files : List Arena) → AreMembers files members.now → IfOk result (λ row. IsRow false (λ c b. b ≡ is_below (table_in files) c class) row.items) }
+{
+    let columns = members.len().max(class as usize + 1);
+    if columns > 0xffff_ffff {
+        return Err(NoMemory);
+    }
+    let mut row = Vec::new(alloc);
+    for column in 0..columns as u32 {
+        row.push(members.is_below(column, class))?;
+    }
+    Ok(row)
+}
+
+/// Of each class whether its objects are of a type.
+fn instance_row(
+    alloc: Global,
+    members: &Members,
+    types: &Types,
+    number: u32,
+) -> Result<Vec<bool>, NoMemory>
+    requires { number < count types.now }
+    ensures { (files : List Arena) (arrays : List JavaType) → AreMembers files members.now → IfOk result (λ row. IsRow false (IsInstance files arrays (type_at types.now number)) row.items) }
+{
+    match types.form(number) {
+        TypeForm::Class(class) => heirs(alloc, members, class),
+        _ => Ok(Vec::new(alloc)),
+    }
+}
+
+/// A row for each type.
+pub(crate) fn instances(
+    alloc: Global,
+    members: &Members,
+    types: &Types,
+) -> Result<Vec<Vec<bool>>, NoMemory>
+    ensures { (files : List Arena) (arrays : List JavaType) → AreMembers files members.now → IfOk result (λ rows. AreRows false (λ k. IsInstance files arrays (type_at types.now k)) rows.items) }
+{
+    let count = types.len();
+    if count > 0xffff_ffff {
+        return Err(NoMemory);
+    }
+    let mut rows = Vec::new(alloc);
+    for number in 0..count as u32 {
+        rows.push(instance_row(alloc, members, types, number)?)?;
+    }
+    Ok(rows)
+}
+
+/// Of each array type whether it is the given type.
+fn same_arrays(
+    alloc: Global,
+    types: &Types,
+    arrays: &[u32],
+    number: u32,
+) -> Result<Vec<bool>, NoMemory>
+    requires arrays { All (λ t. t < count types.now) arrays.now }
+    requires number { number < count types.now }
+    ensures { IfOk result (λ row. row.items ≡ map (λ t. is_same (type_at types.now t) (type_at types.now number)) arrays.now) }
+{
+    let mut row = Vec::new(alloc);
+    for array in arrays {
+        row.push(types.is_same(*array, number))?;
+    }
+    Ok(row)
+}
+
+/// Of each array type whether its arrays are of a type.
+fn array_row(
+    alloc: Global,
+    types: &Types,
+    arrays: &[u32],
+    number: u32,
+) -> Result<Vec<bool>, NoMemory>
+    requires arrays { All (λ t. t < count types.now) arrays.now }
+    requires number { number < count types.now }
+    ensures { (files : List Arena) → IfOk result (λ row. IsRow false (IsArrayInstance files (map (type_at types.now) arrays.now) (type_at types.now number)) row.items) }
+{
+    match types.form(number) {
+        TypeForm::Array(_) => same_arrays(alloc, types, arrays, number),
+        _ => Ok(Vec::new(alloc)),
+    }
+}
+
+/// A row for each type.
+pub(crate) fn array_instances(
+    alloc: Global,
+    types: &Types,
+    arrays: &[u32],
+) -> Result<Vec<Vec<bool>>, NoMemory>
+    requires { All (λ t. t < count types.now) arrays.now }
+    ensures { (files : List Arena) → IfOk result (λ rows. AreRows false (λ k. IsArrayInstance files (map (type_at types.now) arrays.now) (type_at types.now k)) rows.items) }
+{
+    let count = types.len();
+    if count > 0xffff_ffff {
+        return Err(NoMemory);
+    }
+    let mut rows = Vec::new(alloc);
+    for number in 0..count as u32 {
+        rows.push(array_row(alloc, types, arrays, number)?)?;
+    }
+    Ok(rows)
+}

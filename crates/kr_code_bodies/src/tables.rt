@@ -1,0 +1,60 @@
+// All tables of a program's code.
+ghost use Rattle.std.specs.Prelude.{◌≡◌, ◌<◌, Some, IfOk, All, codes, map, slice_get};
+ghost use Rattle.kr_classes_members.specs.Kept.{AreMembers};
+ghost use Rattle.kr_classes_types.specs.Listed.{AreApart};
+ghost use Rattle.kr_classes_types.specs.Types.{count, type_at};
+ghost use Rattle.kr_code.specs.Tables.{row_items};
+ghost use Rattle.kr_code_members.specs.Rosters.{IsRoster};
+ghost use Rattle.kr_code_bodies.specs.Tabled.{AreTabled};
+
+use crate::dispatch::dispatch;
+use crate::field_lists::ObjectFields;
+use crate::instances::{array_instances, instances};
+use crate::positions::positions;
+use crate::spots::spots;
+use kr_ast::Tree;
+use kr_base::NoMemory;
+use kr_classes_members::Members;
+use kr_classes_types::Types;
+use kr_code_members::Roster;
+use std::alloc::Global;
+
+/// Rows by number: where the objects of each class have the field of a name, where they have a field, which method they run in place
+/// of one; which classes and which array types are instances of a type.
+#[derive(Drop)]
+pub struct Tables {
+    pub positions: Vec<Vec<Option<u32>>>,
+    pub spots: Vec<Vec<Option<u32>>>,
+    pub dispatch: Vec<Vec<Option<u32>>>,
+    pub instances: Vec<Vec<bool>>,
+    pub array_instances: Vec<Vec<bool>>,
+}
+
+impl Tables {
+    /// The tables of the classes, with these names of fields and these array types by number.
+    pub fn read(
+        alloc: Global,
+        trees: &[Tree],
+        members: &Members,
+        types: &Types,
+        roster: &Roster,
+        arrays: &[u32],
+        names: &[Vec<u8>],
+    ) -> Result<Tables, NoMemory>
+        requires members { AreMembers trees.now members.now }
+        requires roster { IsRoster trees.now roster.now }
+        requires arrays { All (λ t. t < count types.now) arrays.now }
+        requires apart { AreApart (map row_items names.now) }
+        requires first { slice_get (map row_items names.now) 0 ≡ Some (codes "length") }
+        ensures { IfOk result (AreTabled trees.now types.now (map (type_at types.now) arrays.now) (map row_items names.now)) }
+    {
+        let fields = ObjectFields::read(alloc, members)?;
+        Ok(Tables {
+            positions: positions(alloc, trees, &fields, names)?,
+            spots: spots(alloc, trees, members, &fields, roster)?,
+            dispatch: dispatch(alloc, trees, members, roster)?,
+            instances: instances(alloc, members, types)?,
+            array_instances: array_instances(alloc, types, arrays)?,
+        })
+    }
+}

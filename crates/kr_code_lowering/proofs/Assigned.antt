@@ -1,0 +1,46 @@
+-- Assignments.
+use Rattle.std.proofs.Common.{◌≡◌, refl, ap, ◌∙◌, ℕ, ◌+◌, List}
+use Rattle.kr_ast.specs.Tree.{Tree}
+use Rattle.kr_ast.specs.Arena as arenas
+use Rattle.kr_ast.specs.Arena.{tree_in, tree_of}
+use Rattle.kr_ast.specs.declared.node.BinaryOperator.{BinaryOperator}
+use Rattle.kr_ast.specs.declared.node.StepOperator.{StepOperator}
+use Rattle.kr_ast.specs.declared.node.Entry.{Entry}
+use Rattle.kr_ast.specs.declared.node.Node.{Node}
+use Rattle.kr_ast.specs.declared.node.Node.TheVariants as nodes
+use Rattle.kr_types_meaning.specs.Scopes.{value}
+use Rattle.kr_types_meaning.specs.Handing.{handed}
+use Rattle.kr_types_meaning.specs.Running.{running}
+use Rattle.kr_types.specs.declared.program.Program.{Program}
+use Rattle.kr_types.specs.Programs.{IsProgram}
+use Rattle.kr_code.specs.declared.expression.Variable.{Variable}
+use Rattle.kr_code.specs.declared.expression.Expression.TheVariants as expressions
+use Rattle.kr_code.specs.Resolved as resolved
+use Rattle.kr_code_lowering.specs.declared.site.Site.{Site}
+use Rattle.kr_code_lowering.specs.Origins.{node_scope, node_tree}
+use Rattle.kr_code_lowering.specs.Sites.{IsHere, IsSite, Resolves, arena_at, scope_at}
+use Rattle.kr_code_lowering.specs.Targets.{IsTarget}
+use Rattle.kr_code_lowering.proofs.Parts.{part_in, part_scope, tree_is}
+use Rattle.kr_code_lowering.proofs.Naming.{parts_are, resolves_at}
+use Rattle.std.proofs.Common.{arith}
+
+-- the target is the first part, and stands for a value
+pub target_scope : (p : Program) → IsProgram p → (s : Site) (e : Entry) (n : Node) → IsHere p s e → e.node ≡ n → (c : ℕ) → arenas.IsPart (arena_at p s).entries s.node 0 c → handed (scope_at p s) (tree_of (arena_at p s).text (tree_in (arena_at p s)) e.place n) 0 ≡ value (scope_at p s)
+    → node_scope p s.file c ≡ value (scope_at p s)
+target_scope p is s e n at it c part value_is = part_scope p is s at.site 0 c part ∙ (ap (λ (t : Tree). handed (scope_at p s) t 0) (tree_is p s e n at it) ∙ value_is)
+
+pub part_site : (p : Program) (s : Site) (e : Entry) → IsHere p s e → (j c : ℕ) → arenas.IsPart (arena_at p s).entries s.node j c → IsSite p (record s { node = c })
+part_site p s e at j c part = record { file = at.site.file; node = omega (arith, part.below, at.site.node); first = at.site.first }
+
+module _ (p : Program) (program : IsProgram p) (arrays : List ℕ) (s : Site) (e : Entry) (at : IsHere p s e) (known : List (List ℕ)) (linked : List ℕ) (a : ℕ) (x : Variable) (written : IsTarget p (scope_at p s) (node_tree p s.file a) known x) where
+  pub assignment_resolves : (v : ℕ) → e.node ≡ nodes.Assignment a v → Resolves p arrays s known linked (expressions.Assign x (s.first + v))
+  assignment_resolves v is = resolves_at p arrays s e (nodes.Assignment a v) at is known linked (expressions.Assign x (s.first + v))
+      (λ final code b. resolved.assignment e.place (node_tree p s.file a) (node_tree p s.file v) x (s.first + v) (written final b.names) (part_in p program final s e (nodes.Assignment a v) at is 1 v (parts_are p s e (nodes.Assignment a v) at is).1.0 (running (scope_at p s)) refl))
+
+  pub compound_resolves : (o : BinaryOperator) (v : ℕ) → e.node ≡ nodes.CompoundAssignment o a v → Resolves p arrays s known linked (expressions.Compound o x (s.first + v))
+  compound_resolves o v is = resolves_at p arrays s e (nodes.CompoundAssignment o a v) at is known linked (expressions.Compound o x (s.first + v))
+      (λ final code b. resolved.compound e.place o (node_tree p s.file a) (node_tree p s.file v) x (s.first + v) (written final b.names) (part_in p program final s e (nodes.CompoundAssignment o a v) at is 1 v (parts_are p s e (nodes.CompoundAssignment o a v) at is).1.0 (running (scope_at p s)) refl))
+
+  pub step_resolves : (o : StepOperator) → e.node ≡ nodes.Step o a → Resolves p arrays s known linked (expressions.Step o x)
+  step_resolves o is = resolves_at p arrays s e (nodes.Step o a) at is known linked (expressions.Step o x)
+      (λ final code b. resolved.step e.place o (node_tree p s.file a) x (written final b.names))

@@ -1,0 +1,12 @@
+use Rattle.std.proofs.Common.{◌≡◌, ◌+◌, length}
+use Rattle.kr_classes_types.specs.Listed.{IsGrown}
+use Rattle.kr_code_lowering.specs.Resolving.{AreNodes}
+use Rattle.kr_code_lowering.proofs.nodes.add_file.Given as goal
+
+abbrev pub invariant-loop-node : goal.invariant-loop-node
+invariant-loop-node l = record {
+  count : length l.nodes.items ≡ l.first + l.node;
+  names : IsGrown l.fn.names l.names;
+  links : IsGrown l.fn.links l.links;
+  nodes : AreNodes l.program l.arrays l.names l.links l.nodes.items;
+}

@@ -1,0 +1,74 @@
+-- Between crates: what the numbers of a program's code stand for. The nodes are those of the files, one file after another, and
+-- then those that stand in no file; the fields and methods those of the classes, one class after another; the types have
+-- typing's numbers.
+use Rattle.std.specs.Prelude.{ℕ, zero, suc, ◌+◌, ◌-◌, List, [], ◌∷◌, length, nat_lt, if◌then◌else◌, Option, Some, None, slice_get, slice_index_or}
+use Rattle.std.proofs.Common.{get_or}
+use Rattle.kr_ast.specs.Arena.{Arena, tree_in}
+use Rattle.kr_ast.specs.Tree as trees
+use Rattle.kr_classes_table.specs.Constants.{values_of}
+use Rattle.kr_types_meaning.specs.Scopes.{Scope, scope_of}
+use Rattle.kr_types_meaning.specs.Running.{running}
+use Rattle.kr_ast.specs.Files.{file_at}
+use Rattle.kr_classes_types.specs.Types.{type_at}
+use Rattle.kr_space_problem.specs.Posed.{table}
+use Rattle.kr_types.specs.declared.program.Program.{Program}
+use Rattle.kr_types.specs.declared.program.TypedFile.{TypedFile}
+use Rattle.kr_types.specs.Programs.{scope_there}
+use Rattle.kr_mean.specs.Code.{Node}
+use Rattle.kr_code.specs.Resolved.{Numbering}
+use Rattle.kr_code_members.specs.Rosters.{field_numbered, method_numbered, no_name}
+
+-- ---- nodes
+
+-- where nothing stands
+abbrev pub no_scope : Program → Scope
+no_scope p = scope_of (table p) (values_of (table p)) 0
+
+abbrev pub scope_in : Program → ℕ → ℕ → Option TypedFile → Scope
+scope_in p f i None = no_scope p
+scope_in p f i (Some t) = scope_there p.trees.items f t i
+
+-- the scope of a node of a file
+abbrev pub node_scope : Program → ℕ → ℕ → Scope
+node_scope p f i = scope_in p f i (slice_get p.files.items f)
+
+abbrev pub node_tree : Program → ℕ → ℕ → trees.Tree
+node_tree p f i = tree_in (file_at p.trees.items f) i
+
+-- a node of a file, with the scope that it runs in
+abbrev pub node_origin : Program → ℕ → ℕ → Node
+node_origin p f i = record { scope = running (node_scope p f i); tree = node_tree p f i }
+
+abbrev pub nothing : Program → Node
+nothing p = record { scope = running (no_scope p); tree = trees.Nil }
+
+-- the number of a file's first node
+unfoldable pub first_node : List Arena → ℕ → ℕ
+first_node [] f = 0
+first_node (a ∷ files) zero = 0
+first_node (a ∷ files) (suc f) = length a.entries + first_node files f
+
+-- node k of these files, of which the first has the number f, and of these nodes behind them
+unfoldable pub origin_from : Program → List Node → ℕ → List Arena → ℕ → Node
+origin_from p behind f [] k = get_or behind k (nothing p)
+origin_from p behind f (a ∷ files) k = if nat_lt k (length a.entries) then node_origin p f k else origin_from p behind (suc f) files (k - length a.entries)
+
+abbrev pub origin_of : Program → List Node → ℕ → Node
+origin_of p behind k = origin_from p behind 0 p.trees.items k
+
+-- ---- the whole
+
+-- What the code of a program has in the end beside what its files give: the names of fields, and nodes behind those of the
+-- files.
+pub record Final : Type 0 where
+  pub names : List (List ℕ)
+  pub nodes : List Node
+
+abbrev pub numbering_of : Program → Final → Numbering
+numbering_of p final = record {
+  name = λ k. slice_index_or final.names k (no_name (table p));
+  field = field_numbered (table p);
+  method = method_numbered (table p);
+  type = type_at p.table.types;
+  origin = origin_of p final.nodes;
+}

@@ -1,0 +1,73 @@
+// What a node is as a declarator of a local.
+ghost use Rattle.std.specs.Prelude.{◌≡◌, IfOk, length};
+ghost use Rattle.kr_classes_table.specs.Types.{JavaType};
+ghost use Rattle.kr_types_meaning.specs.Scopes.{Scope, bind};
+ghost use Rattle.kr_ast.specs.declared.node.Node.TheVariants as nodes;
+ghost use Rattle.kr_classes_types.specs.Types.{IsTypeNumber};
+ghost use Rattle.kr_types.specs.Programs.{IsProgram};
+ghost use Rattle.kr_code_lowering.specs.Sites.{IsHere, IsSite, scope_at};
+ghost use Rattle.kr_code_lowering.specs.Statements.{Declares};
+
+use crate::named::local_at;
+use crate::site::Site;
+use crate::statements::maybe_part;
+use crate::types::default_value;
+use kr_ast::{Entry, Name};
+use kr_base::NoMemory;
+use kr_code::Declarator;
+use kr_types::Program;
+use kr_types_judging::type_of_node;
+
+/// The number of the type that a node's scope declares.
+fn declared_type(program: &Program, site: Site) -> u32
+    requires program { IsProgram program.now }
+    requires site { IsSite program.now site }
+    ensures { IsTypeNumber program.now.table.types result (scope_at program.now site).declared }
+{
+    let here = site.typed(program).scopes.at(site.node);
+    type_of_node(
+        &program.trees,
+        &program.table.types,
+        &program.table.numbers,
+        site.file,
+        here.declared,
+    )
+}
+
+/// The number of the local of a name in its own initial value: how many are declared before it.
+fn own_number(program: &Program, initial: Site, name: &[u8]) -> usize
+    requires program { IsProgram program.now }
+    requires site { IsSite program.now initial }
+    ensures { (t : JavaType) (s : Scope) → scope_at program.now initial ≡ bind name.now t s → result ≡ length s.locals }
+{
+    match local_at(program, initial, name) {
+        Some(local) => local.number,
+        None => 0,
+    }
+}
+
+/// A declarator of a local: its number is the one that its name has in its own initial value. The error says that there
+/// are 2^32 - 1 locals.
+pub(crate) fn declarator_at(
+    program: &Program,
+    site: Site,
+    entry: Entry,
+    name: Name,
+    initial: u32,
+) -> Result<Declarator, NoMemory>
+    requires program { IsProgram program.now }
+    requires here { IsHere program.now site entry }
+    requires node { entry.node ≡ nodes.Declarator name initial }
+    ensures { IfOk result (Declares program.now site) }
+{
+    let text = site.text(program, name);
+    let number = own_number(program, site.at(initial), text);
+    if number >= 0xffff_ffff {
+        return Err(NoMemory);
+    }
+    Ok(Declarator {
+        local: number as u32,
+        default: default_value(&program.table.types, declared_type(program, site)),
+        initial: maybe_part(program, site.at(initial)),
+    })
+}

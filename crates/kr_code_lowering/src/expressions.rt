@@ -1,0 +1,193 @@
+// What a node is as an expression.
+ghost use Rattle.std.specs.Prelude.{◌≡◌, ◌<◌, ◌^◌, pos, List, ℕ, All, IfOk, length};
+ghost use Rattle.kr_base.specs.declared.place.Place.{Place};
+ghost use Rattle.kr_ast.specs.Tree.{Tree};
+ghost use Rattle.kr_ast.specs.Arena.{tree_of};
+ghost use Rattle.kr_classes_table.specs.Constants.{wrap};
+ghost use Rattle.kr_code.specs.Resolved.{is_no_expression};
+ghost use Rattle.kr_code_lowering.specs.Kinds.{is_operator};
+ghost use Rattle.kr_value.specs.declared.value.Value.TheVariants.{Int};
+ghost use Rattle.kr_code.specs.declared.expression.Expression.TheVariants.{Literal};
+ghost use Rattle.kr_classes_types.specs.Listed.{IsGrown};
+ghost use Rattle.kr_classes_types.specs.Types.{count};
+ghost use Rattle.kr_types.specs.Programs.{IsProgram};
+ghost use Rattle.kr_code_members.specs.Rosters.{IsRoster};
+ghost use Rattle.kr_code_lowering.specs.Sites.{IsSite, Resolves};
+
+use crate::access::{access_expression, name_expression};
+use crate::calls::{call_expression, super_call_expression};
+use crate::links::Links;
+use crate::methods::{creation_expression, method_call_expression};
+use crate::names::Names;
+use crate::operators::operator_expression;
+use crate::site::Site;
+use crate::types::{array_expression, cast_expression, instance_expression};
+use crate::writes::{assignment_expression, compound_expression, step_expression};
+use kr_ast::Node;
+use kr_base::NoMemory;
+use kr_code::Expression;
+use kr_code_members::Roster;
+use kr_types::Program;
+use kr_value::Value;
+use std::alloc::Global;
+
+/// The value of an int's literal, which wraps (2147483648 stands under a unary minus alone).
+fn int_literal(value: u32) -> Expression
+    ensures { result ≡ Literal (Int (wrap (pos value))) }
+{
+    Expression::Literal(Value::Int(value.cast_signed()))
+}
+
+/// Whether a node is no expression.
+pub(crate) fn is_no_expression(node: Node) -> bool
+    ensures { (text : List ℕ) (look : ℕ → Tree) (place : Place) → result ≡ is_no_expression (tree_of text look place node) }
+{
+    match node {
+        Node::Nil
+        | Node::Cons { .. }
+        | Node::PrimitiveType { .. }
+        | Node::NamedType { .. }
+        | Node::QualifiedType { .. }
+        | Node::GenericType { .. }
+        | Node::DiamondType { .. }
+        | Node::ArrayType { .. }
+        | Node::Empty
+        | Node::Block { .. }
+        | Node::Local { .. }
+        | Node::Declarator { .. }
+        | Node::ExpressionStatement { .. }
+        | Node::Return { .. }
+        | Node::Break
+        | Node::Continue
+        | Node::IfThen { .. }
+        | Node::IfElse { .. }
+        | Node::While { .. }
+        | Node::Do { .. }
+        | Node::For { .. }
+        | Node::ConstructorCall { .. }
+        | Node::Class { .. }
+        | Node::Field { .. }
+        | Node::Method { .. }
+        | Node::Signature { .. }
+        | Node::Parameter { .. }
+        | Node::Constructor { .. }
+        | Node::Requires { .. }
+        | Node::Ensures { .. } => true,
+        Node::Number { .. }
+        | Node::Truth { .. }
+        | Node::Null
+        | Node::This
+        | Node::Variable { .. }
+        | Node::FieldAccess { .. }
+        | Node::ArrayAccess { .. }
+        | Node::Call { .. }
+        | Node::MethodCall { .. }
+        | Node::SuperCall { .. }
+        | Node::ObjectCreation { .. }
+        | Node::ArrayCreation { .. }
+        | Node::Unary { .. }
+        | Node::Step { .. }
+        | Node::Binary { .. }
+        | Node::InstanceOf { .. }
+        | Node::Conditional { .. }
+        | Node::Cast { .. }
+        | Node::Assignment { .. }
+        | Node::CompoundAssignment { .. }
+        | Node::Result
+        | Node::Old { .. } => false,
+    }
+}
+
+/// Whether it is an operator on values that stand in its own scope.
+fn is_operator(node: Node) -> bool
+    ensures { result ≡ is_operator node }
+{
+    match node {
+        Node::Truth { .. }
+        | Node::Null
+        | Node::This
+        | Node::ArrayAccess { .. }
+        | Node::Unary { .. }
+        | Node::Binary { .. }
+        | Node::Conditional { .. }
+        | Node::Result => true,
+        _ => false,
+    }
+}
+
+/// A node as an expression; one that is none has no meaning.
+pub(crate) fn expression_at(
+    alloc: Global,
+    program: &Program,
+    roster: &Roster,
+    arrays: &[u32],
+    names: &mut Names,
+    links: &mut Links,
+    site: Site,
+) -> Result<Expression, NoMemory>
+    requires program { IsProgram program.now }
+    requires roster { IsRoster program.now.trees.items roster.now }
+    requires arrays { All (λ t. t < count program.now.table.types) arrays.now }
+    requires few { length arrays.now < 2 ^ 32 }
+    requires site { IsSite program.now site }
+    ensures names { IsGrown names.old names.new }
+    ensures links { IsGrown links.old links.new }
+    ensures resolves { IfOk result (Resolves program.now arrays.now site names.new links.new) }
+{
+    let entry = site.entry(program);
+    if is_no_expression(entry.node) {
+        return Ok(Expression::Stuck);
+    }
+    if is_operator(entry.node) {
+        return Ok(operator_expression(site.first, entry.place, entry.node));
+    }
+    match entry.node {
+        Node::Number { value } => Ok(int_literal(value)),
+        Node::Old { .. } => Ok(Expression::Old(entry.place)),
+        Node::Variable { name } => {
+            name_expression(alloc, program, roster, names, site, entry, name)
+        }
+        Node::FieldAccess { object, name } => {
+            access_expression(alloc, program, roster, names, site, entry, object, name)
+        }
+        Node::Call { name, arguments } => {
+            call_expression(program, roster, links, site, entry, name, arguments)
+        }
+        Node::MethodCall {
+            object,
+            name,
+            arguments,
+        } => {
+            method_call_expression(program, roster, links, site, entry, object, name, arguments)
+        }
+        Node::SuperCall { name, arguments } => {
+            super_call_expression(program, roster, links, site, entry, name, arguments)
+        }
+        Node::ObjectCreation { class, arguments } => {
+            creation_expression(program, links, site, entry, class, arguments)
+        }
+        Node::ArrayCreation { element, length } => {
+            Ok(array_expression(program, arrays, site, entry, element, length))
+        }
+        Node::InstanceOf { operand, tested } => {
+            Ok(instance_expression(program, site, entry, operand, tested))
+        }
+        Node::Cast { target, operand } => {
+            Ok(cast_expression(program, site, entry, target, operand))
+        }
+        Node::Assignment { target, value } => {
+            assignment_expression(alloc, program, roster, names, site, entry, target, value)
+        }
+        Node::CompoundAssignment {
+            operator,
+            target,
+            value,
+        } => compound_expression(
+            alloc, program, roster, names, site, entry, operator, target, value,
+        ),
+        Node::Step { operator, target } => {
+            step_expression(alloc, program, roster, names, site, entry, operator, target)
+        }
+        _ => Ok(Expression::Stuck),
+    }
+}

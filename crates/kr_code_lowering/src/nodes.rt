@@ -1,0 +1,132 @@
+// The nodes of the code: those of the files, one file after another.
+ghost use Rattle.std.specs.Prelude.{◌≡◌, ◌+◌, ◌<◌, ◌^◌, suc, All, IfOk, Some, codes, length, slice_get};
+ghost use Rattle.kr_classes_types.specs.Listed.{IsGrown};
+ghost use Rattle.kr_classes_types.specs.Types.{count};
+ghost use Rattle.kr_types.specs.Programs.{IsProgram};
+ghost use Rattle.kr_code_members.specs.Rosters.{IsRoster};
+ghost use Rattle.kr_types.specs.Programs.{all_entries};
+ghost use Rattle.kr_code_lowering.specs.Origins.{first_node};
+ghost use Rattle.kr_code_lowering.specs.Sites.{IsSite};
+ghost use Rattle.kr_code_lowering.specs.Resolving.{AreNodes, IsNode};
+
+use crate::declarators::declarator_at;
+use crate::expressions::{expression_at, is_no_expression};
+use crate::links::Links;
+use crate::names::Names;
+use crate::site::Site;
+use crate::statements::statement_at;
+use kr_ast::{Node as TreeNode, tree_of};
+use kr_base::NoMemory;
+use kr_code::Node;
+use kr_code_members::Roster;
+use kr_types::Program;
+use std::alloc::Global;
+
+/// A node of a file as one of the code.
+fn node_at(
+    alloc: Global,
+    program: &Program,
+    roster: &Roster,
+    arrays: &[u32],
+    names: &mut Names,
+    links: &mut Links,
+    site: Site,
+) -> Result<Node, NoMemory>
+    requires program { IsProgram program.now }
+    requires roster { IsRoster program.now.trees.items roster.now }
+    requires arrays { All (λ t. t < count program.now.table.types) arrays.now }
+    requires few { length arrays.now < 2 ^ 32 }
+    requires site { IsSite program.now site }
+    ensures names { IsGrown names.old names.new }
+    ensures links { IsGrown links.old links.new }
+    ensures resolves { IfOk result (IsNode program.now arrays.now names.new links.new (site.first + site.node)) }
+{
+    let entry = site.entry(program);
+    match entry.node {
+        TreeNode::Declarator { name, initial } => {
+            let declarator = declarator_at(program, site, entry, name, initial)?;
+            Ok(Node::Declarator(declarator))
+        }
+        _ => {
+            if is_no_expression(entry.node) {
+                Ok(Node::Statement(statement_at(program, links, site)?))
+            } else {
+                Ok(Node::Expression(expression_at(
+                    alloc, program, roster, arrays, names, links, site,
+                )?))
+            }
+        }
+    }
+}
+
+/// Adds the nodes of a file behind those of the files before it.
+fn add_file(
+    alloc: Global,
+    program: &Program,
+    roster: &Roster,
+    arrays: &[u32],
+    names: &mut Names,
+    links: &mut Links,
+    file: u32,
+    nodes: &mut Vec<Node>,
+) -> Result<(), NoMemory>
+    requires program { IsProgram program.now }
+    requires roster { IsRoster program.now.trees.items roster.now }
+    requires arrays { All (λ t. t < count program.now.table.types) arrays.now }
+    requires few { length arrays.now < 2 ^ 32 }
+    requires file { file < length program.now.trees.items }
+    requires first { length nodes.old.items ≡ first_node program.now.trees.items file }
+    requires nodes { AreNodes program.now arrays.now names.old links.old nodes.old.items }
+    ensures names { IsGrown names.old names.new }
+    ensures links { IsGrown links.old links.new }
+    ensures count { IfOk result (λ none. length nodes.new.items ≡ first_node program.now.trees.items (suc file)) }
+    ensures nodes { IfOk result (λ none. AreNodes program.now arrays.now names.new links.new nodes.new.items) }
+{
+    let first = nodes.len() as u32;
+    let entries = tree_of(&program.trees, file).nodes();
+    for node in 0..entries {
+        let site = Site { file, node, first };
+        let made = node_at(alloc, program, roster, arrays, names, links, site)?;
+        nodes.push(made)?;
+    }
+    Ok(())
+}
+
+/// The nodes of a program's files as nodes of code, the links of their lists, and the names of the fields that they access.
+#[derive(Drop)]
+pub struct ResolvedNodes {
+    pub nodes: Vec<Node>,
+    pub links: Links,
+    pub names: Names,
+}
+
+/// The nodes of a program, with its fields and methods and these array types by number.
+pub fn resolve_nodes(
+    alloc: Global,
+    program: &Program,
+    roster: &Roster,
+    arrays: &[u32],
+) -> Result<ResolvedNodes, NoMemory>
+    requires program { IsProgram program.now }
+    requires roster { IsRoster program.now.trees.items roster.now }
+    requires arrays { All (λ t. t < count program.now.table.types) arrays.now }
+    requires few { length arrays.now < 2 ^ 32 }
+    ensures count { IfOk result (λ r. length r.nodes.items ≡ length (all_entries program.now.trees.items)) }
+    ensures nodes { IfOk result (λ r. AreNodes program.now arrays.now r.names r.links r.nodes.items) }
+    ensures names { IfOk result (λ r. slice_get r.names 0 ≡ Some (codes "length")) }
+{
+    let mut names = Names::new(alloc)?;
+    let mut links = Links::new(alloc);
+    let mut nodes = Vec::new(alloc);
+    let files = program.trees.len() as u32;
+    for file in 0..files {
+        add_file(
+            alloc, program, roster, arrays, &mut names, &mut links, file, &mut nodes,
+        )?;
+    }
+    Ok(ResolvedNodes {
+        nodes,
+        links,
+        names,
+    })
+}

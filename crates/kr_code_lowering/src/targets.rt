@@ -1,0 +1,202 @@
+// What an assignment writes.
+ghost use Rattle.std.specs.Prelude.{◌≡◌, ◌<◌, Some, IfOk};
+ghost use Rattle.kr_ast.specs.declared.node.Node.TheVariants as nodes;
+ghost use Rattle.kr_types_meaning.specs.Scopes.{Scope, value};
+ghost use Rattle.kr_classes_table.specs.Types.{ClassType};
+ghost use Rattle.kr_mean.specs.Meaning.{field_of_type, typed_field};
+ghost use Rattle.kr_classes_types.specs.Types.{count, type_at};
+ghost use Rattle.kr_classes_types.specs.Listed.{IsGrown};
+ghost use Rattle.kr_types.specs.Programs.{IsProgram};
+ghost use Rattle.kr_code_members.specs.Rosters.{IsRoster};
+ghost use Rattle.kr_space_problem.specs.Posed.{table};
+ghost use Rattle.kr_code_lowering.specs.Sites.{IsHere, IsSite, scope_at, tree_at};
+ghost use Rattle.kr_code_lowering.specs.Targets.{IsFieldFound, IsTarget, is_array_type};
+
+use crate::known::type_of;
+use crate::named::{Named, meaning_of};
+use crate::names::Names;
+use crate::site::Site;
+use kr_ast::{Entry, Name, Node};
+use kr_base::NoMemory;
+use kr_classes_types::{TypeForm, Types};
+use kr_code::Variable;
+use kr_code_members::Roster;
+use kr_types::Program;
+use std::alloc::Global;
+
+/// A name that is written.
+fn name_target(
+    alloc: Global,
+    program: &Program,
+    roster: &Roster,
+    names: &mut Names,
+    site: Site,
+    at: Site,
+    entry: Entry,
+    name: Name,
+) -> Result<Variable, NoMemory>
+    requires program { IsProgram program.now }
+    requires roster { IsRoster program.now.trees.items roster.now }
+    requires site { IsSite program.now site }
+    requires here { IsHere program.now at entry }
+    requires node { entry.node ≡ nodes.Variable name }
+    ensures grown { IsGrown names.old names.new }
+    ensures target { IfOk result (IsTarget program.now (scope_at program.now site) (tree_at program.now at) names.new) }
+{
+    let text = at.text(program, name);
+    match meaning_of(program, roster, site, text)? {
+        Named::Local(number) => Ok(Variable::Local(number)),
+        Named::Own(field) => {
+            let number = names.number(alloc, text)?;
+            Ok(Variable::Own {
+                name: number,
+                field,
+            })
+        }
+        Named::Constant(_) => Ok(Variable::Unknown),
+        Named::Nothing => Ok(Variable::Unknown),
+    }
+}
+
+/// The instance field of a name that an object's type has.
+fn field_number(program: &Program, roster: &Roster, object: Site, name: &[u8]) -> Option<u32>
+    requires program { IsProgram program.now }
+    requires roster { IsRoster program.now.trees.items roster.now }
+    requires site { IsSite program.now object }
+    ensures { (s : Scope) → s.table ≡ table program.now → scope_at program.now object ≡ value s → IsFieldFound program.now result (typed_field s (tree_at program.now object) name.now) }
+{
+    match type_of(program, object) {
+        None => None,
+        Some(number) => match program.table.types.form(number) {
+            TypeForm::Class(class) => instance_field(program, roster, class, name),
+            _ => None,
+        },
+    }
+}
+
+/// The instance field of a name that a class has.
+fn instance_field(program: &Program, roster: &Roster, class: u32, name: &[u8]) -> Option<u32>
+    requires program { IsProgram program.now }
+    requires roster { IsRoster program.now.trees.items roster.now }
+    ensures { IsFieldFound program.now result (field_of_type (table program.now) name.now (Some (ClassType class))) }
+{
+    match roster.field_named(&program.table.members, class, name) {
+        None => None,
+        Some(number) => {
+            if roster.fields[number as usize].is_static {
+                None
+            } else {
+                Some(number)
+            }
+        }
+    }
+}
+
+/// A field of an object that is written.
+fn field_target(
+    alloc: Global,
+    program: &Program,
+    roster: &Roster,
+    names: &mut Names,
+    site: Site,
+    at: Site,
+    entry: Entry,
+    object: u32,
+    name: Name,
+) -> Result<Variable, NoMemory>
+    requires program { IsProgram program.now }
+    requires roster { IsRoster program.now.trees.items roster.now }
+    requires here { IsHere program.now at entry }
+    requires node { entry.node ≡ nodes.FieldAccess object name }
+    requires handed { scope_at program.now at ≡ value (scope_at program.now site) }
+    ensures grown { IsGrown names.old names.new }
+    ensures target { IfOk result (IsTarget program.now (scope_at program.now site) (tree_at program.now at) names.new) }
+{
+    let text = at.text(program, name);
+    match field_number(program, roster, at.at(object), text) {
+        None => Ok(Variable::Unknown),
+        Some(field) => {
+            let number = names.number(alloc, text)?;
+            Ok(Variable::Of {
+                object: at.first + object,
+                name: number,
+                field,
+            })
+        }
+    }
+}
+
+/// Whether a type is that of arrays.
+fn is_array(types: &Types, number: u32) -> bool
+    requires { number < count types.now }
+    ensures { result ≡ is_array_type (Some (type_at types.now number)) }
+{
+    match types.form(number) {
+        TypeForm::Array(_) => true,
+        _ => false,
+    }
+}
+
+/// An element of an array that is written.
+fn element_target(
+    program: &Program,
+    site: Site,
+    at: Site,
+    entry: Entry,
+    array: u32,
+    index: u32,
+    names: &Names,
+) -> Variable
+    requires program { IsProgram program.now }
+    requires here { IsHere program.now at entry }
+    requires node { entry.node ≡ nodes.ArrayAccess array index }
+    requires handed { scope_at program.now at ≡ value (scope_at program.now site) }
+    ensures { IsTarget program.now (scope_at program.now site) (tree_at program.now at) names.now result }
+{
+    match type_of(program, at.at(array)) {
+        None => Variable::Unknown,
+        Some(class) => {
+            if is_array(&program.table.types, class) {
+                Variable::Element {
+                    array: at.first + array,
+                    index: at.first + index,
+                    class,
+                }
+            } else {
+                Variable::Unknown
+            }
+        }
+    }
+}
+
+/// What a target's node writes, where the assignment's node stands.
+pub(crate) fn variable_at(
+    alloc: Global,
+    program: &Program,
+    roster: &Roster,
+    names: &mut Names,
+    site: Site,
+    at: Site,
+) -> Result<Variable, NoMemory>
+    requires program { IsProgram program.now }
+    requires roster { IsRoster program.now.trees.items roster.now }
+    requires site { IsSite program.now site }
+    requires at { IsSite program.now at }
+    requires handed { scope_at program.now at ≡ value (scope_at program.now site) }
+    ensures grown { IsGrown names.old names.new }
+    ensures target { IfOk result (IsTarget program.now (scope_at program.now site) (tree_at program.now at) names.new) }
+{
+    let entry = at.entry(program);
+    match entry.node {
+        Node::Variable { name } => {
+            name_target(alloc, program, roster, names, site, at, entry, name)
+        }
+        Node::FieldAccess { object, name } => {
+            field_target(alloc, program, roster, names, site, at, entry, object, name)
+        }
+        Node::ArrayAccess { array, index } => {
+            Ok(element_target(program, site, at, entry, array, index, names))
+        }
+        _ => Ok(Variable::Unknown),
+    }
+}

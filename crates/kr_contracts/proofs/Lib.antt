@@ -1,5 +1,0 @@
-pub mod Closed
-pub mod Walks
-pub mod Parts
-pub mod Found
-pub mod Contracts

@@ -1,5 +1,0 @@
-use Rattle.kr_costs.proofs.Costs.{cost}
-use Rattle.kr_costs.proofs.laws.cost_law.Goals as goal
-
-pub returns : goal.returns
-returns c = cost

@@ -1,8 +1,0 @@
-// What holds of the fuel of every run.
-ghost use Rattle.kr_costs.specs.Laws.{CostLaw};
-
-/// A method's run that isn't spent with some fuel has a cost: it is spent exactly where there is less fuel, and with more it
-/// ends the same, leaves the same, and has so much more fuel left.
-pub fn cost_law()
-    ensures { CostLaw }
-{}

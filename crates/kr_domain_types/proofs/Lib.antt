@@ -1,4 +1,0 @@
-pub mod Pairs
-pub mod Integers
-pub mod Values
-pub mod Typed

@@ -1,9 +1,0 @@
-use Rattle.std.specs.Prelude.{Ok}
-use Rattle.kr_frames.specs.Frames.{resumed}
-use Rattle.kr_frames.specs.Leads.{Leads}
-use Rattle.kr_world.specs.Worlds.{state_at}
-use Rattle.kr_execute.proofs.run.run.Given as goal
-
--- what is left to do is the run
-abbrev pub invariant-steps : goal.invariant-steps
-invariant-steps l = Leads l.code (Ok l.next) l.stack l.world l.fn.world (λ d x. resumed l.code d l.fn.stack l.fn.task (state_at l.fn.world x))

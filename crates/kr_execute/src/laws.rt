@@ -1,8 +1,0 @@
-// What holds of the fuel of every run.
-ghost use Rattle.kr_execute.specs.Costs.{SpentLaw};
-
-/// A run of a method that isn't spent with some fuel has a cost: it is spent exactly where that is above the fuel, and with more
-/// fuel it ends the same, and leaves the same heap and so much more fuel.
-pub fn spent_law()
-    ensures { SpentLaw }
-{}

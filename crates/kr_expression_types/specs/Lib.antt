@@ -1,3 +1,0 @@
-pub mod Types
-pub mod Shapes
-pub mod Laws

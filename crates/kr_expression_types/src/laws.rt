@@ -1,7 +1,0 @@
-// Which types expressions have.
-ghost use Rattle.kr_expression_types.specs.Laws.{ExpressionsLaw};
-
-/// An expression without broken nodes is of a type that expressions have where it stands, and what it may write is a place.
-pub fn expressions_law()
-    ensures { ExpressionsLaw }
-{}

@@ -1,4 +1,0 @@
-use Rattle.kr_expressions.proofs.creations.creation_rule.Goals as goal
-
-pub returns-clause-within : goal.returns-clause-within
-returns-clause-within c = c.ask.ensures.within c.args.types.now (c.value_if.ensures.within c.args.types.now c.requires.created)

@@ -1,0 +1,11 @@
+use Rattle.std.proofs.Common.{◌≡◌, ℕ, List, length, ap, arith, ◌∙◌}
+use Rattle.std.proofs.lemmas.List.{length-replicate}
+use Rattle.kr_mean.specs.Runs.{slots_for}
+use Rattle.kr_space_layout.specs.Bounds.{bare}
+use Rattle.kr_judge_again.proofs.runner.Runner.new.Goals as goal
+
+pub invariant_of-result : goal.invariant_of-result
+invariant_of-result c =
+    let known : length c.in_ok-known.known ≡ c.slots-2.result = ap (λ (xs : List ℕ). length xs) c.in_ok-known.ensures ∙ length-replicate c.slots-2.result 0 in
+    let vector : length c.in_ok-vector.vector ≡ c.slots.result = ap (λ (xs : List ℕ). length xs) c.in_ok-vector.ensures ∙ length-replicate c.slots.result 0 in
+    (c.new-3.ensures.follow (slots_for (bare c.args.layout.now)), known ∙ c.slots-2.ensures, vector ∙ c.slots.ensures, omega arith, λ e. absurd (cc (e)))

@@ -1,0 +1,7 @@
+pub mod Subjects
+pub mod Kept
+pub mod Seen
+pub mod Going
+pub mod Ascending
+pub mod States
+pub mod Foretelling

@@ -1,0 +1,60 @@
+// The candidates' heap, which stays from run to run.
+ghost use Rattle.std.specs.Prelude.{◌≡◌, ◌<◌, ◌≤◌, ◌^◌, OnOk, length, true};
+ghost use Rattle.kr_mean.specs.Heaps.{heap_of};
+ghost use Rattle.kr_mean.specs.Problem.{slots};
+ghost use Rattle.kr_mean.specs.Space.{IsVector, space_of};
+ghost use Rattle.kr_mean.specs.WellFormed.{IsWellFormed};
+ghost use Rattle.kr_space_layout.specs.Bounds.{bare};
+ghost use Rattle.kr_build.specs.Renewed.{IsSameBut};
+ghost use Rattle.kr_judge_again.specs.Going.{IsHeapOf};
+
+use kr_base::NoMemory;
+use kr_build::{build, update_within};
+use kr_heap::Heap;
+use kr_space_layout::Layout;
+use kr_vector::{Slot, Vector};
+use std::alloc::Global;
+
+/// Becomes the same candidate.
+fn copy(copy: &mut Vector, layout: &Layout, vector: &Vector)
+    requires vector { IsVector (space_of (bare layout.now)) vector.now }
+    requires long { length copy.old ≡ length (slots (bare layout.now)) }
+    ensures is { copy.new ≡ vector.now }
+    ensures long { length copy.new ≡ length copy.old }
+{
+    'each: for slot in 0..layout.slots() {
+        copy.set(Slot(slot), vector.get(Slot(slot)));
+    }
+}
+
+/// Makes a heap the candidate's: from the one whose heap it is, if it is known, else from nothing. The known one has the same
+/// indices but at slots from one to another.
+pub(crate) fn refresh(
+    alloc: Global,
+    layout: &Layout,
+    vector: &Vector,
+    is_known: bool,
+    known: &mut Vector,
+    low: u32,
+    high: u32,
+    heap: &mut Heap,
+) -> Result<(), NoMemory>
+    requires well { IsWellFormed (bare layout.now) }
+    requires vector { IsVector (space_of (bare layout.now)) vector.now }
+    requires small { length (slots (bare layout.now)) < 2 ^ 31 }
+    requires long { length known.old ≡ length (slots (bare layout.now)) }
+    requires known { is_known ≡ true → IsHeapOf layout.now known.old heap.old }
+    requires same { is_known ≡ true → IsSameBut known.old vector.now low high }
+    requires high { high ≤ length (slots (bare layout.now)) }
+    ensures built { OnOk result (known.new ≡ vector.now) }
+    ensures heap { OnOk result (heap.new ≡ heap_of (bare layout.now) vector.now) }
+    ensures long { length known.new ≡ length known.old }
+{
+    if is_known {
+        update_within(heap, known, layout, vector, low, high)?;
+        return Ok(());
+    }
+    copy(known, layout, vector);
+    *heap = build(alloc, layout, vector)?;
+    Ok(())
+}

@@ -1,0 +1,333 @@
+// A run that goes on from where it stands, with a checkpoint before each first read.
+ghost use Rattle.std.specs.Prelude.{◌≡◌, ◌<◌, ◌≤◌, ◌^◌, ◌∷◌, [], ℕ, List, IfOk, IfSome, OnOk, Some, false, length, slice_get, take, true};
+ghost use Rattle.std.specs.List.{All};
+ghost use Rattle.kr_code.specs.Resolved.{Numbering};
+ghost use Rattle.kr_mean.specs.Heaps.{heap_of};
+ghost use Rattle.kr_mean.specs.Places.{SlotPlace, This};
+ghost use Rattle.kr_mean.specs.Problem.{slots};
+ghost use Rattle.kr_mean.specs.Program.{Program};
+ghost use Rattle.kr_mean.specs.Runs.{slots_for, start};
+ghost use Rattle.kr_mean.specs.Space.{IsVector, space_of};
+ghost use Rattle.kr_mean.specs.WellFormed.{IsWellFormed};
+ghost use Rattle.kr_space_layout.specs.Bounds.{bare, problem_with};
+ghost use Rattle.kr_judge.specs.Follows.{Follow};
+ghost use Rattle.kr_judge.specs.Judged.{HoldsAs, hold_at};
+ghost use Rattle.kr_judge.specs.Predicates.{IsPredicateOf};
+ghost use Rattle.kr_build.specs.Renewed.{IsSameBut};
+ghost use Rattle.kr_judge_again.specs.Foretelling.{Decides, IsForetold, ReadOn};
+ghost use Rattle.kr_judge_again.specs.Going.{Alike, Gives, HasGone, IsHeld, IsLast, IsRunTo, Stays};
+ghost use Rattle.kr_judge_again.specs.Kept.{AreShared, GoesOn, Kept, Shares};
+
+use crate::checks::{Checks, Start};
+use crate::fresh::refresh;
+use crate::pauses::pause_of;
+use kr_base::NoMemory;
+use kr_judge::{Accesses, Judgement, Predicate, begin, judged};
+use kr_run::{Step, advance};
+use kr_run_frames::{Stack, Task};
+use kr_run_state::{End, Halt, World};
+use kr_space_layout::Layout;
+use kr_value::Value;
+use kr_vector::Vector;
+use std::alloc::Global;
+
+/// Keeps where a run stands, if the next step reads a place for the first time.
+#[inline(always)]
+fn consider(
+    alloc: Global,
+    layout: &Layout,
+    vector: &Vector,
+    predicate: &Predicate,
+    world: &World,
+    checks: &mut Checks,
+    condition: usize,
+    task: &Task,
+    stack: &Stack,
+) -> Result<(), NoMemory>
+    requires well { IsWellFormed (bare layout.now) }
+    requires vector { IsVector (space_of (bare layout.now)) vector.now }
+    requires goes_on { GoesOn layout.now predicate.now vector.now condition stack.now task.now world.now }
+    requires kept { All (Kept layout.now predicate.now vector.now) checks.old }
+    ensures kept { All (Kept layout.now predicate.now vector.now) checks.new }
+{
+    let Some(action) = pause_of(&predicate.code, world, stack, task) else {
+        return Ok(());
+    };
+    checks.keep(alloc, condition, action, stack, world)?;
+    Ok(())
+}
+
+/// Runs a condition on until it gives a value.
+fn give(
+    alloc: Global,
+    layout: &Layout,
+    vector: &Vector,
+    predicate: &Predicate,
+    world: &mut World,
+    checks: &mut Checks,
+    condition: usize,
+    task: Task,
+    stack: &mut Stack,
+) -> Result<Value, Halt>
+    requires well { IsWellFormed (bare layout.now) }
+    requires vector { IsVector (space_of (bare layout.now)) vector.now }
+    requires goes_on { GoesOn layout.now predicate.now vector.now condition stack.old task world.old }
+    requires kept { All (Kept layout.now predicate.now vector.now) checks.old }
+    ensures gives { Gives layout.now predicate.now vector.now condition result world.new }
+    ensures stays { Stays layout.now vector.now result world.new }
+    ensures kept { All (Kept layout.now predicate.now vector.now) checks.new }
+{
+    let mut next = task;
+    'steps: for _ in 0..u64::MAX {
+        match advance(alloc, &predicate.code, world, stack, &mut next) {
+            Err(halt) => return Err(halt),
+            Ok(stepped) => match stepped {
+                Step::Finished(given) => return Ok(given),
+                Step::More => {}
+            },
+        }
+        match consider(
+            alloc, layout, vector, predicate, world, checks, condition, &next, stack,
+        ) {
+            Ok(()) => {}
+            Err(_) => return Err(Halt::Memory),
+        }
+    }
+    Err(Halt::Memory)
+}
+
+/// The node of a condition, if there is one.
+fn condition_at(predicate: &Predicate, condition: usize) -> Option<u32>
+    ensures { result ≡ slice_get predicate.now.conditions.items condition }
+{
+    predicate.conditions.get(condition).copied()
+}
+
+/// Runs on: whether all conditions hold.
+fn go_on(
+    alloc: Global,
+    layout: &Layout,
+    vector: &Vector,
+    predicate: &Predicate,
+    world: &mut World,
+    checks: &mut Checks,
+    condition: usize,
+    task: Task,
+    stack: &mut Stack,
+) -> Result<bool, Halt>
+    requires well { IsWellFormed (bare layout.now) }
+    requires vector { IsVector (space_of (bare layout.now)) vector.now }
+    requires goes_on { GoesOn layout.now predicate.now vector.now condition stack.old task world.old }
+    requires kept { All (Kept layout.now predicate.now vector.now) checks.old }
+    ensures means { HoldsAs predicate.now.code result world.new (This ∷ []) (λ d. hold_at d predicate.now.conditions.items (start (bare layout.now) vector.now)) }
+    ensures stays { Stays layout.now vector.now result world.new }
+    ensures kept { All (Kept layout.now predicate.now vector.now) checks.new }
+{
+    let mut at = condition;
+    let mut next = task;
+    'conditions: for _ in 0..u64::MAX {
+        match give(
+            alloc, layout, vector, predicate, world, checks, at, next, stack,
+        ) {
+            Err(halt) => return Err(halt),
+            Ok(given) => match given {
+                Value::Bool(truth) => {
+                    if !truth {
+                        return Ok(false);
+                    }
+                    let Some(following) = at.checked_add(1) else {
+                        return Err(Halt::Memory);
+                    };
+                    match condition_at(predicate, following) {
+                        None => return Ok(true),
+                        Some(node) => {
+                            at = following;
+                            next = Task::Evaluate(node);
+                            stack.clear();
+                        }
+                    }
+                }
+                Value::Int(_) => return Err(Halt::Ended(End::Stuck)),
+                Value::Null => return Err(Halt::Ended(End::Stuck)),
+                Value::Ref(_) => return Err(Halt::Ended(End::Stuck)),
+            },
+        }
+    }
+    Err(Halt::Memory)
+}
+
+/// The checkpoints alone that a candidate holds to, if what they are of is known.
+fn settle(checks: &mut Checks, is_known: bool, accesses: &Accesses, fresh: usize)
+    ensures front { (n : ℕ) × (checks.new ≡ take n checks.old) }
+    ensures known { is_known ≡ false → checks.new ≡ [] }
+    ensures fresh { fresh ≡ 0 → checks.new ≡ [] }
+    ensures held { All (IsHeld accesses.now fresh) checks.new }
+{
+    if is_known {
+        checks.cut(accesses, fresh);
+    } else {
+        checks.clear();
+    }
+}
+
+/// Where a candidate's run goes on, or begins.
+fn stand(
+    alloc: Global,
+    layout: &Layout,
+    vector: &Vector,
+    predicate: &Predicate,
+    checks: &Checks,
+    world: &mut World,
+    stack: &mut Stack,
+    node: u32,
+) -> Result<Start, NoMemory>
+    requires well { IsWellFormed (bare layout.now) }
+    requires vector { IsVector (space_of (bare layout.now)) vector.now }
+    requires small { length (slots (bare layout.now)) < 2 ^ 31 }
+    requires candidates { world.old.candidates ≡ heap_of (bare layout.now) vector.now }
+    requires frozen { world.old.is_frozen ≡ true }
+    requires first { slice_get predicate.now.conditions.items 0 ≡ Some node }
+    requires kept { All (Kept layout.now predicate.now vector.now) checks.now }
+    requires shared { All (Shares layout.now predicate.now vector.now world.old.reads) checks.now }
+    ensures goes_on { IfOk result (λ start. GoesOn layout.now predicate.now vector.now start.condition stack.new start.task world.new) }
+    ensures shared { IfOk result (λ start. (places : List SlotPlace) → All (Shares layout.now predicate.now vector.now places) checks.now → AreShared layout.now predicate.now vector.now places start.count) }
+{
+    match checks.wake(alloc, world, stack)? {
+        Some(start) => Ok(start),
+        None => {
+            begin(alloc, layout, vector, world)?;
+            stack.clear();
+            Ok(Start {
+                condition: 0,
+                task: Task::Evaluate(node),
+                count: 0,
+            })
+        }
+    }
+}
+
+/// How a run has ended, and how many of the places that it has read were read from the start by the run before, too.
+#[derive(Clone, Copy)]
+pub(crate) struct Went {
+    pub end: Judgement,
+    pub shared: usize,
+}
+
+/// How a run ends whose condition gives a value, where that says it.
+#[inline(always)]
+fn decided(predicate: &Predicate, condition: usize, value: Value) -> Option<Judgement>
+    ensures { IfSome result (λ end. Decides predicate.now condition value end) }
+{
+    match value {
+        Value::Bool(truth) => {
+            if !truth {
+                return Some(Judgement::False);
+            }
+            let Some(following) = condition.checked_add(1) else {
+                return None;
+            };
+            match condition_at(predicate, following) {
+                None => Some(Judgement::True),
+                Some(_) => None,
+            }
+        }
+        Value::Int(_) => None,
+        Value::Null => None,
+        Value::Ref(_) => None,
+    }
+}
+
+/// How a run ends that goes on from the last checkpoint, where that is known at once: then neither the checkpoint's stack nor
+/// what it has made is copied.
+fn foretell(
+    predicate: &Predicate,
+    checks: &mut Checks,
+    world: &mut World,
+) -> Result<Option<Went>, NoMemory>
+    ensures same { checks.new ≡ checks.old }
+    ensures candidates { world.new.candidates ≡ world.old.candidates }
+    ensures reads { OnOk result (ReadOn checks.old world.old.reads world.new.reads) }
+    ensures foretold { IfOk result (λ found. IfSome found (λ went. IsForetold predicate.now checks.old world.old world.new went)) }
+{
+    match checks.foresee(&predicate.code, world)? {
+        None => Ok(None),
+        Some(foreseen) => match decided(predicate, foreseen.condition, foreseen.value) {
+            None => Ok(None),
+            Some(end) => Ok(Some(Went {
+                end,
+                shared: foreseen.count,
+            })),
+        },
+    }
+}
+
+/// The run of a candidate, with checkpoints of the last run, in a world and on a stack whose room is used: how it ends, and
+/// the places that the world then has read; none where the candidate has no conditions, or would have been written. If the
+/// known vector is known, it is the one of the last run, the world has its heap, and the accesses are that run's; the
+/// candidate has its indices at so many of their first slots, and at all but those from one to another.
+pub(crate) fn run(
+    alloc: Global,
+    layout: &Layout,
+    predicate: &Predicate,
+    vector: &Vector,
+    is_known: bool,
+    known: &mut Vector,
+    low: u32,
+    high: u32,
+    fresh: usize,
+    accesses: &Accesses,
+    checks: &mut Checks,
+    world: &mut World,
+    stack: &mut Stack,
+) -> Result<Option<Went>, NoMemory>
+    requires well { IsWellFormed (bare layout.now) }
+    requires vector { IsVector (space_of (bare layout.now)) vector.now }
+    requires small { length (slots (bare layout.now)) < 2 ^ 31 }
+    requires long { length known.old ≡ length (slots (bare layout.now)) }
+    requires follow { Follow (slots_for (bare layout.now)) accesses.now }
+    requires last { is_known ≡ true → IsLast layout.now predicate.now known.old checks.old world.old accesses.now }
+    requires same { is_known ≡ true → IsSameBut known.old vector.now low high }
+    requires high { high ≤ length (slots (bare layout.now)) }
+    requires alike { is_known ≡ true → Alike layout.now known.old vector.now fresh accesses.now }
+    ensures runs { IfOk result (λ found. IfSome found (λ went. (program : Program) (n : Numbering) → IsPredicateOf (problem_with program layout.now) predicate.now n → IsRunTo (problem_with program layout.now) vector.now went.end world.new.reads)) }
+    ensures went { IfOk result (λ found. IfSome found (λ went. HasGone layout.now predicate.now vector.now went known.new checks.new world.new accesses.now)) }
+    ensures long { length known.new ≡ length known.old }
+{
+    let Some(node) = condition_at(predicate, 0) else {
+        return Ok(None);
+    };
+    settle(checks, is_known, accesses, fresh);
+    refresh(
+        alloc,
+        layout,
+        vector,
+        is_known,
+        known,
+        low,
+        high,
+        &mut world.candidates,
+    )?;
+    match foretell(predicate, checks, world)? {
+        Some(went) => return Ok(Some(went)),
+        None => {}
+    }
+    world.is_frozen = true;
+    let start = stand(alloc, layout, vector, predicate, checks, world, stack, node)?;
+    let shared = start.count;
+    let answer = go_on(
+        alloc,
+        layout,
+        vector,
+        predicate,
+        world,
+        checks,
+        start.condition,
+        start.task,
+        stack,
+    );
+    if matches!(&answer, Err(Halt::Written)) {
+        return Ok(None);
+    }
+    let end = judged(answer)?;
+    Ok(Some(Went { end, shared }))
+}

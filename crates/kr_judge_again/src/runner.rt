@@ -1,0 +1,213 @@
+// Runs of candidates that go on from before the first place that changed.
+ghost use Rattle.std.specs.Prelude.{◌≡◌, ◌<◌, ◌≤◌, ◌^◌, [], false, take, IfOk, OnOk, length, replicate, slice_index, slice_set};
+ghost use Rattle.std.specs.List.{All};
+ghost use Rattle.kr_code.specs.Resolved.{Numbering};
+ghost use Rattle.kr_mean.specs.Problem.{slots};
+ghost use Rattle.kr_mean.specs.Program.{Program};
+ghost use Rattle.kr_mean.specs.Runs.{contains_number, end_on, order_of};
+ghost use Rattle.kr_mean.specs.Space.{IsVector, space_of};
+ghost use Rattle.kr_mean.specs.WellFormed.{IsWellFormed};
+ghost use Rattle.kr_space_layout.specs.Bounds.{bare, problem_with};
+ghost use Rattle.kr_judge.specs.Predicates.{IsPredicateOf};
+ghost use Rattle.kr_judge.specs.Runs.{end_said};
+ghost use Rattle.kr_judge_again.specs.Kept.{Kept};
+
+use crate::check::blank_world;
+use crate::checks::Checks;
+use crate::going::run;
+use kr_base::NoMemory;
+use kr_judge::{Accesses, Judgement, Predicate, run_predicate};
+use kr_run_frames::Stack;
+use kr_run_state::World;
+use kr_space_layout::Layout;
+use kr_vector::{Slot, Vector};
+use std::alloc::Global;
+use std::marker::Model;
+
+/// A candidate that can be changed slot by slot and run. A run goes on from the last checkpoint of earlier runs at which the
+/// candidate can't be told from theirs. Contracts see the problem's slots and domains, its predicate, the candidate and the
+/// order of slots of the last run.
+#[derive(Drop)]
+pub struct Runner<'s> {
+    alloc: Global,
+    layout: &'s Layout,
+    predicate: &'s Predicate,
+    vector: Vector,
+    checks: Checks,
+    // the vector of the last run, whose heap the world has, if it is known
+    known: Vector,
+    is_known: bool,
+    // at so many of the first slots of its order the candidate has its indices
+    fresh: usize,
+    // and at all slots but those from one to another
+    low: u32,
+    high: u32,
+    world: World,
+    stack: Stack,
+    accesses: Accesses,
+}
+
+impl<'s> Model for Runner<'s> {
+    ghost use Rattle.std.specs.Prelude.{◌≡◌, ◌≤◌, length, true};
+    ghost use Rattle.kr_build.specs.Renewed.{IsSameBut};
+    ghost use Rattle.kr_mean.specs.Problem.{slots};
+    ghost use Rattle.kr_mean.specs.Runs.{slots_for};
+    ghost use Rattle.kr_space_layout.specs.Bounds.{bare};
+    ghost use Rattle.kr_judge.specs.Follows.{Follow};
+    ghost use Rattle.kr_judge_again.specs.Going.{Alike, IsLast};
+    ghost use Rattle.kr_judge_again.specs.Seen.{Seen};
+
+    ghost Value = { Seen };
+
+    ghost view = { λ r. record { bounds = r.layout.now; predicate = r.predicate.now; vector = r.vector; order = r.accesses.order } };
+
+    ghost invariant = { λ r. Follow (slots_for (bare r.layout.now)) r.accesses × (length r.known ≡ length (slots (bare r.layout.now)))
+        × (length r.vector ≡ length (slots (bare r.layout.now))) × (r.high ≤ length (slots (bare r.layout.now)))
+        × (r.is_known ≡ true → IsLast r.layout.now r.predicate.now r.known r.checks r.world r.accesses × Alike r.layout.now r.known r.vector r.fresh r.accesses × IsSameBut r.known r.vector r.low r.high) };
+}
+
+/// How many of the first slots, of so many, come before one; none where it's a root.
+#[inline(always)]
+fn first_without(layout: &Layout, accesses: &Accesses, fresh: usize, slot: u32) -> usize
+    ensures few { result ≤ fresh }
+    ensures none { contains_number (take result accesses.now.order) slot ≡ false }
+    ensures root { slot ≤ length layout.now.parameters → result ≡ 0 }
+{
+    if (slot as usize) <= layout.parameters() {
+        0
+    } else {
+        accesses.order.first_without(fresh, slot)
+    }
+}
+
+/// The number behind a slot's, or a greater one.
+#[inline(always)]
+fn behind(layout: &Layout, high: u32, slot: u32) -> u32
+    requires slot { slot < length (slots (bare layout.now)) }
+    requires high { high ≤ length (slots (bare layout.now)) }
+    ensures most { high ≤ result }
+    ensures behind { slot < result }
+    ensures few { result ≤ length (slots (bare layout.now)) }
+{
+    let count = layout.slots();
+    if slot < high {
+        high
+    } else if slot < count {
+        slot + 1
+    } else {
+        count
+    }
+}
+
+impl<'s> Runner<'s> {
+    /// The candidate of index 0 in every slot stands.
+    pub fn new(
+        alloc: Global,
+        layout: &'s Layout,
+        predicate: &'s Predicate,
+    ) -> Result<Runner<'s>, NoMemory>
+        ensures bounds { IfOk result (λ runner. runner.bounds ≡ layout.now) }
+        ensures predicate { IfOk result (λ runner. runner.predicate ≡ predicate.now) }
+        ensures vector { IfOk result (λ runner. runner.vector ≡ replicate (length (slots (bare layout.now))) 0) }
+    {
+        let vector = Vector::zero(alloc, layout.slots() as usize)?;
+        let known = Vector::zero(alloc, layout.slots() as usize)?;
+        Ok(Runner {
+            alloc,
+            layout,
+            predicate,
+            vector,
+            checks: Checks::new(alloc),
+            known,
+            is_known: false,
+            fresh: 0,
+            low: u32::MAX,
+            high: 0,
+            world: blank_world(alloc),
+            stack: Stack::new(alloc),
+            accesses: Accesses::new(alloc),
+        })
+    }
+
+    /// What is run.
+    pub fn layout(&self) -> &'s Layout
+        ensures { result.now ≡ self.now.bounds }
+    {
+        self.layout
+    }
+
+    /// The index of a slot.
+    pub fn index(&self, slot: u32) -> u32
+        requires { slot < length self.now.vector }
+        ensures { result ≡ slice_index self.now.vector slot }
+    {
+        self.vector.get(Slot(slot))
+    }
+
+    /// Gives a slot another index.
+    pub fn set(&mut self, slot: u32, index: u32)
+        requires { slot < length self.old.vector }
+        ensures { self.new ≡ record self.old { vector = slice_set self.old.vector slot index } }
+    {
+        self.fresh = first_without(self.layout, &self.accesses, self.fresh, slot);
+        self.low = self.low.min(slot);
+        self.high = behind(self.layout, self.high, slot);
+        self.vector.set(Slot(slot), index);
+    }
+
+    /// Runs the predicate on the candidate: how the run ends, and the order of the slots that decide it.
+    pub fn run(&mut self) -> Result<Judgement, NoMemory>
+        requires well { IsWellFormed (bare self.old.bounds) }
+        requires vector { IsVector (space_of (bare self.old.bounds)) self.old.vector }
+        requires small { length (slots (bare self.old.bounds)) < 2 ^ 31 }
+        ensures ends { IfOk result (λ end. (program : Program) (n : Numbering) → IsPredicateOf (problem_with program self.old.bounds) self.old.predicate n → end_said end ≡ end_on (problem_with program self.old.bounds) self.old.vector) }
+        ensures order { OnOk result ((program : Program) (n : Numbering) → IsPredicateOf (problem_with program self.old.bounds) self.old.predicate n → self.new.order ≡ order_of (problem_with program self.old.bounds) self.old.vector) }
+        ensures others { self.new ≡ record self.old { order = self.new.order } }
+    {
+        let is_known = self.is_known;
+        self.is_known = false;
+        match run(
+            self.alloc,
+            self.layout,
+            self.predicate,
+            &self.vector,
+            is_known,
+            &mut self.known,
+            self.low,
+            self.high,
+            self.fresh,
+            &self.accesses,
+            &mut self.checks,
+            &mut self.world,
+            &mut self.stack,
+        )? {
+            Some(went) => {
+                self.accesses.take(
+                    self.layout,
+                    &self.vector,
+                    went.end,
+                    &self.world.reads,
+                    went.shared,
+                )?;
+                self.is_known = true;
+                self.fresh = self.accesses.order.len();
+                self.low = u32::MAX;
+                self.high = 0;
+                Ok(went.end)
+            }
+            None => {
+                let ran = run_predicate(self.alloc, self.layout, self.predicate, &self.vector)?;
+                self.accesses
+                    .take(self.layout, &self.vector, ran.end, &ran.reads, 0)?;
+                Ok(ran.end)
+            }
+        }
+    }
+
+    /// The order of the last candidate.
+    pub fn order(&self) -> &[u32]
+        ensures { result.now ≡ self.now.order }
+    {
+        self.accesses.order.as_slice()
+    }
+}

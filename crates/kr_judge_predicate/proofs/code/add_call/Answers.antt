@@ -1,0 +1,19 @@
+use Rattle.std.proofs.Common.{◌≡◌, ap, ◌∙◌, subst, arith, ℕ, ◌+◌, List, [], ◌∷◌, ◌++◌, length, append_assoc}
+use Rattle.kr_code.specs.declared.code.Node.{Node}
+use Rattle.kr_code.specs.declared.code.Node.TheVariants as nodes
+use Rattle.kr_code.specs.declared.expression.Expression.TheVariants as expressions
+use Rattle.kr_judge_predicate.specs.Compiled.{CallsRepOk}
+use Rattle.kr_judge_predicate.proofs.code.add_call.Goals as goal
+
+pub returns : goal.returns
+returns c =
+    let p = c.args.problem.now.program in
+    let old = c.args.nodes.now.items in
+    let call = c.rep_ok_call-call.result in
+    let count : c.len-count.result ≡ length old = omega (arith, c.len-count.ensures, c.args.nodes.now.ok.0) in
+    let this : List Node = nodes.Expression expressions.This ∷ [] in
+    record {
+      call = call;
+      items = c.in_ok-push-2.ensures.items ∙ (ap (λ (ns : List Node). ns ++ this) c.in_ok-push.ensures.items ∙ append_assoc old (nodes.Expression call ∷ []) this);
+      calls = subst (λ (k : ℕ). CallsRepOk p k (length old + 1) call) c.root_class.ensures (subst (λ (n : ℕ). CallsRepOk p c.root_class.result (n + 1) call) count c.rep_ok_call-call.ensures);
+    }

@@ -1,5 +1,0 @@
-use Rattle.kr_laws.proofs.Complete.{completeness}
-use Rattle.kr_laws.proofs.laws.completeness.Goals as goal
-
-pub returns : goal.returns
-returns c = completeness

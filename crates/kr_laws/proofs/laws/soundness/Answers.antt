@@ -1,5 +1,0 @@
-use Rattle.kr_laws.proofs.Sound.{soundness}
-use Rattle.kr_laws.proofs.laws.soundness.Goals as goal
-
-pub returns : goal.returns
-returns c = soundness

@@ -1,0 +1,177 @@
+-- The values that a document gives are of the types that they are asked for.
+use Rattle.std.proofs.Common.{◌≡◌, ℕ, suc, ◌+◌, ◌<◌, ◌≤◌, ℤ, pos, negsuc, Bool, true, false, not, ◌||◌, cond, List, [], ◌∷◌, ◌++◌, length, map, Option, Some, None, refl, sym, ap, ◌∙◌, subst, arith}
+use Rattle.std.specs.Prelude.{bytes_eq, codes, unwrap_or}
+use Rattle.std.specs.Int.Signed.{le_z}
+use Rattle.std.specs.List.{AllByRecursion, list_any}
+use Rattle.std.proofs.lemmas.Slice.Eq.{bytes_eq-Decides}
+use Rattle.kr_classes_table.specs.Types.{JavaType, IntType, BooleanType, ClassType, is_same}
+use Rattle.kr_classes_table.specs.Table.{Heading, Table, is_assignable, number_from, number_of}
+use Rattle.kr_value.specs.declared.value.Value.TheVariants.{Int, Bool as Truth, Null}
+use Rattle.kr_mean.specs.Problem.{Problem, Item, Domain, Plain, Objects, domain_at}
+use Rattle.kr_space_layout.specs.Items.{integers}
+use Rattle.kr_fin.specs.declared.document.ArrayBound.{ArrayBound}
+use Rattle.kr_fin.specs.declared.document.NamedDomain.{NamedDomain}
+use Rattle.kr_fin.specs.declared.document.Item.{Item as FinItem}
+use Rattle.kr_fin.specs.declared.document.Item.TheVariants.{Number, Range, Truth as FinTruth, Name}
+use Rattle.kr_space_meaning.specs.Names.{Meant, NoReference, Unknown, array_type, array_meant, class_meant, meant}
+use Rattle.kr_space_meaning.specs.Names as names
+use Rattle.kr_space_meaning.specs.Bounds.{Setting, given, array_domain, meant_values, item_values, values_of, lengths_in, lengths_of, greatest, values_given}
+use Rattle.kr_space_meaning.specs.Faults.{meant_fits, fits, is_unfit}
+use Rattle.kr_space_meaning.specs.Limits.{IsSmall, AreLengths}
+use Rattle.kr_space_meaning.proofs.Each.{each_of_both}
+use Rattle.kr_laws_safety.specs.Fits.{IsInt}
+use Rattle.kr_laws_safety.specs.Domains.{class_type, IsDomainOf}
+use Rattle.kr_laws_safety.proofs.Heaps.{same_type}
+use Rattle.kr_laws_never_stuck.proofs.Integers.{is_int, range_ints, none_between, IsShort, is_short, range_short}
+
+-- ---- what a key is given
+
+-- what holds of all that is given holds of what a key is given
+pub given_holds : (Q : List ℕ → List FinItem → Type 0) (domains : List NamedDomain) (key : List ℕ) (items : List FinItem) → AllByRecursion (λ d. Q d.key d.domain) domains → given domains key ≡ Some items → Q key items
+given_holds Q [] key items h e = absurd (cc (e))
+given_holds Q (d ∷ ds) key items h e = go (bytes_eq d.key key) refl e (given_holds Q ds key items h.1)
+  where
+    inside : Option (List FinItem) → List FinItem
+    inside (Some is) = is
+    inside None = items
+
+    go : (b : Bool) → bytes_eq d.key key ≡ b → cond b (Some d.domain) (given ds key) ≡ Some items → (given ds key ≡ Some items → Q key items) → Q key items
+    go true q e r = subst (λ (k : List ℕ). Q k items) ((bytes_eq-Decides d.key key).0 q) (subst (λ (is : List FinItem). Q d.key is) (ap inside e) h.0)
+    go false q e r = r e
+
+-- ---- lengths
+
+abbrev AtMost : Item → Type 0
+AtMost (Plain (Int z)) = IsShort z
+AtMost i = Unit {0}
+
+short_integers : (zs : List ℤ) → AllByRecursion IsShort zs → AllByRecursion AtMost (map (λ z. Plain (Int z)) zs)
+short_integers [] h = tt
+short_integers (z ∷ zs) h = (h.0, short_integers zs h.1)
+
+short_item : (setting : Setting) (item : FinItem) → AreLengths item → AllByRecursion AtMost (item_values setting item)
+short_item setting (Number z) h = (is_short z h, tt)
+short_item setting (Range from to) h = short_integers (integers from to) (range_short from to h.0 h.1)
+short_item setting (FinTruth b) h = absurd h
+short_item setting (Name n) h = absurd h
+
+short_items : (setting : Setting) (items : List FinItem) → AllByRecursion AreLengths items → AllByRecursion AtMost (values_of setting items)
+short_items setting [] h = tt
+short_items setting (i ∷ is) h = each_of_both AtMost (item_values setting i) (values_of setting is) (short_item setting i h.0) (short_items setting is h.1)
+
+greatest_short : (items : Domain) → AllByRecursion AtMost items → greatest (lengths_in items) ≤ 64
+greatest_short [] h = omega arith
+greatest_short (Plain (Int (pos n)) ∷ items) h = omega (arith, h.0, greatest_short items h.1)
+greatest_short (Plain (Int (negsuc n)) ∷ items) h = greatest_short items h.1
+greatest_short (Plain (Truth b) ∷ items) h = greatest_short items h.1
+greatest_short (Plain Null ∷ items) h = greatest_short items h.1
+greatest_short (Plain (Rattle.kr_value.specs.declared.value.Value.TheVariants.Ref o) ∷ items) h = greatest_short items h.1
+greatest_short (Objects d ∷ items) h = greatest_short items h.1
+
+pub lengths_short : (setting : Setting) (items : List FinItem) → AllByRecursion AreLengths items → greatest (lengths_of setting items) ≤ 64
+lengths_short setting items h = greatest_short (values_of setting items) (short_items setting items h)
+
+-- ---- names
+
+-- the class that a name means has a number below that of all
+number_below : (k : ℕ) (hs : List Heading) (n : List ℕ) (c : ℕ) → number_from k hs n ≡ Some c → c < k + length hs
+number_below k [] n c e = absurd (cc (e))
+number_below k (h ∷ hs) n c e = go (bytes_eq h.name n) e (number_below (k + 1) hs n c)
+  where
+    inside : Option ℕ → ℕ
+    inside (Some z) = z
+    inside None = c
+
+    go : (b : Bool) → cond b (Some k) (number_from (k + 1) hs n) ≡ Some c → (number_from (k + 1) hs n ≡ Some c → c < k + 1 + length hs) → c < k + suc (length hs)
+    go true e r = let same : k ≡ c = ap inside e in omega (arith, same)
+    go false e r = omega (arith, r e)
+
+pub class_below : (hs : List Heading) (n : List ℕ) (c : ℕ) → number_of hs n ≡ Some c → c < length hs
+class_below hs n c e = omega (arith, number_below 0 hs n c e)
+
+IsClassBelow : List Heading → Meant → Type 0
+IsClassBelow hs (names.Objects c) = c < length hs
+IsClassBelow hs m = Unit {0}
+
+meant_below : (hs : List Heading) (n : List ℕ) → IsClassBelow hs (meant hs n)
+unfolding meant IsClassBelow
+meant_below hs n = go (bytes_eq n (codes "null")) (of_class (number_of hs n) refl)
+  where
+    of_array : (o : Option JavaType) → IsClassBelow hs (array_meant o)
+    of_array (Some t) = tt
+    of_array None = tt
+
+    of_class : (o : Option ℕ) → number_of hs n ≡ o → IsClassBelow hs (class_meant hs n o)
+    of_class (Some c) e = class_below hs n c e
+    of_class None e = of_array (array_type hs n)
+
+    go : (b : Bool) → IsClassBelow hs (class_meant hs n (number_of hs n)) → IsClassBelow hs (cond b NoReference (class_meant hs n (number_of hs n)))
+    go true h = tt
+    go false h = h
+
+-- ---- values
+
+-- the objects of classes and of bounded array types have class domains of their types
+abbrev pub AreArrays : Problem → ℕ → List (JavaType × ArrayBound) → Type 0
+AreArrays problem d [] = Unit {0}
+AreArrays problem d (a ∷ more) = ((d < length problem.domains) × (class_type problem.program (domain_at problem d).class ≡ a.0)) × AreArrays problem (d + 1) more
+
+pub record HasDomains (problem : Problem) (setting : Setting) : Type 0 where
+  pub table : problem.program.table ≡ setting.table
+  pub classes : (c : ℕ) → c < length setting.table.headings → (c < length problem.domains) × (class_type problem.program (domain_at problem c).class ≡ ClassType c)
+  pub arrays : AreArrays problem (length setting.table.headings) setting.arrays
+
+module _ (problem : Problem) (setting : Setting) (has : HasDomains problem setting) where
+  both : (t : JavaType) (xs ys : Domain) → IsDomainOf problem t xs → IsDomainOf problem t ys → IsDomainOf problem t (xs ++ ys)
+  both t [] ys h k = k
+  both t (x ∷ xs) ys h k = (h.0, both t xs ys h.1 k)
+
+  integers_of : (t : JavaType) (zs : List ℤ) → t ≡ IntType → AllByRecursion IsInt zs → IsDomainOf problem t (map (λ z. Plain (Int z)) zs)
+  integers_of t [] e h = tt
+  integers_of t (z ∷ zs) e h = ((e, h.0), integers_of t zs e h.1)
+
+  objects_of : (t u : JavaType) (d : ℕ) → d < length problem.domains → class_type problem.program (domain_at problem d).class ≡ u → is_assignable setting.table u t ≡ true → IsDomainOf problem t (Objects d ∷ [])
+  objects_of t u d l c a = ((l, ap (λ (x : Table). is_assignable x (class_type problem.program (domain_at problem d).class) t) has.table ∙ (ap (λ (x : JavaType). is_assignable setting.table x t) c ∙ a)), tt)
+
+  arrays_of : (t u : JavaType) (d : ℕ) (bounds : List (JavaType × ArrayBound)) → AreArrays problem d bounds → is_assignable setting.table u t ≡ true → IsDomainOf problem t (array_domain d bounds u)
+  arrays_of t u d [] h a = tt
+  arrays_of t u d (x ∷ bounds) h a = go (is_same x.0 u) refl (arrays_of t u (d + 1) bounds h.1 a)
+    where
+      go : (b : Bool) → is_same x.0 u ≡ b → IsDomainOf problem t (array_domain (d + 1) bounds u) → IsDomainOf problem t (cond b (Objects d ∷ []) (array_domain (d + 1) bounds u))
+      go true e r = objects_of t u d h.0.0 (h.0.1 ∙ same_type x.0 u e) a
+      go false e r = r
+
+  meant_of : (t : JavaType) (m : Meant) → IsClassBelow setting.table.headings m → meant_fits setting.table t m ≡ true → IsDomainOf problem t (meant_values setting m)
+  unfolding IsClassBelow
+  meant_of t NoReference l e = (e, tt)
+  meant_of t (names.Objects c) l e = let h = has.classes c l in objects_of t (ClassType c) c h.0 h.1 e
+  meant_of t (names.Arrays u) l e = arrays_of t u (length setting.table.headings) setting.arrays has.arrays e
+  meant_of t Unknown l e = tt
+
+  item_of : (t : JavaType) (item : FinItem) → fits setting.table t item ≡ true → IsSmall item → IsDomainOf problem t (item_values setting item)
+  item_of t (Number z) e s = ((same_type t IntType e, is_int z s), tt)
+  item_of t (Range from to) e s = go (le_z from to) refl e
+    where
+      go : (b : Bool) → le_z from to ≡ b → (not b || is_same t IntType) ≡ true → IsDomainOf problem t (map (λ z. Plain (Int z)) (integers from to))
+      go true q e = integers_of t (integers from to) (same_type t IntType e) (range_ints from to (is_int from s.0) (is_int to s.1))
+      go false q e = subst (λ (zs : List ℤ). IsDomainOf problem t (map (λ z. Plain (Int z)) zs)) (sym (none_between from to q)) tt
+  item_of t (FinTruth b) e s = (same_type t BooleanType e, tt)
+  item_of t (Name n) e s = meant_of t (meant setting.table.headings n) (meant_below setting.table.headings n) e
+
+  all_fit : (t : JavaType) (items : List FinItem) → list_any (λ i. not (fits setting.table t i)) items ≡ false → AllByRecursion IsSmall items → IsDomainOf problem t (values_of setting items)
+  all_fit t [] e s = tt
+  all_fit t (i ∷ is) e s = go (fits setting.table t i) refl e (all_fit t is)
+    where
+      go : (b : Bool) → fits setting.table t i ≡ b → (not b || list_any (λ i. not (fits setting.table t i)) is) ≡ false → (list_any (λ i. not (fits setting.table t i)) is ≡ false → AllByRecursion IsSmall is → IsDomainOf problem t (values_of setting is))
+          → IsDomainOf problem t (item_values setting i ++ values_of setting is)
+      go true q e r = both t (item_values setting i) (values_of setting is) (item_of t i q s.0) (r e s.1)
+      go false q e r = absurd (cc (e))
+
+  -- what is given for a key, if anything is, is of the type that the key asks for
+  pub given_of : (domains : List NamedDomain) (key : List ℕ) (t : JavaType)
+      → ((items : List FinItem) → given domains key ≡ Some items → (is_unfit setting.table (Some t) items ≡ false) × AllByRecursion IsSmall items) → IsDomainOf problem t (values_given setting domains key)
+  given_of domains key t h = go (given domains key) refl
+    where
+      go : (o : Option (List FinItem)) → given domains key ≡ o → IsDomainOf problem t (values_of setting (unwrap_or o []))
+      go None e = tt
+      go (Some items) e = let x = h items e in all_fit t items x.0 x.1

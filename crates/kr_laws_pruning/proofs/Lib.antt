@@ -1,0 +1,17 @@
+pub mod Renamings
+pub mod Forks
+pub mod Sorting
+pub mod Listed
+pub mod AllEntries
+pub mod Inverses
+pub mod Compositions
+pub mod Representatives
+pub mod Isomorphic
+pub mod Judged
+pub mod Verdicts
+pub mod Lawful
+pub mod OneFieldSpace
+pub mod Comparisons
+pub mod OneFieldRun
+pub mod OneFieldOrder
+pub mod OneFieldEntries

@@ -1,0 +1,24 @@
+// What holds of the entries of every problem.
+ghost use Rattle.kr_laws_pruning.specs.Laws.{PlainLaw, ClassLaw, LawfulLaw};
+ghost use Rattle.kr_laws_pruning.specs.OneField.{OneFieldLaw};
+
+/// Every pure, well formed problem is lawful: its orders fork, renamed vectors have renamed runs, and runs read only what
+/// is reachable.
+pub fn lawful_law()
+    ensures { LawfulLaw }
+{}
+
+/// Trying every vector and every renaming gives the list of all entries.
+pub fn plain_law()
+    ensures { PlainLaw }
+{}
+
+/// Each valid vector is isomorphic to a vector with the key of exactly one valid entry.
+pub fn class_law()
+    ensures { ClassLaw }
+{}
+
+/// Of a class of one `int` field, the premises hold, and each value of the field has its entry.
+pub fn one_field_law()
+    ensures { OneFieldLaw }
+{}

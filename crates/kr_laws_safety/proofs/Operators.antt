@@ -1,0 +1,349 @@
+-- Operators on operands of the types that the typing rules ask, and new arrays.
+use Rattle.std.proofs.Common.{◌≡◌, ℕ, suc, ◌+◌, ◌-◌, ◌≤◌, ◌⊎◌, inl, inr, Bool, true, false, List, [], ◌∷◌, get_or, Option, Some, None, Result, Ok, Err, refl, sym, ap, ◌∙◌, arith, subst}
+use Rattle.std.specs.Prelude.{ℤ, pos, negsuc, replicate, nat_lt, ◌&&◌, ◌||◌, if◌then◌else◌}
+use Rattle.std.proofs.lemmas.Bool.{ltb-true, ltb-false}
+use Rattle.std.proofs.lemmas.List.{length-replicate}
+use Rattle.kr_ast.specs.declared.node.BinaryOperator.{BinaryOperator}
+use Rattle.kr_ast.specs.declared.node.BinaryOperator.TheVariants.{Multiply, Divide, Remainder, Add, Subtract, ShiftLeft, ShiftRight, ShiftRightUnsigned, Less, Greater, LessOrEqual, GreaterOrEqual, Equal, NotEqual, BitAnd, BitXor, BitOr, And, Or}
+use Rattle.kr_ast.specs.declared.node.UnaryOperator.{UnaryOperator}
+use Rattle.kr_ast.specs.declared.node.UnaryOperator.TheVariants.{Plus, Minus, Complement, Not}
+use Rattle.kr_value.specs.declared.value.Value.{Value}
+use Rattle.kr_value.specs.declared.value.Value.TheVariants.{Int, Bool as Truth, Null, Ref as Reference}
+use Rattle.kr_value.specs.declared.object.Class.TheVariants.{Array}
+use Rattle.kr_value.specs.Heaps.{object_in}
+use Rattle.kr_classes_table.specs.Types.{JavaType, IntType, BooleanType, VoidType, ArrayType, is_same, is_reference}
+use Rattle.kr_classes_table.specs.Table.{Table, is_assignable}
+use Rattle.kr_classes_table.specs.Constants.{Whole, int_of, is_zero}
+use Rattle.kr_classes_table.specs.Arrays.{array_number_from, array_number}
+use Rattle.kr_types_meaning.specs.Scopes.{Scope}
+use Rattle.kr_types_meaning.specs.Rules as rules
+use Rattle.kr_types_meaning.specs.Rules.{Typed, Verdict, Fits, Breaks, ask, is_int, is_boolean, both_int, both_boolean, related_references, operator_rule, unary_rule}
+use Rattle.kr_mean.specs.Program.{Program, default_of, is_array_of}
+use Rattle.kr_mean.specs.Steps.{Stop, Trapped, OutOfFuel, Stuck, State, Run, say, stop}
+use Rattle.kr_mean.specs.Operators.{is_division, operated, operated_alone}
+use Rattle.kr_mean.specs.Meaning.{make_array, create_array}
+use Rattle.kr_mean.specs.declared.kind.Kind.TheVariants.{ArrayTooLong}
+use Rattle.kr_laws_safety.specs.Fits.{IsInt, IsOf, IsHeapOf, type_at}
+use Rattle.kr_laws_safety.specs.Triples.{Fixed, IsStateOf, Fine, Safe, Gives}
+use Rattle.kr_laws_safety.specs.Steps.{is_junction}
+use Rattle.kr_laws_slots.proofs.Spaces.{some_is}
+use Rattle.kr_laws_safety.proofs.Heaps.{value_more, extends_self, object_found, all_replicate, same_type}
+use Rattle.kr_laws_safety.proofs.Vectors.{type_same}
+use Rattle.kr_laws_safety.proofs.Steps.{IsObjectType, Assigned, object_type, type_known, no_int, safe_make, safe_map}
+
+-- ---- ints
+
+pub is_int_of : (n : ℕ) → IsInt (int_of n)
+is_int_of n = go (nat_lt n 2147483648) refl
+  where
+    go : (b : Bool) → nat_lt n 2147483648 ≡ b → IsInt (if b then pos n else negsuc (4294967295 - n))
+    go true e = ltb-true n 2147483648 e
+    go false e = omega (arith, ltb-false n 2147483648 e)
+
+-- what an operator gives: a value of a type that needs no object, or a trap
+abbrev pub Good : JavaType → Result Value Stop → Type 0
+Good t (Ok v) = (table : Table) (types : List JavaType) → IsOf table types t v
+Good t (Err (Trapped k)) = Unit {0}
+Good t (Err OutOfFuel) = ⊥
+Good t (Err Stuck) = ⊥
+
+whole_good : (n : ℕ) → Good IntType (Ok (Int (int_of n)))
+whole_good n table types = (refl, is_int_of n)
+
+-- the type that an operator gives on ints, and on booleans
+abbrev pub on_ints : BinaryOperator → Option JavaType
+on_ints Less = Some BooleanType
+on_ints Greater = Some BooleanType
+on_ints LessOrEqual = Some BooleanType
+on_ints GreaterOrEqual = Some BooleanType
+on_ints Equal = Some BooleanType
+on_ints NotEqual = Some BooleanType
+on_ints And = None
+on_ints Or = None
+on_ints o = Some IntType
+
+divided : (b : Bool) (n : ℕ) → Good IntType (Rattle.kr_mean.specs.Operators.constant_result true (if b then None else Some (Whole (int_of n))))
+divided true n = tt
+divided false n = whole_good n
+
+abbrev pub OnInts : Option JavaType → Result Value Stop → Type 0
+OnInts None r = Unit {0}
+OnInts (Some t) r = Good t r
+
+pub ints_good : (o : BinaryOperator) (x y : ℤ) → OnInts (on_ints o) (operated o (Int x) (Int y))
+ints_good Multiply x y = whole_good _
+ints_good Divide x y = divided (is_zero y) _
+ints_good Remainder x y = divided (is_zero y) _
+ints_good Add x y = whole_good _
+ints_good Subtract x y = whole_good _
+ints_good ShiftLeft x y = whole_good _
+ints_good ShiftRight x y = whole_good _
+ints_good ShiftRightUnsigned x y = whole_good _
+ints_good Less x y = λ table types. refl
+ints_good Greater x y = λ table types. refl
+ints_good LessOrEqual x y = λ table types. refl
+ints_good GreaterOrEqual x y = λ table types. refl
+ints_good Equal x y = λ table types. refl
+ints_good NotEqual x y = λ table types. refl
+ints_good BitAnd x y = whole_good _
+ints_good BitXor x y = whole_good _
+ints_good BitOr x y = whole_good _
+ints_good And x y = tt
+ints_good Or x y = tt
+
+-- ---- booleans
+
+abbrev pub on_booleans : BinaryOperator → Bool
+on_booleans Equal = true
+on_booleans NotEqual = true
+on_booleans BitAnd = true
+on_booleans BitXor = true
+on_booleans BitOr = true
+on_booleans o = false
+
+abbrev pub OnBooleans : Bool → Result Value Stop → Type 0
+OnBooleans true r = Good BooleanType r
+OnBooleans false r = Unit {0}
+
+pub booleans_good : (o : BinaryOperator) (x y : Bool) → OnBooleans (on_booleans o) (operated o (Truth x) (Truth y))
+booleans_good Equal x y = λ table types. refl
+booleans_good NotEqual x y = λ table types. refl
+booleans_good BitAnd x y = λ table types. refl
+booleans_good BitXor x y = λ table types. refl
+booleans_good BitOr x y = λ table types. refl
+booleans_good Multiply x y = tt
+booleans_good Divide x y = tt
+booleans_good Remainder x y = tt
+booleans_good Add x y = tt
+booleans_good Subtract x y = tt
+booleans_good ShiftLeft x y = tt
+booleans_good ShiftRight x y = tt
+booleans_good ShiftRightUnsigned x y = tt
+booleans_good Less x y = tt
+booleans_good Greater x y = tt
+booleans_good LessOrEqual x y = tt
+booleans_good GreaterOrEqual x y = tt
+booleans_good And x y = tt
+booleans_good Or x y = tt
+
+-- ---- what the rules ask
+
+pub ask_holds : (b : Bool) (r : ℕ) (v : Verdict) (t : Typed) → ask b r v ≡ Fits t → (b ≡ true) × (v ≡ Fits t)
+ask_holds true r v t e = (refl, e)
+ask_holds false r v t e = absurd (cc (e))
+
+pub or_holds : (a b : Bool) → (a || b) ≡ true → (a ≡ true) ⊎ (b ≡ true)
+or_holds true b e = inl refl
+or_holds false b e = inr e
+
+and_holds : (a b : Bool) → (a && b) ≡ true → (a ≡ true) × (b ≡ true)
+and_holds true b e = (refl, e)
+and_holds false b e = absurd (cc (e))
+
+same_fits : (t u : JavaType) → Fits (rules.Value t) ≡ Fits (rules.Value u) → t ≡ u
+same_fits t u e = ap type_in e
+  where
+    type_in : Verdict → JavaType
+    type_in (Fits (rules.Value x)) = x
+    type_in v = t
+
+-- how an operator is used: on ints, on booleans, or on references
+pub data Use (o : BinaryOperator) (a b t : JavaType) : Type 0 where
+  ints : a ≡ IntType → b ≡ IntType → on_ints o ≡ Some t → Use o a b t
+  booleans : a ≡ BooleanType → b ≡ BooleanType → on_booleans o ≡ true → t ≡ BooleanType → Use o a b t
+  references : is_reference a ≡ true → is_reference b ≡ true → (o ≡ Equal) ⊎ (o ≡ NotEqual) → t ≡ BooleanType → Use o a b t
+
+both_ints : (a b : JavaType) → both_int a b ≡ true → (a ≡ IntType) × (b ≡ IntType)
+both_ints a b e = let r = and_holds (is_int a) (is_int b) e in (same_type a IntType r.0, same_type b IntType r.1)
+
+both_booleans : (a b : JavaType) → both_boolean a b ≡ true → (a ≡ BooleanType) × (b ≡ BooleanType)
+both_booleans a b e = let r = and_holds (is_boolean a) (is_boolean b) e in (same_type a BooleanType r.0, same_type b BooleanType r.1)
+
+only_ints : (s : Scope) (o : BinaryOperator) (a b t u : JavaType) (r : ℕ) → on_ints o ≡ Some u → ask (both_int a b) r (Fits (rules.Value u)) ≡ Fits (rules.Value t) → Use o a b t
+only_ints s o a b t u r q e =
+    let h = ask_holds (both_int a b) r (Fits (rules.Value u)) (rules.Value t) e in
+    let x = both_ints a b h.0 in
+    ints x.0 x.1 (q ∙ ap (λ (y : JavaType). Some y) (same_fits u t h.1))
+
+-- of a bit operator
+bits : (s : Scope) (o : BinaryOperator) (a b t : JavaType) → on_ints o ≡ Some IntType → on_booleans o ≡ true → ask (both_int a b || both_boolean a b) 11 (Fits (rules.Value a)) ≡ Fits (rules.Value t) → Use o a b t
+bits s o a b t q p e =
+    let h = ask_holds (both_int a b || both_boolean a b) 11 (Fits (rules.Value a)) (rules.Value t) e in
+    go (same_fits a t h.1) (or_holds (both_int a b) (both_boolean a b) h.0)
+  where
+    go : a ≡ t → (both_int a b ≡ true) ⊎ (both_boolean a b ≡ true) → Use o a b t
+    go f (inl i) = let x = both_ints a b i in ints x.0 x.1 (q ∙ ap (λ (y : JavaType). Some y) (sym x.0 ∙ f))
+    go f (inr i) = let x = both_booleans a b i in booleans x.0 x.1 p (sym f ∙ x.0)
+
+-- of `==` and `!=`
+equals : (s : Scope) (o : BinaryOperator) (a b t : JavaType) → on_ints o ≡ Some BooleanType → on_booleans o ≡ true → (o ≡ Equal) ⊎ (o ≡ NotEqual) → ask (both_int a b || both_boolean a b || related_references s a b) 10 (Fits (rules.Value BooleanType)) ≡ Fits (rules.Value t) → Use o a b t
+equals s o a b t q p k e =
+    let h = ask_holds (both_int a b || both_boolean a b || related_references s a b) 10 (Fits (rules.Value BooleanType)) (rules.Value t) e in
+    go (same_fits BooleanType t h.1) (or_holds (both_int a b || both_boolean a b) (related_references s a b) h.0)
+  where
+    plain : BooleanType ≡ t → (both_int a b ≡ true) ⊎ (both_boolean a b ≡ true) → Use o a b t
+    plain f (inl i) = let x = both_ints a b i in ints x.0 x.1 (q ∙ ap (λ (y : JavaType). Some y) f)
+    plain f (inr i) = let x = both_booleans a b i in booleans x.0 x.1 p (sym f)
+
+    go : BooleanType ≡ t → ((both_int a b || both_boolean a b) ≡ true) ⊎ (related_references s a b ≡ true) → Use o a b t
+    go f (inl i) = plain f (or_holds (both_int a b) (both_boolean a b) i)
+    go f (inr i) =
+        let x = and_holds (is_reference a && is_reference b) (Rattle.kr_classes_table.specs.Table.are_related s.table a b) i in
+        let y = and_holds (is_reference a) (is_reference b) x.0 in
+        references y.0 y.1 k (sym f)
+
+pub used : (s : Scope) (o : BinaryOperator) (a b t : JavaType) → is_junction o ≡ false → operator_rule s o a b ≡ Fits (rules.Value t) → Use o a b t
+used s Multiply a b t j e = only_ints s Multiply a b t IntType 7 refl e
+used s Divide a b t j e = only_ints s Divide a b t IntType 7 refl e
+used s Remainder a b t j e = only_ints s Remainder a b t IntType 7 refl e
+used s Add a b t j e = only_ints s Add a b t IntType 7 refl e
+used s Subtract a b t j e = only_ints s Subtract a b t IntType 7 refl e
+used s ShiftLeft a b t j e = only_ints s ShiftLeft a b t IntType 8 refl e
+used s ShiftRight a b t j e = only_ints s ShiftRight a b t IntType 8 refl e
+used s ShiftRightUnsigned a b t j e = only_ints s ShiftRightUnsigned a b t IntType 8 refl e
+used s Less a b t j e = only_ints s Less a b t BooleanType 9 refl e
+used s Greater a b t j e = only_ints s Greater a b t BooleanType 9 refl e
+used s LessOrEqual a b t j e = only_ints s LessOrEqual a b t BooleanType 9 refl e
+used s GreaterOrEqual a b t j e = only_ints s GreaterOrEqual a b t BooleanType 9 refl e
+used s Equal a b t j e = equals s Equal a b t refl refl (inl refl) e
+used s NotEqual a b t j e = equals s NotEqual a b t refl refl (inr refl) e
+used s BitAnd a b t j e = bits s BitAnd a b t refl refl e
+used s BitXor a b t j e = bits s BitXor a b t refl refl e
+used s BitOr a b t j e = bits s BitOr a b t refl refl e
+used s And a b t j e = absurd (cc (j))
+used s Or a b t j e = absurd (cc (j))
+
+-- ---- the operators themselves
+
+module _ (program : Program) (fixed : Fixed) where
+  -- an object is no boolean
+  pub no_boolean : (types : List JavaType) (s : State) (o : ℕ) → IsHeapOf program types s.heap → IsOf program.table types BooleanType (Reference o) → ⊥
+  no_boolean types s o h i = go (type_at types o) (type_known program fixed types s o BooleanType h i) (object_type program types (type_at types o) (object_in s.heap o) (object_found program types types s.heap o h i.0))
+    where
+      go : (u : JavaType) → Assigned program.table u BooleanType → IsObjectType u → ⊥
+      go u (inl e) k = subst IsObjectType e k
+      go u (inr r) k = absurd (cc (r.3))
+
+  pub int_known : (types : List JavaType) (s : State) (v : Value) → IsHeapOf program types s.heap → IsOf program.table types IntType v → (z : ℤ) × (v ≡ Int z)
+  int_known types s (Int z) h i = (z, refl)
+  int_known types s (Truth b) h i = absurd (cc (i))
+  int_known types s Null h i = absurd (cc (i))
+  int_known types s (Reference o) h i = absurd (no_int program fixed types s o h i)
+
+  pub boolean_known : (types : List JavaType) (s : State) (v : Value) → IsHeapOf program types s.heap → IsOf program.table types BooleanType v → (b : Bool) × (v ≡ Truth b)
+  boolean_known types s (Truth b) h i = (b, refl)
+  boolean_known types s (Int z) h i = absurd (cc (i.0))
+  boolean_known types s Null h i = absurd (cc (i))
+  boolean_known types s (Reference o) h i = absurd (no_boolean types s o h i)
+
+  abbrev pub IsReferenceValue : Value → Type 0
+  IsReferenceValue v = (v ≡ Null) ⊎ ((o : ℕ) × (v ≡ Reference o))
+
+  pub reference_known : (types : List JavaType) (t : JavaType) (v : Value) → is_reference t ≡ true → IsOf program.table types t v → IsReferenceValue v
+  reference_known types t Null r i = inl refl
+  reference_known types t (Reference o) r i = inr (o, refl)
+  reference_known types t (Int z) r i = absurd (cc (r, ap is_reference i.0))
+  reference_known types t (Truth b) r i = absurd (cc (r, ap is_reference i))
+
+  -- a result that is good is said
+  pub said : (types : List JavaType) (this : Option ℕ) (ls : List JavaType) (t : JavaType) (r : Result Value Stop) (s : State) → IsStateOf program fixed types this ls s → Good t r → Fine program fixed types this (Gives program ls t) r s
+  said types this ls t (Ok v) s h g = (types, ls, extends_self types, h, (refl, g program.table types))
+  said types this ls t (Err (Trapped k)) s h g = tt
+  said types this ls t (Err OutOfFuel) s h g = absurd g
+  said types this ls t (Err Stuck) s h g = absurd g
+
+  pub references_good : (o : BinaryOperator) (v w : Value) → (o ≡ Equal) ⊎ (o ≡ NotEqual) → IsReferenceValue v → IsReferenceValue w → Good BooleanType (operated o v w)
+  references_good o v w k (inl e) (inl f) = rw (e, f) (null_null o k)
+    where
+      null_null : (o : BinaryOperator) → (o ≡ Equal) ⊎ (o ≡ NotEqual) → Good BooleanType (operated o Null Null)
+      null_null o (inl q) = rw q (λ table types. refl)
+      null_null o (inr q) = rw q (λ table types. refl)
+  references_good o v w k (inl e) (inr f) = rw (e, f.1) (null_object o f.0 k)
+    where
+      null_object : (o : BinaryOperator) (p : ℕ) → (o ≡ Equal) ⊎ (o ≡ NotEqual) → Good BooleanType (operated o Null (Reference p))
+      null_object o p (inl q) = rw q (λ table types. refl)
+      null_object o p (inr q) = rw q (λ table types. refl)
+  references_good o v w k (inr e) (inl f) = rw (e.1, f) (object_null o e.0 k)
+    where
+      object_null : (o : BinaryOperator) (p : ℕ) → (o ≡ Equal) ⊎ (o ≡ NotEqual) → Good BooleanType (operated o (Reference p) Null)
+      object_null o p (inl q) = rw q (λ table types. refl)
+      object_null o p (inr q) = rw q (λ table types. refl)
+  references_good o v w k (inr e) (inr f) = rw (e.1, f.1) (two_objects o e.0 f.0 k)
+    where
+      two_objects : (o : BinaryOperator) (p q : ℕ) → (o ≡ Equal) ⊎ (o ≡ NotEqual) → Good BooleanType (operated o (Reference p) (Reference q))
+      two_objects o p q (inl r) = rw r (λ table types. refl)
+      two_objects o p q (inr r) = rw r (λ table types. refl)
+
+  pub safe_operated : (types : List JavaType) (this : Option ℕ) (ls : List JavaType) (s : Scope) (o : BinaryOperator) (a b t : JavaType) (v w : Value) → is_junction o ≡ false → operator_rule s o a b ≡ Fits (rules.Value t) → IsOf program.table types a v → IsOf program.table types b w
+      → Safe program fixed types this ls (say (operated o v w)) (Gives program ls t)
+  safe_operated types this ls s o a b t v w j e i k = record { by = λ state h. said types this ls t (operated o v w) state h (go state h (used s o a b t j e)) }
+    where
+      go : (state : State) → IsStateOf program fixed types this ls state → Use o a b t → Good t (operated o v w)
+      go state h (ints p q r) =
+          let x = int_known types state v h.heap (subst (λ (y : JavaType). IsOf program.table types y v) p i) in
+          let z = int_known types state w h.heap (subst (λ (y : JavaType). IsOf program.table types y w) q k) in
+          rw (x.1, z.1) (subst (λ (y : Option JavaType). OnInts y (operated o (Int x.0) (Int z.0))) r (ints_good o x.0 z.0))
+      go state h (booleans p q r f) =
+          let x = boolean_known types state v h.heap (subst (λ (y : JavaType). IsOf program.table types y v) p i) in
+          let z = boolean_known types state w h.heap (subst (λ (y : JavaType). IsOf program.table types y w) q k) in
+          rw (x.1, z.1, f) (subst (λ (y : Bool). OnBooleans y (operated o (Truth x.0) (Truth z.0))) r (booleans_good o x.0 z.0))
+      go state h (references p q r f) = rw f (references_good o v w r (reference_known types a v p i) (reference_known types b w q k))
+
+  -- one operand
+  pub safe_operated_alone : (types : List JavaType) (this : Option ℕ) (ls : List JavaType) (o : UnaryOperator) (a t : JavaType) (v : Value) → unary_rule o a ≡ Fits (rules.Value t) → IsOf program.table types a v → Safe program fixed types this ls (say (operated_alone o v)) (Gives program ls t)
+  safe_operated_alone types this ls o a t v e i = record { by = λ state h. said types this ls t (operated_alone o v) state h (go o state h e) }
+    where
+      int : (state : State) → IsStateOf program fixed types this ls state → ask (is_int a) 14 (Fits (rules.Value IntType)) ≡ Fits (rules.Value t) → ((z : ℤ) × (v ≡ Int z)) × (IntType ≡ t)
+      int state h e =
+          let r = ask_holds (is_int a) 14 (Fits (rules.Value IntType)) (rules.Value t) e in
+          (int_known types state v h.heap (subst (λ (y : JavaType). IsOf program.table types y v) (same_type a IntType r.0) i), same_fits IntType t r.1)
+
+      go : (o : UnaryOperator) (state : State) → IsStateOf program fixed types this ls state → unary_rule o a ≡ Fits (rules.Value t) → Good t (operated_alone o v)
+      go Plus state h e = let r = int state h e in subst (λ (y : JavaType). Good y (operated_alone Plus v)) r.1 (rw r.0.1 (whole_good _))
+      go Minus state h e = let r = int state h e in subst (λ (y : JavaType). Good y (operated_alone Minus v)) r.1 (rw r.0.1 (whole_good _))
+      go Complement state h e = let r = int state h e in subst (λ (y : JavaType). Good y (operated_alone Complement v)) r.1 (rw r.0.1 (whole_good _))
+      go Not state h e =
+          let r = ask_holds (is_boolean a) 13 (Fits (rules.Value BooleanType)) (rules.Value t) e in
+          let x = boolean_known types state v h.heap (subst (λ (y : JavaType). IsOf program.table types y v) (same_type a BooleanType r.0) i) in
+          subst (λ (y : JavaType). Good y (operated_alone Not v)) (same_fits BooleanType t r.1) (rw x.1 (λ table types. refl))
+
+  -- ---- new arrays
+
+  numbered : (k : ℕ) (us : List JavaType) (t : JavaType) (n : ℕ) → array_number_from k us t ≡ Some n → (i : ℕ) × (n ≡ k + i) × (get_or us i VoidType ≡ t)
+  numbered k [] t n e = absurd (cc (e))
+  numbered k (u ∷ us) t n e = go (is_same t u) refl (numbered (k + 1) us t n) e
+    where
+      go : (b : Bool) → is_same t u ≡ b → (array_number_from (k + 1) us t ≡ Some n → (i : ℕ) × (n ≡ k + 1 + i) × (get_or us i VoidType ≡ t)) → (if b then Some k else array_number_from (k + 1) us t) ≡ Some n → (i : ℕ) × (n ≡ k + i) × (get_or (u ∷ us) i VoidType ≡ t)
+      go true q f g = let x : k ≡ n = some_is k n g in (0, omega (arith, x), sym (same_type t u q))
+      go false q f g = let r = f g in (suc r.0, omega (arith, r.1), r.2)
+
+  is_numbered : (t : JavaType) (k : ℕ) → array_number program.arrays (ArrayType t) ≡ Some k → is_array_of program t (Array k) ≡ true
+  is_numbered t k e =
+      let r = numbered 0 program.arrays (ArrayType t) k e in
+      let q : k ≡ r.0 = omega (arith, r.1) in
+      ap (λ (x : ℕ). is_same (get_or program.arrays x VoidType) (ArrayType t)) q ∙ (ap (λ (u : JavaType). is_same u (ArrayType t)) r.2 ∙ type_same t)
+
+  -- elements of a type that have a default, of which there is an array type
+  pub safe_create_array : (types : List JavaType) (this : Option ℕ) (ls : List JavaType) (t : JavaType) (k : ℕ) (v : Value) → array_number program.arrays (ArrayType t) ≡ Some k → IsOf program.table [] t (default_of t) → IsOf program.table types IntType v
+      → Safe program fixed types this ls (create_array program t v) (Gives program ls (ArrayType t))
+  safe_create_array types this ls t k v e d i = record { by = λ s h. go s h (int_known types s v h.heap i) }
+    where
+      Made : Run Value → State → Type 0
+      Made m s = Fine program fixed types this (Gives program ls (ArrayType t)) (m s).said (m s).after
+
+      made : (n : ℕ) → n ≤ 64 → Safe program fixed types this ls (make_array t n (Some k)) (Gives program ls (ArrayType t))
+      made n small =
+          safe_map program fixed types this ls (make_array t n (Some k)) _ _
+          (safe_make program fixed types this ls (ArrayType t) (Array k) (replicate n (default_of t)) (is_numbered t k e, all_replicate program.table types t n (default_of t) (value_more program.table [] types t (default_of t) (types, refl) d), omega (arith, small, length-replicate n (default_of t))))
+          (λ more ms x h. (h.0, subst (λ (y : Value). IsOf program.table more (ArrayType t) y) (sym h.2) (h.3, ap (λ (u : JavaType). is_assignable program.table u (ArrayType t)) h.4 ∙ type_same t)))
+
+      sized : (s : State) → IsStateOf program fixed types this ls s → (n : ℕ) (b : Bool) → nat_lt 64 n ≡ b → Made (if b then stop (Trapped ArrayTooLong) else make_array t n (array_number program.arrays (ArrayType t))) s
+      sized s h n true q = tt
+      sized s h n false q = subst (λ (x : Option ℕ). Made (make_array t n x) s) (sym e) ((made n (ltb-false 64 n q)).by s h)
+
+      go : (s : State) → IsStateOf program fixed types this ls s → (z : ℤ) × (v ≡ Int z) → Made (create_array program t v) s
+      go s h r = subst (λ (x : Value). Made (create_array program t x) s) (sym r.1) (of r.0)
+        where
+          of : (z : ℤ) → Made (create_array program t (Int z)) s
+          of (pos n) = sized s h n (nat_lt 64 n) refl
+          of (negsuc n) = tt

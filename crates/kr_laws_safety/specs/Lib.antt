@@ -1,0 +1,11 @@
+pub mod Typed
+pub mod Claims
+pub mod Values
+pub mod Fits
+pub mod Domains
+pub mod Triples
+pub mod Steps
+pub mod KeepTypes
+pub mod Vectors
+pub mod Tested
+pub mod Stuck

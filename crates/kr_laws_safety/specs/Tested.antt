@@ -1,0 +1,92 @@
+-- Between crates: what typing gives of the predicate of a problem, and of the contract of the method under test.
+use Rattle.std.specs.Prelude.{◌≡◌, ℕ, true, false, List, [], ◌∷◌, map, Option, Some, None, Ok, Err, codes}
+use Rattle.kr_base.specs.declared.place.Place.{Place}
+use Rattle.kr_value.specs.declared.value.Value.{Value}
+use Rattle.kr_classes_table.specs.Types.{JavaType, BooleanType, VoidType}
+use Rattle.kr_classes_table.specs.Table.{Method, method_named}
+use Rattle.kr_types_meaning.specs.Typing.{judged, type_in}
+use Rattle.kr_mean.specs.Program.{Program}
+use Rattle.kr_mean.specs.Problem.{Problem}
+use Rattle.kr_mean.specs.Steps.{Stuck, Old, State, Outcome}
+use Rattle.kr_mean.specs.Meaning.{value, body_of}
+use Rattle.kr_mean.specs.Code.{Node}
+use Rattle.kr_mean.specs.Runs.{root_class, tested_method, rep_ok_node, requires_of, ensures_of}
+use Rattle.kr_mean.specs.Verdicts.{OldNode, olds_of, olds_valued}
+use Rattle.kr_laws_types.specs.Shapes.{Expression, IsCode}
+use Rattle.kr_laws_types.specs.Expressions.{plain}
+use Rattle.kr_laws_safety.specs.Triples.{type_of_old}
+use Rattle.kr_laws_safety.specs.Typed.{Olds}
+use Rattle.kr_laws_safety.specs.Claims.{is_target}
+
+-- `boolean repOk()`, which the class or an ancestor declares
+pub record IsPredicate (program : Program) (c : ℕ) : Type 0 where
+  pub method : Method
+  pub found : method_named program.table c (codes "repOk") ≡ Some method
+  pub parameters : method.parameters ≡ []
+  pub result : method.result ≡ BooleanType
+
+-- a boolean expression without broken nodes
+pub record IsCondition (program : Program) (olds : Olds) (n : Node) : Type 0 where
+  pub code : IsCode program.arrays olds (Expression false) n.scope n.tree
+  pub unbroken : (judged n.scope n.tree).faults ≡ []
+  pub boolean : type_in (judged n.scope n.tree).typed ≡ Some BooleanType
+
+abbrev pub AreConditions : Program → Olds → List Node → Type 0
+AreConditions program olds [] = Unit {0}
+AreConditions program olds (n ∷ ns) = IsCondition program olds n × AreConditions program olds ns
+
+-- the types of the values of `\old`s, by the places of their nodes
+abbrev pub type_or_none : Option JavaType → JavaType
+type_or_none (Some t) = t
+type_or_none None = VoidType
+
+abbrev pub old_type : OldNode → JavaType
+old_type o = type_or_none (type_in (judged o.scope o.tree).typed)
+
+abbrev pub old_types : List OldNode → List (Place × JavaType)
+old_types os = map (λ o. (o.place, old_type o)) os
+
+-- what an `\old` holds: an expression without broken nodes, of a type that values are used as
+pub record IsOld (program : Program) (o : OldNode) : Type 0 where
+  pub code : (olds : Olds) → IsCode program.arrays olds (Expression false) (plain o.scope) o.tree
+  pub unbroken : (judged o.scope o.tree).faults ≡ []
+  pub target : is_target (old_type o) ≡ true
+
+abbrev pub AreOldNodes : Program → List OldNode → Type 0
+AreOldNodes program [] = Unit {0}
+AreOldNodes program (o ∷ os) = IsOld program o × AreOldNodes program os
+
+-- The predicate, and the contract of the method under test. In a postcondition each `\old` has the type that is known by its place.
+pub record HasContracts (problem : Problem) : Type 0 where
+  pub predicate : IsPredicate problem.program (root_class problem)
+  pub requires : (olds : Olds) (m : Method) → tested_method problem problem.mode ≡ Some m → AreConditions problem.program olds (requires_of problem.program m)
+  pub olds : (m : Method) → tested_method problem problem.mode ≡ Some m → AreOldNodes problem.program (olds_of problem.program m)
+  pub ensures : (m : Method) → tested_method problem problem.mode ≡ Some m → AreConditions problem.program (type_of_old (old_types (olds_of problem.program m))) (ensures_of problem.program m)
+
+-- ---- tests
+
+-- a run that doesn't end at a node without a meaning
+abbrev pub IsNotStuck : {A : Type 0} → Outcome A → Type 0
+IsNotStuck o = o.said ≡ Err Stuck → ⊥
+
+-- conditions one after another, whatever those before them give
+abbrev pub AreNotStuck : Program → List Node → State → Type 0
+AreNotStuck program [] s = Unit {0}
+AreNotStuck program (e ∷ es) s = IsNotStuck (value program e.scope e.tree s) × ((v : Value) → (value program e.scope e.tree s).said ≡ Ok v → AreNotStuck program es (value program e.scope e.tree s).after)
+
+-- the parts of a test one after another: the values of `\old`s, the body, the predicate, the postconditions
+abbrev pub valued : Problem → Method → State → Outcome (List Old)
+valued problem m s = olds_valued problem.program (olds_of problem.program m) s
+
+abbrev pub body_on : Problem → Method → State → Outcome Value
+body_on problem m t = body_of problem.program t.this_value (map (λ l. l.value) t.locals) m t
+
+abbrev pub predicate_on : Problem → State → Outcome Value
+predicate_on problem u = value problem.program (rep_ok_node problem).scope (rep_ok_node problem).tree u
+
+pub record IsTestable (problem : Problem) (m : Method) (s : State) : Type 0 where
+  pub olds : IsNotStuck (valued problem m s)
+  pub body : (os : List Old) → (valued problem m s).said ≡ Ok os → IsNotStuck (body_on problem m (valued problem m s).after)
+  pub predicate : (os : List Old) (r : Value) → (valued problem m s).said ≡ Ok os → (body_on problem m (valued problem m s).after).said ≡ Ok r → IsNotStuck (predicate_on problem (body_on problem m (valued problem m s).after).after)
+  pub ensures : (os : List Old) (r v : Value) → (valued problem m s).said ≡ Ok os → (body_on problem m (valued problem m s).after).said ≡ Ok r → (predicate_on problem (body_on problem m (valued problem m s).after).after).said ≡ Ok v
+      → AreNotStuck problem.program (ensures_of problem.program m) (record (predicate_on problem (body_on problem m (valued problem m s).after).after).after { result = Some r; olds = os })

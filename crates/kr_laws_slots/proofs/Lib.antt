@@ -1,0 +1,12 @@
+pub mod CutOrder
+pub mod Membership
+pub mod Numbers
+pub mod Renamed
+pub mod Goes
+pub mod Numbering
+pub mod Spaces
+pub mod Places
+pub mod Named
+pub mod SlotForks
+pub mod Walked
+pub mod Reached

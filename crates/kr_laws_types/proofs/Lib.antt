@@ -1,0 +1,4 @@
+pub mod Given
+pub mod Expressions
+pub mod Loops
+pub mod Typed

@@ -1,0 +1,5 @@
+pub mod Types
+pub mod Shapes
+pub mod Expressions
+pub mod Running
+pub mod Typed

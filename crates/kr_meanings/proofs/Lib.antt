@@ -1,4 +1,0 @@
-pub mod Wrapped
-pub mod Meanings
-pub mod NameRule
-pub mod Growing

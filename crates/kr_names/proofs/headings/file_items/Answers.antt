@@ -1,8 +1,0 @@
-use Rattle.std.proofs.Common.{◌∙◌, refl, arith}
-use Rattle.kr_ast.specs.Arena.{root}
-use Rattle.kr_table.specs.Table.{items}
-use Rattle.kr_names.proofs.Walks.{flat_all}
-use Rattle.kr_names.proofs.headings.file_items.Goals as goal
-
-pub returns-clause-shown : goal.returns-clause-shown
-returns-clause-shown c = c.loop-file.invariant.shown ∙ flat_all items root c.args.trees.now _ _ (omega arith) refl

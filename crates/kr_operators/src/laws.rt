@@ -1,8 +1,0 @@
-// What the operators give at the edges of the ints.
-ghost use Rattle.kr_operators.specs.Worked.{WorkedOperators};
-
-/// Operators on values, worked by hand.
-#[tactic(auto, using(crate::proofs::Worked::worked_operators))]
-pub fn worked_operators()
-    ensures { WorkedOperators }
-{}

@@ -1,0 +1,43 @@
+-- Between crates: what holds of the grammar and its machine.
+use Rattle.std.specs.Prelude.{◌≡◌, ◌+◌, ◌*◌, ◌<◌, ◌≤◌, List, [], ◌∷◌, ◌++◌, Some, length}
+use Rattle.kr_base.specs.declared.place.Place.{Place}
+use Rattle.kr_lex.specs.Lexemes.{Lexeme}
+use Rattle.kr_ast.specs.Tree.{Tree, size}
+use Rattle.kr_parse_grammar.specs.declared.terminal.Terminal.{Terminal}
+use Rattle.kr_parse_grammar.specs.declared.value.Tag.{Tag}
+use Rattle.kr_parse_grammar.specs.declared.value.Form.{Form}
+use Rattle.kr_parse_grammar.specs.declared.goal.Goal.{Goal}
+use Rattle.kr_parse_grammar.specs.declared.goal.Symbol.{Symbol}
+use Rattle.kr_parse_grammar.specs.declared.goal.Symbol.TheVariants.{Want}
+use Rattle.kr_parse_grammar.specs.Values.{Item, part}
+use Rattle.kr_parse_grammar.specs.Grammar.{Derives}
+use Rattle.kr_parse_grammar.specs.Machine.{Runs, rule, start}
+use Rattle.kr_parse_grammar.specs.State.{Good, load}
+
+-- a list of tokens has at most one tree
+abbrev pub OneTree : Type 0
+OneTree = (i : List Lexeme) (t u : Tree) → Derives i t → Derives i u → t ≡ u
+
+-- a tree has at most three nodes for each token, and one more
+abbrev pub SmallTrees : Type 0
+SmallTrees = (i : List Lexeme) (t : Tree) → Derives i t → size t ≤ 3 * length i + 1
+
+-- what the machine takes from the start is derived
+abbrev pub Soundness : Type 0
+Soundness = (i : List Lexeme) (ws : List Item) → Runs start [] i ws → (p : Place) × (f : Form) × (t : Tree) × (ws ≡ part p f t ∷ []) × Derives i t
+
+-- what is derived the machine takes from the start
+abbrev pub Completeness : Type 0
+Completeness = (i : List Lexeme) (t : Tree) → Derives i t → (p : Place) × (f : Form) × Runs start [] i (part p f t ∷ [])
+
+-- good symbols can be taken, whatever the values are
+abbrev pub Productivity : Type 0
+Productivity = (ss : List Symbol) (vs : List Item) → Good ss → (i : List Lexeme) × (ws : List Item) × Runs ss vs i ws
+
+-- what stands for a goal is good where the goal was
+abbrev pub Preservation : Type 0
+Preservation = (g : Goal) (k : Terminal) (q : Tag) (body ss : List Symbol) → rule g k q ≡ Some body → Good (Want g ∷ ss) → Good (body ++ ss)
+
+-- and lighter
+abbrev pub Termination : Type 0
+Termination = (g : Goal) (k : Terminal) (q : Tag) (body ss : List Symbol) → rule g k q ≡ Some body → load (body ++ ss) < load (Want g ∷ ss)

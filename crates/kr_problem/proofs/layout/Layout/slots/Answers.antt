@@ -1,5 +1,0 @@
-use Rattle.kr_problem.proofs.Layouts.{known}
-use Rattle.kr_problem.proofs.layout.Layout.slots.Goals as goal
-
-pub returns : goal.returns
-returns c = (known c.self.inside c.args.self.now c.self.invariant.0 c.self.view_is).count

@@ -1,9 +1,0 @@
-use Rattle.std.proofs.Common.{arith, length, ap, List}
-use Rattle.kr_problem.specs.declared.stretch.Stretch.{Stretch}
-use Rattle.kr_problem.specs.Stretches.{all_choices}
-use Rattle.kr_problem.proofs.Pieces.{all_long}
-use Rattle.kr_problem.proofs.values.Values.size.Goals as goal
-
-pub returns : goal.returns
-returns c =
-    omega (arith, all_long 0 c.self.inside.pieces.items c.self.inside.size c.self.invariant.0.counted, ap (λ (s : List Stretch). length (all_choices s)) c.self.view_is)

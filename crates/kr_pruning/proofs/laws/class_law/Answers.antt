@@ -1,5 +1,0 @@
-use Rattle.kr_pruning.proofs.Isomorphic.{one_class}
-use Rattle.kr_pruning.proofs.laws.class_law.Goals as goal
-
-pub returns : goal.returns
-returns c = one_class

@@ -1,0 +1,96 @@
+// Whether a problem is pure: whether no node of the predicate's code touches candidates.
+ghost use Rattle.std.specs.Prelude.{◌≡◌, All, IfOk, IfErr};
+ghost use Rattle.kr_classes_table.specs.Rules.{is_earlier as comes_before};
+ghost use Rattle.kr_mean.specs.Purity.{IsPure};
+ghost use Rattle.kr_code_members.specs.Nodes.{AreShaped, IsThere};
+ghost use Rattle.kr_space_problem.specs.Posed.{IsPosed, posed};
+ghost use Rattle.kr_pure.specs.declared.purity.PureRefusal.TheVariants.{NoMemory as Lacking};
+ghost use Rattle.kr_pure.specs.Touched.{IsFirstTouch, IsTouchAt, Refuses, sooner};
+
+use crate::reaching::predicate_nodes;
+use kr_ast::{NodeId, tree_of};
+use kr_base::{NoMemory, Place};
+use kr_pure_effects::touches_candidates;
+use kr_space_problem::Problem;
+use std::alloc::Global;
+
+/// The problem was refused: the predicate's code creates an object that the finitization counts, or writes a field or an element
+/// of one, first at this place; or memory was refused.
+#[derive(Clone, Copy, Debug, PartialEq, Eq)]
+pub enum PureRefusal {
+    Impure { place: Place },
+    NoMemory,
+}
+
+impl From<NoMemory> for PureRefusal {
+    ghost from_gives = { λ _ refusal. refusal ≡ Lacking };
+
+    fn from(_: NoMemory) -> PureRefusal {
+        PureRefusal::NoMemory
+    }
+}
+
+/// Whether a place comes before another: file, line, column.
+fn is_earlier(p: Place, q: Place) -> bool
+    ensures { result ≡ comes_before p q }
+{
+    if p.file != q.file {
+        return p.file < q.file;
+    }
+    if p.line != q.line {
+        return p.line < q.line;
+    }
+    p.col < q.col
+}
+
+/// The first of the places so far and one more, if there is one.
+fn sooner(first: Option<Place>, place: Option<Place>) -> Option<Place>
+    ensures { result ≡ sooner first place }
+{
+    match (first, place) {
+        (None, _) => place,
+        (_, None) => first,
+        (Some(f), Some(p)) => { if is_earlier(p, f) { Some(p) } else { Some(f) } }
+    }
+}
+
+/// Where a node stands, if it touches candidates.
+fn touch_at(problem: &Problem, at: NodeId) -> Result<Option<Place>, NoMemory>
+    requires posed { IsPosed problem.now }
+    requires node { IsThere problem.now.program at.file at.node }
+    ensures { IfOk result (λ place. IsTouchAt problem.now at place) }
+{
+    if !touches_candidates(problem, at.file, at.node)? {
+        return Ok(None);
+    }
+    let entry = tree_of(&problem.program.trees, at.file).entry(at.node);
+    Ok(Some(entry.place))
+}
+
+/// The first place at which some of these nodes touches candidates.
+fn first_touch(problem: &Problem, nodes: &[NodeId]) -> Result<Option<Place>, NoMemory>
+    requires posed { IsPosed problem.now }
+    requires nodes { All (λ n. IsThere problem.now.program n.file n.node) nodes.now }
+    ensures { IfOk result (λ first. IsFirstTouch problem.now nodes.now first) }
+{
+    let mut first = None;
+    for at in nodes {
+        let place = touch_at(problem, *at)?;
+        first = sooner(first, place);
+    }
+    Ok(first)
+}
+
+/// Tests that a problem is pure.
+pub fn pure(alloc: Global, problem: &Problem) -> Result<(), PureRefusal>
+    requires posed { IsPosed problem.now }
+    requires shaped { AreShaped problem.now.program }
+    ensures pure { IfOk result (λ done. IsPure (posed problem.now)) }
+    ensures impure { IfErr result (λ refusal. Refuses (posed problem.now) refusal) }
+{
+    let nodes = predicate_nodes(alloc, problem)?;
+    match first_touch(problem, &nodes)? {
+        None => Ok(()),
+        Some(place) => Err(PureRefusal::Impure { place }),
+    }
+}

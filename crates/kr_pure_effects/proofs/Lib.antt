@@ -1,0 +1,6 @@
+pub mod Finitized
+pub mod Found
+pub mod Parts
+pub mod Scanning
+pub mod Numbered
+pub mod Overridden

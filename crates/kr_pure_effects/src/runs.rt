@@ -1,0 +1,92 @@
+// What a node may run: methods and classes.
+ghost use Rattle.std.specs.Prelude.{◌≡◌, ◌<◌, All, IfOk, Some, length, map, slice_get};
+ghost use Rattle.kr_ast.specs.Files.{file_at};
+ghost use Rattle.kr_classes_members.specs.Shown.{IsMethod, method_shown, table_in};
+ghost use Rattle.kr_types.specs.Programs.{IsProgram};
+ghost use Rattle.kr_types.specs.declared.program.TypedFile.{TypedFile as Typed};
+ghost use Rattle.kr_mean.specs.Program as meaning;
+ghost use Rattle.kr_mean.specs.Code.{classes_run, methods_run};
+ghost use Rattle.kr_pure_effects.specs.Nodes.{node_there};
+
+use crate::callees::{callees_behind, own_callees, super_callees};
+use crate::created_classes;
+use crate::known::{entry_at, name_at, named_type};
+use kr_ast::Node;
+use kr_base::NoMemory;
+use kr_classes_members::Method;
+use kr_types::Program;
+use std::alloc::Global;
+
+/// What a node may run: methods, and the classes whose constructors and initial values a creation runs.
+#[derive(Drop)]
+pub struct Runs {
+    pub methods: Vec<Method>,
+    pub classes: Vec<u32>,
+}
+
+/// The methods that a node may run.
+fn methods_of(
+    alloc: Global,
+    program: &Program,
+    file: u32,
+    node: u32,
+) -> Result<Vec<Method>, NoMemory>
+    requires program { IsProgram program.now }
+    requires file { file < length program.now.trees.items }
+    requires node { node < length (file_at program.now.trees.items file).entries }
+    ensures stands { IfOk result (λ methods. All (IsMethod program.now.trees.items) methods.items) }
+    ensures shown { IfOk result (λ methods. (mean : meaning.Program) (t : Typed) → mean.table ≡ table_in program.now.trees.items → slice_get program.now.files.items file ≡ Some t → let n = node_there program.now.trees.items file t node in map (method_shown program.now.trees.items) methods.items ≡ methods_run mean n.scope n.tree) }
+{
+    match entry_at(program, file, node).node {
+        Node::Call { name, .. } => {
+            own_callees(alloc, program, file, node, name_at(program, file, name))
+        }
+        Node::MethodCall { object, name, .. } => {
+            callees_behind(
+                alloc,
+                program,
+                file,
+                node,
+                object,
+                name_at(program, file, name),
+            )
+        }
+        Node::SuperCall { name, .. } => {
+            super_callees(alloc, program, file, node, name_at(program, file, name))
+        }
+        _ => Ok(Vec::new(alloc)),
+    }
+}
+
+/// The classes whose constructors and initial values a node may run.
+fn classes_of(alloc: Global, program: &Program, file: u32, node: u32) -> Result<Vec<u32>, NoMemory>
+    requires program { IsProgram program.now }
+    requires file { file < length program.now.trees.items }
+    requires node { node < length (file_at program.now.trees.items file).entries }
+    ensures there { IfOk result (λ classes. All (λ c. c < length (table_in program.now.trees.items).classes) classes.items) }
+    ensures shown { IfOk result (λ classes. (mean : meaning.Program) (t : Typed) → mean.table ≡ table_in program.now.trees.items → slice_get program.now.files.items file ≡ Some t → let n = node_there program.now.trees.items file t node in classes.items ≡ classes_run mean n.scope n.tree) }
+{
+    match entry_at(program, file, node).node {
+        Node::ObjectCreation { class, .. } => created_classes(
+            alloc,
+            &program.table.types,
+            &program.table.members,
+            named_type(program, file, class),
+        ),
+        _ => Ok(Vec::new(alloc)),
+    }
+}
+
+/// What a node of a program's file may run.
+pub fn runs_of(alloc: Global, program: &Program, file: u32, node: u32) -> Result<Runs, NoMemory>
+    requires program { IsProgram program.now }
+    requires file { file < length program.now.trees.items }
+    requires node { node < length (file_at program.now.trees.items file).entries }
+    ensures methods { IfOk result (λ runs. All (IsMethod program.now.trees.items) runs.methods.items) }
+    ensures classes { IfOk result (λ runs. All (λ c. c < length (table_in program.now.trees.items).classes) runs.classes.items) }
+    ensures shown { IfOk result (λ runs. (mean : meaning.Program) (t : Typed) → mean.table ≡ table_in program.now.trees.items → slice_get program.now.files.items file ≡ Some t → let n = node_there program.now.trees.items file t node in (map (method_shown program.now.trees.items) runs.methods.items ≡ methods_run mean n.scope n.tree) × (runs.classes.items ≡ classes_run mean n.scope n.tree)) }
+{
+    let methods = methods_of(alloc, program, file, node)?;
+    let classes = classes_of(alloc, program, file, node)?;
+    Ok(Runs { methods, classes })
+}

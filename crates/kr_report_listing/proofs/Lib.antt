@@ -1,0 +1,4 @@
+mod Moved
+pub mod Rows
+mod Left
+mod Ends

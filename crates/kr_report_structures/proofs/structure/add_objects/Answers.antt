@@ -1,0 +1,30 @@
+use Rattle.std.proofs.Common.{◌+◌, ◌++◌, ◌∷◌, [], ◌∙◌, List, true, drop, ap, sym}
+use Rattle.std.specs.Prelude.{codes, map}
+use Rattle.std.proofs.lemmas.List.{at_drop_more}
+use Rattle.kr_iso.specs.Objects.{object_of}
+use Rattle.kr_mean.specs.Problem.{DomainObject}
+use Rattle.kr_space_layout.specs.Bounds.{bare}
+use Rattle.kr_laws_slots.proofs.Numbering.{nobody}
+use Rattle.kr_text.specs.Lines.{line_bytes}
+use Rattle.kr_report_structures.specs.Written.{met, object_written, separated}
+use Rattle.kr_report_structures.proofs.Objects.{found_is, inside, written_more}
+use Rattle.kr_report_structures.proofs.Slots.{one_added, some_any}
+use Rattle.kr_report_structures.proofs.structure.add_objects.Goals as goal
+
+pub loop-number-preserved : goal.loop-number-preserved
+loop-number-preserved g c =
+    let b = bare c.args.layout.now in
+    let v = c.args.vector.now in
+    let w = object_written (g.N.Subject.problem c.args.names.now) v in
+    let k = c.loop-number.number-index in
+    let line = line_bytes c.loop-number.line in
+    let any = c.loop-number.any in
+    let o = object_of c.in_ok-object.object in
+    let here = found_is b c.requires.well v c.args.numbers.now c.requires.numbers k c.loop-number-test.true o c.in_ok-object.ensures in
+    let rest = map w (drop (k + 1) (met b v)) in
+    written_more (codes " ") any true (line_bytes c.args.line.now) line (line_bytes c.add_object.new.line) (map w (met b v)) (w o ∷ []) rest
+    (c.loop-number.invariant
+    ∙ (at_drop_more (λ (os : List DomainObject). line ++ separated (codes " ") any (map w os)) (met b v) k nobody (inside b c.requires.well v c.args.numbers.now c.requires.numbers k c.loop-number-test.true)
+    ∙ ap (λ (m : DomainObject). line ++ separated (codes " ") any (w m ∷ rest)) (sym here)))
+    (one_added (codes " ") any line (line_bytes c.add_between.new.line) (line_bytes c.add_object.new.line) (w o) c.in_ok-add_between.ensures c.in_ok-add_object.ensures)
+    (some_any any (w o))

@@ -1,5 +1,0 @@
-use Rattle.kr_resolver.proofs.Items.{ahead}
-use Rattle.kr_resolver.proofs.lists.first_item.Goals as goal
-
-pub returns-in-Cons-clause-none : goal.returns-in-Cons-clause-none
-returns-in-Cons-clause-none c = ahead c.args.program.now c.requires.program c.args.list c.entry.result c.entry.ensures c.in-Cons.first c.in-Cons.rest c.in-Cons.is

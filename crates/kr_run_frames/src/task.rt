@@ -1,0 +1,45 @@
+// What comes next.
+
+use crate::{Change, Loop};
+use kr_code::Nodes;
+use kr_run_state::{Action, Cell};
+use kr_value::Value;
+
+/// Where a statement leads: on, out of a loop or to its next round, or out of the body, which may give a value.
+#[derive(Clone, Copy, Debug)]
+pub enum Flow {
+    Next,
+    Broke,
+    Continued,
+    Left,
+    Gave(Value),
+}
+
+/// What comes next.
+#[derive(Clone, Copy, Debug)]
+pub enum Task {
+    /// A node as an expression.
+    Evaluate(u32),
+    /// A node as a statement.
+    Execute(u32),
+    /// A value is given.
+    Got(Value),
+    /// A statement has led on.
+    Led(Flow),
+    /// What gives nothing is done.
+    Done,
+    Act(Action),
+    /// A variable is changed from its value.
+    Alter(Change, Cell, Value),
+    /// The arguments for which the topmost frame waits: those that are left, one after another.
+    Arguments,
+    /// Statements.
+    All(Nodes),
+    /// Declarators.
+    Declare(Nodes),
+    /// Updates of a loop.
+    Update(Nodes),
+    Repeat(Loop),
+    /// The initial values of fields.
+    Initialise(Nodes, Value),
+}

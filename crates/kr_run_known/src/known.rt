@@ -1,0 +1,37 @@
+// What is known of a node at once.
+ghost use Rattle.std.specs.Prelude.{◌≡◌, IfSome, MatchOption};
+ghost use Rattle.kr_run_known.specs.Knowing.{HasGiven, Knows};
+
+use crate::levels::{Above, Below, Look};
+use kr_code::Code;
+use kr_run_state::World;
+use kr_value::Value;
+
+/// An expression's value, and the fuel that is left behind it.
+#[derive(Clone, Copy, Debug)]
+pub struct Known {
+    pub value: Value,
+    pub fuel: u64,
+}
+
+/// A node's value as an expression from so much fuel, where that is known at once.
+#[inline(always)]
+pub fn look_at(code: &Code, world: &World, node: u32, fuel: u64) -> Option<Known>
+    ensures { IfSome result (λ k. Knows code.now world.now fuel k (λ d. d.value node)) }
+{
+    <Above<Above<Above<Above<Below>>>>>::look(code, world, node, fuel)
+}
+
+/// A node's value as an expression, where that is known at once; its fuel is spent.
+#[inline(always)]
+pub fn at_once(code: &Code, world: &mut World, node: u32) -> Option<Value>
+    ensures { MatchOption result (world.new ≡ world.old) (λ v. HasGiven code.now v world.new world.old (λ d. d.value node)) }
+{
+    match look_at(code, &*world, node, world.fuel) {
+        None => None,
+        Some(known) => {
+            world.fuel = known.fuel;
+            Some(known.value)
+        }
+    }
+}

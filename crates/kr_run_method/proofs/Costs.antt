@@ -1,0 +1,69 @@
+-- What a run of a method costs.
+use Rattle.std.proofs.Common.{◌≡◌, ℕ, ◌+◌, ◌≤◌, Bool, true, false, List, [], ◌∷◌, Result, Ok, Err, refl, ap, ◌∙◌, arith}
+use Rattle.kr_value.specs.declared.value.Value.{Value}
+use Rattle.kr_value.specs.declared.value.Value.TheVariants.{Null}
+use Rattle.kr_value.specs.Heaps.{Heap}
+use Rattle.kr_classes_table.specs.Types.{is_void}
+use Rattle.kr_classes_table.specs.Table as tables
+use Rattle.kr_mean.specs.Program.{Program}
+use Rattle.kr_mean.specs.Steps.{Stop, Trapped, OutOfFuel, Stuck, State, Outcome, Run}
+use Rattle.kr_mean.specs.Meaning.{body_of}
+use Rattle.kr_laws_costs.specs.Laws.{IsSameWith}
+use Rattle.kr_laws_costs.proofs.Costs.{cost}
+use Rattle.kr_run_method.specs.declared.executed.Ending.{Ending}
+use Rattle.kr_run_method.specs.declared.executed.Ending.TheVariants.{Spent}
+use Rattle.kr_run_method.specs.declared.executed.Executed.{Executed}
+use Rattle.kr_run_method.specs.Executed.{begun, ending_of, executed, left_by, run_on}
+use Rattle.kr_run_method.specs.Costs.{HasCost}
+
+is_spent : (void : Bool) (r : Result Value Stop) → r ≡ Err OutOfFuel → ending_of void r ≡ Spent
+is_spent true r e = ap (ending_of true) e
+is_spent false r e = ap (ending_of false) e
+
+was_spent : (void : Bool) (r : Result Value Stop) → ending_of void r ≡ Spent → r ≡ Err OutOfFuel
+was_spent true (Err OutOfFuel) e = refl
+was_spent false (Err OutOfFuel) e = refl
+was_spent true (Ok v) e = cc (e)
+was_spent false (Ok v) e = cc (e)
+was_spent true (Err (Trapped k)) e = cc (e)
+was_spent false (Err (Trapped k)) e = cc (e)
+was_spent true (Err Stuck) e = cc (e)
+was_spent false (Err Stuck) e = cc (e)
+
+same_left : (void : Bool) (more : ℕ) (o o' : Outcome Value) → IsSameWith more o o' → left_by void o' ≡ record (left_by void o) { left = (left_by void o).left + more }
+same_left void more o o' x =
+    ap (λ (r : Result Value Stop). of (ending_of void r) o'.after.heap o'.after.fuel) x.said
+    ∙ ap (λ (t : State). of (ending_of void o.said) t.heap t.fuel) x.after
+  where
+    of : Ending → Heap → ℕ → Executed
+    of end heap left = record { end = end; heap = heap; left = left }
+
+module _ (program : Program) (m : tables.Method) (heap : Heap) where
+  abbrev bodies : Value → List Value → Run Value
+  bodies o vs = body_of program o vs m
+
+  abbrev run : Bool → List Value → ℕ → Executed
+  run b vs fuel = left_by (is_void m.result) (run_on b bodies vs (begun heap fuel))
+
+  abbrev Cost : Bool → List Value → ℕ → Type 0
+  Cost b vs fuel = (c : ℕ) × (c ≤ fuel) × HasCost (run b vs) c
+
+  entered : (o : Value) (vs : List Value) (fuel : ℕ) → ((left_by (is_void m.result) (bodies o vs (begun heap fuel))).end ≡ Spent → ⊥) → (c : ℕ) × (c ≤ fuel) × HasCost (λ f. left_by (is_void m.result) (bodies o vs (begun heap f))) c
+  entered o vs fuel fine =
+      let found = cost program o vs m (begun heap 0) fuel (λ e. fine (is_spent (is_void m.result) (bodies o vs (begun heap fuel)).said e)) in (
+        found.0,
+        found.1,
+        record {
+          below = λ f lt. is_spent (is_void m.result) (bodies o vs (begun heap f)).said (found.2.below f lt);
+          enough = λ e. found.2.enough (was_spent (is_void m.result) (bodies o vs (begun heap found.0)).said e);
+          above = λ more. same_left (is_void m.result) more (bodies o vs (begun heap found.0)) (bodies o vs (begun heap (found.0 + more))) (found.2.above more);
+        },
+      )
+
+  cost_on : (b : Bool) (vs : List Value) (fuel : ℕ) → ((run b vs fuel).end ≡ Spent → ⊥) → Cost b vs fuel
+  cost_on true vs fuel fine = entered Null vs fuel fine
+  cost_on false (o ∷ vs) fuel fine = entered o vs fuel fine
+  cost_on false [] fuel fine = (0, omega arith, record { below = λ f lt. absurd (omega (arith, lt)); enough = fine; above = λ more. refl })
+
+  pub has_cost : (values : List Value) (fuel : ℕ) → ((executed program m values heap fuel).end ≡ Spent → ⊥) → (c : ℕ) × (c ≤ fuel) × HasCost (executed program m values heap) c
+  has_cost values fuel fine = cost_on m.is_static values fuel fine

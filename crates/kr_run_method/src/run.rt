@@ -1,0 +1,182 @@
+// A method is run.
+ghost use Rattle.std.specs.Prelude.{◌≡◌, [], IfOk, true};
+ghost use Rattle.kr_code.specs.Doing.{Doing, IsMeaning, run_method as run_step};
+ghost use Rattle.kr_code.specs.Resolved.{IsCodeOf, Numbering};
+ghost use Rattle.kr_code.specs.Tables.{method_at};
+ghost use Rattle.kr_run_method.specs.Answers.{IsEnding};
+ghost use Rattle.kr_run_method.specs.Executed.{IsMethodOf, begun, executed, executed_at, gives_nothing, left_by};
+ghost use Rattle.kr_run_method.specs.Fits.{IsUnstuck};
+ghost use Rattle.kr_run_frames.specs.Frames.{resumed};
+ghost use Rattle.kr_mean.specs.Program.{Program};
+ghost use Rattle.kr_run.specs.Answers.{Answers};
+ghost use Rattle.kr_classes_table.specs.Table.{Method as TableMethod};
+ghost use Rattle.kr_run_state.specs.Worlds.{state_at, state_of};
+
+use crate::executed::{Ending, Executed, Method};
+use kr_base::NoMemory;
+use kr_code::{Code, Nodes};
+use kr_heap::Heap;
+use kr_run::{Step, advance};
+use kr_run_frames::{Goal, Stack, Task};
+use kr_run_state::{End, Halt, Reads, World};
+use kr_value::Value;
+use std::alloc::Global;
+
+/// The world in which a run begins. It has no candidates, so that none is written where they are frozen.
+fn world_of(alloc: Global, heap: Heap, fuel: u64) -> World
+    ensures state { state_of result ≡ begun heap fuel }
+    ensures candidates { result.candidates ≡ [] }
+    ensures frozen { result.is_frozen ≡ true }
+{
+    World {
+        this: Value::Null,
+        locals: Vec::new(alloc),
+        result: None,
+        olds: Vec::new(alloc),
+        candidates: Heap::new(alloc),
+        made: heap,
+        is_frozen: true,
+        fuel,
+        reads: Reads::new(alloc),
+    }
+}
+
+/// Runs the machine from a task on, to the run's end.
+fn run(
+    alloc: Global,
+    code: &Code,
+    world: &mut World,
+    stack: &mut Stack,
+    task: Task,
+) -> Result<Value, Halt>
+    ensures { Answers code.now result world.new world.old (λ d x. resumed code.now d stack.old task (state_at world.old x)) }
+{
+    let mut next = task;
+    'steps: for _ in 0..u64::MAX {
+        match advance(alloc, code, world, stack, &mut next) {
+            Err(Halt::Ended(end)) => return Err(Halt::Ended(end)),
+            Err(Halt::Memory) => return Err(Halt::Memory),
+            Err(Halt::Written) => return Err(Halt::Written),
+            Ok(Step::Finished(given)) => return Ok(given),
+            Ok(Step::More) => {}
+        }
+    }
+    Err(Halt::Memory)
+}
+
+/// Calls a method on a receiver and arguments: what it gives, or how the run ends.
+fn call(
+    alloc: Global,
+    code: &Code,
+    world: &mut World,
+    method: u32,
+    receiver: Value,
+    arguments: &[Value],
+) -> Result<Value, Halt>
+    ensures { Answers code.now result world.new world.old (λ d x. run_step code.now d receiver arguments.now (method_at code.now method) (state_at world.old x)) }
+{
+    let mut stack = Stack::new(alloc);
+    let goal = Goal::Run(receiver, Some(method));
+    let none = Nodes { first: 0, count: 0 };
+    if stack.push_arguments(goal, none, arguments).is_err() {
+        return Err(Halt::Memory);
+    }
+    run(alloc, code, world, &mut stack, Task::Arguments)
+}
+
+/// Whether a method has no result.
+fn is_void(code: &Code, method: u32) -> bool
+    ensures { result ≡ gives_nothing (method_at code.now method) }
+{
+    match code.method(method) {
+        Some(found) => found.is_void,
+        None => false,
+    }
+}
+
+/// How a run has ended.
+fn ending_of(is_void: bool, said: Result<Value, Halt>) -> Result<Ending, NoMemory>
+    ensures { IsEnding is_void said result }
+{
+    match said {
+        Ok(value) => {
+            if is_void {
+                Ok(Ending::Void)
+            } else {
+                Ok(Ending::Value(value))
+            }
+        }
+        Err(Halt::Ended(End::Trapped(kind))) => Ok(Ending::Trap(kind)),
+        Err(Halt::Ended(End::OutOfFuel)) => Ok(Ending::Spent),
+        Err(Halt::Ended(End::Stuck)) => Ok(Ending::Stuck),
+        Err(Halt::Memory) => Err(NoMemory),
+        // no run ends so where there are no candidates
+        Err(Halt::Written) => Err(NoMemory),
+    }
+}
+
+/// Runs a method on a receiver and arguments.
+fn run_on(
+    alloc: Global,
+    code: &Code,
+    heap: Heap,
+    method: u32,
+    receiver: Value,
+    arguments: &[Value],
+    fuel: u64,
+) -> Result<Executed, NoMemory>
+    ensures { IfOk result (λ run. (d : Doing) → IsMeaning code.now d → run ≡ left_by (gives_nothing (method_at code.now method)) (run_step code.now d receiver arguments.now (method_at code.now method) (begun heap fuel))) }
+{
+    let mut world = world_of(alloc, heap, fuel);
+    let said = call(alloc, code, &mut world, method, receiver, arguments);
+    let end = ending_of(is_void(code, method), said)?;
+    Ok(Executed {
+        end,
+        heap: world.made,
+        left: world.fuel,
+    })
+}
+
+/// Runs a method on values, the receiver first where it isn't static.
+fn run_method(
+    alloc: Global,
+    code: &Code,
+    heap: Heap,
+    method: Method,
+    values: &[Value],
+    fuel: u64,
+) -> Result<Executed, NoMemory>
+    ensures { IfOk result (λ run. (d : Doing) → IsMeaning code.now d → run ≡ executed_at code.now d method values.now heap fuel) }
+{
+    let number = method.number;
+    if method.is_static {
+        return run_on(alloc, code, heap, number, Value::Null, values, fuel);
+    }
+    match values.split_first() {
+        Some((receiver, arguments)) => {
+            run_on(alloc, code, heap, number, *receiver, arguments, fuel)
+        }
+        None => Ok(Executed {
+            end: Ending::Stuck,
+            heap,
+            left: fuel,
+        }),
+    }
+}
+
+/// Runs a method of code on values, the receiver first where it isn't static: how the run ends, and the heap and the fuel
+/// that it leaves, as every meaning of the code says, and so as every program says whose code it is.
+pub fn execute(
+    alloc: Global,
+    code: &Code,
+    heap: Heap,
+    method: Method,
+    values: &[Value],
+    fuel: u64,
+) -> Result<Executed, NoMemory>
+    ensures means { IfOk result (λ run. (d : Doing) → IsMeaning code.now d → run ≡ executed_at code.now d method values.now heap fuel) }
+    ensures executes { IfOk result (λ run. (program : Program) (n : Numbering) (m : TableMethod) → IsCodeOf program code.now n → IsMethodOf code.now n m method → run ≡ executed program m values.now heap fuel) }
+    ensures unstuck { IfOk result (IsUnstuck code.now method values.now heap) }
+{
+    run_method(alloc, code, heap, method, values, fuel)
+}

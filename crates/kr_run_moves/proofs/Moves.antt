@@ -1,0 +1,85 @@
+-- What the moves need of the meaning.
+use Rattle.std.proofs.Common.{◌≡◌, List, [], ◌∷◌, ◌++◌, length, Result, Ok, Err, refl, sym, ap, ◌∙◌}
+use Rattle.std.specs.Prelude.{map, reverse, Bool}
+use Rattle.std.proofs.lemmas.List.{length-map, append_assoc, append-nil, reverse-append, reverse-reverse}
+use Rattle.kr_value.specs.declared.value.Value.{Value}
+use Rattle.kr_value.specs.declared.value.Value.TheVariants.{Null}
+use Rattle.kr_ast.specs.declared.node.StepOperator.{StepOperator}
+use Rattle.kr_mean.specs.Places.{SlotPlace}
+use Rattle.kr_mean.specs.Steps.{Stop, State, Run, after_reads, go_on, bind, give, tick}
+use Rattle.kr_mean.specs.Operators.{gives_old}
+use Rattle.kr_mean.specs.Meaning.{change_from}
+use Rattle.kr_code.specs.declared.code.Code.{Code}
+use Rattle.kr_code.specs.Tables.{listed}
+use Rattle.kr_code.specs.Doing.{Doing, IsMeaning}
+use Rattle.kr_run_state.specs.declared.world.Local.{Local}
+use Rattle.kr_run_state.specs.declared.action.Cell.{Cell}
+use Rattle.kr_run_state.specs.Actions.{written}
+use Rattle.kr_run_state.specs.Shown.{local_of}
+use Rattle.kr_run_frames.specs.declared.frame.Loop.{Loop}
+use Rattle.kr_run_frames.specs.declared.frame.Loop.TheVariants as loops
+use Rattle.kr_run_frames.specs.declared.frame.WriteFrame.TheVariants as writes
+use Rattle.kr_run_frames.specs.Frames.{continued, onto, repeated, test_of, turned, wrote}
+use Rattle.kr_run_frames.proofs.Outcomes.{continued_reads}
+
+pub locals_long : (locals : List Local) → length (map local_of locals) ≡ length locals
+locals_long locals = length-map locals local_of
+
+-- ---- going on
+
+pub assoc : {A B C : Type 0} (m : Run A) (f : A → Run B) (g : B → Run C) (s : State) → continued (bind m f s) g ≡ bind m (λ a. bind (f a) g) s
+unfolding bind
+assoc {A} {B} {C} m f g s = go (m s).said
+  where
+    go : (r : Result A Stop) → continued (go_on r (m s).after (m s).reads f) g ≡ go_on r (m s).after (m s).reads (λ a. bind (f a) g)
+    go (Ok a) = continued_reads (m s).reads (f a (m s).after) g
+    go (Err e) = refl
+
+-- what is given is something else
+pub mapped : {A B C : Type 0} (m : Run A) (h : A → B) (g : B → Run C) (s : State) → continued (bind m (λ a. give (h a)) s) g ≡ continued (m s) (λ a. g (h a))
+unfolding bind
+mapped {A} {B} {C} m h g s = go (m s).said
+  where
+    go : (r : Result A Stop) → continued (go_on r (m s).after (m s).reads (λ a. give (h a))) g ≡ go_on r (m s).after (m s).reads (λ a. g (h a))
+    go (Ok a) = ap (λ (rs : List SlotPlace). after_reads rs (g (h a) (m s).after)) (append-nil (m s).reads)
+    go (Err e) = refl
+
+-- what is given doesn't count
+pub given_then : {A B C : Type 0} (m : Run A) (x : B) (f : B → Run C) (s : State) → continued (bind m (λ a. give x) s) f ≡ bind m (λ a. f x) s
+unfolding bind
+given_then m x f s = mapped m (λ a. x) f s
+
+-- ---- lists
+
+onto_is : (us vs : List Value) → onto us vs ≡ reverse us ++ vs
+onto_is [] vs = refl
+onto_is (u ∷ us) vs =
+    onto_is us (u ∷ vs)
+    ∙ sym (append_assoc (reverse us) (u ∷ []) vs)
+    ∙ ap (λ (ws : List Value). ws ++ vs) (sym (reverse-append (u ∷ []) us))
+
+-- all values that were found
+pub onto_all : (vs : List Value) → onto (reverse vs) [] ≡ vs
+onto_all vs = onto_is (reverse vs) [] ∙ append-nil (reverse (reverse vs)) ∙ reverse-reverse vs
+
+pub one_more : (vs : List Value) (v : Value) → reverse (vs ++ v ∷ []) ≡ v ∷ reverse vs
+one_more vs v = reverse-append vs (v ∷ [])
+
+-- ---- loops
+
+pub repeats : (code : Code) (d : Doing) (l : Loop) (s : State) → IsMeaning code d → repeated code d l s ≡ continued (bind tick (λ u. give Null) s) (λ v. bind (test_of d l) (turned code d l))
+repeats code d (loops.While e a) s m = m.while_is e a s ∙ sym (given_then tick Null (λ v. bind (test_of d (loops.While e a)) (turned code d (loops.While e a))) s)
+repeats code d (loops.For e us a) s m = m.for_is e a (listed code us) s ∙ sym (given_then tick Null (λ v. bind (test_of d (loops.For e us a)) (turned code d (loops.For e us a))) s)
+
+-- a unit, and then the round
+pub rounds : (code : Code) (d : Doing) (l : Loop) (s : State) → IsMeaning code d → repeated code d l s ≡ bind tick (λ u. bind (test_of d l) (turned code d l)) s
+rounds code d l s m = repeats code d l s m ∙ given_then tick Null (λ v. bind (test_of d l) (turned code d l)) s
+
+-- ---- changes
+
+pub steps_on : (code : Code) (d : Doing) (o : StepOperator) (cell : Cell) (v w given : Value) (s : State) (b : Bool) → gives_old o ≡ b → given ≡ (change_from b v w).given → (change_from b v w).new ≡ w → wrote code d (writes.Stepped o cell v) w s ≡ bind (written code cell w) (λ u. give given) s
+unfolding bind
+steps_on code d o cell v w given s b is gives new =
+    ap (λ (x : Bool). bind (written code cell (change_from x v w).new) (λ u. give (change_from x v w).given) s) is
+    ∙ ap (λ (x : Value). bind (written code cell x) (λ u. give (change_from b v w).given) s) new
+    ∙ ap (λ (x : Value). bind (written code cell w) (λ u. give x) s) (sym gives)

@@ -1,0 +1,27 @@
+use Rattle.std.proofs.Common.{◌≡◌, rules}
+use Rattle.kr_value.specs.declared.value.Value.{Value}
+use Rattle.kr_mean.specs.Steps.{bind, collect}
+use Rattle.kr_code.specs.Collections.{name_of}
+use Rattle.kr_code.specs.Doing.{Doing, values_at}
+use Rattle.kr_code.specs.Tables.{listed}
+use Rattle.kr_run_state.specs.declared.world.World.{World}
+use Rattle.kr_run_state.specs.Worlds.{Others, state_at}
+use Rattle.kr_run_frames.specs.Frames.{out_value}
+use Rattle.kr_run_moves.proofs.Going.{value_then, leads_from}
+use Rattle.kr_run_frames.specs.Leads.{next_task}
+use Rattle.kr_run_moves.proofs.expressions.enter_collection.Goals as goal
+
+pub returns-in-Some : goal.returns-in-Some
+returns-in-Some c =
+    let code = c.args.code.now in
+    let w = c.args.world.now in
+    let then = c.at_once.new.world in
+    value_then code (next_task c.collect_next.result c.collect_next.new.task) c.args.stack.now c.collect_next.new.stack c.collect_next.new.world then w (λ (d : Doing). d.value c.args.object) (λ (d : Doing) (u : Value). bind (values_at d (listed c.args.code.now c.args.arguments)) (collect (name_of c.args.call) u)) c.in-Some.value c.in-Some.ensures c.collect_next.ensures
+
+pub returns-in-None : goal.returns-in-None
+returns-in-None c =
+    let code = c.args.code.now in
+    let w = c.args.world.now in
+    let then = c.at_once.new.world in
+    let same : then ≡ w = search rules in
+    leads_from code (next_task c.first.result c.first.new.task) c.first.new.stack then w (λ (u : World) (d : Doing) (x : Others). out_value code d c.args.stack.now (bind (d.value c.args.object) ((λ (d : Doing) (u : Value). bind (values_at d (listed c.args.code.now c.args.arguments)) (collect (name_of c.args.call) u)) d) (state_at u x))) same (c.first.ensures code then)

@@ -1,0 +1,25 @@
+use Rattle.std.proofs.Common.{◌≡◌, rules}
+use Rattle.kr_value.specs.declared.value.Value.{Value}
+use Rattle.kr_mean.specs.Steps.{bind, element}
+use Rattle.kr_code.specs.Doing.{Doing}
+use Rattle.kr_run_state.specs.declared.world.World.{World}
+use Rattle.kr_run_state.specs.Worlds.{Others, state_at}
+use Rattle.kr_run_frames.specs.Frames.{out_value}
+use Rattle.kr_run_moves.proofs.Going.{value_then, leads_from}
+use Rattle.kr_run_frames.specs.Leads.{next_task}
+use Rattle.kr_run_moves.proofs.expressions.enter_element.Goals as goal
+
+pub returns-in-Some : goal.returns-in-Some
+returns-in-Some c =
+    let code = c.args.code.now in
+    let w = c.args.world.now in
+    let then = c.at_once.new.world in
+    value_then code (next_task c.take_array.result c.take_array.new.task) c.args.stack.now c.take_array.new.stack c.take_array.new.world then w (λ (d : Doing). d.value c.args.array) (λ (d : Doing) (u : Value). bind (d.value c.args.index) (element u)) c.in-Some.value c.in-Some.ensures c.take_array.ensures
+
+pub returns-in-None : goal.returns-in-None
+returns-in-None c =
+    let code = c.args.code.now in
+    let w = c.args.world.now in
+    let then = c.at_once.new.world in
+    let same : then ≡ w = search rules in
+    leads_from code (next_task c.first.result c.first.new.task) c.first.new.stack then w (λ (u : World) (d : Doing) (x : Others). out_value code d c.args.stack.now (bind (d.value c.args.array) ((λ (d : Doing) (u : Value). bind (d.value c.args.index) (element u)) d) (state_at u x))) same (c.first.ensures code then)

@@ -1,0 +1,12 @@
+use Rattle.std.proofs.Common.{◌≡◌, ◌≤◌, drop, length, false}
+use Rattle.std.specs.Prelude.{map}
+use Rattle.kr_run_state.specs.Noting.{is_read}
+use Rattle.kr_mean.specs.Places.{place_of}
+use Rattle.kr_run_state.proofs.reads.contains_any.Given as goal
+
+-- the place is none of those that were looked at
+abbrev pub invariant-reads : goal.invariant-reads
+invariant-reads l = l.left ≤ length l.places × is_read (place_of l.place) (map place_of (drop l.left l.places)) ≡ false
+
+abbrev pub decreases-reads : goal.decreases-reads
+decreases-reads l = l.left

@@ -1,6 +1,0 @@
-mod Shapes
-mod Steps
-mod Lists
-mod Held
-mod Meanings
-mod Told

@@ -1,5 +1,0 @@
-use Rattle.kr_scopes.proofs.Noted.{noted_is}
-use Rattle.kr_scopes.proofs.laws.local_law.Goals as goal
-
-pub returns : goal.returns
-returns c s t look h = noted_is s look t h

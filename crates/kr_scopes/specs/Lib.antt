@@ -1,7 +1,0 @@
-pub mod Settings
-pub mod Handing
-pub mod Changes
-pub mod Tasks
-pub mod Scoped
-pub mod Noting
-pub mod Lookups

@@ -1,4 +1,0 @@
-use Rattle.kr_search_tests.proofs.step.finds.Given as goal
-
-abbrev pub ghosts-keys : goal.ghosts-keys
-ghosts-keys a = record { name = a.blank.name; parts = a.blank.parts }

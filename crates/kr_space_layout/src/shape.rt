@@ -1,0 +1,83 @@
+// Where the objects of a domain stand among its values.
+ghost use Rattle.std.specs.Prelude.{◌≡◌, ◌+◌, ◌++◌, [], List};
+ghost use Rattle.kr_iso.specs.Objects.{shown};
+ghost use Rattle.kr_mean.specs.Problem.{Choice};
+ghost use Rattle.kr_space_layout.specs.Shapes.{IsPlainShape, IsShape, object_from};
+ghost use Rattle.kr_space_layout.specs.Stretches.{choices_of, count_of};
+
+use crate::stretch::Stretch;
+use kr_iso::Object;
+
+/// How many values a domain has. If it's simple, those from an index on are the objects of one class domain, in order, and
+/// those before it are no objects.
+#[derive(Clone, Copy, Debug, PartialEq, Eq)]
+pub(crate) struct Shape {
+    pub(crate) size: u32,
+    pub(crate) from: u32,
+    pub(crate) domain: u32,
+    pub(crate) simple: bool,
+}
+
+impl Shape {
+    /// That of no values.
+    pub(crate) fn none() -> Shape
+        ensures { IsShape [] result }
+    {
+        Shape {
+            size: 0,
+            from: 0,
+            domain: 0,
+            simple: true,
+        }
+    }
+
+    /// Whether it is told that no value is an object.
+    fn has_none(self) -> bool
+        ensures { IsPlainShape self result }
+    {
+        self.simple && self.from == self.size
+    }
+
+    /// With the values of a stretch behind the others, which makes so many.
+    pub(crate) fn with(self, stretch: Stretch, size: u32) -> Shape
+        requires { size ≡ self.size + count_of stretch }
+        ensures { (choices : List Choice) → IsShape choices self → IsShape (choices ++ choices_of stretch) result }
+    {
+        let simple = self.has_none();
+        match stretch {
+            Stretch::Plain(_) => Shape {
+                size,
+                from: size,
+                domain: 0,
+                simple,
+            },
+            Stretch::Integers(_, _) => Shape {
+                size,
+                from: size,
+                domain: 0,
+                simple,
+            },
+            Stretch::Objects(block) => Shape {
+                size,
+                from: self.size,
+                domain: block.domain,
+                simple,
+            },
+        }
+    }
+
+    /// The object at an index, where it is simple.
+    #[inline(always)]
+    pub(crate) fn object(&self, index: u32) -> Option<Object>
+        ensures { shown result ≡ object_from self.now.from self.now.domain index }
+    {
+        if index < self.from {
+            None
+        } else {
+            Some(Object {
+                domain: self.domain,
+                number: index - self.from,
+            })
+        }
+    }
+}

@@ -1,0 +1,77 @@
+-- Values of domains: no plain one is a reference, lengths are natural numbers.
+use Rattle.std.proofs.Common.{◌≡◌, ℕ, zero, suc, ◌+◌, ◌≤◌, ℤ, pos, negsuc, Bool, true, false, cond, List, [], ◌∷◌, ◌++◌, length, map, refl, ap, arith}
+use Rattle.kr_classes_table.specs.Types.{JavaType, is_same}
+use Rattle.kr_value.specs.declared.value.Value.TheVariants.{Int, Bool as Truth, Null, Ref as Reference}
+use Rattle.kr_mean.specs.Problem.{Domain, Plain, Objects}
+use Rattle.kr_mean.specs.WellFormed.{ArePlain, AreLengths, AreElements, AreFields}
+use Rattle.kr_classes_table.specs.Table.{Field}
+use Rattle.kr_fin.specs.declared.document.ArrayBound.{ArrayBound}
+use Rattle.kr_fin.specs.declared.document.Item.{Item as FinItem}
+use Rattle.kr_fin.specs.declared.document.Item.TheVariants.{Number, Range, Truth as FinTruth, Name}
+use Rattle.kr_space_meaning.specs.Names.{Meant, NoReference, Unknown, meant}
+use Rattle.kr_space_meaning.specs.Names as names
+use Rattle.kr_space_layout.specs.Items.{integers}
+use Rattle.kr_space_meaning.specs.Bounds.{Setting, array_domain, meant_values, item_values, values_of, lengths_in, greatest, element_spots, field_spots}
+
+plain_both : (xs ys : Domain) → ArePlain xs → ArePlain ys → ArePlain (xs ++ ys)
+plain_both [] ys a b = b
+plain_both (Plain v ∷ xs) ys a b = (a.0, plain_both xs ys a.1 b)
+plain_both (Objects d ∷ xs) ys a b = plain_both xs ys a b
+
+plain_integers : (zs : List ℤ) → ArePlain (map (λ z. Plain (Int z)) zs)
+plain_integers [] = tt
+plain_integers (z ∷ zs) = (tt, plain_integers zs)
+
+plain_array : (d : ℕ) (bounds : List (JavaType × ArrayBound)) (t : JavaType) → ArePlain (array_domain d bounds t)
+plain_array d [] t = tt
+plain_array d (a ∷ more) t = go (is_same a.0 t) (plain_array (d + 1) more t)
+  where
+    go : (b : Bool) → ArePlain (array_domain (d + 1) more t) → ArePlain (cond b (Objects d ∷ []) (array_domain (d + 1) more t))
+    go true rest = tt
+    go false rest = rest
+
+plain_meant : (setting : Setting) (m : Meant) → ArePlain (meant_values setting m)
+plain_meant setting NoReference = (tt, tt)
+plain_meant setting (names.Objects c) = tt
+plain_meant setting (names.Arrays t) = plain_array (length setting.table.headings) setting.arrays t
+plain_meant setting Unknown = tt
+
+plain_item : (setting : Setting) (item : FinItem) → ArePlain (item_values setting item)
+plain_item setting (Number z) = (tt, tt)
+plain_item setting (Range from to) = plain_integers (integers from to)
+plain_item setting (FinTruth b) = (tt, tt)
+plain_item setting (Name name) = plain_meant setting (meant setting.table.headings name)
+
+pub plain_values : (setting : Setting) (items : List FinItem) → ArePlain (values_of setting items)
+plain_values setting [] = tt
+plain_values setting (item ∷ items) = plain_both (item_values setting item) (values_of setting items) (plain_item setting item) (plain_values setting items)
+
+pub plain_lengths : (items : Domain) → ArePlain (lengths_in items)
+plain_lengths [] = tt
+plain_lengths (Plain (Int (pos n)) ∷ items) = (tt, plain_lengths items)
+plain_lengths (Plain (Int (negsuc n)) ∷ items) = plain_lengths items
+plain_lengths (Plain (Truth b) ∷ items) = plain_lengths items
+plain_lengths (Plain Null ∷ items) = plain_lengths items
+plain_lengths (Plain (Reference o) ∷ items) = plain_lengths items
+plain_lengths (Objects d ∷ items) = plain_lengths items
+
+pub lengths_upto : (m : ℕ) (items : Domain) → greatest (lengths_in items) ≤ m → AreLengths m (lengths_in items)
+lengths_upto m [] h = tt
+lengths_upto m (Plain (Int (pos n)) ∷ items) h = (omega arith, lengths_upto m items (omega arith))
+lengths_upto m (Plain (Int (negsuc n)) ∷ items) h = lengths_upto m items h
+lengths_upto m (Plain (Truth b) ∷ items) h = lengths_upto m items h
+lengths_upto m (Plain Null ∷ items) h = lengths_upto m items h
+lengths_upto m (Plain (Reference o) ∷ items) h = lengths_upto m items h
+lengths_upto m (Objects d ∷ items) h = lengths_upto m items h
+
+pub length-element_spots : (k n : ℕ) (domain : Domain) → length (element_spots k n domain) ≡ n
+length-element_spots k zero domain = refl
+length-element_spots k (suc n) domain = ap suc (length-element_spots (k + 1) n domain)
+
+pub elements_in_order : (k n : ℕ) (domain : Domain) → AreElements k (element_spots k n domain)
+elements_in_order k zero domain = tt
+elements_in_order k (suc n) domain = (refl, elements_in_order (k + 1) n domain)
+
+pub fields_in_order : (setting : Setting) (k : ℕ) (fs : List Field) → AreFields k (field_spots setting k fs)
+fields_in_order setting k [] = tt
+fields_in_order setting k (f ∷ fs) = (refl, fields_in_order setting (k + 1) fs)

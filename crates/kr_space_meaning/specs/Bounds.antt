@@ -1,0 +1,200 @@
+-- To be believed: the problem of a program, a document and a mode: class domains in the order of the class table, and then the
+-- array types in the document's; of an object the inherited fields first.
+use Rattle.std.specs.Prelude.{ℕ, zero, suc, ◌+◌, pos, List, [], ◌∷◌, ◌++◌, length, map, flat_map, max, bytes_eq, codes, Option, Some, None, option_map, unwrap_or, slice_get, if◌then◌else◌}
+use Rattle.kr_ast.specs.Tree.{Tree}
+use Rattle.kr_classes_table.specs.Types.{JavaType, is_same}
+use Rattle.kr_classes_table.specs.Table.{Table, Heading, Field, Parameter, Method, table_of, fields_of, method_named, number_of}
+use Rattle.kr_classes_table.specs.Arrays.{array_types_of, array_number, arrays_in, once}
+use Rattle.kr_value.specs.declared.value.Value.TheVariants.{Int, Bool as Truth, Null}
+use Rattle.kr_value.specs.declared.object.Class.TheVariants.{Object, Array}
+use Rattle.kr_value.specs.declared.object.Spot.TheVariants.{Field as FieldSpot, Length, Element}
+use Rattle.kr_mean.specs.declared.mode.Mode.{Mode}
+use Rattle.kr_mean.specs.declared.mode.Mode.TheVariants.{List as Listing, Method as Testing}
+use Rattle.kr_mean.specs.Program.{Program, program_with}
+use Rattle.kr_mean.specs.Problem.{Problem, ClassDomain, Domain, Item, Plain, Objects, Spotted}
+use Rattle.kr_space_layout.specs.Items.{integers}
+use Rattle.kr_fin.specs.declared.document.FinDoc.{FinDoc}
+use Rattle.kr_fin.specs.declared.document.Count.{Count}
+use Rattle.kr_fin.specs.declared.document.ArrayBound.{ArrayBound}
+use Rattle.kr_fin.specs.declared.document.NamedDomain.{NamedDomain}
+use Rattle.kr_fin.specs.declared.document.Item.{Item as FinItem}
+use Rattle.kr_fin.specs.declared.document.Item.TheVariants.{Number, Range, Truth as FinTruth, Name}
+use Rattle.kr_space_meaning.specs.Names.{Meant, NoReference, Unknown, array_type, meant}
+use Rattle.kr_space_meaning.specs.Names as names
+
+abbrev Text : Type 0
+Text = List ℕ
+
+-- ---- what the document says of a name
+
+abbrev pub count_named : List Count → Text → ℕ
+count_named [] name = 0
+count_named (c ∷ cs) name = if bytes_eq c.name name then c.count else count_named cs name
+
+-- the domain that is given for a key, if one is
+abbrev pub given : List NamedDomain → Text → Option (List FinItem)
+given [] key = None
+given (d ∷ ds) key = if bytes_eq d.key key then Some d.domain else given ds key
+
+-- ---- array types
+
+abbrev pub typed_bound : Option JavaType → ArrayBound → List (JavaType × ArrayBound)
+typed_bound None b = []
+typed_bound (Some t) b = (t, b) ∷ []
+
+-- the array types that the document bounds, each with its type, in the document's order
+abbrev pub bounded : List Heading → List ArrayBound → List (JavaType × ArrayBound)
+bounded hs bounds = flat_map (λ b. typed_bound (array_type hs b.name) b) bounds
+
+-- what a problem is made of: the class table, the array types by their numbers (those that only the document names come
+-- after the program's), the array types that the document bounds, and the document
+pub record Setting : Type 0 where
+  pub table : Table
+  pub types : List JavaType
+  pub arrays : List (JavaType × ArrayBound)
+  pub document : FinDoc
+
+unfoldable pub setting_of : List Tree → FinDoc → Setting
+setting_of files document =
+    let table = table_of files in
+    let arrays = bounded table.headings document.arrays in
+    record {
+      table = table;
+      types = once [] (array_types_of files ++ flat_map (λ a. arrays_in a.0) arrays);
+      arrays = arrays;
+      document = document;
+    }
+
+abbrev pub class_name : Table → ℕ → Text
+class_name table c = unwrap_or (option_map (λ h. h.name) (slice_get table.headings c)) []
+
+-- ---- values
+
+-- the class domain of an array type that the document bounds, counted from d on
+abbrev pub array_domain : ℕ → List (JavaType × ArrayBound) → JavaType → List Item
+array_domain d [] t = []
+array_domain d (a ∷ more) t = if is_same a.0 t then Objects d ∷ [] else array_domain (d + 1) more t
+
+-- what a name stands for: null, or all objects of its class domain; an array type that isn't bounded has no objects
+abbrev pub meant_values : Setting → Meant → List Item
+meant_values setting NoReference = Plain Null ∷ []
+meant_values setting (names.Objects c) = Objects c ∷ []
+meant_values setting (names.Arrays t) = array_domain (length setting.table.headings) setting.arrays t
+meant_values setting Unknown = []
+
+abbrev pub item_values : Setting → FinItem → List Item
+item_values setting (Number z) = Plain (Int z) ∷ []
+item_values setting (Range from to) = map (λ z. Plain (Int z)) (integers from to)
+item_values setting (FinTruth b) = Plain (Truth b) ∷ []
+item_values setting (Name name) = meant_values setting (meant setting.table.headings name)
+
+-- the values of a domain, in order
+abbrev pub values_of : Setting → List FinItem → Domain
+values_of setting items = flat_map (item_values setting) items
+
+-- the lengths of a domain: its natural numbers
+abbrev pub lengths_in : List Item → List Item
+lengths_in [] = []
+lengths_in (Plain (Int (pos n)) ∷ items) = Plain (Int (pos n)) ∷ lengths_in items
+lengths_in (item ∷ items) = lengths_in items
+
+abbrev pub lengths_of : Setting → List FinItem → Domain
+lengths_of setting items = lengths_in (values_of setting items)
+
+-- the values that are given for a key: none where no domain is
+abbrev pub values_given : Setting → List NamedDomain → Text → Domain
+values_given setting domains key = values_of setting (unwrap_or (given domains key) [])
+
+-- ---- class domains
+
+-- the key of a field: the class that declares it, a dot and its name
+abbrev pub field_key : Table → Field → Text
+field_key table f = class_name table f.class ++ codes "." ++ f.name
+
+abbrev pub field_spots : Setting → ℕ → List Field → List Spotted
+field_spots setting k [] = []
+field_spots setting k (f ∷ fs) =
+    record { spot = FieldSpot k; domain = values_given setting setting.document.fields (field_key setting.table f) }
+    ∷ field_spots setting (k + 1) fs
+
+abbrev pub class_domain : Setting → ℕ → Heading → ClassDomain
+class_domain setting c h = record {
+  name = h.name;
+  class = Object c;
+  count = count_named setting.document.objects h.name;
+  spots = field_spots setting 0 (fields_of setting.table c);
+}
+
+abbrev pub class_domains : Setting → ℕ → List Heading → List ClassDomain
+class_domains setting c [] = []
+class_domains setting c (h ∷ hs) = class_domain setting c h ∷ class_domains setting (c + 1) hs
+
+-- the greatest of some lengths
+abbrev pub greatest : Domain → ℕ
+greatest [] = 0
+greatest (Plain (Int (pos n)) ∷ items) = max n (greatest items)
+greatest (item ∷ items) = greatest items
+
+abbrev pub element_spots : ℕ → ℕ → Domain → List Spotted
+element_spots k zero domain = []
+element_spots k (suc n) domain = record { spot = Element k; domain = domain } ∷ element_spots (k + 1) n domain
+
+-- the key of an array type's elements
+abbrev pub elements_key : Text → Text
+elements_key name = name ++ codes ".*"
+
+abbrev pub array_spots : Domain → Domain → List Spotted
+array_spots lengths elements = record { spot = Length; domain = lengths } ∷ element_spots 0 (greatest lengths) elements
+
+abbrev pub array_class_domain : Setting → JavaType × ArrayBound → ClassDomain
+array_class_domain setting a = record {
+  name = a.1.name;
+  class = Array (unwrap_or (array_number setting.types a.0) 0);
+  count = a.1.count;
+  spots = array_spots (lengths_of setting a.1.lengths) (values_given setting setting.document.fields (elements_key a.1.name));
+}
+
+abbrev pub domains_of : Setting → List ClassDomain
+domains_of setting = class_domains setting 0 setting.table.headings ++ map (array_class_domain setting) setting.arrays
+
+-- ---- root, method and parameters
+
+abbrev pub root_of : Setting → Option ℕ
+root_of setting = number_of setting.table.headings setting.document.root
+
+abbrev pub method_at : Table → Option ℕ → Text → Option Method
+method_at table None name = None
+method_at table (Some c) name = method_named table c name
+
+abbrev pub parameters_of : Option Method → List Parameter
+parameters_of None = []
+parameters_of (Some m) = m.parameters
+
+-- the parameters of the method under test, where one is tested
+abbrev pub tested_parameters : Setting → Mode → List Parameter
+tested_parameters setting Listing = []
+tested_parameters setting (Testing name) = parameters_of (method_at setting.table (root_of setting) name)
+
+-- the key of a parameter of the method under test
+abbrev pub parameter_key : Mode → Parameter → Text
+parameter_key Listing p = p.name
+parameter_key (Testing name) p = name ++ codes "." ++ p.name
+
+-- ---- the whole
+
+unfoldable pub problem_in : Program → Setting → Mode → Problem
+problem_in program setting mode = record {
+  program = program;
+  root = unwrap_or (root_of setting) 0;
+  mode = mode;
+  parameters = map (λ p. values_given setting setting.document.params (parameter_key mode p)) (tested_parameters setting mode);
+  fuel = setting.document.fuel;
+  domains = domains_of setting;
+}
+
+-- the program with the array types that only the document names behind its own
+abbrev pub program_in : Setting → Program
+program_in setting = program_with setting.table setting.types
+
+abbrev pub problem_of : List Tree → FinDoc → Mode → Problem
+problem_of files document mode = let setting = setting_of files document in problem_in (program_in setting) setting mode

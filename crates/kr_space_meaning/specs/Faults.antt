@@ -1,0 +1,252 @@
+-- To be believed: which rules a document breaks for a program and a mode, each with the item that breaks it: all of them, in no
+-- order that matters. A domain is judged where it is given, whether a slot has it or not.
+use Rattle.std.specs.Prelude.{ℕ, ◌+◌, ◌==◌, Bool, true, false, not, ◌&&◌, ◌||◌, List, [], ◌∷◌, ◌++◌, length, flat_map, find, nat_eq, nat_lt, bytes_eq, codes, Option, Some, None, option_map, option_and_then, is_none, if◌then◌else◌}
+use Rattle.std.specs.Int.Signed.{le_z}
+use Rattle.std.specs.Ordering.{int_eq}
+use Rattle.std.specs.List.{list_any, before_first, after_first}
+use Rattle.kr_classes_table.specs.Types.{JavaType, IntType, BooleanType, ClassType, ArrayType, is_same, is_reference}
+use Rattle.kr_classes_table.specs.Table.{Table, Heading, Field, Parameter, Method, own_fields, fields_of, number_of, is_assignable}
+use Rattle.kr_value.specs.declared.value.Value.{Value}
+use Rattle.kr_value.specs.declared.value.Value.TheVariants.{Int, Bool as Truth, Null, Ref as Reference}
+use Rattle.kr_mean.specs.declared.mode.Mode.{Mode}
+use Rattle.kr_mean.specs.declared.mode.Mode.TheVariants.{List as Listing, Method as Testing}
+use Rattle.kr_mean.specs.Problem.{Problem, Choice, Domain, slots, choices_in, domain_at}
+use Rattle.kr_fin.specs.declared.document.Count.{Count}
+use Rattle.kr_fin.specs.declared.document.ArrayBound.{ArrayBound}
+use Rattle.kr_fin.specs.declared.document.NamedDomain.{NamedDomain}
+use Rattle.kr_fin.specs.declared.document.Item.{Item}
+use Rattle.kr_fin.specs.declared.document.Item.TheVariants.{Number, Range, Truth as FinTruth, Name}
+use Rattle.kr_fin.specs.Shapes.{is_dot}
+use Rattle.kr_space_meaning.specs.declared.refusal.Fault.{Fault}
+use Rattle.kr_space_meaning.specs.declared.refusal.SpaceRule.TheVariants.{UnknownName, NoDomain, EmptyDomain, UnfitValue, ValueTwice, TooMany, NoPredicate, NoMethod, NoSlot}
+use Rattle.kr_space_meaning.specs.Names.{Meant, NoReference, Objects, Arrays, Unknown, array_type, meant}
+use Rattle.kr_space_meaning.specs.Bounds.{Setting, root_of, method_at, parameters_of, tested_parameters, parameter_key, given, values_of, lengths_of, field_key, elements_key, count_named, greatest}
+use Rattle.kr_space_meaning.specs.Order.{break_if}
+
+abbrev Text : Type 0
+Text = List ℕ
+
+-- ---- keys
+
+-- the two parts of a domain's key
+abbrev pub owner_part : Text → Text
+owner_part key = before_first is_dot key
+
+abbrev pub name_part : Text → Text
+name_part key = after_first is_dot key
+
+abbrev pub is_elements : Text → Bool
+is_elements key = bytes_eq (name_part key) (codes "*")
+
+abbrev pub element_of : Option JavaType → Option JavaType
+element_of (Some (ArrayType t)) = Some t
+element_of t = None
+
+abbrev pub instance_type : Field → Option JavaType
+instance_type f = if f.is_static then None else Some f.type
+
+-- the type of the instance field of that name that a class itself declares
+abbrev pub own_field_type : Table → Text → Option ℕ → Option JavaType
+own_field_type table name None = None
+own_field_type table name (Some c) = option_and_then instance_type (find (λ f. bytes_eq f.name name) (own_fields table c))
+
+-- the type of the values that a key of `fields` asks for, if there is such a field, or if it names an array type's elements
+abbrev pub field_type : Table → Text → Option JavaType
+field_type table key =
+    if is_elements key then element_of (array_type table.headings (owner_part key))
+    else own_field_type table (name_part key) (number_of table.headings (owner_part key))
+
+-- the type of the values that a key of `params` asks for, if there is such a parameter of a method of the root
+abbrev pub parameter_type : Table → Option ℕ → Text → Option JavaType
+parameter_type table root key =
+    option_map (λ p. p.type) (find (λ p. bytes_eq p.name (name_part key)) (parameters_of (method_at table root (owner_part key))))
+
+-- ---- items: a table's name with a dot, and a key of the table
+
+abbrev pub of_fields : Text → Text
+of_fields key = codes "fields." ++ key
+
+abbrev pub of_params : Text → Text
+of_params key = codes "params." ++ key
+
+abbrev pub of_arrays : Text → Text
+of_arrays name = codes "arrays." ++ name
+
+abbrev pub of_objects : Text → Text
+of_objects name = codes "objects." ++ name
+
+-- ---- S1: names
+
+abbrev pub is_unknown : Meant → Bool
+is_unknown Unknown = true
+is_unknown m = false
+
+abbrev pub names_unknown : List Heading → Item → Bool
+names_unknown hs (Name name) = is_unknown (meant hs name)
+names_unknown hs item = false
+
+-- what stands before the dot is no class, or before `.*` no array type
+abbrev pub owner_unknown : List Heading → Text → Bool
+owner_unknown hs key =
+    if is_elements key then is_none (array_type hs (owner_part key)) else is_none (number_of hs (owner_part key))
+
+abbrev pub objects_unknown : List Heading → List Count → List Fault
+objects_unknown hs counts = flat_map (λ c. break_if (is_none (number_of hs c.name)) UnknownName (of_objects c.name)) counts
+
+abbrev pub arrays_unknown : List Heading → List ArrayBound → List Fault
+arrays_unknown hs bounds = flat_map (λ b. break_if (is_none (array_type hs b.name)) UnknownName (of_arrays b.name)) bounds
+
+abbrev pub owners_unknown : List Heading → List NamedDomain → List Fault
+owners_unknown hs domains = flat_map (λ d. break_if (owner_unknown hs d.key) UnknownName (of_fields d.key)) domains
+
+-- a domain of a table that has a name that stands for nothing among its values
+abbrev pub value_unknown : List Heading → Text → NamedDomain → List Fault
+value_unknown hs table d = break_if (list_any (names_unknown hs) d.domain) UnknownName (table ++ d.key)
+
+abbrev pub values_unknown : List Heading → Text → List NamedDomain → List Fault
+values_unknown hs table domains = flat_map (value_unknown hs table) domains
+
+abbrev pub S1 : Setting → List Fault
+S1 setting =
+    break_if (is_none (root_of setting)) UnknownName (codes "root")
+    ++ (objects_unknown setting.table.headings setting.document.objects
+    ++ (arrays_unknown setting.table.headings setting.document.arrays
+    ++ (owners_unknown setting.table.headings setting.document.fields
+    ++ (values_unknown setting.table.headings (codes "fields.") setting.document.fields
+    ++ values_unknown setting.table.headings (codes "params.") setting.document.params))))
+
+-- ---- S2: each slot has a domain
+
+-- no domain is given for a key of a table
+abbrev pub no_domain : Text → List NamedDomain → Text → List Fault
+no_domain table domains key = break_if (is_none (given domains key)) NoDomain (table ++ key)
+
+-- the fields of a class that has objects
+abbrev pub class_S2 : Setting → ℕ → Heading → List Fault
+class_S2 setting c h =
+    if nat_lt 0 (count_named setting.document.objects h.name)
+    then flat_map (λ f. no_domain (codes "fields.") setting.document.fields (field_key setting.table f)) (fields_of setting.table c)
+    else []
+
+abbrev pub classes_S2 : Setting → ℕ → List Heading → List Fault
+classes_S2 setting c [] = []
+classes_S2 setting c (h ∷ hs) = class_S2 setting c h ++ classes_S2 setting (c + 1) hs
+
+-- the elements of an array type that has arrays with elements
+abbrev pub array_S2 : Setting → JavaType × ArrayBound → List Fault
+array_S2 setting a =
+    if nat_lt 0 a.1.count && nat_lt 0 (greatest (lengths_of setting a.1.lengths))
+    then no_domain (codes "fields.") setting.document.fields (elements_key a.1.name)
+    else []
+
+abbrev pub parameter_S2 : Setting → Mode → Parameter → List Fault
+parameter_S2 setting mode p = no_domain (codes "params.") setting.document.params (parameter_key mode p)
+
+abbrev pub S2 : Setting → Mode → List Fault
+S2 setting mode =
+    classes_S2 setting 0 setting.table.headings
+    ++ (flat_map (array_S2 setting) setting.arrays
+    ++ flat_map (parameter_S2 setting mode) (tested_parameters setting mode))
+
+-- ---- S3, S5, S6: how many values, and each once
+
+abbrev pub is_same_value : Value → Value → Bool
+is_same_value (Int a) (Int b) = int_eq a b
+is_same_value (Truth a) (Truth b) = if a then b else not b
+is_same_value Null Null = true
+is_same_value (Reference a) (Reference b) = nat_eq a b
+is_same_value a b = false
+
+abbrev pub has_twice : List Choice → Bool
+has_twice [] = false
+has_twice (c ∷ cs) = list_any (λ d. is_same_value c.value d.value) cs || has_twice cs
+
+-- S3: no value; S5: a value twice; S6: more values than a domain may have
+abbrev pub number_faults : Text → List Choice → List Fault
+number_faults item choices =
+    break_if (length choices == 0) EmptyDomain item
+    ++ (break_if (has_twice choices) ValueTwice item
+    ++ break_if (nat_lt 65536 (length choices)) TooMany item)
+
+-- of the domains of a table
+abbrev pub numbers_of : Problem → Setting → Text → List NamedDomain → List Fault
+numbers_of problem setting table domains = flat_map (λ d. number_faults (table ++ d.key) (choices_in problem (values_of setting d.domain))) domains
+
+-- of lengths
+abbrev pub numbers_of_lengths : Problem → Setting → List ArrayBound → List Fault
+numbers_of_lengths problem setting bounds = flat_map (λ b. number_faults (of_arrays b.name) (choices_in problem (lengths_of setting b.lengths))) bounds
+
+-- each domain that is given, the objects of the root, and the slots
+abbrev pub S3_S5_S6 : Problem → Setting → List Fault
+S3_S5_S6 problem setting =
+    numbers_of problem setting (codes "fields.") setting.document.fields
+    ++ (numbers_of problem setting (codes "params.") setting.document.params
+    ++ (numbers_of_lengths problem setting setting.document.arrays
+    ++ (break_if ((domain_at problem problem.root).count == 0) EmptyDomain (codes "this")
+    ++ break_if (nat_lt 4096 (length (slots problem))) TooMany (codes "slots"))))
+
+-- ---- S4: values fit their types
+
+abbrev pub meant_fits : Table → JavaType → Meant → Bool
+meant_fits table t NoReference = is_reference t
+meant_fits table t (Objects c) = is_assignable table (ClassType c) t
+meant_fits table t (Arrays a) = is_assignable table a t
+meant_fits table t Unknown = true
+
+-- a range that is empty has no value that could be unfit; a name is judged also where it has no objects
+abbrev pub fits : Table → JavaType → Item → Bool
+fits table t (Number z) = is_same t IntType
+fits table t (Range from to) = not (le_z from to) || is_same t IntType
+fits table t (FinTruth b) = is_same t BooleanType
+fits table t (Name name) = meant_fits table t (meant table.headings name)
+
+abbrev pub is_unfit : Table → Option JavaType → List Item → Bool
+is_unfit table None items = false
+is_unfit table (Some t) items = list_any (λ i. not (fits table t i)) items
+
+abbrev pub fields_unfit : Table → List NamedDomain → List Fault
+fields_unfit table domains = flat_map (λ d. break_if (is_unfit table (field_type table d.key) d.domain) UnfitValue (of_fields d.key)) domains
+
+abbrev pub params_unfit : Table → Option ℕ → List NamedDomain → List Fault
+params_unfit table root domains = flat_map (λ d. break_if (is_unfit table (parameter_type table root d.key) d.domain) UnfitValue (of_params d.key)) domains
+
+abbrev pub S4 : Setting → List Fault
+S4 setting = fields_unfit setting.table setting.document.fields ++ params_unfit setting.table (root_of setting) setting.document.params
+
+-- ---- S7, S8: the predicate and the method under test
+
+abbrev pub is_predicate : Option Method → Bool
+is_predicate None = false
+is_predicate (Some m) = not m.is_static && (length m.parameters == 0) && is_same m.result BooleanType
+
+abbrev pub is_instance : Option Method → Bool
+is_instance None = false
+is_instance (Some m) = not m.is_static
+
+abbrev pub S7 : Setting → List Fault
+S7 setting = break_if (not (is_predicate (method_at setting.table (root_of setting) (codes "repOk")))) NoPredicate (codes "root")
+
+abbrev pub S8 : Setting → Mode → List Fault
+S8 setting Listing = []
+S8 setting (Testing name) = break_if (not (is_instance (method_at setting.table (root_of setting) name))) NoMethod (codes "method")
+
+-- ---- S9: each domain is a field's, elements' or a parameter's
+
+abbrev pub is_no_field : Table → Text → Bool
+is_no_field table key = is_none (field_type table key) && not (owner_unknown table.headings key)
+
+abbrev pub no_fields : Table → List NamedDomain → List Fault
+no_fields table domains = flat_map (λ d. break_if (is_no_field table d.key) NoSlot (of_fields d.key)) domains
+
+abbrev pub no_params : Table → Option ℕ → List NamedDomain → List Fault
+no_params table root domains = flat_map (λ d. break_if (is_none (parameter_type table root d.key)) NoSlot (of_params d.key)) domains
+
+abbrev pub S9 : Setting → List Fault
+S9 setting = no_fields setting.table setting.document.fields ++ no_params setting.table (root_of setting) setting.document.params
+
+-- ---- the whole
+
+unfoldable pub faults_in : Problem → Setting → Mode → List Fault
+faults_in problem setting mode =
+    S1 setting ++ (S2 setting mode ++ (S3_S5_S6 problem setting ++ (S4 setting
+    ++ (S7 setting ++ (S8 setting mode ++ S9 setting)))))

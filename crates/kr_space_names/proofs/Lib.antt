@@ -1,0 +1,9 @@
+pub mod Walked
+pub mod Once
+pub mod Collecting
+pub mod Marks
+pub mod Closed
+pub mod Wrapped
+pub mod Meanings
+pub mod NameRule
+pub mod Growing

@@ -1,0 +1,202 @@
+// Rule S1 in the domains of fields, elements and parameters.
+ghost use Rattle.std.specs.Prelude.{◌≡◌, IfOk, OnOk, fold, map, position};
+ghost use Rattle.std.specs.List.{list_any};
+ghost use Rattle.kr_ast.specs.Arena.{root};
+ghost use Rattle.kr_fin.specs.Shapes.{is_dot};
+ghost use Rattle.kr_classes_table.specs.Table.{headings_of};
+ghost use Rattle.kr_classes_names.specs.Shown.{AreHeads};
+ghost use Rattle.kr_space_meaning.specs.Faults.{is_elements as names_elements, name_part as part_behind, names_unknown, owner_part as part_before, owner_unknown, owners_unknown, value_unknown, values_unknown};
+ghost use Rattle.kr_space_meaning.specs.Order.{lesser};
+ghost use Rattle.kr_classes_types.specs.Types.{Extends};
+ghost use Rattle.kr_space_names.specs.Meanings.{is_nothing};
+
+use crate::least::Least;
+use crate::meaning::{Meaning, meaning_of};
+use crate::names::item_of;
+use crate::written::array_type;
+use kr_ast::Tree;
+use kr_base::NoMemory;
+use kr_classes_names::Heads;
+use kr_classes_types::Types;
+use kr_fin::{Item, NamedDomain};
+use kr_space_meaning::SpaceRule;
+use std::alloc::Global;
+
+fn first_dot(key: &[u8]) -> Option<usize>
+    ensures { result ≡ position is_dot key.now }
+{
+    key.iter().position(|byte| *byte == b'.')
+}
+
+/// What stands before the first dot of a key.
+pub fn owner_part(key: &[u8]) -> &[u8]
+    ensures { result.now ≡ part_before key.now }
+{
+    match first_dot(key) {
+        Some(at) => &key[..at],
+        None => key,
+    }
+}
+
+/// What stands behind the first dot of a key.
+pub fn name_part(key: &[u8]) -> &[u8]
+    ensures { result.now ≡ part_behind key.now }
+{
+    match first_dot(key) {
+        Some(at) => &key[at + 1..],
+        None => &key[key.len()..],
+    }
+}
+
+/// Whether a key is that of an array type's elements.
+pub fn is_elements(key: &[u8]) -> bool
+    ensures { result ≡ names_elements key.now }
+{
+    name_part(key) == b"*".as_slice()
+}
+
+/// Whether what stands before the dot is no class, or before `.*` no array type.
+pub fn has_no_owner(
+    alloc: Global,
+    types: &mut Types,
+    trees: &[Tree],
+    heads: &Heads,
+    key: &[u8],
+) -> Result<bool, NoMemory>
+    requires { AreHeads trees.now heads.now }
+    ensures is { IfOk result (λ b. b ≡ owner_unknown (headings_of (map root trees.now)) key.now) }
+    ensures extends { Extends types.old types.new }
+{
+    let _ = trees;
+    if is_elements(key) {
+        Ok(array_type(alloc, types, heads, owner_part(key))?.is_none())
+    } else {
+        Ok(heads.number_of(owner_part(key)).is_none())
+    }
+}
+
+/// Each domain is one of a class's or of an array type's.
+pub(crate) fn owner_names(
+    least: &mut Least,
+    types: &mut Types,
+    trees: &[Tree],
+    heads: &Heads,
+    domains: &[NamedDomain],
+) -> Result<(), NoMemory>
+    requires { AreHeads trees.now heads.now }
+    ensures noted { OnOk result (least.new ≡ fold lesser least.old (owners_unknown (headings_of (map root trees.now)) domains.now)) }
+    ensures extends { Extends types.old types.new }
+{
+    for domain in domains {
+        if has_no_owner(
+            least.alloc(),
+            types,
+            trees,
+            heads,
+            domain.key.as_str().as_bytes(),
+        )? {
+            let item = item_of(least.alloc(), "fields.", domain.key.as_str())?;
+            least.note(SpaceRule::UnknownName, item.as_str())?;
+        }
+    }
+    Ok(())
+}
+
+/// Whether a name stands for nothing.
+fn is_unknown(meaning: Meaning) -> bool
+    ensures { result ≡ is_nothing meaning }
+{
+    match meaning {
+        Meaning::Unknown => true,
+        Meaning::Null => false,
+        Meaning::Objects(_) => false,
+        Meaning::Arrays(_) => false,
+    }
+}
+
+/// Whether a value is a name that stands for nothing.
+#[tactic(auto, using(crate::proofs::Meanings::nothing_is))]
+fn is_value_unknown(
+    alloc: Global,
+    types: &mut Types,
+    trees: &[Tree],
+    heads: &Heads,
+    item: &Item,
+) -> Result<bool, NoMemory>
+    requires { AreHeads trees.now heads.now }
+    ensures is { IfOk result (λ b. b ≡ names_unknown (headings_of (map root trees.now)) item.now) }
+    ensures extends { Extends types.old types.new }
+{
+    let _ = trees;
+    match item {
+        Item::Name(name) => Ok(is_unknown(meaning_of(
+            alloc,
+            types,
+            heads,
+            name.as_str().as_bytes(),
+        )?)),
+        Item::Number(_) => Ok(false),
+        Item::Range(..) => Ok(false),
+        Item::Truth(_) => Ok(false),
+    }
+}
+
+/// Whether one of the values is a name that stands for nothing.
+fn has_unknown(
+    alloc: Global,
+    types: &mut Types,
+    trees: &[Tree],
+    heads: &Heads,
+    items: &[Item],
+) -> Result<bool, NoMemory>
+    requires { AreHeads trees.now heads.now }
+    ensures is { IfOk result (λ b. b ≡ list_any (names_unknown (headings_of (map root trees.now))) items.now) }
+    ensures extends { Extends types.old types.new }
+{
+    for item in items {
+        if is_value_unknown(alloc, types, trees, heads, item)? {
+            return Ok(true);
+        }
+    }
+    Ok(false)
+}
+
+/// No value of a domain is a name that stands for nothing.
+fn value_names_of(
+    least: &mut Least,
+    types: &mut Types,
+    trees: &[Tree],
+    heads: &Heads,
+    table: &str,
+    domain: &NamedDomain,
+) -> Result<(), NoMemory>
+    requires { AreHeads trees.now heads.now }
+    ensures noted { OnOk result (least.new ≡ fold lesser least.old (value_unknown (headings_of (map root trees.now)) table.now domain.now)) }
+    ensures extends { Extends types.old types.new }
+{
+    if has_unknown(least.alloc(), types, trees, heads, domain.domain.as_slice())? {
+        let item = item_of(least.alloc(), table, domain.key.as_str())?;
+        least.note(SpaceRule::UnknownName, item.as_str())
+    } else {
+        Ok(())
+    }
+}
+
+/// No value of a table's domains is a name that stands for nothing.
+pub(crate) fn value_names(
+    least: &mut Least,
+    types: &mut Types,
+    trees: &[Tree],
+    heads: &Heads,
+    table: &str,
+    domains: &[NamedDomain],
+) -> Result<(), NoMemory>
+    requires { AreHeads trees.now heads.now }
+    ensures noted { OnOk result (least.new ≡ fold lesser least.old (values_unknown (headings_of (map root trees.now)) table.now domains.now)) }
+    ensures extends { Extends types.old types.new }
+{
+    for domain in domains {
+        value_names_of(least, types, trees, heads, table, domain)?;
+    }
+    Ok(())
+}

@@ -1,0 +1,99 @@
+// The numbers of array types, each once, with a mark at each number that is there.
+ghost use Rattle.std.specs.Prelude.{◌≡◌, ◌≤◌, ℕ, [], false, OnErr, OnOk, length};
+ghost use Rattle.std.proofs.Common.{get_or};
+ghost use Rattle.kr_space_names.specs.Numbers.{IsMarked, has_number, with_number};
+
+use kr_base::NoMemory;
+use std::alloc::Global;
+use std::marker::Model;
+
+/// Numbers of array types, each once, in the order in which they came. Contracts see the list.
+#[derive(Drop)]
+pub struct Arrays {
+    numbers: Vec<u32>,
+    marks: Vec<bool>,
+}
+
+impl Model for Arrays {
+    ghost use Rattle.std.specs.Prelude.{List, ℕ};
+    ghost use Rattle.kr_space_names.specs.Numbers.{AreMarked};
+
+    ghost Value = { List ℕ };
+
+    ghost view = { λ a. a.numbers.items };
+
+    ghost invariant = { λ a. AreMarked a.marks.items a.numbers.items };
+}
+
+/// Whether a number is marked.
+fn is_marked(marks: &[bool], number: u32) -> bool
+    ensures { result ≡ get_or marks.now number false }
+{
+    let at = number as usize;
+    if at < marks.len() { marks[at] } else { false }
+}
+
+/// Makes room for so many marks; the new ones are off.
+fn grow(marks: &mut Vec<bool>, count: usize) -> Result<(), NoMemory>
+    ensures kept { (m : ℕ) → get_or marks.new.items m false ≡ get_or marks.old.items m false }
+    ensures long { OnOk result (count ≤ length marks.new.items) }
+{
+    while marks.len() < count {
+        marks.push(false)?;
+    }
+    Ok(())
+}
+
+/// Marks a number.
+fn mark(marks: &mut Vec<bool>, number: u32) -> Result<(), NoMemory>
+    ensures marked { OnOk result (IsMarked marks.old.items number marks.new.items) }
+    ensures kept { OnErr result ((m : ℕ) → get_or marks.new.items m false ≡ get_or marks.old.items m false) }
+{
+    let at = number as usize;
+    grow(marks, at + 1)?;
+    marks[at] = true;
+    Ok(())
+}
+
+impl Arrays {
+    /// None. It takes no memory.
+    pub(crate) fn new(alloc: Global) -> Arrays
+        ensures { result ≡ [] }
+    {
+        Arrays {
+            numbers: Vec::new(alloc),
+            marks: Vec::new(alloc),
+        }
+    }
+
+    /// Whether a number is there.
+    pub(crate) fn has(&self, number: u32) -> bool
+        ensures { result ≡ has_number self.now number }
+    {
+        is_marked(self.marks.as_slice(), number)
+    }
+
+    /// Adds a number, where it isn't there yet. Once there is room for it, it takes constant time; where memory is refused,
+    /// what was there may be gone.
+    pub(crate) fn add(&mut self, number: u32) -> Result<(), NoMemory>
+        ensures { OnOk result (self.new ≡ with_number self.old number) }
+    {
+        if is_marked(self.marks.as_slice(), number) {
+            return Ok(());
+        }
+        mark(&mut self.marks, number)?;
+        if self.numbers.push(number).is_err() {
+            self.numbers.clear();
+            self.marks.clear();
+            return Err(NoMemory);
+        }
+        Ok(())
+    }
+
+    /// The numbers, in order.
+    pub fn into_vec(self) -> Vec<u32>
+        ensures { result.items ≡ self }
+    {
+        self.numbers
+    }
+}

@@ -1,0 +1,9 @@
+pub mod Lists
+pub mod UnfitTypes
+pub mod Numbering
+pub mod Copies
+pub mod Same
+pub mod TwiceIs
+pub mod Numbers
+pub mod Bounded
+pub mod EntryLists

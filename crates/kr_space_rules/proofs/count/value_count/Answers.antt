@@ -1,0 +1,18 @@
+use Rattle.std.proofs.Common.{◌≡◌, ◌+◌, ◌-◌, ◌^◌, ℕ, List, length, map, min, ap, sym, ◌∙◌, drop, arith}
+use Rattle.std.proofs.lemmas.List.{drop_all}
+use Rattle.kr_space_layout.specs.declared.item.Item.{Item}
+use Rattle.kr_space_layout.specs.Stretches.{all_choices, count_of, stretch_of}
+use Rattle.kr_space_rules.proofs.Numbers.{counted_more}
+use Rattle.kr_space_rules.proofs.count.value_count.Goals as goal
+
+pub loop-item-preserved : goal.loop-item-preserved
+loop-item-preserved c = record {
+  is = counted_more c.args.blocks.now c.args.items.now (length (all_choices (map (stretch_of c.args.blocks.now) c.args.items.now))) c.loop-item.item-index c.loop-item.count c.saturating_add-count.result _ c.of.result c.loop-item-test.true c.loop-item.invariant.is c.of.ensures
+      (c.saturating_add-count.ensures ∙ ap (λ (n : ℕ). min (c.loop-item.count + n) (2 ^ 64 - 1)) c.count.ensures);
+  small = c.saturating_add-count.type_inv;
+}
+
+pub returns : goal.returns
+returns c =
+    let none : length (all_choices (map (stretch_of c.args.blocks.now) (drop c.loop-item.item-index c.args.items.now))) ≡ 0 = ap (λ (is : List Item). length (all_choices (map (stretch_of c.args.blocks.now) is))) (drop_all c.loop-item.item-index c.args.items.now c.loop-item-test.false) in
+    omega (arith, c.loop-item.invariant.is, c.loop-item.invariant.small, none)

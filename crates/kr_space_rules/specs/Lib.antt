@@ -1,0 +1,4 @@
+pub mod Classes
+pub mod Parameters
+pub mod Spans
+pub mod Entries

@@ -1,0 +1,15 @@
+// The classes of a program, as rules ask of them.
+
+use kr_ast::Tree;
+use kr_classes_members::Members;
+use kr_classes_names::Heads;
+use kr_classes_types::NodeTypes;
+
+/// The files of a program with what is known of their classes: what names mean, the members, and the types that nodes name.
+#[derive(Drop)]
+pub struct Classes<'p> {
+    pub trees: &'p [Tree],
+    pub heads: &'p Heads,
+    pub members: &'p Members,
+    pub numbers: &'p NodeTypes,
+}

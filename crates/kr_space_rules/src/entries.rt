@@ -1,0 +1,109 @@
+// The entries of domains, with what names stand for.
+ghost use Rattle.std.specs.Prelude.{◌≡◌, ◌<◌, ◌+◌, ◌^◌, All, IfOk, length, map, option_to_list};
+ghost use Rattle.kr_ast.specs.Arena.{root};
+ghost use Rattle.kr_classes_table.specs.Table.{headings_of};
+ghost use Rattle.kr_classes_names.specs.Shown.{AreHeads};
+ghost use Rattle.kr_classes_types.specs.Types.{Extends};
+ghost use Rattle.kr_space_layout.specs.Items.{domain_of};
+ghost use Rattle.kr_space_meaning.specs.Bounds.{item_values, meant_values, setting_of, values_of};
+ghost use Rattle.kr_space_meaning.specs.Names.{Meant};
+ghost use Rattle.kr_space_names.specs.Meanings.{IsMeaning};
+ghost use Rattle.kr_space_meaning.specs.Limits.{IsSmall};
+ghost use Rattle.kr_space_rules.specs.Entries.{AreBounds};
+
+use crate::bounds::{Bound, array_domain_of};
+use kr_ast::Tree;
+use kr_base::{NoMemory, add_found};
+use kr_classes_names::Heads;
+use kr_classes_types::Types;
+use kr_fin::{FinDoc, Item as FinItem};
+use kr_space_layout::Item;
+use kr_space_names::{Meaning, meaning_of};
+use kr_value::Value;
+use std::alloc::Global;
+
+/// The entry that a name's meaning is.
+#[tactic(auto, unfolding(kr_space_meaning::specs::Bounds::setting_of, kr_classes_table::specs::Table::table_of))]
+fn meant_entry(
+    types: &Types,
+    trees: &[Tree],
+    heads: &Heads,
+    document: &FinDoc,
+    bounds: &[Bound],
+    meaning: Meaning,
+) -> Option<Item>
+    requires heads { AreHeads trees.now heads.now }
+    requires few { length (headings_of (map root trees.now)) + length bounds.now < 2 ^ 32 }
+    requires bounds { AreBounds types.now document.now.arrays bounds.now (setting_of (map root trees.now) document.now).arrays }
+    requires meaning { (m : Meant) × IsMeaning types.now meaning m }
+    ensures { (m : Meant) → IsMeaning types.now meaning m → domain_of (option_to_list result) ≡ meant_values (setting_of (map root trees.now) document.now) m }
+{
+    let _ = trees;
+    match meaning {
+        Meaning::Null => Some(Item::Plain(Value::Null)),
+        Meaning::Objects(class) => Some(Item::Objects(class)),
+        Meaning::Arrays(number) => {
+            let classes = heads.len() as u32;
+            let all = document.arrays.as_slice();
+            match array_domain_of(types, classes, bounds, all, number) {
+                None => None,
+                Some(domain) => Some(Item::Objects(domain)),
+            }
+        }
+        Meaning::Unknown => None,
+    }
+}
+
+/// What an entry of a document is: nothing where its name has no objects.
+#[tactic(auto, unfolding(kr_space_meaning::specs::Bounds::setting_of, kr_classes_table::specs::Table::table_of), using(crate::proofs::Bounded::bounds_kept))]
+fn entry_of(
+    alloc: Global,
+    types: &mut Types,
+    trees: &[Tree],
+    heads: &Heads,
+    document: &FinDoc,
+    bounds: &[Bound],
+    item: &FinItem,
+) -> Result<Option<Item>, NoMemory>
+    requires heads { AreHeads trees.now heads.now }
+    requires small { IsSmall item.now }
+    requires few { length (headings_of (map root trees.now)) + length bounds.now < 2 ^ 32 }
+    requires bounds { AreBounds types.old document.now.arrays bounds.now (setting_of (map root trees.now) document.now).arrays }
+    ensures is { IfOk result (λ found. domain_of (option_to_list found) ≡ item_values (setting_of (map root trees.now) document.now) item.now) }
+    ensures extends { Extends types.old types.new }
+{
+    match item {
+        FinItem::Number(number) => Ok(Some(Item::Plain(Value::Int(*number as i32)))),
+        FinItem::Range(from, to) => Ok(Some(Item::Integers(*from as i32, *to as i32))),
+        FinItem::Truth(truth) => Ok(Some(Item::Plain(Value::Bool(*truth)))),
+        FinItem::Name(name) => {
+            let meaning = meaning_of(alloc, types, heads, name.as_str().as_bytes())?;
+            Ok(meant_entry(&*types, trees, heads, document, bounds, meaning))
+        }
+    }
+}
+
+/// The entries of a domain: the values that the document gives it.
+pub fn entries_of(
+    alloc: Global,
+    types: &mut Types,
+    trees: &[Tree],
+    heads: &Heads,
+    document: &FinDoc,
+    bounds: &[Bound],
+    items: &[FinItem],
+) -> Result<Vec<Item>, NoMemory>
+    requires heads { AreHeads trees.now heads.now }
+    requires small { All IsSmall items.now }
+    requires few { length (headings_of (map root trees.now)) + length bounds.now < 2 ^ 32 }
+    requires bounds { AreBounds types.old document.now.arrays bounds.now (setting_of (map root trees.now) document.now).arrays }
+    ensures are { IfOk result (λ found. domain_of found.items ≡ values_of (setting_of (map root trees.now) document.now) items.now) }
+    ensures extends { Extends types.old types.new }
+{
+    let mut found = Vec::new(alloc);
+    for item in items {
+        let entry = entry_of(alloc, types, trees, heads, document, bounds, item)?;
+        add_found(&mut found, entry)?;
+    }
+    Ok(found)
+}

@@ -1,0 +1,69 @@
+// Which values fit which types.
+ghost use Rattle.std.specs.Prelude.{◌≡◌, ◌<◌, IfOk};
+ghost use Rattle.kr_classes_table.specs.Types.{ClassType, JavaType};
+ghost use Rattle.kr_classes_table.specs.Table as table;
+ghost use Rattle.kr_classes_types.specs.Types.{Extends, IsTypeNumber, count, type_at};
+ghost use Rattle.kr_space_meaning.specs.Names.{Meant};
+ghost use Rattle.kr_space_meaning.specs.Faults.{fits, meant_fits as meant_fits_in};
+ghost use Rattle.kr_space_names.specs.Meanings.{IsMeaning};
+ghost use Rattle.kr_space_rules.specs.Classes.{AreClasses, table_of};
+
+use crate::classes::Classes;
+use kr_base::NoMemory;
+use kr_classes_types::{TypeForm, Types};
+use kr_fin::Item;
+use kr_space_names::{Meaning, meaning_of};
+use kr_types_judging::is_assignable;
+use std::alloc::Global;
+
+/// Whether objects of a class go into a type.
+fn class_fits(classes: &Classes, types: &Types, number: u32, class: u32) -> bool
+    requires classes { AreClasses classes.now }
+    requires number { number < count types.now }
+    ensures { result ≡ table.is_assignable (table_of classes.now) (ClassType class) (type_at types.now number) }
+{
+    match types.form(number) {
+        TypeForm::Class(other) => classes.members.is_below(class, other),
+        _ => false,
+    }
+}
+
+/// Whether what a name stands for fits a type.
+fn meant_fits(classes: &Classes, types: &Types, number: u32, meaning: Meaning) -> bool
+    requires classes { AreClasses classes.now }
+    requires number { number < count types.now }
+    requires meaning { (m : Meant) × IsMeaning types.now meaning m }
+    ensures { (m : Meant) → IsMeaning types.now meaning m → result ≡ meant_fits_in (table_of classes.now) (type_at types.now number) m }
+{
+    match meaning {
+        Meaning::Null => types.is_reference(number),
+        Meaning::Objects(class) => class_fits(classes, types, number, class),
+        Meaning::Arrays(array) => is_assignable(types, classes.members, array, number),
+        Meaning::Unknown => true,
+    }
+}
+
+/// Whether a value of a domain fits a type.
+#[tactic(auto, unfolding(kr_classes_table::specs::Table::table_of))]
+pub(crate) fn item_fits(
+    alloc: Global,
+    classes: &Classes,
+    types: &mut Types,
+    number: u32,
+    item: &Item,
+) -> Result<bool, NoMemory>
+    requires classes { AreClasses classes.now }
+    requires number { number < count types.old }
+    ensures is { IfOk result (λ b. (t : JavaType) → IsTypeNumber types.old number t → b ≡ fits (table_of classes.now) t item.now) }
+    ensures extends { Extends types.old types.new }
+{
+    match item {
+        Item::Number(_) => Ok(types.is_same(number, types.int())),
+        Item::Range(from, to) => Ok(*from > *to || types.is_same(number, types.int())),
+        Item::Truth(_) => Ok(types.is_same(number, types.boolean())),
+        Item::Name(name) => {
+            let meaning = meaning_of(alloc, types, classes.heads, name.as_str().as_bytes())?;
+            Ok(meant_fits(classes, &*types, number, meaning))
+        }
+    }
+}

@@ -1,0 +1,143 @@
+// Rule S4: values fit the types of their slots.
+ghost use Rattle.std.specs.Prelude.{◌≡◌, ◌<◌, IfOk, OnOk, Option, fold, not};
+ghost use Rattle.kr_classes_table.specs.Types.{JavaType};
+ghost use Rattle.kr_classes_types.specs.Types.{Extends, IsTypeNumber, count};
+ghost use Rattle.std.specs.List.{list_any};
+ghost use Rattle.kr_space_names.specs.Texts.{Stands};
+ghost use Rattle.kr_space_meaning.specs.Faults.{fields_unfit, fits, is_unfit as is_unfit_in, params_unfit};
+ghost use Rattle.kr_space_meaning.specs.Order.{lesser};
+ghost use Rattle.kr_space_rules.specs.Classes.{AreClasses, AreTyped, table_of};
+
+use crate::classes::Classes;
+use crate::fits::item_fits;
+use crate::key_types::{field_type, parameter_type};
+use kr_base::NoMemory;
+use kr_classes_types::Types;
+use kr_fin::{Item, NamedDomain};
+use kr_space_meaning::SpaceRule;
+use kr_space_names::{Least, item_of};
+use std::alloc::Global;
+
+/// Whether one of the values doesn't fit the type.
+fn has_unfit(
+    alloc: Global,
+    classes: &Classes,
+    types: &mut Types,
+    number: u32,
+    items: &[Item],
+) -> Result<bool, NoMemory>
+    requires classes { AreClasses classes.now }
+    requires number { number < count types.old }
+    ensures is { IfOk result (λ b. (t : JavaType) → IsTypeNumber types.old number t → b ≡ list_any (λ i. not (fits (table_of classes.now) t i)) items.now) }
+    ensures extends { Extends types.old types.new }
+{
+    for item in items {
+        if !item_fits(alloc, classes, types, number, item)? {
+            return Ok(true);
+        }
+    }
+    Ok(false)
+}
+
+/// Whether one of the values doesn't fit the type, where there is one.
+fn is_unfit(
+    alloc: Global,
+    classes: &Classes,
+    types: &mut Types,
+    found: Option<u32>,
+    items: &[Item],
+) -> Result<bool, NoMemory>
+    requires classes { AreClasses classes.now }
+    requires found { (t : Option JavaType) × Stands types.old found t }
+    ensures is { IfOk result (λ b. (t : Option JavaType) → Stands types.old found t → b ≡ is_unfit_in (table_of classes.now) t items.now) }
+    ensures extends { Extends types.old types.new }
+{
+    match found {
+        None => Ok(false),
+        Some(number) => has_unfit(alloc, classes, types, number, items),
+    }
+}
+
+/// The values of fields and elements fit.
+#[tactic(auto, using(kr_space_names::proofs::Growing::node_types_kept))]
+fn note_fields(
+    least: &mut Least,
+    classes: &Classes,
+    types: &mut Types,
+    domains: &[NamedDomain],
+) -> Result<(), NoMemory>
+    requires classes { AreClasses classes.now }
+    requires typed { AreTyped classes.now types.old }
+    ensures noted { OnOk result (least.new ≡ fold lesser least.old (fields_unfit (table_of classes.now) domains.now)) }
+    ensures extends { Extends types.old types.new }
+{
+    for domain in domains {
+        let found = field_type(
+            least.alloc(),
+            classes,
+            types,
+            domain.key.as_str().as_bytes(),
+        )?;
+        if is_unfit(
+            least.alloc(),
+            classes,
+            types,
+            found,
+            domain.domain.as_slice(),
+        )? {
+            let item = item_of(least.alloc(), "fields.", domain.key.as_str())?;
+            least.note(SpaceRule::UnfitValue, item.as_str())?;
+        }
+    }
+    Ok(())
+}
+
+/// The values of parameters fit.
+#[tactic(auto, using(kr_space_names::proofs::Growing::node_types_kept))]
+fn note_params(
+    least: &mut Least,
+    classes: &Classes,
+    types: &mut Types,
+    root: Option<u32>,
+    domains: &[NamedDomain],
+) -> Result<(), NoMemory>
+    requires classes { AreClasses classes.now }
+    requires typed { AreTyped classes.now types.old }
+    ensures noted { OnOk result (least.new ≡ fold lesser least.old (params_unfit (table_of classes.now) root domains.now)) }
+    ensures extends { Extends types.old types.new }
+{
+    for domain in domains {
+        let key = domain.key.as_str().as_bytes();
+        let found = parameter_type(least.alloc(), classes, &*types, root, key)?;
+        if is_unfit(
+            least.alloc(),
+            classes,
+            types,
+            found,
+            domain.domain.as_slice(),
+        )? {
+            let item = item_of(least.alloc(), "params.", domain.key.as_str())?;
+            least.note(SpaceRule::UnfitValue, item.as_str())?;
+        }
+    }
+    Ok(())
+}
+
+/// S4: the values of each domain fit the type that its key asks for, where it asks for one.
+#[tactic(auto, using(kr_space_names::proofs::Growing::node_types_kept))]
+pub fn note_unfit(
+    least: &mut Least,
+    classes: &Classes,
+    types: &mut Types,
+    root: Option<u32>,
+    fields: &[NamedDomain],
+    params: &[NamedDomain],
+) -> Result<(), NoMemory>
+    requires classes { AreClasses classes.now }
+    requires typed { AreTyped classes.now types.old }
+    ensures noted { OnOk result (least.new ≡ fold lesser (fold lesser least.old (fields_unfit (table_of classes.now) fields.now)) (params_unfit (table_of classes.now) root params.now)) }
+    ensures extends { Extends types.old types.new }
+{
+    note_fields(least, classes, types, fields)?;
+    note_params(least, classes, types, root, params)
+}

@@ -1,4 +1,0 @@
-pub mod Statements
-pub mod Runs
-pub mod Framed
-pub mod Verdicts

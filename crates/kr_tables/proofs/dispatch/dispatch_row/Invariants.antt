@@ -1,8 +1,0 @@
-use Rattle.std.specs.Prelude.{None}
-use Rattle.kr_members.specs.Shown.{method_shown}
-use Rattle.kr_tables.specs.Tabled.{IsOverrider}
-use Rattle.kr_tables.proofs.Rows.{IsFront}
-use Rattle.kr_tables.proofs.dispatch.dispatch_row.Given as goal
-
-abbrev pub invariant-loop-class : goal.invariant-loop-class
-invariant-loop-class l = IsFront None (IsOverrider l.trees (method_shown l.trees l.method)) l.class l.row.items

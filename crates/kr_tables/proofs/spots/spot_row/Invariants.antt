@@ -1,8 +1,0 @@
-use Rattle.std.specs.Prelude.{None}
-use Rattle.kr_members.specs.Shown.{field_shown}
-use Rattle.kr_tables.specs.Tabled.{IsSpot}
-use Rattle.kr_tables.proofs.Rows.{IsFront}
-use Rattle.kr_tables.proofs.spots.spot_row.Given as goal
-
-abbrev pub invariant-loop-class : goal.invariant-loop-class
-invariant-loop-class l = IsFront None (IsSpot l.trees (field_shown l.trees l.field)) l.class l.row.items

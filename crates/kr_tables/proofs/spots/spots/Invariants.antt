@@ -1,9 +1,0 @@
-use Rattle.std.specs.Prelude.{None}
-use Rattle.kr_members.specs.Shown.{table_in}
-use Rattle.kr_roster.specs.Rosters.{field_numbered}
-use Rattle.kr_tables.specs.Tabled.{IsSpot}
-use Rattle.kr_tables.proofs.Rows.{AreFront}
-use Rattle.kr_tables.proofs.spots.spots.Given as goal
-
-abbrev pub invariant-loop-field : goal.invariant-loop-field
-invariant-loop-field l = AreFront None (λ k. IsSpot l.trees (field_numbered (table_in l.trees) k)) l.field-index l.rows.items

@@ -1,4 +1,0 @@
-use Rattle.kr_type_rules.proofs.calls.call_rule.Goals as goal
-
-pub returns-after-method-clause-within : goal.returns-after-method-clause-within
-returns-after-method-clause-within c = c.ask.ensures.within c.args.types.now c.arguments_rule.ensures.within

@@ -1,4 +1,0 @@
-use Rattle.kr_type_rules.proofs.declarations.result_value_rule.Goals as goal
-
-pub returns-clause-within : goal.returns-clause-within
-returns-clause-within c = c.ask.ensures.within c.args.types.now c.value_of.ensures.within

@@ -1,4 +1,0 @@
-use Rattle.kr_type_rules.proofs.statements.condition_rule.Goals as goal
-
-pub returns-clause-within : goal.returns-clause-within
-returns-clause-within c = c.fine_if.ensures.within c.args.types.now

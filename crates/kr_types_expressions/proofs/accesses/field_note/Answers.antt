@@ -1,0 +1,25 @@
+use Rattle.std.proofs.Common.{◌∙◌, sym, ap, ℕ}
+use Rattle.std.specs.Prelude.{Option}
+use Rattle.kr_types_meaning.specs.Rules as rules
+use Rattle.kr_types_meaning.specs.Noting as noting
+use Rattle.kr_types_scopes.specs.Settings.{scope_in}
+use Rattle.kr_types_judging.specs.Shown.{known_shown, least_shown, note_shown}
+use Rattle.kr_types_expressions.specs.Parts.{with_one}
+use Rattle.kr_types_expressions.proofs.Asking.{asks_one}
+use Rattle.kr_types_expressions.proofs.accesses.field_note.Goals as goal
+
+pub returns-in-Some-clause-within : goal.returns-in-Some-clause-within
+returns-in-Some-clause-within c = c.conclude.ensures.within c.args.types.now c.constant_rule-verdict.ensures.within
+
+pub returns-in-None-clause-within : goal.returns-in-None-clause-within
+returns-in-None-clause-within c = c.conclude-in-None.ensures.within c.args.types.now c.access_verdict-verdict.ensures.within
+
+pub returns-in-None-clause-shown : goal.returns-in-None-clause-shown
+returns-in-None-clause-shown c = λ g bs look e.
+    let l = c.args.types.now in
+    let s = scope_in g bs c.args.here in
+    let f = rules.access_rule s c.args.name.now in
+    let x = c.args.x in
+    c.conclude-in-None.ensures.shown l look
+    ∙ ap (λ (v : rules.Verdict). noting.concluded c.args.place v (least_shown x.least)) (c.access_verdict-verdict.ensures.says g bs e ∙ ap (with_one f) (c.part_type-object.ensures.shown l look) ∙ asks_one f (known_shown l look x.known))
+    ∙ ap (λ (b : Option ℕ). noting.field_of s c.args.place c.args.name.now b (note_shown l look x)) (sym c.in-None.is)

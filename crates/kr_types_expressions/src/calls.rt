@@ -1,0 +1,238 @@
+// Calls: what is kept of a node, from what is kept of its parts.
+ghost use Rattle.std.specs.Prelude.{◌≡◌, ◌<◌, ℕ, List, All, IfOk, IfSome, length, map, option_map};
+ghost use Rattle.kr_classes_table.specs.Table.{method_named};
+ghost use Rattle.kr_types_meaning.specs.Rules as rules;
+ghost use Rattle.kr_types_meaning.specs.Scopes as scopes;
+ghost use Rattle.kr_types_meaning.specs.Noting as noting;
+ghost use Rattle.kr_types_scopes.specs.Settings.{Setting, class_there, scope_in};
+ghost use Rattle.kr_types_scopes.specs.declared.within.Binding.{Binding};
+ghost use Rattle.kr_classes_members.specs.Shown.{IsMethod, method_shown, table_in};
+ghost use Rattle.kr_classes_members.specs.Kept.{AreMembers};
+ghost use Rattle.kr_classes_types.specs.Types.{count, type_at};
+ghost use Rattle.kr_classes_types.specs.Numbers.{AreNodeTypes};
+ghost use Rattle.kr_types_judging.specs.Shown.{HasNoRest, IsNoteWithin, IsVerdictWithin, note_shown, verdict_shown};
+ghost use Rattle.kr_types_expressions.specs.Notes.{AreNotesWithin, IsRestBelow, typed_in};
+ghost use Rattle.kr_types_expressions.specs.Parts.{with_list, with_one_and_list};
+
+use crate::lists::value_types;
+use crate::note_list::NoteList;
+use crate::parts::part_type;
+use kr_ast::Tree;
+use kr_base::{NoMemory, Place};
+use kr_classes_members::{Members, Method};
+use kr_classes_types::{NodeTypes, Types};
+use kr_types_judging::{
+    Note, Verdict, call_rule, conclude, earlier, method_meant, object_call_rule, static_rule,
+    super_rule,
+};
+use kr_types_scopes::Within;
+use std::alloc::Global;
+
+/// What T5, T24 and T32 say of a call where all arguments have types.
+fn call_verdict(
+    trees: &[Tree],
+    types: &Types,
+    members: &Members,
+    node_types: &NodeTypes,
+    here: Within,
+    found: Option<Method>,
+    arguments: Option<Vec<u32>>,
+) -> Verdict
+    requires members { AreMembers trees.now members.now }
+    requires numbers { AreNodeTypes trees.now types.now node_types.now }
+    requires found { IfSome found (IsMethod trees.now) }
+    requires arguments { IfSome arguments (λ ts. All (λ t. t < count types.now) ts.items) }
+    ensures within { IsVerdictWithin types.now result }
+    ensures says { (g : Setting) (bs : List Binding) → g.table ≡ table_in trees.now → verdict_shown types.now result ≡ with_list (rules.call_rule (scope_in g bs here) (option_map (method_shown trees.now) found)) (option_map (λ ts. map (type_at types.now) ts.items) arguments) }
+{
+    match arguments {
+        None => Verdict::fine(),
+        Some(arguments) => call_rule(trees, types, members, node_types, here, found, &arguments),
+    }
+}
+
+/// A call without object: its arguments.
+pub fn call_note(
+    alloc: Global,
+    trees: &[Tree],
+    types: &Types,
+    members: &Members,
+    node_types: &NodeTypes,
+    notes: &NoteList,
+    here: Within,
+    place: Place,
+    class: u32,
+    name: &[u8],
+    x: Note,
+) -> Result<Note, NoMemory>
+    requires members { AreMembers trees.now members.now }
+    requires numbers { AreNodeTypes trees.now types.now node_types.now }
+    requires notes { AreNotesWithin types.now notes.now }
+    requires arguments { IsNoteWithin types.now x }
+    requires below { IsRestBelow (length notes.now) x.known }
+    ensures within { IfOk result (λ n. IsNoteWithin types.now n) }
+    ensures no_rest { IfOk result (λ n. HasNoRest n.known) }
+    ensures shown { IfOk result (λ n. (g : Setting) (bs : List Binding) → g.table ≡ table_in trees.now → class_there g here.class ≡ class → let look = typed_in types.now notes.now in let s = scope_in g bs here in note_shown types.now look n ≡ noting.list place (rules.call_rule s (scopes.method_meant s name.now)) (note_shown types.now look x)) }
+{
+    let arguments = value_types(alloc, types, notes, x.known)?;
+    let found = method_meant(members, class, name);
+    let verdict = call_verdict(trees, types, members, node_types, here, found, arguments);
+    Ok(conclude(place, verdict, x.least))
+}
+
+/// What T5, T24 and T33 say of a call of `super.m` where all arguments have types.
+fn super_call_verdict(
+    trees: &[Tree],
+    types: &Types,
+    members: &Members,
+    node_types: &NodeTypes,
+    here: Within,
+    class: u32,
+    name: &[u8],
+    arguments: Option<Vec<u32>>,
+) -> Verdict
+    requires members { AreMembers trees.now members.now }
+    requires numbers { AreNodeTypes trees.now types.now node_types.now }
+    requires arguments { IfSome arguments (λ ts. All (λ t. t < count types.now) ts.items) }
+    ensures within { IsVerdictWithin types.now result }
+    ensures says { (g : Setting) (bs : List Binding) → g.table ≡ table_in trees.now → class_there g here.class ≡ class → verdict_shown types.now result ≡ with_list (rules.super_rule (scope_in g bs here) name.now) (option_map (λ ts. map (type_at types.now) ts.items) arguments) }
+{
+    match arguments {
+        None => Verdict::fine(),
+        Some(arguments) => {
+            super_rule(
+                trees, types, members, node_types, here, class, name, &arguments,
+            )
+        }
+    }
+}
+
+/// A call of `super.m`: its arguments.
+pub fn super_call_note(
+    alloc: Global,
+    trees: &[Tree],
+    types: &Types,
+    members: &Members,
+    node_types: &NodeTypes,
+    notes: &NoteList,
+    here: Within,
+    place: Place,
+    class: u32,
+    name: &[u8],
+    x: Note,
+) -> Result<Note, NoMemory>
+    requires members { AreMembers trees.now members.now }
+    requires numbers { AreNodeTypes trees.now types.now node_types.now }
+    requires notes { AreNotesWithin types.now notes.now }
+    requires arguments { IsNoteWithin types.now x }
+    requires below { IsRestBelow (length notes.now) x.known }
+    ensures within { IfOk result (λ n. IsNoteWithin types.now n) }
+    ensures no_rest { IfOk result (λ n. HasNoRest n.known) }
+    ensures shown { IfOk result (λ n. (g : Setting) (bs : List Binding) → g.table ≡ table_in trees.now → class_there g here.class ≡ class → let look = typed_in types.now notes.now in note_shown types.now look n ≡ noting.list place (rules.super_rule (scope_in g bs here) name.now) (note_shown types.now look x)) }
+{
+    let arguments = value_types(alloc, types, notes, x.known)?;
+    let verdict = super_call_verdict(
+        trees, types, members, node_types, here, class, name, arguments,
+    );
+    Ok(conclude(place, verdict, x.least))
+}
+
+/// What T24 says of a call behind a class's name where all arguments have types.
+fn static_call_verdict(
+    trees: &[Tree],
+    types: &Types,
+    members: &Members,
+    node_types: &NodeTypes,
+    here: Within,
+    found: Option<Method>,
+    arguments: Option<Vec<u32>>,
+) -> Verdict
+    requires members { AreMembers trees.now members.now }
+    requires numbers { AreNodeTypes trees.now types.now node_types.now }
+    requires found { IfSome found (IsMethod trees.now) }
+    requires arguments { IfSome arguments (λ ts. All (λ t. t < count types.now) ts.items) }
+    ensures within { IsVerdictWithin types.now result }
+    ensures says { (g : Setting) (bs : List Binding) → g.table ≡ table_in trees.now → verdict_shown types.now result ≡ with_list (rules.static_rule (scope_in g bs here) (option_map (method_shown trees.now) found)) (option_map (λ ts. map (type_at types.now) ts.items) arguments) }
+{
+    match arguments {
+        None => Verdict::fine(),
+        Some(arguments) => {
+            static_rule(trees, types, members, node_types, here, found, &arguments)
+        }
+    }
+}
+
+/// What T24, T25 and T32 say of a call through an object where the object and all arguments have types.
+fn object_call_verdict(
+    trees: &[Tree],
+    types: &Types,
+    members: &Members,
+    node_types: &NodeTypes,
+    here: Within,
+    name: &[u8],
+    object: Option<u32>,
+    arguments: Option<Vec<u32>>,
+) -> Verdict
+    requires members { AreMembers trees.now members.now }
+    requires numbers { AreNodeTypes trees.now types.now node_types.now }
+    requires object { IfSome object (λ t. t < count types.now) }
+    requires arguments { IfSome arguments (λ ts. All (λ t. t < count types.now) ts.items) }
+    ensures within { IsVerdictWithin types.now result }
+    ensures says { (g : Setting) (bs : List Binding) → g.table ≡ table_in trees.now → verdict_shown types.now result ≡ with_one_and_list (rules.object_call_rule (scope_in g bs here) name.now) (option_map (type_at types.now) object) (option_map (λ ts. map (type_at types.now) ts.items) arguments) }
+{
+    match object {
+        None => Verdict::fine(),
+        Some(object) => match arguments {
+            None => Verdict::fine(),
+            Some(arguments) => {
+                object_call_rule(
+                    trees, types, members, node_types, here, name, object, &arguments,
+                )
+            }
+        },
+    }
+}
+
+/// A call behind a dot: what stands before the dot, which is a class where this is one; then its arguments.
+pub fn method_call_note(
+    alloc: Global,
+    trees: &[Tree],
+    types: &Types,
+    members: &Members,
+    node_types: &NodeTypes,
+    notes: &NoteList,
+    here: Within,
+    place: Place,
+    name: &[u8],
+    before: Option<u32>,
+    x: Note,
+    y: Note,
+) -> Result<Note, NoMemory>
+    requires members { AreMembers trees.now members.now }
+    requires numbers { AreNodeTypes trees.now types.now node_types.now }
+    requires notes { AreNotesWithin types.now notes.now }
+    requires object { IsNoteWithin types.now x }
+    requires arguments { IsNoteWithin types.now y }
+    requires below { IsRestBelow (length notes.now) y.known }
+    ensures within { IfOk result (λ n. IsNoteWithin types.now n) }
+    ensures no_rest { IfOk result (λ n. HasNoRest n.known) }
+    ensures shown { IfOk result (λ n. (g : Setting) (bs : List Binding) → g.table ≡ table_in trees.now → let look = typed_in types.now notes.now in note_shown types.now look n ≡ noting.method_of (scope_in g bs here) place name.now before (note_shown types.now look x) (note_shown types.now look y)) }
+{
+    let arguments = value_types(alloc, types, notes, y.known)?;
+    match before {
+        Some(class) => {
+            let found = members.method_named(class, name);
+            let verdict = static_call_verdict(
+                trees, types, members, node_types, here, found, arguments,
+            );
+            Ok(conclude(place, verdict, y.least))
+        }
+        None => {
+            let object = part_type(x.known);
+            let verdict = object_call_verdict(
+                trees, types, members, node_types, here, name, object, arguments,
+            );
+            Ok(conclude(place, verdict, earlier(x.least, y.least)))
+        }
+    }
+}

@@ -1,0 +1,176 @@
+// Creations and calls of constructors: what is kept of a node, from what is kept of its parts.
+ghost use Rattle.std.specs.Prelude.{◌≡◌, ◌<◌, ℕ, List, All, IfOk, IfSome, length, map, option_map};
+ghost use Rattle.kr_types_meaning.specs.Rules as rules;
+ghost use Rattle.kr_types_meaning.specs.Noting as noting;
+ghost use Rattle.kr_types_scopes.specs.Settings.{Setting, class_there, scope_in};
+ghost use Rattle.kr_types_scopes.specs.declared.within.Binding.{Binding};
+ghost use Rattle.kr_classes_members.specs.Shown.{table_in};
+ghost use Rattle.kr_classes_members.specs.Kept.{AreMembers};
+ghost use Rattle.kr_classes_types.specs.Types.{Extends, count, type_at};
+ghost use Rattle.kr_classes_types.specs.Numbers.{AreNodeTypes};
+ghost use Rattle.kr_types_judging.specs.Shown.{HasNoRest, IsNoteWithin, IsVerdictWithin, note_shown, verdict_shown};
+ghost use Rattle.kr_types_expressions.specs.Constructors.{AreSingle};
+ghost use Rattle.kr_types_expressions.specs.Notes.{AreNotesWithin, IsRestBelow, typed_in};
+ghost use Rattle.kr_types_expressions.specs.Parts.{with_list, with_one_and_list, with_two};
+
+use crate::creations::{array_creation_rule, creation_rule, super_constructor_rule};
+use crate::lists::value_types;
+use crate::note_list::NoteList;
+use crate::parts::part_type;
+use kr_ast::Tree;
+use kr_base::{NoMemory, Place};
+use kr_classes_members::Members;
+use kr_classes_types::{NodeTypes, Types};
+use kr_types_judging::{Note, Verdict, conclude, earlier};
+use kr_types_scopes::Within;
+use std::alloc::Global;
+
+/// What T26 and T39 say where the type and all arguments are known.
+fn creation_verdict(
+    trees: &[Tree],
+    types: &Types,
+    members: &Members,
+    node_types: &NodeTypes,
+    here: Within,
+    created: Option<u32>,
+    arguments: Option<Vec<u32>>,
+) -> Verdict
+    requires members { AreMembers trees.now members.now }
+    requires numbers { AreNodeTypes trees.now types.now node_types.now }
+    requires created { IfSome created (λ t. t < count types.now) }
+    requires arguments { IfSome arguments (λ ts. All (λ t. t < count types.now) ts.items) }
+    ensures within { IsVerdictWithin types.now result }
+    ensures says { (g : Setting) (bs : List Binding) → g.table ≡ table_in trees.now → AreSingle g.table → verdict_shown types.now result ≡ with_one_and_list (rules.creation_rule (scope_in g bs here)) (option_map (type_at types.now) created) (option_map (λ ts. map (type_at types.now) ts.items) arguments) }
+{
+    match created {
+        None => Verdict::fine(),
+        Some(created) => match arguments {
+            None => Verdict::fine(),
+            Some(arguments) => {
+                creation_rule(trees, types, members, node_types, here, created, &arguments)
+            }
+        },
+    }
+}
+
+/// The creation of an object: its type, then the arguments.
+pub fn creation_note(
+    alloc: Global,
+    trees: &[Tree],
+    types: &Types,
+    members: &Members,
+    node_types: &NodeTypes,
+    notes: &NoteList,
+    here: Within,
+    place: Place,
+    x: Note,
+    y: Note,
+) -> Result<Note, NoMemory>
+    requires members { AreMembers trees.now members.now }
+    requires numbers { AreNodeTypes trees.now types.now node_types.now }
+    requires notes { AreNotesWithin types.now notes.now }
+    requires created { IsNoteWithin types.now x }
+    requires arguments { IsNoteWithin types.now y }
+    requires below { IsRestBelow (length notes.now) y.known }
+    ensures within { IfOk result (λ n. IsNoteWithin types.now n) }
+    ensures no_rest { IfOk result (λ n. HasNoRest n.known) }
+    ensures shown { IfOk result (λ n. (g : Setting) (bs : List Binding) → g.table ≡ table_in trees.now → AreSingle g.table → let look = typed_in types.now notes.now in note_shown types.now look n ≡ noting.one_and_list place (rules.creation_rule (scope_in g bs here)) (note_shown types.now look x) (note_shown types.now look y)) }
+{
+    let arguments = value_types(alloc, types, notes, y.known)?;
+    let created = part_type(x.known);
+    let verdict = creation_verdict(trees, types, members, node_types, here, created, arguments);
+    Ok(conclude(place, verdict, earlier(x.least, y.least)))
+}
+
+/// What T27 and T39 say where both parts have types.
+fn array_creation_verdict(
+    types: &mut Types,
+    here: Within,
+    a: Option<u32>,
+    b: Option<u32>,
+) -> Result<Verdict, NoMemory>
+    requires first { IfSome a (λ t. t < count types.old) }
+    requires second { IfSome b (λ t. t < count types.old) }
+    ensures extends { Extends types.old types.new }
+    ensures within { IfOk result (λ v. IsVerdictWithin types.new v) }
+    ensures says { IfOk result (λ v. (g : Setting) (bs : List Binding) → verdict_shown types.new v ≡ with_two (rules.array_creation_rule (scope_in g bs here)) (option_map (type_at types.old) a) (option_map (type_at types.old) b)) }
+{
+    match (a, b) {
+        (Some(a), Some(b)) => array_creation_rule(types, here, a, b),
+        _ => Ok(Verdict::fine()),
+    }
+}
+
+/// The creation of an array: the type of its elements, then its length.
+pub fn array_creation_note(
+    types: &mut Types,
+    here: Within,
+    place: Place,
+    x: Note,
+    y: Note,
+) -> Result<Note, NoMemory>
+    requires first { IsNoteWithin types.old x }
+    requires second { IsNoteWithin types.old y }
+    ensures extends { Extends types.old types.new }
+    ensures within { IfOk result (λ n. IsNoteWithin types.new n) }
+    ensures no_rest { IfOk result (λ n. HasNoRest n.known) }
+    ensures shown { IfOk result (λ n. (g : Setting) (bs : List Binding) (look : ℕ → rules.Typed) → note_shown types.new look n ≡ noting.two place (rules.array_creation_rule (scope_in g bs here)) (note_shown types.old look x) (note_shown types.old look y)) }
+{
+    let first = part_type(x.known);
+    let second = part_type(y.known);
+    let verdict = array_creation_verdict(types, here, first, second)?;
+    Ok(conclude(place, verdict, earlier(x.least, y.least)))
+}
+
+/// What T34 says of `super(..)` where all arguments have types.
+fn constructor_call_verdict(
+    trees: &[Tree],
+    types: &Types,
+    members: &Members,
+    node_types: &NodeTypes,
+    here: Within,
+    class: u32,
+    arguments: Option<Vec<u32>>,
+) -> Verdict
+    requires members { AreMembers trees.now members.now }
+    requires numbers { AreNodeTypes trees.now types.now node_types.now }
+    requires arguments { IfSome arguments (λ ts. All (λ t. t < count types.now) ts.items) }
+    ensures within { IsVerdictWithin types.now result }
+    ensures says { (g : Setting) (bs : List Binding) → g.table ≡ table_in trees.now → AreSingle g.table → class_there g here.class ≡ class → verdict_shown types.now result ≡ with_list (rules.super_constructor_rule (scope_in g bs here)) (option_map (λ ts. map (type_at types.now) ts.items) arguments) }
+{
+    match arguments {
+        None => Verdict::fine(),
+        Some(arguments) => super_constructor_rule(
+            trees, types, members, node_types, here, class, &arguments,
+        ),
+    }
+}
+
+/// `super(..)` at the head of a constructor: its arguments.
+pub fn constructor_call_note(
+    alloc: Global,
+    trees: &[Tree],
+    types: &Types,
+    members: &Members,
+    node_types: &NodeTypes,
+    notes: &NoteList,
+    here: Within,
+    place: Place,
+    class: u32,
+    x: Note,
+) -> Result<Note, NoMemory>
+    requires members { AreMembers trees.now members.now }
+    requires numbers { AreNodeTypes trees.now types.now node_types.now }
+    requires notes { AreNotesWithin types.now notes.now }
+    requires arguments { IsNoteWithin types.now x }
+    requires below { IsRestBelow (length notes.now) x.known }
+    ensures within { IfOk result (λ n. IsNoteWithin types.now n) }
+    ensures no_rest { IfOk result (λ n. HasNoRest n.known) }
+    ensures shown { IfOk result (λ n. (g : Setting) (bs : List Binding) → g.table ≡ table_in trees.now → AreSingle g.table → class_there g here.class ≡ class → let look = typed_in types.now notes.now in note_shown types.now look n ≡ noting.list place (rules.super_constructor_rule (scope_in g bs here)) (note_shown types.now look x)) }
+{
+    let arguments = value_types(alloc, types, notes, x.known)?;
+    let verdict = constructor_call_verdict(
+        trees, types, members, node_types, here, class, arguments,
+    );
+    Ok(conclude(place, verdict, x.least))
+}

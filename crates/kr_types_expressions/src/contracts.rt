@@ -1,0 +1,65 @@
+// Contracts: what is kept of a node, from what is kept of its part.
+ghost use Rattle.std.specs.Prelude.{◌≡◌, ◌<◌, ℕ, List, IfSome, option_map};
+ghost use Rattle.kr_ast.specs.Arena.{Arena};
+ghost use Rattle.kr_types_meaning.specs.Rules as rules;
+ghost use Rattle.kr_types_meaning.specs.Noting.{one};
+ghost use Rattle.kr_types_scopes.specs.Settings.{Setting, scope_in};
+ghost use Rattle.kr_types_scopes.specs.declared.within.Binding.{Binding};
+ghost use Rattle.kr_classes_members.specs.Shown.{table_in};
+ghost use Rattle.kr_classes_members.specs.Kept.{AreMembers};
+ghost use Rattle.kr_classes_types.specs.Types.{count, type_at};
+ghost use Rattle.kr_types_judging.specs.Shown.{HasNoRest, IsNoteWithin, IsVerdictWithin, note_shown, verdict_shown};
+ghost use Rattle.kr_types_expressions.specs.Parts.{with_one};
+
+use crate::parts::part_type;
+use kr_base::Place;
+use kr_classes_members::Members;
+use kr_classes_types::Types;
+use kr_types_judging::{Note, Verdict, conclude, contract_rule, old_rule};
+use kr_types_scopes::Within;
+
+/// What T38 says of `\old` where its part has a type.
+fn old_verdict(types: &Types, members: &Members, here: Within, a: Option<u32>) -> Verdict
+    requires { IfSome a (λ t. t < count types.now) }
+    ensures within { IsVerdictWithin types.now result }
+    ensures says { (files : List Arena) (g : Setting) (bs : List Binding) → AreMembers files members.now → g.table ≡ table_in files → verdict_shown types.now result ≡ with_one (rules.old_rule (scope_in g bs here)) (option_map (type_at types.now) a) }
+{
+    match a {
+        None => Verdict::fine(),
+        Some(a) => old_rule(types, members, here, a),
+    }
+}
+
+/// `\old(..)`
+pub fn old_note(types: &Types, members: &Members, here: Within, place: Place, x: Note) -> Note
+    requires { IsNoteWithin types.now x }
+    ensures within { IsNoteWithin types.now result }
+    ensures no_rest { HasNoRest result.known }
+    ensures shown { (files : List Arena) (g : Setting) (bs : List Binding) (look : ℕ → rules.Typed) → AreMembers files members.now → g.table ≡ table_in files → note_shown types.now look result ≡ one place (rules.old_rule (scope_in g bs here)) (note_shown types.now look x) }
+{
+    let verdict = old_verdict(types, members, here, part_type(x.known));
+    conclude(place, verdict, x.least)
+}
+
+/// What T28 and T40 say where the condition has a type.
+fn contract_verdict(types: &Types, members: &Members, here: Within, a: Option<u32>) -> Verdict
+    requires { IfSome a (λ t. t < count types.now) }
+    ensures within { IsVerdictWithin types.now result }
+    ensures says { (files : List Arena) (g : Setting) (bs : List Binding) → AreMembers files members.now → g.table ≡ table_in files → verdict_shown types.now result ≡ with_one (rules.contract_rule (scope_in g bs here)) (option_map (type_at types.now) a) }
+{
+    match a {
+        None => Verdict::fine(),
+        Some(a) => contract_rule(types, members, here, a),
+    }
+}
+
+/// A line of a contract.
+pub fn contract_note(types: &Types, members: &Members, here: Within, place: Place, x: Note) -> Note
+    requires { IsNoteWithin types.now x }
+    ensures within { IsNoteWithin types.now result }
+    ensures no_rest { HasNoRest result.known }
+    ensures shown { (files : List Arena) (g : Setting) (bs : List Binding) (look : ℕ → rules.Typed) → AreMembers files members.now → g.table ≡ table_in files → note_shown types.now look result ≡ one place (rules.contract_rule (scope_in g bs here)) (note_shown types.now look x) }
+{
+    let verdict = contract_verdict(types, members, here, part_type(x.known));
+    conclude(place, verdict, x.least)
+}

@@ -1,0 +1,189 @@
+// Rules on creations and constructors: T26, T27, T34, T39.
+ghost use Rattle.std.specs.Prelude.{◌≡◌, ◌<◌, List, Some, IfOk, length, map, All, slice_get};
+ghost use Rattle.kr_ast.specs.Arena.{Arena};
+ghost use Rattle.kr_classes_table.specs.Table.{constructor_parameters};
+ghost use Rattle.kr_types_meaning.specs.Rules as rules;
+ghost use Rattle.kr_types_meaning.specs.Scopes.{Scope, super_parameters};
+ghost use Rattle.kr_types_scopes.specs.Settings.{Setting, class_there, scope_in};
+ghost use Rattle.kr_types_scopes.specs.declared.within.Binding.{Binding};
+ghost use Rattle.kr_classes_members.specs.Shown.{IsConstructor, table_in};
+ghost use Rattle.kr_classes_members.specs.Kept.{AreMembers};
+ghost use Rattle.kr_classes_types.specs.Types.{Extends, count, type_at};
+ghost use Rattle.kr_classes_types.specs.Numbers.{AreNodeTypes};
+ghost use Rattle.kr_types_judging.specs.Shown.{IsVerdictWithin, verdict_shown};
+ghost use Rattle.kr_types_expressions.specs.Constructors.{AreSingle, IsSingle};
+
+use kr_ast::Tree;
+use kr_base::NoMemory;
+use kr_classes_members::{Constructor, Members};
+use kr_classes_types::{NodeTypes, TypeForm, Types};
+use kr_types_judging::{TypingRule, Verdict, arguments_fit, is_code, is_int};
+use kr_types_scopes::Within;
+
+/// T27: the length is an int; T39.
+pub(crate) fn array_creation_rule(
+    types: &mut Types,
+    here: Within,
+    element: u32,
+    length: u32,
+) -> Result<Verdict, NoMemory>
+    requires element { element < count types.old }
+    requires length { length < count types.old }
+    ensures extends { Extends types.old types.new }
+    ensures within { IfOk result (λ v. IsVerdictWithin types.new v) }
+    ensures says { IfOk result (λ v. (g : Setting) (bs : List Binding) → verdict_shown types.new v ≡ rules.array_creation_rule (scope_in g bs here) (type_at types.old element) (type_at types.old length)) }
+{
+    let is_length = is_int(types, length);
+    let array = types.number(TypeForm::Array(element))?;
+    Ok(Verdict::ask(
+        is_length,
+        TypingRule::ArrayLength,
+        Verdict::value_if(is_code(here.part), TypingRule::ContractWrite, array),
+    ))
+}
+
+/// The first constructor.
+fn first_constructor(constructors: &[Constructor]) -> Constructor
+    requires { 0 < length constructors.now }
+    ensures got { slice_get constructors.now 0 ≡ Some result }
+    ensures stands { (files : List Arena) → All (IsConstructor files) constructors.now → IsConstructor files result }
+{
+    constructors[0]
+}
+
+/// Whether arguments fit a class's constructor: there are none where it has none.
+fn constructor_fits(
+    trees: &[Tree],
+    types: &Types,
+    members: &Members,
+    node_types: &NodeTypes,
+    class: u32,
+    arguments: &[u32],
+) -> bool
+    requires members { AreMembers trees.now members.now }
+    requires numbers { AreNodeTypes trees.now types.now node_types.now }
+    requires arguments { All (λ t. t < count types.now) arguments.now }
+    ensures { (s : Scope) → s.table ≡ table_in trees.now → IsSingle s.table class → result ≡ rules.arguments_fit s (map (type_at types.now) arguments.now) (constructor_parameters s.table class) }
+{
+    let constructors = members.constructors(class);
+    if constructors.is_empty() {
+        return arguments.is_empty();
+    }
+    let constructor = first_constructor(constructors);
+    arguments_fit(
+        trees,
+        types,
+        members,
+        node_types,
+        arguments,
+        constructor.file,
+        constructor.parameters,
+    )
+}
+
+/// Whether arguments fit the creation of an object of a type.
+fn creation_fits(
+    trees: &[Tree],
+    types: &Types,
+    members: &Members,
+    node_types: &NodeTypes,
+    created: u32,
+    arguments: &[u32],
+) -> bool
+    requires members { AreMembers trees.now members.now }
+    requires numbers { AreNodeTypes trees.now types.now node_types.now }
+    requires created { created < count types.now }
+    requires arguments { All (λ t. t < count types.now) arguments.now }
+    ensures { (s : Scope) → s.table ≡ table_in trees.now → AreSingle s.table → result ≡ rules.creation_fits s (type_at types.now created) (map (type_at types.now) arguments.now) }
+{
+    match types.form(created) {
+        TypeForm::Class(class) => {
+            constructor_fits(trees, types, members, node_types, class, arguments)
+        }
+        TypeForm::Set(_) => arguments.is_empty(),
+        TypeForm::List(_) => arguments.is_empty(),
+        _ => false,
+    }
+}
+
+/// T26: the arguments fit the constructor, and a collection takes none; `<>` only on collections; T39.
+pub(crate) fn creation_rule(
+    trees: &[Tree],
+    types: &Types,
+    members: &Members,
+    node_types: &NodeTypes,
+    here: Within,
+    created: u32,
+    arguments: &[u32],
+) -> Verdict
+    requires members { AreMembers trees.now members.now }
+    requires numbers { AreNodeTypes trees.now types.now node_types.now }
+    requires created { created < count types.now }
+    requires arguments { All (λ t. t < count types.now) arguments.now }
+    ensures within { IsVerdictWithin types.now result }
+    ensures says { (g : Setting) (bs : List Binding) → g.table ≡ table_in trees.now → AreSingle g.table → verdict_shown types.now result ≡ rules.creation_rule (scope_in g bs here) (type_at types.now created) (map (type_at types.now) arguments.now) }
+{
+    let fits = creation_fits(trees, types, members, node_types, created, arguments);
+    Verdict::ask(
+        fits,
+        TypingRule::Creation,
+        Verdict::value_if(is_code(here.part), TypingRule::ContractWrite, created),
+    )
+}
+
+/// Whether arguments fit the constructor of a class's superclass: there are none where it has none.
+fn fits_above(
+    trees: &[Tree],
+    types: &Types,
+    members: &Members,
+    node_types: &NodeTypes,
+    class: u32,
+    arguments: &[u32],
+) -> bool
+    requires members { AreMembers trees.now members.now }
+    requires numbers { AreNodeTypes trees.now types.now node_types.now }
+    requires arguments { All (λ t. t < count types.now) arguments.now }
+    ensures { (s : Scope) → s.table ≡ table_in trees.now → AreSingle s.table → s.class ≡ class → result ≡ rules.arguments_fit s (map (type_at types.now) arguments.now) (super_parameters s) }
+{
+    match members.superclass(class) {
+        None => arguments.is_empty(),
+        Some(above) => constructor_fits(trees, types, members, node_types, above, arguments),
+    }
+}
+
+/// T34: where `super(..)` is absent the superclass's constructor takes no arguments.
+pub fn implied_rule(
+    trees: &[Tree],
+    types: &Types,
+    members: &Members,
+    node_types: &NodeTypes,
+    class: u32,
+) -> Verdict
+    requires members { AreMembers trees.now members.now }
+    requires numbers { AreNodeTypes trees.now types.now node_types.now }
+    ensures within { IsVerdictWithin types.now result }
+    ensures says { (s : Scope) → s.table ≡ table_in trees.now → AreSingle s.table → s.class ≡ class → verdict_shown types.now result ≡ rules.implied_rule s }
+{
+    let fits = fits_above(trees, types, members, node_types, class, &[]);
+    Verdict::fine_if(fits, TypingRule::SuperConstructor)
+}
+
+/// T34: `super(..)` fits the superclass's constructor.
+pub(crate) fn super_constructor_rule(
+    trees: &[Tree],
+    types: &Types,
+    members: &Members,
+    node_types: &NodeTypes,
+    here: Within,
+    class: u32,
+    arguments: &[u32],
+) -> Verdict
+    requires members { AreMembers trees.now members.now }
+    requires numbers { AreNodeTypes trees.now types.now node_types.now }
+    requires arguments { All (λ t. t < count types.now) arguments.now }
+    ensures within { IsVerdictWithin types.now result }
+    ensures says { (g : Setting) (bs : List Binding) → g.table ≡ table_in trees.now → AreSingle g.table → class_there g here.class ≡ class → verdict_shown types.now result ≡ rules.super_constructor_rule (scope_in g bs here) (map (type_at types.now) arguments.now) }
+{
+    let fits = fits_above(trees, types, members, node_types, class, arguments);
+    Verdict::fine_if(fits, TypingRule::SuperConstructor)
+}

@@ -1,0 +1,57 @@
+// Nodes without parts that have types: what is kept of them.
+ghost use Rattle.std.specs.Prelude.{◌≡◌, ℕ, List};
+ghost use Rattle.kr_ast.specs.Arena.{Arena};
+ghost use Rattle.kr_classes_table.specs.Types.{BooleanType, NullType};
+ghost use Rattle.kr_types_meaning.specs.Rules as rules;
+ghost use Rattle.kr_types_meaning.specs.Noting.{leaf};
+ghost use Rattle.kr_types_scopes.specs.Settings.{Setting, scope_in};
+ghost use Rattle.kr_types_scopes.specs.declared.within.Binding.{Binding};
+ghost use Rattle.kr_classes_members.specs.Shown.{table_in};
+ghost use Rattle.kr_classes_members.specs.Kept.{AreMembers};
+ghost use Rattle.kr_types_judging.specs.Shown.{HasNoRest, IsNoteWithin, note_shown};
+
+use kr_base::Place;
+use kr_classes_members::Members;
+use kr_classes_types::Types;
+use kr_types_judging::{Note, Verdict, conclude, jump_rule, number_rule};
+use kr_types_scopes::Within;
+
+/// A number.
+pub fn number_note(types: &Types, members: &Members, here: Within, place: Place, value: u32) -> Note
+    ensures within { IsNoteWithin types.now result }
+    ensures no_rest { HasNoRest result.known }
+    ensures shown { (files : List Arena) (g : Setting) (bs : List Binding) (look : ℕ → rules.Typed) → AreMembers files members.now → g.table ≡ table_in files → note_shown types.now look result ≡ leaf place (rules.number_rule (scope_in g bs here) value) }
+{
+    let verdict = number_rule(types, members, here, value);
+    conclude(place, verdict, None)
+}
+
+/// `true` or `false`.
+pub fn truth_note(types: &Types, place: Place) -> Note
+    ensures within { IsNoteWithin types.now result }
+    ensures no_rest { HasNoRest result.known }
+    ensures shown { (look : ℕ → rules.Typed) → note_shown types.now look result ≡ leaf place (rules.Fits (rules.Value BooleanType)) }
+{
+    let verdict = Verdict::value(types.boolean());
+    conclude(place, verdict, None)
+}
+
+/// `null`
+pub fn null_note(types: &Types, place: Place) -> Note
+    ensures within { IsNoteWithin types.now result }
+    ensures no_rest { HasNoRest result.known }
+    ensures shown { (look : ℕ → rules.Typed) → note_shown types.now look result ≡ leaf place (rules.Fits (rules.Value NullType)) }
+{
+    let verdict = Verdict::value(types.null());
+    conclude(place, verdict, None)
+}
+
+/// `break` or `continue`.
+pub fn jump_note(types: &Types, members: &Members, here: Within, place: Place) -> Note
+    ensures within { IsNoteWithin types.now result }
+    ensures no_rest { HasNoRest result.known }
+    ensures shown { (files : List Arena) (g : Setting) (bs : List Binding) (look : ℕ → rules.Typed) → AreMembers files members.now → g.table ≡ table_in files → note_shown types.now look result ≡ leaf place (rules.jump_rule (scope_in g bs here)) }
+{
+    let verdict = jump_rule(types, members, here);
+    conclude(place, verdict, None)
+}

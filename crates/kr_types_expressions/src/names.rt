@@ -1,0 +1,138 @@
+// Names and `this`: what T3 and T5 say, and what is kept of a node.
+ghost use Rattle.std.specs.Prelude.{◌≡◌, ◌<◌, ℕ, List, IfOk, IfSome, length};
+ghost use Rattle.kr_classes_table.specs.Constants.{Known};
+ghost use Rattle.kr_types_meaning.specs.Rules as rules;
+ghost use Rattle.kr_types_meaning.specs.Scopes.{meant};
+ghost use Rattle.kr_types_meaning.specs.Noting.{leaf};
+ghost use Rattle.kr_types_scopes.specs.Settings.{Setting, setting, class_there, scope_in};
+ghost use Rattle.kr_types_scopes.specs.declared.within.Binding.{Binding};
+ghost use Rattle.kr_types_scopes.specs.Scoped.{AreScopes, scope_at};
+ghost use Rattle.kr_classes_names.specs.Shown.{AreHeads};
+ghost use Rattle.kr_ast.specs.Files.{file_at};
+ghost use Rattle.kr_classes_members.specs.Shown.{table_in};
+ghost use Rattle.kr_classes_members.specs.Kept.{AreMembers};
+ghost use Rattle.kr_classes_types.specs.Types.{Extends};
+ghost use Rattle.kr_classes_types.specs.Numbers.{AreNodeTypes};
+ghost use Rattle.kr_types_judging.specs.Shown.{HasNoRest, IsNoteWithin, IsVerdictWithin, note_shown, verdict_shown};
+
+use kr_ast::{Node, Tree, tree_of};
+use kr_base::{NoMemory, Place};
+use kr_classes_members::Members;
+use kr_classes_names::Heads;
+use kr_classes_types::{NodeTypes, TypeForm, Types};
+use kr_types_judging::{
+    Note, TypingRule, Verdict, conclude, field_name_rule, type_of_node, variable_of,
+};
+use kr_types_scopes::{Scopes, Within};
+
+/// The class whose code a scope is in; the first one outside of classes.
+pub fn class_of(trees: &[Tree], heads: &Heads, file: u32, node: Option<u32>) -> u32
+    requires heads { AreHeads trees.now heads.now }
+    requires file { file < length trees.now }
+    requires node { IfSome node (λ k. k < length (file_at trees.now file).entries) }
+    ensures { (known : List Known) → class_there (setting (table_in trees.now) known (file_at trees.now file)) node ≡ result }
+{
+    match node {
+        None => 0,
+        Some(node) => {
+            let tree = tree_of(trees, file);
+            match tree.entry(node).node {
+                Node::Class { name, .. } => match heads.number_of(tree.name(name)) {
+                    None => 0,
+                    Some(class) => class,
+                },
+                _ => 0,
+            }
+        }
+    }
+}
+
+/// T3: a name means something; T5: no instance field in static code.
+pub fn variable_rule(
+    trees: &[Tree],
+    types: &Types,
+    members: &Members,
+    node_types: &NodeTypes,
+    scopes: &Scopes,
+    file: u32,
+    node: u32,
+    class: u32,
+    name: &[u8],
+) -> Verdict
+    requires members { AreMembers trees.now members.now }
+    requires numbers { AreNodeTypes trees.now types.now node_types.now }
+    requires file { file < length trees.now }
+    requires node { node < length (file_at trees.now file).entries }
+    requires scopes { AreScopes (file_at trees.now file) scopes.now.bindings.items scopes.now.within.items }
+    ensures within { IsVerdictWithin types.now result }
+    ensures says { (known : List Known) → let s = scope_at (setting (table_in trees.now) known (file_at trees.now file)) scopes.now.bindings.items scopes.now.within.items node in s.class ≡ class → verdict_shown types.now result ≡ rules.name_rule s (meant s name.now) }
+{
+    let tree = tree_of(trees, file);
+    match scopes.local(tree, node, name) {
+        Some(local) => {
+            let number = type_of_node(trees, types, node_types, file, local.declared);
+            variable_of(types, number)
+        }
+        None => match members.field_meant(class, name) {
+            None => Verdict::Breaks(TypingRule::UnknownName),
+            Some(field) => {
+                let here = scopes.at(node);
+                field_name_rule(trees, types, node_types, here, field)
+            }
+        },
+    }
+}
+
+/// A name.
+pub fn variable_note(
+    trees: &[Tree],
+    types: &Types,
+    members: &Members,
+    node_types: &NodeTypes,
+    scopes: &Scopes,
+    file: u32,
+    node: u32,
+    place: Place,
+    class: u32,
+    name: &[u8],
+) -> Note
+    requires members { AreMembers trees.now members.now }
+    requires numbers { AreNodeTypes trees.now types.now node_types.now }
+    requires file { file < length trees.now }
+    requires node { node < length (file_at trees.now file).entries }
+    requires scopes { AreScopes (file_at trees.now file) scopes.now.bindings.items scopes.now.within.items }
+    ensures within { IsNoteWithin types.now result }
+    ensures no_rest { HasNoRest result.known }
+    ensures shown { (known : List Known) (look : ℕ → rules.Typed) → let s = scope_at (setting (table_in trees.now) known (file_at trees.now file)) scopes.now.bindings.items scopes.now.within.items node in s.class ≡ class → note_shown types.now look result ≡ leaf place (rules.name_rule s (meant s name.now)) }
+{
+    let verdict = variable_rule(
+        trees, types, members, node_types, scopes, file, node, class, name,
+    );
+    conclude(place, verdict, None)
+}
+
+/// T5: `this` isn't used in static code.
+fn this_rule(types: &mut Types, here: Within, class: u32) -> Result<Verdict, NoMemory>
+    ensures extends { Extends types.old types.new }
+    ensures within { IfOk result (λ v. IsVerdictWithin types.new v) }
+    ensures says { IfOk result (λ v. (g : Setting) (bs : List Binding) → class_there g here.class ≡ class → verdict_shown types.new v ≡ rules.this_rule (scope_in g bs here)) }
+{
+    let number = types.number(TypeForm::Class(class))?;
+    Ok(Verdict::value_if(!here.is_static, TypingRule::StaticCode, number))
+}
+
+/// `this`
+pub fn this_note(
+    types: &mut Types,
+    here: Within,
+    place: Place,
+    class: u32,
+) -> Result<Note, NoMemory>
+    ensures extends { Extends types.old types.new }
+    ensures within { IfOk result (λ n. IsNoteWithin types.new n) }
+    ensures no_rest { IfOk result (λ n. HasNoRest n.known) }
+    ensures shown { IfOk result (λ n. (g : Setting) (bs : List Binding) (look : ℕ → rules.Typed) → class_there g here.class ≡ class → note_shown types.new look n ≡ leaf place (rules.this_rule (scope_in g bs here))) }
+{
+    let verdict = this_rule(types, here, class)?;
+    Ok(conclude(place, verdict, None))
+}

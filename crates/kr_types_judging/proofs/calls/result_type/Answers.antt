@@ -1,0 +1,9 @@
+use Rattle.std.proofs.Common.{sym, subst, ℕ}
+use Rattle.kr_classes_types.specs.Types.{IsTypeNumber}
+use Rattle.kr_classes_types.specs.Numbers.{named_type}
+use Rattle.kr_types_judging.proofs.calls.result_type.Goals as goal
+
+pub returns : goal.returns
+returns c =
+    let m = c.args.method in
+    subst (λ (n : ℕ). IsTypeNumber c.args.types.now n (named_type c.args.trees.now m.file m.result)) (sym c.number.ensures) (c.requires m.file m.result)

@@ -1,0 +1,4 @@
+use Rattle.kr_types_judging.proofs.declarations.result_value_rule.Goals as goal
+
+pub returns-clause-within : goal.returns-clause-within
+returns-clause-within c = c.ask.ensures.within c.args.types.now c.value_of.ensures.within

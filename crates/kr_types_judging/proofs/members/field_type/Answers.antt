@@ -1,0 +1,9 @@
+use Rattle.std.proofs.Common.{sym, subst, ℕ}
+use Rattle.kr_classes_types.specs.Types.{IsTypeNumber}
+use Rattle.kr_classes_types.specs.Numbers.{named_type}
+use Rattle.kr_types_judging.proofs.members.field_type.Goals as goal
+
+pub returns : goal.returns
+returns c =
+    let f = c.args.field in
+    subst (λ (n : ℕ). IsTypeNumber c.args.types.now n (named_type c.args.trees.now f.file f.declared)) (sym c.number.ensures) (c.requires f.file f.declared)

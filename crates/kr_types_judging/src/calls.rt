@@ -1,0 +1,205 @@
+// Rules on calls: T5, T24, T25, T32, T33.
+ghost use Rattle.std.specs.Prelude.{◌≡◌, ◌<◌, ◌||◌, not, IfSome, List, map, All, option_map};
+ghost use Rattle.kr_classes_table.specs.Types.{is_void};
+ghost use Rattle.kr_types_meaning.specs.Rules as rules;
+ghost use Rattle.kr_types_scopes.specs.Settings.{Setting, role_of, scope_in};
+ghost use Rattle.kr_types_scopes.specs.declared.within.Binding.{Binding};
+ghost use Rattle.kr_classes_members.specs.Shown.{IsMethod, method_shown, table_in};
+ghost use Rattle.kr_classes_members.specs.Kept.{AreMembers};
+ghost use Rattle.kr_classes_types.specs.Types.{IsTypeNumber, count, type_at};
+ghost use Rattle.kr_classes_types.specs.Numbers.{AreNodeTypes};
+ghost use Rattle.kr_types_judging.specs.Shown.{IsVerdictWithin, verdict_shown};
+
+use crate::arguments::arguments_fit;
+use crate::known::Verdict;
+use crate::members::value_of;
+use crate::relations::is_void;
+use crate::rules::TypingRule;
+use kr_ast::Tree;
+use kr_classes_members::{Members, Method};
+use kr_classes_types::{NodeTypes, Types};
+use kr_types_scopes::{Role, Within};
+
+/// Whether it stands for a statement.
+fn is_statement(role: Role) -> bool
+    ensures { result ≡ rules.is_statement (role_of role) }
+{
+    match role {
+        Role::AsStatement => true,
+        _ => false,
+    }
+}
+
+/// Whether a call of this result may stand there: one without a result stands only as a statement.
+fn may_stand(types: &Types, number: u32, here: Within) -> bool
+    requires { number < count types.now }
+    ensures { result ≡ (not (is_void (type_at types.now number)) || rules.is_statement (role_of here.role)) }
+{
+    !is_void(types, number) || is_statement(here.role)
+}
+
+/// The type of a method's result.
+fn result_type(trees: &[Tree], types: &Types, node_types: &NodeTypes, method: Method) -> u32
+    requires { AreNodeTypes trees.now types.now node_types.now }
+    ensures { IsTypeNumber types.now result (method_shown trees.now method).result }
+{
+    node_types.number(method.file, method.result)
+}
+
+/// T32: a call of a method without result stands only as a statement.
+fn result_rule(
+    trees: &[Tree],
+    types: &Types,
+    node_types: &NodeTypes,
+    here: Within,
+    method: Method,
+) -> Verdict
+    requires { AreNodeTypes trees.now types.now node_types.now }
+    ensures within { IsVerdictWithin types.now result }
+    ensures says { (g : Setting) (bs : List Binding) → verdict_shown types.now result ≡ rules.result_rule (scope_in g bs here) (method_shown trees.now method) }
+{
+    let number = result_type(trees, types, node_types, method);
+    Verdict::ask(
+        may_stand(types, number, here),
+        TypingRule::NoResult,
+        value_of(types, number),
+    )
+}
+
+/// T24: the arguments fit.
+fn arguments_rule(
+    trees: &[Tree],
+    types: &Types,
+    members: &Members,
+    node_types: &NodeTypes,
+    here: Within,
+    method: Method,
+    arguments: &[u32],
+) -> Verdict
+    requires members { AreMembers trees.now members.now }
+    requires numbers { AreNodeTypes trees.now types.now node_types.now }
+    requires method { IsMethod trees.now method }
+    requires arguments { All (λ t. t < count types.now) arguments.now }
+    ensures within { IsVerdictWithin types.now result }
+    ensures says { (g : Setting) (bs : List Binding) → g.table ≡ table_in trees.now → verdict_shown types.now result ≡ rules.arguments_rule (scope_in g bs here) (map (type_at types.now) arguments.now) (method_shown trees.now method) }
+{
+    let fit = arguments_fit(
+        trees,
+        types,
+        members,
+        node_types,
+        arguments,
+        method.file,
+        method.parameters,
+    );
+    Verdict::ask(
+        fit,
+        TypingRule::Call,
+        result_rule(trees, types, node_types, here, method),
+    )
+}
+
+/// T24: there is the method; T5: no instance method in static code.
+pub fn call_rule(
+    trees: &[Tree],
+    types: &Types,
+    members: &Members,
+    node_types: &NodeTypes,
+    here: Within,
+    found: Option<Method>,
+    arguments: &[u32],
+) -> Verdict
+    requires members { AreMembers trees.now members.now }
+    requires numbers { AreNodeTypes trees.now types.now node_types.now }
+    requires found { IfSome found (IsMethod trees.now) }
+    requires arguments { All (λ t. t < count types.now) arguments.now }
+    ensures within { IsVerdictWithin types.now result }
+    ensures says { (g : Setting) (bs : List Binding) → g.table ≡ table_in trees.now → verdict_shown types.now result ≡ rules.call_rule (scope_in g bs here) (option_map (method_shown trees.now) found) (map (type_at types.now) arguments.now) }
+{
+    match found {
+        None => Verdict::Breaks(TypingRule::Call),
+        Some(method) => Verdict::ask(
+            method.is_static || !here.is_static,
+            TypingRule::StaticCode,
+            arguments_rule(trees, types, members, node_types, here, method, arguments),
+        ),
+    }
+}
+
+/// T24 behind a class's name.
+pub fn static_rule(
+    trees: &[Tree],
+    types: &Types,
+    members: &Members,
+    node_types: &NodeTypes,
+    here: Within,
+    found: Option<Method>,
+    arguments: &[u32],
+) -> Verdict
+    requires members { AreMembers trees.now members.now }
+    requires numbers { AreNodeTypes trees.now types.now node_types.now }
+    requires found { IfSome found (IsMethod trees.now) }
+    requires arguments { All (λ t. t < count types.now) arguments.now }
+    ensures within { IsVerdictWithin types.now result }
+    ensures says { (g : Setting) (bs : List Binding) → g.table ≡ table_in trees.now → verdict_shown types.now result ≡ rules.static_rule (scope_in g bs here) (option_map (method_shown trees.now) found) (map (type_at types.now) arguments.now) }
+{
+    match found {
+        None => Verdict::Breaks(TypingRule::Call),
+        Some(method) => Verdict::ask(
+            method.is_static,
+            TypingRule::Call,
+            arguments_rule(trees, types, members, node_types, here, method, arguments),
+        ),
+    }
+}
+
+/// T33: `super.m` is an instance method of an ancestor; T24.
+pub(crate) fn above_rule(
+    trees: &[Tree],
+    types: &Types,
+    members: &Members,
+    node_types: &NodeTypes,
+    here: Within,
+    found: Option<Method>,
+    arguments: &[u32],
+) -> Verdict
+    requires members { AreMembers trees.now members.now }
+    requires numbers { AreNodeTypes trees.now types.now node_types.now }
+    requires found { IfSome found (IsMethod trees.now) }
+    requires arguments { All (λ t. t < count types.now) arguments.now }
+    ensures within { IsVerdictWithin types.now result }
+    ensures says { (g : Setting) (bs : List Binding) → g.table ≡ table_in trees.now → verdict_shown types.now result ≡ rules.above_rule (scope_in g bs here) (option_map (method_shown trees.now) found) (map (type_at types.now) arguments.now) }
+{
+    match found {
+        None => Verdict::Breaks(TypingRule::SuperCall),
+        Some(method) => {
+            if method.is_static {
+                return Verdict::Breaks(TypingRule::SuperCall);
+            }
+            arguments_rule(trees, types, members, node_types, here, method, arguments)
+        }
+    }
+}
+
+/// T24: a method of an object's class.
+pub(crate) fn method_rule(
+    trees: &[Tree],
+    types: &Types,
+    members: &Members,
+    node_types: &NodeTypes,
+    here: Within,
+    found: Option<Method>,
+    arguments: &[u32],
+) -> Verdict
+    requires members { AreMembers trees.now members.now }
+    requires numbers { AreNodeTypes trees.now types.now node_types.now }
+    requires found { IfSome found (IsMethod trees.now) }
+    requires arguments { All (λ t. t < count types.now) arguments.now }
+    ensures within { IsVerdictWithin types.now result }
+    ensures says { (g : Setting) (bs : List Binding) → g.table ≡ table_in trees.now → verdict_shown types.now result ≡ rules.method_rule (scope_in g bs here) (option_map (method_shown trees.now) found) (map (type_at types.now) arguments.now) }
+{
+    match found {
+        None => Verdict::Breaks(TypingRule::Call),
+        Some(method) => arguments_rule(trees, types, members, node_types, here, method, arguments),
+    }
+}

@@ -1,0 +1,173 @@
+// Rules on names and on parts of objects and arrays: T3, T5, T22, T23.
+ghost use Rattle.std.specs.Prelude.{◌≡◌, ◌<◌, List, option_map};
+ghost use Rattle.kr_types_meaning.specs.Rules as rules;
+ghost use Rattle.kr_types_meaning.specs.Scopes.{FieldName};
+ghost use Rattle.kr_types_scopes.specs.Settings.{Setting, scope_in};
+ghost use Rattle.kr_types_scopes.specs.declared.within.Binding.{Binding};
+ghost use Rattle.kr_classes_members.specs.Shown.{field_shown, table_in};
+ghost use Rattle.kr_classes_members.specs.Kept.{AreMembers};
+ghost use Rattle.kr_classes_types.specs.Types.{IsTypeNumber, count, type_at};
+ghost use Rattle.kr_classes_types.specs.Numbers.{AreNodeTypes};
+ghost use Rattle.kr_types_judging.specs.Shown.{IsVerdictWithin, verdict_shown};
+
+use crate::known::{Typed, Verdict};
+use crate::relations::is_int;
+use crate::rules::TypingRule;
+use kr_ast::Tree;
+use kr_classes_members::{Field, Members};
+use kr_classes_types::{NodeTypes, TypeForm, Types};
+use kr_types_scopes::Within;
+
+/// The value of a type; none where rule T1 is broken of it.
+pub fn value_of(types: &Types, number: u32) -> Verdict
+    requires { number < count types.now }
+    ensures within { IsVerdictWithin types.now result }
+    ensures says { verdict_shown types.now result ≡ rules.gives (type_at types.now number) }
+{
+    if types.is_known(number) {
+        Verdict::Fits(Typed::Value(number))
+    } else {
+        Verdict::Fits(Typed::Untyped)
+    }
+}
+
+/// A variable of a type; none where rule T1 is broken of it.
+pub fn variable_of(types: &Types, number: u32) -> Verdict
+    requires { number < count types.now }
+    ensures within { IsVerdictWithin types.now result }
+    ensures says { verdict_shown types.now result ≡ rules.Fits (rules.variable_of (type_at types.now number)) }
+{
+    if types.is_known(number) {
+        Verdict::Fits(Typed::Variable(number))
+    } else {
+        Verdict::Fits(Typed::Untyped)
+    }
+}
+
+/// The type of a field or constant.
+pub fn field_type(trees: &[Tree], types: &Types, node_types: &NodeTypes, field: Field) -> u32
+    requires { AreNodeTypes trees.now types.now node_types.now }
+    ensures { IsTypeNumber types.now result (field_shown trees.now field).type }
+{
+    node_types.number(field.file, field.declared)
+}
+
+/// T5: no instance field in static code; a constant is no variable.
+pub fn field_name_rule(
+    trees: &[Tree],
+    types: &Types,
+    node_types: &NodeTypes,
+    here: Within,
+    field: Field,
+) -> Verdict
+    requires { AreNodeTypes trees.now types.now node_types.now }
+    ensures within { IsVerdictWithin types.now result }
+    ensures says { (g : Setting) (bs : List Binding) → verdict_shown types.now result ≡ rules.name_rule (scope_in g bs here) (FieldName (field_shown trees.now field)) }
+{
+    let number = field_type(trees, types, node_types, field);
+    if field.is_static {
+        return value_of(types, number);
+    }
+    Verdict::ask(
+        !here.is_static,
+        TypingRule::StaticCode,
+        variable_of(types, number),
+    )
+}
+
+/// T22: an instance field.
+fn field_rule(
+    trees: &[Tree],
+    types: &Types,
+    node_types: &NodeTypes,
+    found: Option<Field>,
+) -> Verdict
+    requires { AreNodeTypes trees.now types.now node_types.now }
+    ensures within { IsVerdictWithin types.now result }
+    ensures says { verdict_shown types.now result ≡ rules.field_rule (option_map (field_shown trees.now) found) }
+{
+    match found {
+        None => Verdict::Breaks(TypingRule::FieldAccess),
+        Some(field) => {
+            let number = field_type(trees, types, node_types, field);
+            Verdict::ask(
+                !field.is_static,
+                TypingRule::FieldAccess,
+                variable_of(types, number),
+            )
+        }
+    }
+}
+
+/// T22: a constant of a class.
+pub fn constant_rule(
+    trees: &[Tree],
+    types: &Types,
+    node_types: &NodeTypes,
+    found: Option<Field>,
+) -> Verdict
+    requires { AreNodeTypes trees.now types.now node_types.now }
+    ensures within { IsVerdictWithin types.now result }
+    ensures says { verdict_shown types.now result ≡ rules.constant_rule (option_map (field_shown trees.now) found) }
+{
+    match found {
+        None => Verdict::Breaks(TypingRule::FieldAccess),
+        Some(field) => {
+            let number = field_type(trees, types, node_types, field);
+            Verdict::ask(
+                field.is_static,
+                TypingRule::FieldAccess,
+                value_of(types, number),
+            )
+        }
+    }
+}
+
+/// T22: an instance field of a class, or the length of an array.
+pub fn access_rule(
+    trees: &[Tree],
+    types: &Types,
+    members: &Members,
+    node_types: &NodeTypes,
+    here: Within,
+    name: &[u8],
+    object: u32,
+) -> Verdict
+    requires members { AreMembers trees.now members.now }
+    requires numbers { AreNodeTypes trees.now types.now node_types.now }
+    requires object { object < count types.now }
+    ensures within { IsVerdictWithin types.now result }
+    ensures says { (g : Setting) (bs : List Binding) → g.table ≡ table_in trees.now → verdict_shown types.now result ≡ rules.access_rule (scope_in g bs here) name.now (type_at types.now object) }
+{
+    match types.form(object) {
+        TypeForm::Class(class) => {
+            let found = members.field_named(class, name);
+            field_rule(trees, types, node_types, found)
+        }
+        TypeForm::Array(_) => {
+            Verdict::value_if(
+                name == b"length".as_slice(),
+                TypingRule::FieldAccess,
+                types.int(),
+            )
+        }
+        _ => Verdict::Breaks(TypingRule::FieldAccess),
+    }
+}
+
+/// T23: an array and an int.
+pub fn element_rule(types: &Types, array: u32, index: u32) -> Verdict
+    requires array { array < count types.now }
+    requires index { index < count types.now }
+    ensures within { IsVerdictWithin types.now result }
+    ensures says { verdict_shown types.now result ≡ rules.element_rule (type_at types.now array) (type_at types.now index) }
+{
+    match types.form(array) {
+        TypeForm::Array(element) => Verdict::ask(
+            is_int(types, index),
+            TypingRule::ElementAccess,
+            Verdict::Fits(Typed::Variable(element)),
+        ),
+        _ => Verdict::Breaks(TypingRule::ElementAccess),
+    }
+}

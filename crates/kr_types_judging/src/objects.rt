@@ -1,0 +1,106 @@
+// Rules on calls of methods by their names, and on calls through objects: T5, T24, T25, T33.
+ghost use Rattle.std.specs.Prelude.{◌≡◌, ◌<◌, IfSome, List, map, All, option_and_then, option_map};
+ghost use Rattle.kr_ast.specs.Arena.{Arena};
+ghost use Rattle.kr_classes_table.specs.Table.{method_named, super_of};
+ghost use Rattle.kr_types_meaning.specs.Rules as rules;
+ghost use Rattle.kr_types_meaning.specs.Scopes as scopes;
+ghost use Rattle.kr_types_scopes.specs.Settings.{Setting, class_there, scope_in};
+ghost use Rattle.kr_types_scopes.specs.declared.within.Binding.{Binding};
+ghost use Rattle.kr_classes_members.specs.Shown.{IsMethod, method_shown, table_in};
+ghost use Rattle.kr_classes_members.specs.Kept.{AreMembers};
+ghost use Rattle.kr_classes_types.specs.Types.{count, type_at};
+ghost use Rattle.kr_classes_types.specs.Numbers.{AreNodeTypes};
+ghost use Rattle.kr_types_judging.specs.Shown.{IsVerdictWithin, verdict_shown};
+
+use crate::calls::{above_rule, method_rule};
+use crate::collections::collection_rule;
+use crate::known::Verdict;
+use crate::rules::TypingRule;
+use kr_ast::Tree;
+use kr_classes_members::{Members, Method};
+use kr_classes_types::{NodeTypes, TypeForm, Types};
+use kr_types_scopes::Within;
+
+/// The method that a call without object means in the code of a class: one of the class or an ancestor, else a static one of
+/// the outer class.
+pub fn method_meant(members: &Members, class: u32, name: &[u8]) -> Option<Method>
+    ensures stands { (files : List Arena) → AreMembers files members.now → IfSome result (IsMethod files) }
+    ensures shown { (files : List Arena) (s : scopes.Scope) → AreMembers files members.now → s.table ≡ table_in files → s.class ≡ class → option_map (method_shown files) result ≡ scopes.method_meant s name.now }
+{
+    match members.method_named(class, name) {
+        Some(method) => Some(method),
+        None => match members.outer_class(class) {
+            None => None,
+            Some(outer) => members.static_method_named(outer, name),
+        },
+    }
+}
+
+/// The method of a name that a class's superclass has.
+fn method_above(members: &Members, class: u32, name: &[u8]) -> Option<Method>
+    ensures stands { (files : List Arena) → AreMembers files members.now → IfSome result (IsMethod files) }
+    ensures shown { (files : List Arena) → AreMembers files members.now → option_map (method_shown files) result ≡ option_and_then (λ c. method_named (table_in files) c name.now) (super_of (table_in files) class) }
+{
+    match members.superclass(class) {
+        None => None,
+        Some(above) => members.method_named(above, name),
+    }
+}
+
+/// T5: not in static code; T33: `super.m` is an instance method of an ancestor; T24.
+pub fn super_rule(
+    trees: &[Tree],
+    types: &Types,
+    members: &Members,
+    node_types: &NodeTypes,
+    here: Within,
+    class: u32,
+    name: &[u8],
+    arguments: &[u32],
+) -> Verdict
+    requires members { AreMembers trees.now members.now }
+    requires numbers { AreNodeTypes trees.now types.now node_types.now }
+    requires arguments { All (λ t. t < count types.now) arguments.now }
+    ensures within { IsVerdictWithin types.now result }
+    ensures says { (g : Setting) (bs : List Binding) → g.table ≡ table_in trees.now → class_there g here.class ≡ class → verdict_shown types.now result ≡ rules.super_rule (scope_in g bs here) name.now (map (type_at types.now) arguments.now) }
+{
+    let found = method_above(members, class, name);
+    Verdict::ask(
+        !here.is_static,
+        TypingRule::StaticCode,
+        above_rule(trees, types, members, node_types, here, found, arguments),
+    )
+}
+
+/// T24, T25: a call through an object.
+pub fn object_call_rule(
+    trees: &[Tree],
+    types: &Types,
+    members: &Members,
+    node_types: &NodeTypes,
+    here: Within,
+    name: &[u8],
+    object: u32,
+    arguments: &[u32],
+) -> Verdict
+    requires members { AreMembers trees.now members.now }
+    requires numbers { AreNodeTypes trees.now types.now node_types.now }
+    requires object { object < count types.now }
+    requires arguments { All (λ t. t < count types.now) arguments.now }
+    ensures within { IsVerdictWithin types.now result }
+    ensures says { (g : Setting) (bs : List Binding) → g.table ≡ table_in trees.now → verdict_shown types.now result ≡ rules.object_call_rule (scope_in g bs here) name.now (type_at types.now object) (map (type_at types.now) arguments.now) }
+{
+    match types.form(object) {
+        TypeForm::Class(class) => {
+            let found = members.method_named(class, name);
+            method_rule(trees, types, members, node_types, here, found, arguments)
+        }
+        TypeForm::Set(member) => {
+            collection_rule(types, members, here, false, member, name, arguments)
+        }
+        TypeForm::List(member) => {
+            collection_rule(types, members, here, true, member, name, arguments)
+        }
+        _ => Verdict::Breaks(TypingRule::Call),
+    }
+}

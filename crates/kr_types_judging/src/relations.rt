@@ -1,0 +1,214 @@
+// Which types go into which (Java Language Specification 5).
+ghost use Rattle.std.specs.Prelude.{◌≡◌, ◌<◌, ◌&&◌, not, List, if◌then◌else◌};
+ghost use Rattle.kr_ast.specs.Arena.{Arena};
+ghost use Rattle.kr_classes_table.specs.Types.{ClassType, SetType, ListType, InferredType, is_collection, is_element, is_same, is_void};
+ghost use Rattle.kr_classes_table.specs.Table as table;
+ghost use Rattle.kr_types_meaning.specs.Rules as rules;
+ghost use Rattle.kr_classes_members.specs.Shown.{table_in};
+ghost use Rattle.kr_classes_members.specs.Kept.{AreMembers};
+ghost use Rattle.kr_classes_types.specs.Types.{count, type_at};
+ghost use Rattle.kr_types_judging.specs.Shown.{are_comparable, are_related_references, cast_fits, goes_into};
+
+use kr_classes_members::Members;
+use kr_classes_types::{TypeForm, Types};
+
+/// Whether it is `int`.
+pub fn is_int(types: &Types, number: u32) -> bool
+    requires { number < count types.now }
+    ensures { result ≡ rules.is_int (type_at types.now number) }
+{
+    match types.form(number) {
+        TypeForm::Int => true,
+        _ => false,
+    }
+}
+
+/// Whether it is `boolean`.
+pub(crate) fn is_boolean(types: &Types, number: u32) -> bool
+    requires { number < count types.now }
+    ensures { result ≡ rules.is_boolean (type_at types.now number) }
+{
+    match types.form(number) {
+        TypeForm::Boolean => true,
+        _ => false,
+    }
+}
+
+/// Whether it is no value's type.
+pub fn is_void(types: &Types, number: u32) -> bool
+    requires { number < count types.now }
+    ensures { result ≡ is_void (type_at types.now number) }
+{
+    match types.form(number) {
+        TypeForm::Void => true,
+        _ => false,
+    }
+}
+
+/// Whether it is what stands between the brackets of `new HashSet<>()`.
+fn is_inferred(types: &Types, number: u32) -> bool
+    requires { number < count types.now }
+    ensures { result ≡ is_same (type_at types.now number) InferredType }
+{
+    match types.form(number) {
+        TypeForm::Inferred => true,
+        _ => false,
+    }
+}
+
+/// Whether a class goes into a type.
+fn class_goes_into(types: &Types, members: &Members, class: u32, to: u32) -> bool
+    requires { to < count types.now }
+    ensures { (files : List Arena) → AreMembers files members.now → result ≡ table.is_assignable (table_in files) (ClassType class) (type_at types.now to) }
+{
+    match types.form(to) {
+        TypeForm::Class(other) => members.is_below(class, other),
+        _ => false,
+    }
+}
+
+/// Whether a set of these members goes into a type.
+fn set_goes_into(types: &Types, member: u32, to: u32) -> bool
+    requires member { member < count types.now }
+    requires to { to < count types.now }
+    ensures { (t : table.Table) → result ≡ table.is_assignable t (SetType (type_at types.now member)) (type_at types.now to) }
+{
+    match types.form(to) {
+        TypeForm::Set(other) => is_inferred(types, member) || types.is_same(member, other),
+        _ => false,
+    }
+}
+
+/// Whether a list of these members goes into a type.
+fn list_goes_into(types: &Types, member: u32, to: u32) -> bool
+    requires member { member < count types.now }
+    requires to { to < count types.now }
+    ensures { (t : table.Table) → result ≡ table.is_assignable t (ListType (type_at types.now member)) (type_at types.now to) }
+{
+    match types.form(to) {
+        TypeForm::List(other) => is_inferred(types, member) || types.is_same(member, other),
+        _ => false,
+    }
+}
+
+/// Whether a value of a type may be assigned to a variable of another.
+pub fn is_assignable(types: &Types, members: &Members, from: u32, to: u32) -> bool
+    requires from { from < count types.now }
+    requires to { to < count types.now }
+    ensures { (files : List Arena) → AreMembers files members.now → result ≡ table.is_assignable (table_in files) (type_at types.now from) (type_at types.now to) }
+{
+    match types.form(from) {
+        TypeForm::Null => types.is_reference(to),
+        TypeForm::Class(class) => class_goes_into(types, members, class, to),
+        TypeForm::Set(member) => set_goes_into(types, member, to),
+        TypeForm::List(member) => list_goes_into(types, member, to),
+        _ => types.is_same(from, to),
+    }
+}
+
+/// Whether one of two types may be assigned to the other.
+pub fn are_related(types: &Types, members: &Members, a: u32, b: u32) -> bool
+    requires first { a < count types.now }
+    requires second { b < count types.now }
+    ensures { (files : List Arena) → AreMembers files members.now → result ≡ table.are_related (table_in files) (type_at types.now a) (type_at types.now b) }
+{
+    is_assignable(types, members, a, b) || is_assignable(types, members, b, a)
+}
+
+/// Whether a value of a type goes into a variable: one whose type breaks rule T1 takes everything.
+pub(crate) fn takes(types: &Types, members: &Members, to: u32, from: u32) -> bool
+    requires from { from < count types.now }
+    requires to { to < count types.now }
+    ensures { (files : List Arena) → AreMembers files members.now → result ≡ goes_into (table_in files) (type_at types.now to) (type_at types.now from) }
+{
+    !types.is_known(to) || is_assignable(types, members, from, to)
+}
+
+/// Whether both are reference types, and related.
+pub(crate) fn related_references(types: &Types, members: &Members, a: u32, b: u32) -> bool
+    requires first { a < count types.now }
+    requires second { b < count types.now }
+    ensures { (files : List Arena) → AreMembers files members.now → result ≡ are_related_references (table_in files) (type_at types.now a) (type_at types.now b) }
+{
+    types.is_reference(a) && types.is_reference(b) && are_related(types, members, a, b)
+}
+
+/// Whether both are `int`.
+pub(crate) fn both_int(types: &Types, a: u32, b: u32) -> bool
+    requires first { a < count types.now }
+    requires second { b < count types.now }
+    ensures { result ≡ rules.both_int (type_at types.now a) (type_at types.now b) }
+{
+    is_int(types, a) && is_int(types, b)
+}
+
+/// Whether both are `boolean`.
+pub(crate) fn both_boolean(types: &Types, a: u32, b: u32) -> bool
+    requires first { a < count types.now }
+    requires second { b < count types.now }
+    ensures { result ≡ rules.both_boolean (type_at types.now a) (type_at types.now b) }
+{
+    is_boolean(types, a) && is_boolean(types, b)
+}
+
+/// Whether they may be compared by `==`: both int, both boolean, or related references.
+pub(crate) fn are_comparable(types: &Types, members: &Members, a: u32, b: u32) -> bool
+    requires first { a < count types.now }
+    requires second { b < count types.now }
+    ensures { (files : List Arena) → AreMembers files members.now → result ≡ are_comparable (table_in files) (type_at types.now a) (type_at types.now b) }
+{
+    both_int(types, a, b) || both_boolean(types, a, b) || related_references(types, members, a, b)
+}
+
+/// Whether neither is a collection.
+fn no_collections(types: &Types, a: u32, b: u32) -> bool
+    requires first { a < count types.now }
+    requires second { b < count types.now }
+    ensures { result ≡ (not (is_collection (type_at types.now a)) && not (is_collection (type_at types.now b))) }
+{
+    !types.is_collection(a) && !types.is_collection(b)
+}
+
+/// Whether a value of a type may be cast: int to int, boolean to boolean, or related references that are no collections.
+pub(crate) fn cast_fits(types: &Types, members: &Members, to: u32, from: u32) -> bool
+    requires to { to < count types.now }
+    requires from { from < count types.now }
+    ensures { (files : List Arena) → AreMembers files members.now → result ≡ cast_fits (table_in files) (type_at types.now to) (type_at types.now from) }
+{
+    both_int(types, to, from)
+        || both_boolean(types, to, from)
+        || (related_references(types, members, from, to) && no_collections(types, to, from))
+}
+
+/// Whether it is a class or array type, related to a reference.
+pub(crate) fn instance_fits(types: &Types, members: &Members, from: u32, to: u32) -> bool
+    requires from { from < count types.now }
+    requires to { to < count types.now }
+    ensures { (files : List Arena) → AreMembers files members.now → result ≡ (is_element (type_at types.now to) && are_related_references (table_in files) (type_at types.now from) (type_at types.now to)) }
+{
+    types.is_element(to) && related_references(types, members, from, to)
+}
+
+/// Whether it is boolean, and two others are related.
+pub(crate) fn choice_fits(types: &Types, members: &Members, test: u32, a: u32, b: u32) -> bool
+    requires test { test < count types.now }
+    requires first { a < count types.now }
+    requires second { b < count types.now }
+    ensures { (files : List Arena) → AreMembers files members.now → result ≡ (rules.is_boolean (type_at types.now test) && table.are_related (table_in files) (type_at types.now a) (type_at types.now b)) }
+{
+    is_boolean(types, test) && are_related(types, members, a, b)
+}
+
+/// Of two types that are related the one that is assigned to.
+pub(crate) fn wider(types: &Types, members: &Members, a: u32, b: u32) -> u32
+    requires first { a < count types.now }
+    requires second { b < count types.now }
+    ensures within { result < count types.now }
+    ensures is { (files : List Arena) → AreMembers files members.now → type_at types.now result ≡ (if table.is_assignable (table_in files) (type_at types.now a) (type_at types.now b) then type_at types.now b else type_at types.now a) }
+{
+    if is_assignable(types, members, a, b) {
+        b
+    } else {
+        a
+    }
+}

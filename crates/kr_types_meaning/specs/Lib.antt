@@ -1,0 +1,10 @@
+pub mod Handing
+pub mod Scopes
+pub mod Running
+pub mod Rules
+pub mod Typing
+pub mod Noting
+pub mod Laws
+pub mod Texts
+pub mod Examples
+pub mod Meanings

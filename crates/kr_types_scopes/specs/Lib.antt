@@ -1,0 +1,6 @@
+pub mod Settings
+pub mod Changes
+pub mod Tasks
+pub mod Scoped
+pub mod Noting
+pub mod Lookups

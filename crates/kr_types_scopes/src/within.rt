@@ -1,0 +1,171 @@
+// What is kept of a scope.
+ghost use Rattle.std.specs.Prelude.{◌≡◌, true, false, None, Some};
+ghost use Rattle.kr_types_scopes.specs.declared.within.Part.TheVariants.{Code};
+ghost use Rattle.kr_types_scopes.specs.declared.within.Role.TheVariants.{AsValue, AsStatement, UnderMinus};
+ghost use Rattle.kr_types_scopes.specs.declared.within.Declaring.TheVariants.{Fields};
+ghost use Rattle.kr_types_scopes.specs.Scoped.{nowhere};
+
+use kr_ast::Name;
+
+/// Whether a node stands in code, or in a contract of one kind.
+#[derive(Clone, Copy, Debug, PartialEq, Eq)]
+pub enum Part {
+    Code,
+    Requiring,
+    Ensuring,
+}
+
+/// What an expression stands for: a value, a statement, or the operand of a unary minus.
+#[derive(Clone, Copy, Debug, PartialEq, Eq)]
+pub enum Role {
+    AsValue,
+    AsStatement,
+    UnderMinus,
+}
+
+/// What a declarator declares; of constants whether they are `final`.
+#[derive(Clone, Copy, Debug, PartialEq, Eq)]
+pub enum Declaring {
+    Locals,
+    Fields,
+    Constants(bool),
+}
+
+/// A local or parameter: its name, the node of its type, the bindings below it, and how many locals these are.
+#[derive(Clone, Copy, Debug)]
+pub struct Binding {
+    pub name: Name,
+    pub declared: Option<u32>,
+    pub below: usize,
+    pub number: usize,
+}
+
+/// A scope: the node of the class, whether the code is static, the node of the method's result type, the bindings in
+/// scope by their top, and what the typing rules ask of a node's surroundings. Fields lie in memory in this order: the wide
+/// ones stand first, which saves room and time.
+#[derive(Clone, Copy, Debug)]
+pub struct Within {
+    pub top: usize,
+    pub class: Option<u32>,
+    pub result: Option<u32>,
+    pub declared: Option<u32>,
+    pub is_static: bool,
+    pub is_in_loop: bool,
+    pub part: Part,
+    pub is_in_old: bool,
+    pub role: Role,
+    pub declaring: Declaring,
+}
+
+impl Within {
+    /// The scope outside of classes.
+    pub fn outside() -> Within
+        ensures { result ≡ nowhere }
+    {
+        Within {
+            class: None,
+            is_static: false,
+            result: None,
+            top: 0,
+            is_in_loop: false,
+            part: Part::Code,
+            is_in_old: false,
+            role: Role::AsValue,
+            declaring: Declaring::Fields,
+            declared: None,
+        }
+    }
+
+    /// The scope of a class's members.
+    pub(crate) fn in_class(class: u32) -> Within
+        ensures { result ≡ record nowhere { class = Some class } }
+    {
+        let mut made = Within::outside();
+        made.class = Some(class);
+        made
+    }
+
+    /// Likewise, where it stands for a value.
+    pub fn value(self) -> Within
+        ensures { result ≡ record self { role = AsValue } }
+    {
+        let mut made = self;
+        made.role = Role::AsValue;
+        made
+    }
+
+    /// Likewise, where it stands for a statement.
+    pub(crate) fn statement(self) -> Within
+        ensures { result ≡ record self { role = AsStatement } }
+    {
+        let mut made = self;
+        made.role = Role::AsStatement;
+        made
+    }
+
+    /// Likewise, under a unary minus.
+    pub(crate) fn under_minus(self) -> Within
+        ensures { result ≡ record self { role = UnderMinus } }
+    {
+        let mut made = self;
+        made.role = Role::UnderMinus;
+        made
+    }
+
+    /// Likewise, in a loop.
+    pub(crate) fn in_loop(self) -> Within
+        ensures { result ≡ record self { is_in_loop = true } }
+    {
+        let mut made = self;
+        made.is_in_loop = true;
+        made
+    }
+
+    /// Likewise, in `\old(..)`.
+    pub(crate) fn in_old(self) -> Within
+        ensures { result ≡ record self { is_in_old = true; role = AsValue } }
+    {
+        let mut made = self;
+        made.is_in_old = true;
+        made.role = Role::AsValue;
+        made
+    }
+
+    /// Likewise, in a contract of this kind.
+    pub(crate) fn in_contract(self, part: Part) -> Within
+        ensures { result ≡ record self { part = part; role = AsValue } }
+    {
+        let mut made = self;
+        made.part = part;
+        made.role = Role::AsValue;
+        made
+    }
+
+    /// Likewise, in static code or not.
+    pub(crate) fn static_if(self, is_static: bool) -> Within
+        ensures { result ≡ record self { is_static = is_static } }
+    {
+        let mut made = self;
+        made.is_static = is_static;
+        made
+    }
+
+    /// Likewise, of a method with this result type.
+    pub(crate) fn with_result(self, result_type: u32) -> Within
+        ensures { result ≡ record self { result = Some result_type } }
+    {
+        let mut made = self;
+        made.result = Some(result_type);
+        made
+    }
+
+    /// Likewise, where declarators declare this, of the type of a node.
+    pub(crate) fn with_declared(self, declaring: Declaring, declared: u32) -> Within
+        ensures { result ≡ record self { declaring = declaring; declared = Some declared } }
+    {
+        let mut made = self;
+        made.declaring = declaring;
+        made.declared = Some(declared);
+        made
+    }
+}

@@ -1,0 +1,25 @@
+// What is known of a part that may be absent.
+ghost use Rattle.std.specs.Prelude.{◌≡◌, ◌<◌, ℕ, Option, IfSome};
+ghost use Rattle.kr_classes_table.specs.Types.{JavaType};
+ghost use Rattle.kr_types_meaning.specs.Rules as rules;
+ghost use Rattle.kr_types_meaning.specs.Typing.{on_maybe};
+ghost use Rattle.kr_classes_types.specs.Types.{TypeList, count};
+ghost use Rattle.kr_types_judging.specs.Shown.{IsKnownWithin, known_shown};
+ghost use Rattle.kr_types_expressions.specs.Links.{IsLinked};
+ghost use Rattle.kr_types_statements.specs.Maybe.{types_in, with_maybe};
+
+use kr_types_judging::{Known, Typed};
+
+/// The type of a part, or that it is absent; nothing where it is there and has no type. A list counts as absent.
+pub(crate) fn maybe_type(known: Known) -> Option<Option<u32>>
+    ensures within { (l : TypeList) → IsKnownWithin l known → IfSome result (λ o. IfSome o (λ t. t < count l)) }
+    ensures shown { (l : TypeList) (look : ℕ → rules.Typed) (f : Option JavaType → rules.Verdict) → IsLinked look known → with_maybe f (types_in l result) ≡ on_maybe f (known_shown l look known) }
+{
+    match known {
+        Known::One(Typed::Untyped) => None,
+        Known::One(Typed::Value(number)) => Some(Some(number)),
+        Known::One(Typed::Variable(number)) => Some(Some(number)),
+        Known::Absent => Some(None),
+        Known::More { .. } => Some(None),
+    }
+}

@@ -1,0 +1,37 @@
+// Nodes without a rule of their own: what is kept of their parts' first broken nodes.
+ghost use Rattle.std.specs.Prelude.{◌≡◌, ℕ};
+ghost use Rattle.kr_classes_table.specs.Rules.{sooner};
+ghost use Rattle.kr_types_meaning.specs.Rules as rules;
+ghost use Rattle.kr_types_meaning.specs.Noting.{plain};
+ghost use Rattle.kr_classes_types.specs.Types.{TypeList};
+ghost use Rattle.kr_types_judging.specs.Shown.{HasNoRest, IsNoteWithin, note_shown};
+
+use kr_types_judging::{Note, earlier, plain};
+
+/// A block, or an expression as a statement.
+pub fn one_part_note(x: Note) -> Note
+    ensures within { (l : TypeList) → IsNoteWithin l result }
+    ensures no_rest { HasNoRest result.known }
+    ensures shown { (l : TypeList) (look : ℕ → rules.Typed) → note_shown l look result ≡ plain (note_shown l look x).least }
+{
+    plain(x.least)
+}
+
+/// A declaration of locals, of fields or of a method.
+pub fn two_parts_note(x: Note, y: Note) -> Note
+    ensures within { (l : TypeList) → IsNoteWithin l result }
+    ensures no_rest { HasNoRest result.known }
+    ensures shown { (l : TypeList) (look : ℕ → rules.Typed) → note_shown l look result ≡ plain (sooner (note_shown l look x).least (note_shown l look y).least) }
+{
+    plain(earlier(x.least, y.least))
+}
+
+/// The signature of a method.
+pub fn three_parts_note(x: Note, y: Note, z: Note) -> Note
+    ensures within { (l : TypeList) → IsNoteWithin l result }
+    ensures no_rest { HasNoRest result.known }
+    ensures shown { (l : TypeList) (look : ℕ → rules.Typed) → note_shown l look result ≡ plain (sooner (sooner (note_shown l look x).least (note_shown l look y).least) (note_shown l look z).least) }
+{
+    let front = earlier(x.least, y.least);
+    plain(earlier(front, z.least))
+}

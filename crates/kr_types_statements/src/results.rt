@@ -1,0 +1,85 @@
+// Results of methods: what is kept of `return` and of `\result`.
+ghost use Rattle.std.specs.Prelude.{◌≡◌, ◌<◌, ℕ, List, IfSome, option_map};
+ghost use Rattle.kr_ast.specs.Arena.{Arena};
+ghost use Rattle.kr_types_meaning.specs.Rules as rules;
+ghost use Rattle.kr_types_meaning.specs.Noting.{leaf, maybe};
+ghost use Rattle.kr_types_scopes.specs.Settings.{Setting, scope_in, type_there};
+ghost use Rattle.kr_types_scopes.specs.declared.within.Binding.{Binding};
+ghost use Rattle.kr_ast.specs.Files.{file_at};
+ghost use Rattle.kr_classes_members.specs.Shown.{table_in};
+ghost use Rattle.kr_classes_members.specs.Kept.{AreMembers};
+ghost use Rattle.kr_classes_types.specs.Types.{count, type_at};
+ghost use Rattle.kr_classes_types.specs.Numbers.{AreNodeTypes};
+ghost use Rattle.kr_types_judging.specs.Shown.{HasNoRest, IsNoteWithin, IsVerdictWithin, note_shown, verdict_shown};
+ghost use Rattle.kr_types_expressions.specs.Links.{IsLinked};
+ghost use Rattle.kr_types_statements.specs.Maybe.{types_in, with_maybe};
+
+use crate::parts::maybe_type;
+use kr_ast::Tree;
+use kr_base::Place;
+use kr_classes_members::Members;
+use kr_classes_types::{NodeTypes, Types};
+use kr_types_judging::{Note, Verdict, conclude, result_value_rule, return_rule, type_of_node};
+use kr_types_scopes::Within;
+
+/// `\result`
+pub fn result_note(
+    trees: &[Tree],
+    types: &Types,
+    node_types: &NodeTypes,
+    file: u32,
+    here: Within,
+    place: Place,
+) -> Note
+    requires { AreNodeTypes trees.now types.now node_types.now }
+    ensures within { IsNoteWithin types.now result }
+    ensures no_rest { HasNoRest result.known }
+    ensures shown { (g : Setting) (bs : List Binding) (look : ℕ → rules.Typed) → g.table ≡ table_in trees.now → g.tree ≡ file_at trees.now file → note_shown types.now look result ≡ leaf place (rules.result_value_rule (scope_in g bs here)) }
+{
+    let number = type_of_node(trees, types, node_types, file, here.result);
+    let verdict = result_value_rule(types, here, number);
+    conclude(place, verdict, None)
+}
+
+/// What T30 says where the value is absent or has a type.
+fn return_verdict(
+    types: &Types,
+    members: &Members,
+    here: Within,
+    result_type: u32,
+    value: Option<Option<u32>>,
+) -> Verdict
+    requires result_type { result_type < count types.now }
+    requires value { IfSome value (λ o. IfSome o (λ t. t < count types.now)) }
+    ensures within { IsVerdictWithin types.now result }
+    ensures says { (files : List Arena) (g : Setting) (bs : List Binding) → AreMembers files members.now → g.table ≡ table_in files → type_at types.now result_type ≡ type_there g here.result → verdict_shown types.now result ≡ with_maybe (rules.return_rule (scope_in g bs here)) (types_in types.now value) }
+{
+    match value {
+        None => Verdict::fine(),
+        Some(value) => return_rule(types, members, result_type, value),
+    }
+}
+
+/// `return`, with or without a value (Java Language Specification 14.17).
+pub fn return_note(
+    trees: &[Tree],
+    types: &Types,
+    members: &Members,
+    node_types: &NodeTypes,
+    file: u32,
+    here: Within,
+    place: Place,
+    x: Note,
+) -> Note
+    requires members { AreMembers trees.now members.now }
+    requires numbers { AreNodeTypes trees.now types.now node_types.now }
+    requires value { IsNoteWithin types.now x }
+    ensures within { IsNoteWithin types.now result }
+    ensures no_rest { HasNoRest result.known }
+    ensures shown { (g : Setting) (bs : List Binding) (look : ℕ → rules.Typed) → g.table ≡ table_in trees.now → g.tree ≡ file_at trees.now file → IsLinked look x.known → note_shown types.now look result ≡ maybe place (rules.return_rule (scope_in g bs here)) (note_shown types.now look x) }
+{
+    let number = type_of_node(trees, types, node_types, file, here.result);
+    let value = maybe_type(x.known);
+    let verdict = return_verdict(types, members, here, number, value);
+    conclude(place, verdict, x.least)
+}

@@ -1,0 +1,230 @@
+// The creation of one array; a list of one value; calls and creations in a program without classes.
+ghost use Rattle.std.specs.Prelude.{◌≡◌, ◌<◌, length, IfOk};
+ghost use Rattle.kr_classes_members.specs.Kept.{AreMembers};
+ghost use Rattle.kr_classes_names.specs.Shown.{AreHeads};
+ghost use Rattle.kr_classes_types.specs.Types.{TypeList, count};
+ghost use Rattle.kr_classes_types.specs.Numbers.{AreNodeTypes};
+ghost use Rattle.kr_types_judging.specs.Shown.{HasNoRest, IsKnownWithin, IsNoteWithin};
+ghost use Rattle.kr_types_expressions.specs.Notes.{AreNotesWithin, IsRestBelow};
+
+use kr_ast::Tree;
+use kr_base::{NoMemory, Place};
+use kr_classes_members::Members;
+use kr_classes_names::Heads;
+use kr_classes_types::{NodeTypes, TypeForm, Types};
+use kr_types_expressions::{
+    NoteList, absent_note, array_creation_note, call_note, constructor_call_note, creation_note,
+    list_note, method_call_note, super_call_note, this_note, value_types,
+};
+use kr_types_judging::{Known, Note, Typed};
+use kr_types_scopes::Within;
+use std::alloc::Global;
+
+const PLACE: Place = Place {
+    file: 0,
+    line: 1,
+    col: 1,
+};
+
+fn value_note(number: u32) -> Note
+    ensures within { (l : TypeList) → number < count l → IsNoteWithin l result }
+    ensures no_rest { HasNoRest result.known }
+{
+    Note {
+        known: Known::One(Typed::Value(number)),
+        least: None,
+    }
+}
+
+/// The number of the rule that a node breaks.
+fn broken(note: Note) -> u32 {
+    match note.least {
+        None => 0,
+        Some(fault) => fault.rule.number(),
+    }
+}
+
+/// A note that stands there.
+fn standing(types: &Types, notes: &NoteList, at: u32) -> Note
+    requires notes { AreNotesWithin types.now notes.now }
+    requires at { at < length notes.now }
+    ensures within { IsNoteWithin types.now result }
+    ensures below { IsRestBelow (length notes.now) result.known }
+{
+    notes.at(at)
+}
+
+/// The end of a list, and a list of one int.
+fn one_int(alloc: Global, types: &Types) -> Result<NoteList, NoMemory>
+    ensures count { IfOk result (λ notes. length notes ≡ 2) }
+    ensures within { IfOk result (λ notes. AreNotesWithin types.now notes) }
+{
+    let mut notes = NoteList::with_room(alloc, 2)?;
+    let end = absent_note();
+    notes.push(end)?;
+    let list = list_note(value_note(types.int()), 0, end);
+    notes.push(list)?;
+    Ok(notes)
+}
+
+/// An array of ints, one whose length is a boolean, and `this`.
+fn creations_fit(types: &mut Types) -> Result<bool, NoMemory> {
+    let here = Within::outside();
+    let int = value_note(types.int());
+    let array = array_creation_note(types, here, PLACE, int, int)?;
+    let boolean = value_note(types.boolean());
+    let other = array_creation_note(types, here, PLACE, boolean, boolean)?;
+    let this = this_note(types, here, PLACE, 0)?;
+    Ok(
+        array.known == Known::One(Typed::Value(5))
+            && broken(other) == 27
+            && this.known == Known::One(Typed::Value(7)),
+    )
+}
+
+#[test]
+fn types_that_are_new(rt: HostRuntime) -> Result<(), NoMemory> {
+    let mut types = Types::new(rt.alloc())?;
+    let fit = creations_fit(&mut types)?;
+    assert!(rt; fit);
+    Ok(())
+}
+
+/// The rules that calls with this list break in a program without methods.
+fn broken_calls(
+    alloc: Global,
+    trees: &[Tree],
+    types: &Types,
+    members: &Members,
+    numbers: &NodeTypes,
+    notes: &NoteList,
+    x: Note,
+) -> Result<(u32, u32), NoMemory>
+    requires members { AreMembers trees.now members.now }
+    requires numbers { AreNodeTypes trees.now types.now numbers.now }
+    requires notes { AreNotesWithin types.now notes.now }
+    requires arguments { IsNoteWithin types.now x }
+    requires below { IsRestBelow (length notes.now) x.known }
+{
+    let here = Within::outside();
+    let call = call_note(
+        alloc, trees, types, members, numbers, notes, here, PLACE, 0, b"m", x,
+    )?;
+    let above = super_call_note(
+        alloc, trees, types, members, numbers, notes, here, PLACE, 0, b"m", x,
+    )?;
+    Ok((broken(call), broken(above)))
+}
+
+/// The rules that creations and a call through an object break, where the object and what is created have the type of `null`.
+fn broken_creations(
+    alloc: Global,
+    trees: &[Tree],
+    types: &Types,
+    members: &Members,
+    numbers: &NodeTypes,
+    notes: &NoteList,
+    x: Note,
+) -> Result<(u32, u32, u32), NoMemory>
+    requires members { AreMembers trees.now members.now }
+    requires numbers { AreNodeTypes trees.now types.now numbers.now }
+    requires notes { AreNotesWithin types.now notes.now }
+    requires arguments { IsNoteWithin types.now x }
+    requires below { IsRestBelow (length notes.now) x.known }
+{
+    let here = Within::outside();
+    let null = value_note(types.null());
+    let created = creation_note(
+        alloc, trees, types, members, numbers, notes, here, PLACE, null, x,
+    )?;
+    let call = constructor_call_note(
+        alloc, trees, types, members, numbers, notes, here, PLACE, 0, x,
+    )?;
+    let through = method_call_note(
+        alloc, trees, types, members, numbers, notes, here, PLACE, b"m", None, null, x,
+    )?;
+    Ok((broken(created), broken(call), broken(through)))
+}
+
+/// How many types the values of a list have, if all of them have one.
+fn types_given(
+    alloc: Global,
+    types: &Types,
+    notes: &NoteList,
+    list: Known,
+) -> Result<usize, NoMemory>
+    requires notes { AreNotesWithin types.now notes.now }
+    requires list { IsKnownWithin types.now list }
+    requires below { IsRestBelow (length notes.now) list }
+{
+    match value_types(alloc, types, notes, list)? {
+        None => Ok(0),
+        Some(given) => Ok(given.len()),
+    }
+}
+
+/// All these, where the list has one int.
+fn rules_fit(
+    alloc: Global,
+    trees: &[Tree],
+    types: &Types,
+    members: &Members,
+    numbers: &NodeTypes,
+    notes: &NoteList,
+) -> Result<bool, NoMemory>
+    requires members { AreMembers trees.now members.now }
+    requires numbers { AreNodeTypes trees.now types.now numbers.now }
+    requires notes { AreNotesWithin types.now notes.now }
+    requires two { length notes.now ≡ 2 }
+{
+    let x = standing(types, notes, 1);
+    let given = types_given(alloc, types, notes, x.known)?;
+    let calls = broken_calls(alloc, trees, types, members, numbers, notes, x)?;
+    let creations = broken_creations(alloc, trees, types, members, numbers, notes, x)?;
+    Ok(given == 1 && calls == (24, 33) && creations == (26, 34, 24))
+}
+
+/// The list is read beside the members and the types.
+fn list_fits(
+    alloc: Global,
+    trees: &[Tree],
+    types: &Types,
+    members: &Members,
+    numbers: &NodeTypes,
+) -> Result<bool, NoMemory>
+    requires members { AreMembers trees.now members.now }
+    requires numbers { AreNodeTypes trees.now types.now numbers.now }
+{
+    let notes = one_int(alloc, types)?;
+    rules_fit(alloc, trees, types, members, numbers, &notes)
+}
+
+fn read_fits(
+    alloc: Global,
+    trees: &[Tree],
+    heads: &Heads,
+    members: &Members,
+    types: &mut Types,
+) -> Result<bool, NoMemory>
+    requires few { length trees.now < 65 }
+    requires heads { AreHeads trees.now heads.now }
+    requires members { AreMembers trees.now members.now }
+{
+    let numbers = NodeTypes::read(alloc, trees, heads, types)?;
+    list_fits(alloc, trees, types, members, &numbers)
+}
+
+/// Calls and creations in a program without classes.
+pub fn calls_fit(
+    alloc: Global,
+    trees: &[Tree],
+    heads: &Heads,
+    members: &Members,
+) -> Result<bool, NoMemory>
+    requires few { length trees.now < 65 }
+    requires heads { AreHeads trees.now heads.now }
+    requires members { AreMembers trees.now members.now }
+{
+    let mut types = Types::new(alloc)?;
+    read_fits(alloc, trees, heads, members, &mut types)
+}
