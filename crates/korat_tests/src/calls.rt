@@ -141,7 +141,7 @@ fn small_steps(rt: HostRuntime) -> Result<(), Fail> {
             "Cell.java:1:7: C1\n",
         ),
         (
-            &["list", "Cell.java", "fin.toml"],
+            &["list", "Cell.java", "Cell.java"],
             4,
             "Cell.java: F1 toml\n",
         ),
@@ -162,7 +162,7 @@ fn failing_puts(rt: HostRuntime) -> Result<(), Fail> {
     let rows: [(&[&str], usize, usize, u32, &str); 5] = [
         (&LIST, 1024, 4, 2, "0.1 "),
         (&["list"], 2, 1, 9, "us"),
-        (&["list", "Cell.java", "fin.toml"], 2, 1, 9, "Ce"),
+        (&["list", "Cell.java", "Cell.java"], 2, 1, 9, "Ce"),
         (
             &["list", "fin.toml", "Cell.java", "Cell.java"],
             2,
