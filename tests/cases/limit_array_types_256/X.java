@@ -1,0 +1,136 @@
+class C0 { }
+class C1 { }
+class C2 { }
+class C3 { }
+class C4 { }
+class C5 { }
+class C6 { }
+class C7 { }
+class C8 { }
+class C9 { }
+class C10 { }
+class C11 { }
+class C12 { }
+class C13 { }
+class C14 { }
+class C15 { }
+class C16 { }
+class C17 { }
+class C18 { }
+class C19 { }
+class C20 { }
+class C21 { }
+class C22 { }
+class C23 { }
+class C24 { }
+class C25 { }
+class C26 { }
+class C27 { }
+class C28 { }
+class C29 { }
+class C30 { }
+class C31 { }
+class C32 { }
+class C33 { }
+class C34 { }
+class C35 { }
+class C36 { }
+class C37 { }
+class C38 { }
+class C39 { }
+class C40 { }
+class C41 { }
+class C42 { }
+class C43 { }
+class C44 { }
+class C45 { }
+class C46 { }
+class C47 { }
+class C48 { }
+class C49 { }
+class C50 { }
+class C51 { }
+class C52 { }
+class C53 { }
+class C54 { }
+class C55 { }
+class C56 { }
+class C57 { }
+class C58 { }
+class C59 { }
+class C60 { }
+class C61 { }
+class C62 { }
+class Cell {
+  void types() {
+    C0[][][][] c0 = null;
+    C1[][][][] c1 = null;
+    C2[][][][] c2 = null;
+    C3[][][][] c3 = null;
+    C4[][][][] c4 = null;
+    C5[][][][] c5 = null;
+    C6[][][][] c6 = null;
+    C7[][][][] c7 = null;
+    C8[][][][] c8 = null;
+    C9[][][][] c9 = null;
+    C10[][][][] c10 = null;
+    C11[][][][] c11 = null;
+    C12[][][][] c12 = null;
+    C13[][][][] c13 = null;
+    C14[][][][] c14 = null;
+    C15[][][][] c15 = null;
+    C16[][][][] c16 = null;
+    C17[][][][] c17 = null;
+    C18[][][][] c18 = null;
+    C19[][][][] c19 = null;
+    C20[][][][] c20 = null;
+    C21[][][][] c21 = null;
+    C22[][][][] c22 = null;
+    C23[][][][] c23 = null;
+    C24[][][][] c24 = null;
+    C25[][][][] c25 = null;
+    C26[][][][] c26 = null;
+    C27[][][][] c27 = null;
+    C28[][][][] c28 = null;
+    C29[][][][] c29 = null;
+    C30[][][][] c30 = null;
+    C31[][][][] c31 = null;
+    C32[][][][] c32 = null;
+    C33[][][][] c33 = null;
+    C34[][][][] c34 = null;
+    C35[][][][] c35 = null;
+    C36[][][][] c36 = null;
+    C37[][][][] c37 = null;
+    C38[][][][] c38 = null;
+    C39[][][][] c39 = null;
+    C40[][][][] c40 = null;
+    C41[][][][] c41 = null;
+    C42[][][][] c42 = null;
+    C43[][][][] c43 = null;
+    C44[][][][] c44 = null;
+    C45[][][][] c45 = null;
+    C46[][][][] c46 = null;
+    C47[][][][] c47 = null;
+    C48[][][][] c48 = null;
+    C49[][][][] c49 = null;
+    C50[][][][] c50 = null;
+    C51[][][][] c51 = null;
+    C52[][][][] c52 = null;
+    C53[][][][] c53 = null;
+    C54[][][][] c54 = null;
+    C55[][][][] c55 = null;
+    C56[][][][] c56 = null;
+    C57[][][][] c57 = null;
+    C58[][][][] c58 = null;
+    C59[][][][] c59 = null;
+    C60[][][][] c60 = null;
+    C61[][][][] c61 = null;
+    C62[][][][] c62 = null;
+    boolean[] b = null;
+  }
+  int[][] x;
+  boolean repOk() {
+    Cell[] y = new Cell[1];
+    return x != null && y.length == 1 && y[0] == null;
+  }
+}

@@ -1,0 +1,2 @@
+class N { N next; M m; boolean repOk() { return true; } }
+class M { int v; }

@@ -1,0 +1,4 @@
+// é counts as one
+class Broken {
+  /* é */ int w = true;
+}

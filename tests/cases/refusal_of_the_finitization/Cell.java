@@ -1,0 +1,1 @@
+class Cell { int v; int w; boolean repOk() { return v > 0; } }

@@ -1,0 +1,1 @@
+class Cell { int v; boolean repOk() { while (v == 2) {} return true; } }
