@@ -18,12 +18,12 @@ rt test >"$work/built" 2>&1 || { cat "$work/built"; exit 1; }
 . ../../bench/refusing.sh
 
 for name in $("$tests" --list | sed -n "s/^\(board::.*\): test$/\1/p"); do
-    [ "$(refuse "$tests" "$name" 0)" = 0 ] || { cat "$work/out"; exit 1; }
+    [ "$(refuse 0 "$tests" "$name")" = 0 ] || { cat "$work/out"; exit 1; }
     all=$(cat "$work/made")
     again=0
     own=0
     for ((number = 1; number <= all; number++)); do
-        status=$(refuse "$tests" "$name" "$number")
+        status=$(refuse "$number" "$tests" "$name")
         if grep -q 'not as before' "$work/out"; then
             echo "$name, allocation $number: a board was not as before"
             cat "$work/out"

@@ -1,7 +1,8 @@
-# What the scripts that time the built program share; they source it. It finds the program, or says that it isn't there
-# and ends the script, and makes a folder for what they write: `program`, `runs`, `work`, `least_time`, `peak_memory`.
+# What the scripts that time the built program share; they source it. It finds the program, or the one that KORAT names; or
+# says that it isn't there and ends the script. It makes a folder for what they write: `program`, `runs`, `work`, `least_time`,
+# `peak_memory`.
 set -u
-program="$(cd "$(dirname "$(readlink -f "${BASH_SOURCE[0]}")")/.." && pwd)/crates/korat/out/korat"
+program="${KORAT:-$(cd "$(dirname "$(readlink -f "${BASH_SOURCE[0]}")")/.." && pwd)/crates/korat/out/korat}"
 runs=${1:-10}
 
 if [ ! -x "$program" ]; then

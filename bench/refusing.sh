@@ -1,6 +1,6 @@
-# What the scripts share that refuse a test each of its allocations in turn. Who sources it has a folder `work`. A malloc, which is
-# loaded before that of the C library, refuses the allocation whose number is REFUSED, and writes into the file MADE how many
-# there were.
+# What the scripts share that refuse a program each of its allocations in turn. Who sources it has a folder `work`. A malloc,
+# which is loaded before that of the C library, refuses the allocation whose number is REFUSED, and writes into the file MADE
+# how many there were.
 cat >"$work/refusing.c" <<'SOURCE'
 #include <stdio.h>
 #include <stdlib.h>
@@ -29,9 +29,10 @@ __attribute__((destructor)) static void tell(void) {
 SOURCE
 cc -O1 -shared -fPIC -o "$work/refusing.so" "$work/refusing.c" || exit 1
 
-# One run of a test of a built file of tests, whose allocation of that number is refused: its status. What it writes goes to a file.
+# A run of a program whose allocation of that number is refused, or none where it is 0: its status. What it writes goes to a
+# file: refuse NUMBER PROGRAM WORD..
 refuse() {
-    MADE=$work/made REFUSED=$3 LD_PRELOAD=$work/refusing.so "$1" "$2" >"$work/out" 2>&1
+    MADE=$work/made REFUSED=$1 LD_PRELOAD=$work/refusing.so "${@:2}" >"$work/out" 2>&1
     echo $?
 }
 

@@ -1134,7 +1134,7 @@ final class Kinds {
         String name = method.getSimpleName().toString();
         if (isAdded(kind) && kind.startsWith("PairOf")) return elements.get(kind).split(" ")[name.equals("getKey") ? 0 : 1];
         boolean nullable = declared.equals("int") && !method.getReturnType().getKind().isPrimitive()
-                && MAY_GIVE_NULL.contains(name);
+                && MAY_GIVE_NULL.contains(name) && !Program.classOf(method).getSimpleName().contentEquals("Stack");
         return nullable && (isMap(kind) || isList(kind) && !name.matches("get|remove|put.*")) ? BOX : declared;
     }
 }
@@ -1666,6 +1666,8 @@ final class Library {
             Map.entry("floorMod", "static int $(int a, int b) { int rest = a % b; return rest != 0 && (rest ^ b) < 0 ? rest + b : rest; }"),
             Map.entry("floorDiv", "static int $(int a, int b) { int part = a / b; return (a ^ b) < 0 && part * b != a ? part - 1 : part; }"),
             Map.entry("bitCount", "static int $(int a) { int count = 0; for (int rest = a; rest != 0; rest &= rest - 1) count++; return count; }"),
+            Map.entry("highestOneBit", "static int $(int a) { int bits = a; while ((bits & bits - 1) != 0) bits &= bits - 1; return bits; }"),
+            Map.entry("lowestOneBit", "static int $(int a) { return a & -a; }"),
             Map.entry("numberOfTrailingZeros", "static int $(int a) { int count = 0; while (count < 32 && (a >>> count & 1) == 0) count++; return count; }"),
             Map.entry("numberOfLeadingZeros", "static int $(int a) { int count = 0; while (count < 32 && (a << count) >= 0) count++; return a == 0 ? 32 : count; }"),
             Map.entry("isDigit", "static boolean $(int c) { return c >= 48 && c <= 57; }"),
@@ -1846,7 +1848,8 @@ final class Library {
         Map<String, String> words = Map.of("$N", kind, "$C", kind.replaceFirst("Array", "Slot"), "$X", element);
         add(kind.replaceFirst("Array", "Slot"), name -> Templates.fill(Templates.SLOT, words));
         add(kind, name -> Templates.fill(Templates.ARRAY, words)
-                + (element.startsWith("ArrayOf") ? Templates.fill(Templates.ROWS, words) : "") + "}\n");
+                + (element.startsWith("ArrayOf") ? Templates.fill(Templates.ROWS, words) : "")
+                + (element.equals("int") ? Templates.SORT : "") + "}\n");
     }
 }
 
@@ -1996,6 +1999,9 @@ final class Templates {
             """;
     static final String ROWS = """
                 static $N rows(int length, int width) { $N rows = new $N(length); for (int i = 0; i < length; i++) rows.set(i, new $X(width)); return rows; }
+            """;
+    static final String SORT = """
+                void sort() { for (int i = 1; i < length; i++) for (int j = i; j > 0 && get(j - 1) > get(j); j--) { int item = get(j); set(j, get(j - 1)); set(j - 1, item); } }
             """;
 }
 
@@ -2374,7 +2380,8 @@ final class Rewriter {
     }
 
     private String refusedType(Tree at, String type) {
-        boolean parameter = type.length() <= 1 || Character.isUpperCase(type.charAt(0))
+        boolean ofLibrary = program.type(at) instanceof DeclaredType declared && !program.isOwn(declared.asElement());
+        boolean parameter = type.length() <= 1 || Character.isUpperCase(type.charAt(0)) && !ofLibrary
                 && program.elements.getTypeElement("java.lang." + type) == null
                 && program.elements.getTypeElement("java.util." + type) == null && !type.contains(".");
         if (Set.of("long", "float", "double").contains(type))
@@ -3731,7 +3738,7 @@ final class Calls {
                 notes.warn(program.place(tree), name + " knows the letters and digits of ASCII alone");
         return helper(tree, method,
                 letters ? "compare|isDigit|isLetter|isLowerCase|isUpperCase"
-                : "max|min|sum|compare|signum|bitCount|numberOfTrailingZeros|numberOfLeadingZeros");
+                : "max|min|sum|compare|signum|bitCount|numberOfTrailingZeros|numberOfLeadingZeros|highestOneBit|lowestOneBit");
     }
 
     // ---- methods of objects
@@ -3806,6 +3813,7 @@ final class Calls {
             case "peek/0": case "peekFirst/0": return "peekFirst";
             case "poll/0": case "pollFirst/0": return "pollFirst";
             case "element/0": case "getFirst/0": case "first/0": case "firstElement/0": return "getFirst";
+            case "empty/0": return "isEmpty";
             case "getLast/0": case "last/0": case "lastElement/0": return "getLast";
             case "get/1": case "elementAt/1": return "get";
             case "set/2": case "size/0": case "isEmpty/0": case "contains/1": case "indexOf/1": case "clear/0": case "iterator/0": case "addAll/1":
@@ -3898,6 +3906,8 @@ final class Calls {
         int count = tree.getArguments().size();
         if (kind.startsWith("ArrayOf") && name.equals("fill") && count == 2)
                 return expressions.operand(tree.getArguments().get(0)) + ".fill(" + argument(tree, 1, element) + ")";
+        if (kind.startsWith("ArrayOf") && name.equals("sort") && count == 1 && element.equals("int"))
+                return expressions.operand(tree.getArguments().get(0)) + ".sort()";
         if (!kind.endsWith("[]")) return null;
         if (name.equals("fill"))
                 return library.method(count == 2 ? "fill@" : "fillRange@", element, "") + "("

@@ -346,6 +346,8 @@ wrong 'hello'
 wrong ''
 wrong 'A.java:1:1: P1' more
 wrong '0.1 Cell#0{v=1}'
+wrong 'A.java:1:1: T99'
+wrong 'fin.toml: S0 root'
 
 # ---- the launcher
 

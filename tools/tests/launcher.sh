@@ -103,8 +103,11 @@ echo kept >checkout/crates/low/out/incremental/work
 PROVES="low middle korat" run 5 "a first build" "$launched" list fin.toml A.java
 [ "$(cat out)" = "ran list fin.toml A.java" ]
 count $? "a first build: $(cat out)"
-grep -q '^korat: there is no program yet, so it is built: 3 crates are proved, .* 40 minutes .* GB of memory$' err
+cost=$(sed -nE '1s/^korat: there is no program yet, so it is built: 3 crates are proved, from nothing in (about [0-9]+ minutes on four free processors), longer on fewer, (with up to [0-9]+ GB of memory)$/\1, \2/p' err)
+[ -n "$cost" ]
 count $? "a first build: $(head -n 1 err)"
+tr '\n' ' ' <"$top/README.md" | grep -qF "once: $cost;"
+count $? "README doesn't say what the launcher says of a first build: $cost"
 [ "$(sed 1d err)" = $'korat: 0 %: proving low, 1 of 3\nkorat: 33 %: proving middle, 2 of 3\nkorat: 66 %: proving korat, 3 of 3' ]
 count $? "a first build: $(sed 1d err)"
 [ "$(cat checkout/crates/*/out/incremental/work)" = kept ] && [ -z "$(ls checkout/crates/low/out/incremental | sed 's/^work$//')" ]
@@ -206,6 +209,7 @@ else
 fi
 find checkout -type f | sort | cmp -s - files
 count $? "tools/unproved leaves files"
+refuse 2 "a try without words" checkout/tools/unproved
 printf '#!/bin/sh\necho broken >&2\nexit 2\n' >with_rt/rt
 run 70 "a try without an answer" checkout/tools/unproved demo 3
 [ ! -s out ] && grep -qx broken err
