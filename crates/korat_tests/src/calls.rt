@@ -4,7 +4,7 @@ ghost use Rattle.std.specs.Prelude.{◌<◌};
 use korat_top::{NoWords, run, start};
 use kr_base::{NoMemory, Words};
 use kr_io::{MemFile, MemFiles, MemSink, OpenGate};
-use std::alloc::Global;
+use std::alloc::{AllocError, Global};
 use std::test::Fail;
 
 const CELL: &str = "class Cell { int v; boolean repOk() { return v > 0; } }";
@@ -251,6 +251,7 @@ fn given_words(rt: HostRuntime) -> Result<(), Fail> {
     assert!(rt; starts_with(rt.alloc(), &LIST, 0, LISTED)?);
     assert!(rt; starts_with(rt.alloc(), &["", "list"], 2, "usage fault\n")?);
     assert!(rt; starts(rt.alloc(), Err(NoWords::NotText), 2, "usage fault\n")?);
-    assert!(rt; starts(rt.alloc(), Err(NoWords::Memory), 8, "")?);
+    let lacking = NoMemory::from(AllocError);
+    assert!(rt; starts(rt.alloc(), Err(NoWords::Memory(lacking)), 8, "")?);
     Ok(())
 }

@@ -32,12 +32,13 @@ fn shown(alloc: Global, answer: &Result<Command, ArgRefusal>) -> Result<String, 
     match answer {
         Ok(Command::List(ask)) => shown_ask(alloc, ask),
         Ok(Command::Check { fin, sources }) => {
+            let fin = fin.as_str();
             let count = sources.len();
             Ok(format!(in alloc; "check {fin} {count}")?)
         }
         Ok(Command::Demo { n }) => Ok(format!(in alloc; "demo {n}")?),
         Err(ArgRefusal::Usage) => Ok(String::from_str(alloc, "usage")?),
-        Err(ArgRefusal::NoMemory) => Ok(String::from_str(alloc, "memory")?),
+        Err(ArgRefusal::NoMemory(_)) => Ok(String::from_str(alloc, "memory")?),
     }
 }
 

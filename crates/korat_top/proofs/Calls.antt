@@ -7,7 +7,8 @@ use Rattle.kr_base.specs.Told.{Added, Stopped, Writes}
 use Rattle.kr_report.specs.Texts.{read_fault_text, memory_text, usage_text}
 use Rattle.kr_report.specs.Reports.{Answer, bytes_of, line_answer}
 use Rattle.kr_report.specs.Endings.{front_of, MayBegin, EndsListing}
-use Rattle.korat_top.specs.Answer.{Command, IsAnswer, IsTold, ReadsFor, usage}
+use Rattle.kr_args.specs.declared.forms.Command.{Command}
+use Rattle.korat_top.specs.Answer.{IsAnswer, IsTold, ReadsFor, usage}
 use Rattle.korat_top.specs.Steps.{Held}
 use Rattle.korat_top.specs.Ends.{IsFront, MayTell, EndsFor, IsComplete}
 

@@ -1,5 +1,6 @@
 pub mod Small
 pub mod Calls
+pub mod Classes
 pub mod Outcomes
 pub mod Told
 pub mod Answered

@@ -1,6 +1,6 @@
 -- Words and files have at most one answer.
 use Rattle.std.proofs.Common.{◌≡◌, ℕ, ◌<◌, ◌≤◌, ◌⊎◌, List, [], ◌∷◌, length, refl, sym, ap, ◌∙◌, subst, inl, inr, arith, rules}
-use Rattle.std.specs.Prelude.{Option, Some, None, Result, Ok, Err, ◌==◌, if◌then◌else◌, Bool, false, codes, nat_lt}
+use Rattle.std.specs.Prelude.{Option, Some, None, Result, Ok, Err, ◌==◌, if◌then◌else◌, Bool, false, nat_lt}
 use Rattle.kr_base.specs.declared.place.Place.{Place}
 use Rattle.kr_lex.specs.declared.refusal.LexRule.{LexRule}
 use Rattle.kr_lex.specs.declared.refusal.LexRule.TheVariants as rules
@@ -18,21 +18,23 @@ use Rattle.kr_classes_table.specs.Rules.{Fault as ClassFault, class_fault}
 use Rattle.kr_classes.specs.declared.refusal.ClassRule.{ClassRule}
 use Rattle.kr_classes.specs.declared.refusal.ClassRule.TheVariants as classes
 use Rattle.kr_classes.specs.Refusals.{rule_number, rule_code as class_code}
+use Rattle.kr_types_judging.specs.Numbers.{rule_number as type_number}
 use Rattle.kr_fin.specs.declared.document.FinDoc.{FinDoc}
-use Rattle.kr_fin.specs.declared.refusal.Fault.{Fault}
-use Rattle.kr_space_meaning.specs.declared.refusal.Fault.{Fault as SpaceFault}
-use Rattle.kr_space_meaning.specs.Order.{rule_code as space_code}
-use Rattle.kr_fin.specs.Order.{rule_code as fin_code}
+use Rattle.kr_space_meaning.specs.Order.{Fault as SpaceFault, rule_code as space_code}
+use Rattle.kr_fin.specs.Order.{Fault, rule_code as fin_code}
 use Rattle.kr_mean.specs.Problem.{Problem}
 use Rattle.kr_classes_table.specs.Rules.{is_earlier, less_or}
 use Rattle.kr_report.specs.Texts.{usage_text}
 use Rattle.kr_report.specs.Reports.{Answer, line_answer}
 use Rattle.korat_top.specs.declared.refusal.InputFile.{InputFile}
 use Rattle.korat_top.specs.declared.refusal.InputFile.TheVariants as input
-use Rattle.korat_top.specs.Refusals.{Inputs, Refusal, at_place, type_code, of_finitization}
+use Rattle.korat_top.specs.declared.rules.CallRule.TheVariants.{Impure}
+use Rattle.korat_top.specs.Refusals.{Inputs, Refusal, at_place, call_code, of_finitization, type_code}
 use Rattle.korat_top.specs.Steps.{Held, each, made, reading, lexing, parsing, growing, classing, stating, typing, spacing, purifying, from_problem, from_document, from_trees, from_table, from_grown, from_texts, checking, demonstrating}
 use Rattle.kr_demo.specs.Texts.{source_text, finitization_text}
-use Rattle.korat_top.specs.Answer.{Command, ListFiles, CheckFiles, DemoOf, IsAnswer, usage, refused, served, inputs_of, refusal_answer, report_of, steps_of}
+use Rattle.kr_args.specs.declared.forms.Command.{Command}
+use Rattle.kr_args.specs.declared.forms.Command.TheVariants as commands
+use Rattle.korat_top.specs.Answer.{IsAnswer, usage, refused, served, files_of, inputs_of, refusal_answer, report_of, steps_of}
 use Rattle.korat_top.specs.Ends.{OneAnswer}
 use Rattle.korat_top.proofs.Outcomes.{HasOne, one_then, one_each}
 
@@ -141,12 +143,14 @@ one_classing trees (Err r) (Err t) x y =
 
 one_typing : (trees : List Tree) → HasOne (typing trees)
 one_typing trees (Ok a) (Ok b) x y = refl
-one_typing trees (Ok a) (Err t) x y = let differ = sym x ∙ y.1 in absurd (cc (differ))
-one_typing trees (Err r) (Ok b) x y = let differ = sym y ∙ x.1 in absurd (cc (differ))
+one_typing trees (Ok a) (Err t) x y = let differ = sym x ∙ y.2 in absurd (cc (differ))
+one_typing trees (Err r) (Ok b) x y = let differ = sym y ∙ x.2 in absurd (cc (differ))
 one_typing trees (Err r) (Err t) x y =
-    let same = sym x.1 ∙ y.1 in
-    let faults : x.0 ≡ y.0 = cc (same) in
-    ap Err (x.2 ∙ (ap (λ (f : ClassFault). at_place f.place (type_code f.rule)) faults ∙ sym y.2))
+    let one : ClassFault = record { place = x.0; rule = type_number x.1 } in
+    let other : ClassFault = record { place = y.0; rule = type_number y.1 } in
+    let same : Some one ≡ Some other = sym x.2 ∙ y.2 in
+    let faults : one ≡ other = cc (same) in
+    ap Err (x.3 ∙ (ap (λ (f : ClassFault). at_place f.place (type_code f.rule)) faults ∙ sym y.3))
 
 one_stating : (fin : List ℕ) → HasOne (stating fin)
 one_stating fin (Ok a) (Ok b) x y = let same = sym x ∙ y in cc (same)
@@ -197,7 +201,7 @@ one_purifying problem (Ok a) (Err t) x y = absurd (x y.1.node y.1.impure)
 one_purifying problem (Err r) (Ok b) x y = absurd (y x.1.node x.1.impure)
 one_purifying problem (Err r) (Err t) x y =
     let same = one_place x.0 y.0 (y.1.first x.1.node x.0 x.1.impure x.1.at) (x.1.first y.1.node y.0 y.1.impure y.1.at) in
-    ap Err (x.2 ∙ (ap (λ (p : Place). at_place p (codes "I1")) same ∙ sym y.2))
+    ap Err (x.2 ∙ (ap (λ (p : Place). at_place p (call_code Impure)) same ∙ sym y.2))
 
 one_made : {A : Type 0} (a : A) → HasOne (made a)
 one_made a (Ok b) (Ok c) x y = ap Ok (sym x ∙ y)
@@ -233,9 +237,9 @@ unfolding demonstrating
 one_demonstrating laws n = one_from_texts laws (finitization_text n) (source_text n ∷ [])
 
 one_steps : Laws → (held : Held) (command : Command) → HasOne (steps_of held command)
-one_steps laws held (ListFiles inputs range) = one_checking laws held inputs
-one_steps laws held (CheckFiles inputs) = one_checking laws held inputs
-one_steps laws held (DemoOf n) = one_demonstrating laws n
+one_steps laws held (commands.List ask) = one_checking laws held (files_of ask.fin ask.sources)
+one_steps laws held (commands.Check fin sources) = one_checking laws held (files_of fin sources)
+one_steps laws held (commands.Demo n) = one_demonstrating laws n
 
 -- ---- one answer
 

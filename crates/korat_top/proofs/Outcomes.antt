@@ -68,7 +68,12 @@ each_refused step items i d made r h e s =
 pub stops_next : {A B : Type 0} (first : Result A Refusal → Type 0) (next : A → Result B Refusal → Type 0) (a : A) (stop : Stop) → first (Ok a) → StopsBy (next a) stop → StopsBy (and_then first next) stop
 stops_next first next a (Refused r) f h = inr (a, f, h)
 stops_next first next a (Read file) f h = absurd h
-stops_next first next a Memory f h = tt
+stops_next first next a (Memory why) f h = tt
+
+pub stops_first : {A B : Type 0} (first : Result A Refusal → Type 0) (next : A → Result B Refusal → Type 0) (stop : Stop) → StopsBy first stop → StopsBy (and_then first next) stop
+stops_first first next (Refused r) h = inl h
+stops_first first next (Read file) h = absurd h
+stops_first first next (Memory why) h = tt
 
 -- what is judged behind a step
 pub meets_next : {A B V : Type 0} (first : Result A Refusal → Type 0) (next : A → Result B Refusal → Type 0) (seen : V → B) (a : A) (r : Result V Stop) → first (Ok a) → Meets (next a) seen r → Meets (and_then first next) seen r
@@ -79,7 +84,7 @@ pub stops_each : {A B : Type 0} (step : ℕ → A → Result B Refusal → Type 
     → i < length items → each step 0 (take i items) (Ok made) → StopsBy (step i (get_or items i d)) stop → StopsBy (each step 0 items) stop
 stops_each step items i d made (Refused r) l e h = each_refused step items i d made (refusal_of r) l e h
 stops_each step items i d made (Read file) l e h = absurd h
-stops_each step items i d made Memory l e h = tt
+stops_each step items i d made (Memory why) l e h = tt
 
 -- ---- one outcome
 

@@ -1,6 +1,6 @@
 -- How many tokens and nodes files have at most, and how long the demo's source is.
 use Rattle.std.proofs.Common.{◌≡◌, ℕ, zero, suc, ◌+◌, ◌*◌, ◌<◌, ◌≤◌, ◌^◌, Bool, List, [], ◌∷◌, ◌++◌, length, refl, ap, ◌∙◌, arith}
-use Rattle.std.specs.Prelude.{All, IfOk, Result, Ok, Err, decimal}
+use Rattle.std.specs.Prelude.{All, decimal}
 use Rattle.std.proofs.lemmas.Fmt.{length-decimal-le}
 use Rattle.std.proofs.lemmas.List.{length-append}
 use Rattle.std.proofs.lemmas.List.Elements.{All-head, All-tail}
@@ -14,7 +14,6 @@ use Rattle.kr_lex.proofs.Classes.{token_some}
 use Rattle.kr_lex.proofs.Heads.{contract_token_some}
 use Rattle.kr_types.specs.Programs.{all_entries}
 use Rattle.korat_top.specs.Steps.{LIMIT, MOST_NODES}
-use Rattle.korat_top.specs.declared.refusal.Stop.{Stop}
 
 text_some : (inside : Bool) (kind : Kind) (part rest : List ℕ) → IsTokenHere inside kind part rest → 0 < length part
 text_some inside kind part rest (anywhere l) = token_some kind part rest l.token
@@ -53,10 +52,6 @@ some_nodes (t ∷ trees) h =
 
 pub few_nodes : (trees : List Arena) → length trees ≤ 16 → All (λ tree. length tree.entries ≤ MOST_NODES) trees → length (all_entries trees) < 2 ^ 32
 few_nodes trees n h = let most = some_nodes trees h in omega (arith, most, n)
-
-pub small_tree : (r : Result Arena Stop) (n : ℕ) → n ≤ LIMIT → IfOk r (λ tree. length tree.entries ≤ 3 * n + 1) → IfOk r (λ tree. length tree.entries ≤ MOST_NODES)
-small_tree (Ok tree) n l h = omega (arith, l, h)
-small_tree (Err stop) n l h = tt
 
 -- the demo's source isn't too long
 pub source_short : (n : ℕ) → n < 2 ^ 32 → length (source_text n) ≤ LIMIT

@@ -169,7 +169,7 @@ stopped_at held faults last names i files before after texts (Refused r) l e sam
     each_refused (telling_source (held files)) names i [] texts (refusal_of r) l e (told_before (held files) (held before) (input.Source i) (slice_index_or names i []) (Err (refusal_of r)) (same (slice_index_or names i [])) h)
 stopped_at held faults last names i files before after texts (Read failed) l e same count h =
     record { number = i; file = h.0; read = reads_next (held files) names i texts l e; named = h.1; cause = subst (λ n. Rose n (faults after)) count h.2 }
-stopped_at held faults last names i files before after texts Memory l e same count h = tt
+stopped_at held faults last names i files before after texts (Memory why) l e same count h = tt
 
 -- sources that are not all read, behind the finitization
 pub sources_stopped : {F : Type 0} (held : F → Held) (faults : F → ℕ) (last : F → Option (List ℕ)) (inputs : Inputs) (files before after : F) (fin : List ℕ) (stop : Stop)
@@ -182,7 +182,7 @@ sources_stopped held faults last inputs files before after fin (Read failed) f s
   named = subst (λ (x : InputFile). last after ≡ Some (name_of inputs x)) (sym h.file) h.named;
   cause = subst (λ n. Rose n (faults after)) count h.cause;
 }
-sources_stopped held faults last inputs files before after fin Memory f same count h = tt
+sources_stopped held faults last inputs files before after fin (Memory why) f same count h = tt
 
 -- all files were read, and judged
 pub judged_found : {F : Type 0} (held : F → Held) (faults : F → ℕ) (last : F → Option (List ℕ)) (inputs : Inputs) (files before after : F) (fin : List ℕ) (texts : List (List ℕ)) (r : Result posing.Problem Stop)
@@ -193,4 +193,4 @@ judged_found held faults last inputs files before after fin texts (Ok found) f s
 judged_found held faults last inputs files before after fin texts (Err (Refused r)) f same e j = λ told.
     judged (held files) inputs fin texts (Err (refusal_of r)) f (each_before (held files) (held before) 0 inputs.sources (Ok texts) same e) j told
 judged_found held faults last inputs files before after fin texts (Err (Read failed)) f same e j = absurd j
-judged_found held faults last inputs files before after fin texts (Err Memory) f same e j = tt
+judged_found held faults last inputs files before after fin texts (Err (Memory why)) f same e j = tt

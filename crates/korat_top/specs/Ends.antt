@@ -5,8 +5,9 @@ use Rattle.kr_base.specs.Told.{Added, Stopped}
 use Rattle.kr_report.specs.Texts.{read_fault_text, memory_text}
 use Rattle.kr_report.specs.Reports.{Answer, bytes_of}
 use Rattle.kr_report.specs.Endings.{front_of}
+use Rattle.kr_args.specs.declared.forms.Command.{Command}
 use Rattle.korat_top.specs.Steps.{Held}
-use Rattle.korat_top.specs.Answer.{Command, IsAnswer, IsTold, ReadsFor}
+use Rattle.korat_top.specs.Answer.{IsAnswer, IsTold, ReadsFor}
 
 -- The words' answer was given: its status, and exactly its bytes.
 pub record Gives {K : Type 0} (held : Held) (taken : K → Option (List ℕ)) (faults : K → ℕ) (asked : Option Command) (out out' : K) (status : ℕ) : Type 0 where

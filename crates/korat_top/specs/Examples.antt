@@ -1,4 +1,4 @@
--- Between crates: the lines and reports of small problems, and what is served of some words, worked by hand.
+-- Between crates: the lines and reports of small problems, worked by hand.
 use Rattle.std.specs.Prelude.{◌≡◌, ℕ, true, false, List, [], ◌∷◌, map, codes, Some, None}
 use Rattle.kr_base.specs.declared.span.Bound.TheVariants.{At, End}
 use Rattle.kr_base.specs.Entries.{entries_in}
@@ -10,10 +10,8 @@ use Rattle.kr_mean.specs.Entries.{all_entries}
 use Rattle.kr_mean_rows.specs.Examples.{cell, two_ints, two_nodes, two_subclasses, arrays, later_first}
 use Rattle.kr_mean_rows.specs.Listings.{loops, plus}
 use Rattle.kr_report.specs.Texts.{row_text, value_text, verdict_text, tested_text}
-use Rattle.kr_args.specs.Worked.{files, with_files}
 use Rattle.kr_report.specs.Reports.{Answer, bytes_of, rows_in, listing_answer, is_failing}
-use Rattle.kr_args.specs.Worked as words
-use Rattle.korat_top.specs.Answer.{ListFiles, CheckFiles, DemoOf, asked_of, tally_of}
+use Rattle.korat_top.specs.Answer.{tally_of}
 
 -- the lines of all rows of a problem
 abbrev pub lines_of : Problem → List (List ℕ)
@@ -50,15 +48,3 @@ pub record WorkedLines : Type 0 where
   pub verdicts : map verdict_text (Some Pass ∷ Some (Ensures 12) ∷ Some RepOk ∷ Some (Trap NullPointerException) ∷ Some (CheckTrap ArithmeticException) ∷ Some OutOfFuel ∷ []) ≡ codes "pass " ∷ codes "ensures 12 " ∷ codes "repOk " ∷ codes "trap NullPointerException " ∷ codes "check-trap ArithmeticException " ∷ codes "spent " ∷ []
   pub failing : map is_failing (None ∷ Some Pass ∷ Some (Ensures 1) ∷ Some RepOk ∷ Some (Trap NoReturn) ∷ Some (CheckTrap NoReturn) ∷ Some OutOfFuel ∷ []) ≡ false ∷ false ∷ true ∷ true ∷ true ∷ true ∷ true ∷ []
   pub tested_last_line : tested_text 4 2 4 ≡ codes "valid 4 failing 2 tried 4\n"
-
--- words with the command that is served for them: none where they give none, or one that is not served
-pub record WorkedCommands : Type 0 where
-  pub no_words : asked_of [] ≡ None
-  pub listing : asked_of (with_files (codes "list") []) ≡ Some (ListFiles (files (codes "f") (codes "a" ∷ [])) (words.range [] End 4294967295))
-  pub greatest : asked_of (with_files (codes "list") (codes "--limit" ∷ codes "4294967295" ∷ [])) ≡ Some (ListFiles (files (codes "f") (codes "a" ∷ [])) (words.range [] End 4294967295))
-  pub limited : asked_of (with_files (codes "list") (codes "--limit=3" ∷ [])) ≡ Some (ListFiles (files (codes "f") (codes "a" ∷ [])) (words.range [] End 3))
-  pub parted : asked_of (codes "list" ∷ codes "--from" ∷ codes "0.2" ∷ codes "f" ∷ codes "a" ∷ codes "--to" ∷ codes "1" ∷ []) ≡ Some (ListFiles (files (codes "f") (codes "a" ∷ [])) (words.range (0 ∷ 2 ∷ []) (At (1 ∷ [])) 4294967295))
-  pub checking : asked_of (codes "check" ∷ codes "f" ∷ codes "a" ∷ codes "b" ∷ []) ≡ Some (CheckFiles (files (codes "f") (codes "a" ∷ codes "b" ∷ [])))
-  pub demo : asked_of (codes "demo" ∷ codes "12" ∷ []) ≡ Some (DemoOf 12)
-  pub demo_of_none : asked_of (codes "demo" ∷ codes "0" ∷ []) ≡ None
-  pub demo_too_large : asked_of (codes "demo" ∷ codes "13" ∷ []) ≡ None

@@ -6,6 +6,5 @@ pub mod Steps
 pub mod Answer
 pub mod Ends
 pub mod Starts
-pub mod Orders
 pub mod Found
 pub mod Examples

@@ -7,8 +7,9 @@ use Rattle.std.specs.declared.string.String.{String}
 use Rattle.std.specs.declared.vec.IntoIter.{IntoIter}
 use Rattle.std.specs.IoError.{error_kind}
 use Rattle.std.specs.Vec.Iter.{into_iter_items}
+use Rattle.kr_args.specs.declared.forms.Command.{Command}
 use Rattle.korat_top.specs.Steps.{Held}
-use Rattle.korat_top.specs.Answer.{Command, asked_of}
+use Rattle.korat_top.specs.Answer.{asked_of}
 use Rattle.korat_top.specs.Ends.{EndsFor, IsComplete}
 use Rattle.korat_top.specs.declared.given.NoWords.{NoWords}
 use Rattle.korat_top.specs.declared.given.NoWords.TheVariants.{NotText, Memory}
@@ -25,8 +26,9 @@ IsGiven (Err error) words = ⊥
 -- why there are none: the system lacked memory for them, or has another error, as it has for words that aren't text; or
 -- memory was refused for a copy, which is free
 abbrev pub WhyNone : Given → NoWords → Type 0
-WhyNone (Ok all) why = why ≡ Memory
-WhyNone (Err error) Memory = error_kind error ≡ OutOfMemory
+WhyNone (Ok all) (Memory why) = Unit {0}
+WhyNone (Ok all) NotText = ⊥
+WhyNone (Err error) (Memory why) = error_kind error ≡ OutOfMemory
 WhyNone (Err error) NotText = ¬ (error_kind error ≡ OutOfMemory)
 
 -- how a call ends whose words ask for this
@@ -44,4 +46,4 @@ pub record EndsUnread {F K : Type 0} (files files' : F) (out out' : K) (status :
 abbrev pub Starts : {F K : Type 0} → (F → Held) → (F → ℕ) → (F → Option (List ℕ)) → (K → Option (List ℕ)) → (K → ℕ) → Result (List (List ℕ)) NoWords → F → F → K → K → ℕ → Type 0
 Starts held read_faults last taken faults (Ok words) files files' out out' status = Serves held read_faults last taken faults (asked_of words) files files' out out' status
 Starts held read_faults last taken faults (Err NotText) files files' out out' status = Serves held read_faults last taken faults (asked_of []) files files' out out' status
-Starts held read_faults last taken faults (Err Memory) files files' out out' status = EndsUnread files files' out out' status
+Starts held read_faults last taken faults (Err (Memory why)) files files' out out' status = EndsUnread files files' out out' status

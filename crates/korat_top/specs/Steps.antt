@@ -1,46 +1,45 @@
 -- To be believed: the steps that the files of a command go through, in their order. The first that refuses a file decides.
-use Rattle.std.specs.Prelude.{◌≡◌, ℕ, ◌+◌, ◌<◌, ◌≤◌, ◌⊎◌, List, [], ◌∷◌, length, Option, Some, None, Result, Ok, Err, IfSome, IsSome, codes}
+use Rattle.std.specs.Prelude.{◌≡◌, ℕ, ◌+◌, ◌*◌, ◌<◌, ◌≤◌, ◌⊎◌, List, [], ◌∷◌, length, Option, Some, None, Result, Ok, Err, IfSome, IsSome}
 use Rattle.kr_base.specs.declared.place.Place.{Place}
-use Rattle.kr_lex.specs.declared.refusal.LexRule.{LexRule}
+use Rattle.kr_base.specs.declared.refusal.Fault.{Fault}
 use Rattle.kr_lex.specs.Lexemes.{Lexemes}
 use Rattle.kr_lex.specs.Rules.{rule_code as lex_code}
 use Rattle.kr_lex.specs.Spells.{AreTokens}
 use Rattle.kr_lex.specs.Broken.{IsFirstBroken}
 use Rattle.kr_ast.specs.Tree.{Tree}
-use Rattle.kr_parse.specs.declared.refusal.ParseRule.{ParseRule}
 use Rattle.kr_parse.specs.Rules.{rule_code as parse_code}
 use Rattle.kr_parse.specs.Refusals.{IsParsed, IsUnparsed}
 use Rattle.kr_classes_table.specs.Table.{Table, table_of}
-use Rattle.kr_classes_table.specs.Rules.{Fault as NodeFault, class_fault}
+use Rattle.kr_classes_table.specs.Rules.{class_fault}
 use Rattle.kr_types_meaning.specs.Typing.{type_fault}
-use Rattle.kr_classes.specs.declared.refusal.ClassRule.{ClassRule}
-use Rattle.kr_classes.specs.Refusals.{rule_number, rule_code as class_code}
+use Rattle.kr_classes.specs.Refusals.{rule_number as class_number, rule_code as class_code}
+use Rattle.kr_types_judging.specs.Numbers.{rule_number as type_number}
 use Rattle.kr_demo.specs.Texts.{source_text, finitization_text}
 use Rattle.kr_fin.specs.declared.document.FinDoc.{FinDoc}
-use Rattle.kr_fin.specs.declared.refusal.Fault.{Fault}
 use Rattle.kr_fin.specs.Order.{rule_code as fin_code}
 use Rattle.kr_fin.specs.Meaning.{meaning}
+use Rattle.kr_fin.specs.declared.reading.TheConstants.{MAX_FIN_BYTES}
 use Rattle.kr_mean.specs.Problem.{Problem}
 use Rattle.kr_mean.specs.Purity.{IsPure, IsFirstImpure}
 use Rattle.kr_mean.specs.declared.mode.Mode.TheVariants.{List as Listing}
-use Rattle.kr_space_meaning.specs.declared.refusal.Fault.{Fault as SpaceFault}
 use Rattle.kr_space_meaning.specs.Order.{rule_code as space_code}
 use Rattle.kr_space_meaning.specs.Meaning.{meaning as problem_meant}
 use Rattle.korat_top.specs.declared.refusal.InputFile.{InputFile}
 use Rattle.korat_top.specs.declared.refusal.InputFile.TheVariants as input
-use Rattle.korat_top.specs.Refusals.{Inputs, Refusal, at_place, type_code, of_finitization, too_long}
+use Rattle.korat_top.specs.declared.rules.CallRule.TheVariants.{Impure}
+use Rattle.korat_top.specs.Refusals.{Inputs, Refusal, at_place, call_code, of_finitization, too_long, typing_code}
 
 -- what the files hold, where it is told
 abbrev pub Held : Type 0
 Held = List ℕ → Option (List ℕ)
 
--- the longest file that is taken, in bytes
+-- the longest file that is taken, in bytes: as long as a finitization may be
 abbrev pub LIMIT : ℕ
-LIMIT = 1048576
+LIMIT = MAX_FIN_BYTES
 
 -- the most nodes that the tree of a file has: three for each byte, and one more
 abbrev pub MOST_NODES : ℕ
-MOST_NODES = 3145729
+MOST_NODES = 3 * LIMIT + 1
 
 -- ---- A step says what it makes, or what it refuses a file with
 
@@ -58,6 +57,14 @@ each step n (a ∷ items) (Ok []) = ⊥
 each step n (a ∷ items) (Ok (b ∷ made)) = step n a (Ok b) × each step (n + 1) items (Ok made)
 each {A} {B} step n (a ∷ items) (Err r) = step n a (Err r) ⊎ ((b : B) × step n a (Ok b) × each step (n + 1) items (Err r))
 
+-- a source is refused: by a rule that it breaks at a place
+abbrev pub broken_at : {R : Type 0} → (R → List ℕ) → (Place → R → Type 0) → Refusal → Type 0
+broken_at {R} code breaks r = (place : Place) × (rule : R) × breaks place rule × (r ≡ at_place place (code rule))
+
+-- the finitization is refused: by the fault that it has
+abbrev pub broken_of : {R A : Type 0} → (R → List ℕ) → Result A (Fault R) → Refusal → Type 0
+broken_of {R} code meant r = (fault : Fault R) × (meant ≡ Err fault) × (r ≡ of_finitization (code fault.rule) fault.item)
+
 -- nothing is left to refuse
 abbrev pub made : {A : Type 0} → A → Result A Refusal → Type 0
 made a (Ok b) = a ≡ b
@@ -73,12 +80,12 @@ reading held file name (Err r) = (bytes : List ℕ) × (held name ≡ Some bytes
 -- a source's tokens
 abbrev pub lexing : ℕ → List ℕ → Result Lexemes Refusal → Type 0
 lexing n bytes (Ok tokens) = AreTokens n bytes tokens
-lexing n bytes (Err r) = (place : Place) × (rule : LexRule) × IsFirstBroken n bytes place rule × (r ≡ at_place place (lex_code rule))
+lexing n bytes (Err r) = broken_at lex_code (IsFirstBroken n bytes) r
 
 -- the tree of a source's tokens
 abbrev pub parsing : Lexemes → Result Tree Refusal → Type 0
 parsing tokens (Ok tree) = IsParsed tokens tree
-parsing tokens (Err r) = (place : Place) × (rule : ParseRule) × IsUnparsed tokens place rule × (r ≡ at_place place (parse_code rule))
+parsing tokens (Err r) = broken_at parse_code (IsUnparsed tokens) r
 
 -- the tree of a source
 abbrev pub growing : ℕ → List ℕ → Result Tree Refusal → Type 0
@@ -87,27 +94,27 @@ growing n bytes = and_then (lexing n bytes) parsing
 -- the class table of the sources, which breaks no class rule
 abbrev pub classing : List Tree → Result Table Refusal → Type 0
 classing trees (Ok table) = (table ≡ table_of trees) × (class_fault table ≡ None)
-classing trees (Err r) = (place : Place) × (rule : ClassRule) × (class_fault (table_of trees) ≡ Some (record { place = place; rule = rule_number rule })) × (r ≡ at_place place (class_code rule))
+classing trees (Err r) = broken_at class_code (λ place rule. class_fault (table_of trees) ≡ Some (record { place = place; rule = class_number rule })) r
 
 -- no node breaks a typing rule; else the first broken one decides
 abbrev pub typing : List Tree → Result (Unit {0}) Refusal → Type 0
 typing trees (Ok done) = type_fault trees ≡ None
-typing trees (Err r) = (fault : NodeFault) × (type_fault trees ≡ Some fault) × (r ≡ at_place fault.place (type_code fault.rule))
+typing trees (Err r) = broken_at typing_code (λ place rule. type_fault trees ≡ Some (record { place = place; rule = type_number rule })) r
 
 -- the document that the finitization is
 abbrev pub stating : List ℕ → Result FinDoc Refusal → Type 0
 stating fin (Ok document) = meaning fin ≡ Ok document
-stating fin (Err r) = (fault : Fault) × (meaning fin ≡ Err fault) × (r ≡ of_finitization (fin_code fault.rule) fault.item)
+stating fin (Err r) = broken_of fin_code (meaning fin) r
 
 -- the problem of the sources and the document, which breaks no rule beside them
 abbrev pub spacing : List Tree → FinDoc → Result Problem Refusal → Type 0
 spacing trees document (Ok problem) = problem_meant trees document Listing ≡ Ok problem
-spacing trees document (Err r) = (fault : SpaceFault) × (problem_meant trees document Listing ≡ Err fault) × (r ≡ of_finitization (space_code fault.rule) fault.item)
+spacing trees document (Err r) = broken_of space_code (problem_meant trees document Listing) r
 
 -- the predicate leaves the candidates alone; else the first node of its code that doesn't decides
 abbrev pub purifying : Problem → Result (Unit {0}) Refusal → Type 0
 purifying problem (Ok done) = IsPure problem
-purifying problem (Err r) = (place : Place) × IsFirstImpure problem place × (r ≡ at_place place (codes "I1"))
+purifying problem (Err r) = (place : Place) × IsFirstImpure problem place × (r ≡ at_place place (call_code Impure))
 
 -- ---- Their order, from the last one on: each goes on over what those before it make
 

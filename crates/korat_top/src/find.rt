@@ -1,9 +1,10 @@
 // The work for a command, before anything is written: its files are read, and then judged.
-ghost use Rattle.std.specs.Prelude.{◌≡◌, ◌<◌, ◌≤◌, ◌+◌, ◌*◌, ◌^◌, ◌∷◌, [], All, IfOk, length, map};
+ghost use Rattle.std.specs.Prelude.{◌≡◌, ◌<◌, ◌≤◌, ◌∷◌, ◌++◌, [], All, IfOk, OnOk, length, map};
 ghost use Rattle.kr_ast.specs.Arena.{root};
-ghost use Rattle.kr_classes_table.specs.Table.{table_of};
+ghost use Rattle.kr_args.specs.Definition.{MOST_SOURCES};
+ghost use Rattle.kr_args.specs.Sources.{HasSources};
 ghost use Rattle.kr_classes.specs.ClassTables.{IsClassTable};
-ghost use Rattle.kr_types.specs.Programs.{IsProgram, all_entries};
+ghost use Rattle.kr_types.specs.Programs.{IsProgram};
 ghost use Rattle.kr_laws_shapes.specs.Shapes.{AreClasses};
 ghost use Rattle.kr_space_meaning.specs.Limits.{IsWithinLimits};
 ghost use Rattle.kr_mean.specs.declared.mode.Mode.TheVariants.{List as Listing};
@@ -11,32 +12,30 @@ ghost use Rattle.kr_mean.specs.Problem.{slots};
 ghost use Rattle.kr_mean.specs.WellFormed.{IsWellFormed};
 ghost use Rattle.kr_space_problem.specs.Posed.{IsPosed, posed};
 ghost use Rattle.korat_top.specs.Refusals.{refusal_of, too_long as too_long_of, source_start as start_of};
-ghost use Rattle.korat_top.specs.Steps.{LIMIT, lexing, parsing, growing, classing, typing, stating, MOST_NODES, spacing, purifying, from_texts, from_grown, from_table, from_trees, from_document, from_problem, each, demonstrating};
-ghost use Rattle.korat_top.specs.Answer.{inputs_of};
-ghost use Rattle.korat_top.specs.Orders.{command_in};
+ghost use Rattle.korat_top.specs.Steps.{LIMIT, growing, MOST_NODES, from_texts, from_grown, from_table, from_trees, from_document, from_problem, each, demonstrating};
+ghost use Rattle.korat_top.specs.Answer.{files_of};
 ghost use Rattle.kr_demo.specs.Texts.{source_text};
 ghost use Rattle.korat_top.specs.Found.{HasRead, HasReadAll, IsLater, Meets, Judges, FindsIn, Finds, CountStays, AreShaped, AreGrown};
 
-use crate::MAX_FILE_BYTES;
-use crate::command::Order;
 use crate::refusal::{InputFile, Refusal, Stop};
+use crate::rules::{CallRule, ItemRule, SourceRule};
 use crate::sources::Texts;
+use kr_args::forms::Command;
 use kr_ast::Tree;
-use kr_base::{NoMemory, Place, Words};
-use kr_classes::{ClassRefusal, ClassTable, classes};
+use kr_base::{ItemName, NoMemory, Place, Words};
+use kr_classes::{ClassTable, classes};
 use kr_demo::{demo_finitization, demo_source};
-use kr_fin::{FinDoc, FinRefusal, read_fin};
+use kr_fin::{FinDoc, FinRule, MAX_FIN_BYTES, read_fin};
 use kr_io::{Files, ReadRefusal};
+use kr_judge_prepared::Accepted;
 use kr_laws_shapes::shape_law;
-use kr_lex::{LexRefusal, Tokens, lex};
+use kr_lex::lex;
 use kr_mean::Mode;
-use kr_parse::{ParseRefusal, parse};
-use kr_pure::{PureRefusal, pure};
-use kr_report_listing::Accepted;
+use kr_parse::parse;
+use kr_pure::pure;
 use kr_space::{limits_law, problem};
-use kr_space_meaning::SpaceRefusal;
 use kr_space_problem::Problem;
-use kr_types::{Program, TypeRefusal, check};
+use kr_types::{Program, check};
 use kr_types_meaning::well_typed_law;
 use std::alloc::Global;
 
@@ -56,12 +55,12 @@ fn too_long(alloc: Global, file: InputFile) -> Result<Refusal, NoMemory>
     ensures { IfOk result (λ refusal. refusal_of refusal ≡ too_long_of file) }
 {
     match file {
-        InputFile::Finitization => Refusal::of_finitization(alloc, "F6", b"size".as_slice()),
-        InputFile::Source(number) => Refusal::at(alloc, source_start(number), "B1"),
+        InputFile::Finitization => Ok(FinRule::TooLong.of(ItemName::of(alloc, b"size")?)),
+        InputFile::Source(number) => Ok(CallRule::LongSource.at(source_start(number))),
     }
 }
 
-/// Reads a file of a name, which is not to be too long.
+/// Reads a file of a name, which is to be no longer than a finitization may be.
 fn read<F: Files>(
     alloc: Global,
     file: InputFile,
@@ -72,22 +71,22 @@ fn read<F: Files>(
     ensures later { IsLater F.held F.faults files.old files.new }
     ensures count { CountStays (F.faults files.old) (F.faults files.new) result }
 {
-    match files.read(name, MAX_FILE_BYTES + 1) {
+    match files.read(name, MAX_FIN_BYTES + 1) {
         Ok(bytes) => {
-            if bytes.len() <= MAX_FILE_BYTES {
+            if bytes.len() <= MAX_FIN_BYTES {
                 Ok(bytes)
             } else {
                 Err(Stop::Refused(too_long(alloc, file)?))
             }
         }
         Err(ReadRefusal::Failed) => Err(Stop::Read(file)),
-        Err(ReadRefusal::NoMemory) => Err(Stop::Memory),
+        Err(ReadRefusal::NoMemory(why)) => Err(Stop::Memory(why)),
     }
 }
 
 /// Reads the sources, in order.
 fn read_sources<F: Files>(alloc: Global, sources: &Words, files: &mut F) -> Result<Texts, Stop>
-    requires few { length sources.now ≤ 16 }
+    requires few { length sources.now ≤ MOST_SOURCES }
     ensures read { HasReadAll F.held F.faults F.last sources.now files.old files.new result }
     ensures later { IsLater F.held F.faults files.old files.new }
     ensures count { CountStays (F.faults files.old) (F.faults files.new) result }
@@ -103,37 +102,6 @@ fn read_sources<F: Files>(alloc: Global, sources: &Words, files: &mut F) -> Resu
     Ok(texts)
 }
 
-/// The tokens of a source.
-fn tokens_of(alloc: Global, number: u32, bytes: &[u8]) -> Result<Tokens, Stop>
-    requires few { number < 64 }
-    requires short { length bytes.now ≤ LIMIT }
-    ensures { Meets (lexing number bytes.now) (λ tokens. tokens) result }
-{
-    match lex(alloc, number, bytes) {
-        Ok(tokens) => Ok(tokens),
-        Err(LexRefusal::Broken { place, rule }) => {
-            Err(Stop::Refused(Refusal::at(alloc, place, rule.code())?))
-        }
-        Err(LexRefusal::NoMemory) => Err(Stop::Memory),
-    }
-}
-
-/// The tree of tokens.
-fn parsed(alloc: Global, tokens: &Tokens) -> Result<Tree, Stop>
-    ensures parsed { Meets (parsing tokens.now) root result }
-    ensures small { IfOk result (λ tree. length tree.entries ≤ 3 * length tokens.now.list + 1) }
-    ensures shaped { IfOk result (λ tree. AreClasses (root tree)) }
-{
-    shape_law();
-    match parse(alloc, tokens) {
-        Ok(tree) => Ok(tree),
-        Err(ParseRefusal::Broken { place, rule }) => {
-            Err(Stop::Refused(Refusal::at(alloc, place, rule.code())?))
-        }
-        Err(ParseRefusal::NoMemory) => Err(Stop::Memory),
-    }
-}
-
 /// The tree of a source.
 fn tree_of(alloc: Global, number: u32, bytes: &[u8]) -> Result<Tree, Stop>
     requires few { number < 64 }
@@ -142,13 +110,22 @@ fn tree_of(alloc: Global, number: u32, bytes: &[u8]) -> Result<Tree, Stop>
     ensures small { IfOk result (λ tree. length tree.entries ≤ MOST_NODES) }
     ensures shaped { IfOk result (λ tree. AreClasses (root tree)) }
 {
-    let tokens = tokens_of(alloc, number, bytes)?;
-    parsed(alloc, &tokens)
+    shape_law();
+    let tokens = lex(alloc, number, bytes)?;
+    let tree = parse(alloc, &tokens)?;
+    Ok(tree)
+}
+
+fn add_tree(trees: &mut Vec<Tree>, tree: Tree) -> Result<(), NoMemory>
+    ensures added { OnOk result (trees.new.items ≡ trees.old.items ++ tree ∷ []) }
+{
+    trees.push(tree)?;
+    Ok(())
 }
 
 /// The trees of the sources.
 fn trees_of(alloc: Global, texts: &Texts) -> Result<Vec<Tree>, Stop>
-    requires few { length texts.now ≤ 16 }
+    requires few { length texts.now ≤ MOST_SOURCES }
     requires short { All (λ text. length text ≤ LIMIT) texts.now }
     ensures grown { Meets (each growing 0 texts.now) (λ trees. map root trees.items) result }
     ensures small { IfOk result (λ trees. All (λ tree. length tree.entries ≤ MOST_NODES) trees.items) }
@@ -157,96 +134,11 @@ fn trees_of(alloc: Global, texts: &Texts) -> Result<Vec<Tree>, Stop>
     let mut trees = Vec::new(alloc);
     for number in 0..texts.len() {
         match tree_of(alloc, number as u32, texts.get(number)) {
-            Ok(tree) => trees.push(tree)?,
+            Ok(tree) => add_tree(&mut trees, tree)?,
             Err(stop) => return Err(stop),
         }
     }
     Ok(trees)
-}
-
-/// The class table of the sources, whose classes break no class rule.
-fn table_of_classes(alloc: Global, trees: &[Tree]) -> Result<ClassTable, Stop>
-    requires few { length trees.now ≤ 16 }
-    ensures judged { Meets (classing (map root trees.now)) (λ table. table_of (map root trees.now)) result }
-    ensures table { IfOk result (IsClassTable trees.now) }
-{
-    match classes(alloc, trees) {
-        Ok(table) => Ok(table),
-        Err(ClassRefusal::Broken { place, rule }) => {
-            Err(Stop::Refused(Refusal::at(alloc, place, rule.code())?))
-        }
-        Err(ClassRefusal::NoMemory) => Err(Stop::Memory),
-    }
-}
-
-/// The program that the sources are, whose nodes break no typing rule.
-fn program_of(alloc: Global, trees: Vec<Tree>, table: ClassTable) -> Result<Program, Stop>
-    requires few { length trees.items ≤ 16 }
-    requires small { length (all_entries trees.items) < 2 ^ 32 }
-    requires table { IsClassTable trees.items table }
-    ensures judged { Meets (typing (map root trees.items)) (λ program. tt) result }
-    ensures program { IfOk result IsProgram }
-    ensures files { IfOk result (λ program. program.trees.items ≡ trees.items) }
-{
-    well_typed_law();
-    match check(alloc, trees, table) {
-        Ok(program) => Ok(program),
-        Err(TypeRefusal::Broken { place, rule }) => {
-            Err(Stop::Refused(Refusal::of_node(alloc, place, rule)?))
-        }
-        Err(TypeRefusal::NoMemory) => Err(Stop::Memory),
-    }
-}
-
-/// The document that the finitization is.
-fn document_of(alloc: Global, fin: &[u8]) -> Result<FinDoc, Stop>
-    ensures { Meets (stating fin.now) (λ document. document) result }
-{
-    match read_fin(alloc, fin) {
-        Ok(document) => Ok(document),
-        Err(FinRefusal::Broken(fault)) => {
-            let rule = fault.rule.code();
-            let item = fault.item.as_str().as_bytes();
-            Err(Stop::Refused(Refusal::of_finitization(alloc, rule, item)?))
-        }
-        Err(FinRefusal::NoMemory) => Err(Stop::Memory),
-    }
-}
-
-/// The problem of the sources and the document, which breaks no rule beside them.
-#[tactic(auto, unfolding(kr_space_meaning::specs::Meaning::meaning, kr_space_meaning::specs::Bounds::problem_in))]
-fn problem_of(alloc: Global, program: Program, document: &FinDoc) -> Result<Problem, Stop>
-    requires program { IsProgram program }
-    requires limits { IsWithinLimits document.now }
-    ensures judged { Meets (spacing (map root program.trees.items) document.now) posed result }
-    ensures posed { IfOk result IsPosed }
-    ensures well_formed { IfOk result (λ problem. IsWellFormed (posed problem)) }
-    ensures small { IfOk result (λ problem. length (slots (posed problem)) ≤ 4096) }
-    ensures mode { IfOk result (λ problem. (posed problem).mode ≡ Listing) }
-    ensures files { IfOk result (λ problem. problem.program.trees.items ≡ program.trees.items) }
-{
-    match problem(alloc, program, document, Mode::List) {
-        Ok(found) => Ok(found),
-        Err(SpaceRefusal::Broken(fault)) => {
-            let rule = fault.rule.code();
-            let item = fault.item.as_bytes();
-            Err(Stop::Refused(Refusal::of_finitization(alloc, rule, item)?))
-        }
-        Err(SpaceRefusal::NoMemory) => Err(Stop::Memory),
-    }
-}
-
-/// Sees to it that the predicate leaves the candidates alone.
-fn purity(alloc: Global, problem: &Problem) -> Result<(), Stop>
-    requires posed { IsPosed problem.now }
-    requires shaped { AreShaped problem.now.program.trees.items }
-    ensures { Meets (purifying (posed problem.now)) (λ done. tt) result }
-{
-    match pure(alloc, problem) {
-        Ok(()) => Ok(()),
-        Err(PureRefusal::Impure { place }) => Err(Stop::Refused(Refusal::at(alloc, place, "I1")?)),
-        Err(PureRefusal::NoMemory) => Err(Stop::Memory),
-    }
 }
 
 // The steps after each other: each of these goes on from the step that its name says.
@@ -259,17 +151,17 @@ fn judge_from_purity(alloc: Global, problem: Problem) -> Result<Accepted, Stop>
     ensures judged { Meets (from_problem (posed problem)) posed result }
     ensures same { IfOk result (λ found. found ≡ problem) }
 {
-    purity(alloc, &problem)?;
+    pure(alloc, &problem)?;
     Ok(Accepted::new(problem))
 }
 
 fn judge_from_posing(alloc: Global, program: Program, document: &FinDoc) -> Result<Accepted, Stop>
     requires program { IsProgram program }
-    requires shaped { AreShaped program.trees.items }
     requires limits { IsWithinLimits document.now }
+    requires shaped { AreShaped program.trees.items }
     ensures { Judges (from_document (map root program.trees.items) document.now) result }
 {
-    let problem = problem_of(alloc, program, document)?;
+    let problem = problem(alloc, program, document, Mode::List)?;
     judge_from_purity(alloc, problem)
 }
 
@@ -279,7 +171,7 @@ fn judge_from_finitization(alloc: Global, fin: &[u8], program: Program) -> Resul
     ensures { Judges (from_trees fin.now (map root program.trees.items)) result }
 {
     limits_law();
-    let document = document_of(alloc, fin)?;
+    let document = read_fin(alloc, fin)?;
     judge_from_posing(alloc, program, &document)
 }
 
@@ -293,7 +185,8 @@ fn judge_from_typing(
     requires table { IsClassTable trees.items table }
     ensures { Judges (from_table fin.now (map root trees.items)) result }
 {
-    let program = program_of(alloc, trees, table)?;
+    well_typed_law();
+    let program = check(alloc, trees, table)?;
     judge_from_finitization(alloc, fin, program)
 }
 
@@ -301,13 +194,13 @@ fn judge_from_classes(alloc: Global, fin: &[u8], trees: Vec<Tree>) -> Result<Acc
     requires { AreGrown trees.items }
     ensures { Judges (from_grown fin.now (map root trees.items)) result }
 {
-    let table = table_of_classes(alloc, trees.as_slice())?;
+    let table = classes(alloc, trees.as_slice())?;
     judge_from_typing(alloc, fin, trees, table)
 }
 
 /// Judges what was read.
 fn judge_from_parsing(alloc: Global, fin: &[u8], texts: &Texts) -> Result<Accepted, Stop>
-    requires few { length texts.now ≤ 16 }
+    requires few { length texts.now ≤ MOST_SOURCES }
     requires short { All (λ text. length text ≤ LIMIT) texts.now }
     ensures { Judges (from_texts fin.now texts.now) result }
 {
@@ -322,8 +215,8 @@ fn find_files<F: Files>(
     sources: &Words,
     files: &mut F,
 ) -> Result<Accepted, Stop>
-    requires few { length sources.now ≤ 16 }
-    ensures found { FindsIn F.held F.faults F.last (record { fin = fin.now; sources = sources.now }) files.old files.new result }
+    requires few { length sources.now ≤ MOST_SOURCES }
+    ensures found { FindsIn F.held F.faults F.last (files_of fin.now sources.now) files.old files.new result }
     ensures count { CountStays (F.faults files.old) (F.faults files.new) result }
     ensures mode { IfOk result (λ found. (posed found).mode ≡ Listing) }
 {
@@ -354,15 +247,19 @@ fn find_demo(alloc: Global, nodes: u32) -> Result<Accepted, Stop>
 }
 
 /// Does the steps of a command, up to the problem.
-pub(crate) fn find<F: Files>(alloc: Global, order: &Order, files: &mut F) -> Result<Accepted, Stop>
-    requires few { length (inputs_of (command_in order.now)).sources ≤ 16 }
-    ensures found { Finds F.held F.faults F.last (command_in order.now) files.old files.new result }
+pub(crate) fn find<F: Files>(
+    alloc: Global,
+    command: &Command,
+    files: &mut F,
+) -> Result<Accepted, Stop>
+    requires sources { HasSources command.now }
+    ensures found { Finds F.held F.faults F.last command.now files.old files.new result }
     ensures count { CountStays (F.faults files.old) (F.faults files.new) result }
     ensures mode { IfOk result (λ found. (posed found).mode ≡ Listing) }
 {
-    match order {
-        Order::List(names, _) => find_files(alloc, names.fin.as_str(), &names.sources, files),
-        Order::Check(names) => find_files(alloc, names.fin.as_str(), &names.sources, files),
-        Order::Demo(nodes) => find_demo(alloc, *nodes),
+    match command {
+        Command::List(ask) => find_files(alloc, ask.fin.as_str(), &ask.sources, files),
+        Command::Check { fin, sources } => find_files(alloc, fin.as_str(), sources, files),
+        Command::Demo { n } => find_demo(alloc, *n),
     }
 }

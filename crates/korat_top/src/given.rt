@@ -1,11 +1,13 @@
 // What the program does with what it was given for words.
-ghost use Rattle.std.specs.Prelude.{IfOk, IfErr};
+ghost use Rattle.std.specs.Prelude.{◌≡◌, Err, IfOk, IfErr};
+ghost use Rattle.std.specs.declared.io.ErrorKind.TheVariants.{OutOfMemory};
 ghost use Rattle.korat_top.specs.Starts.{IsGiven, WhyNone, Starts};
+ghost use Rattle.korat_top.specs.declared.given.NoWords.TheVariants.{Memory as Lacking};
 
 use crate::top::run;
-use kr_base::{Sink, Words};
+use kr_base::{NoMemory, Sink, Words};
 use kr_io::{Files, Gate};
-use std::alloc::Global;
+use std::alloc::{AllocError, Global};
 use std::env::Args;
 use std::io;
 
@@ -14,7 +16,35 @@ use std::io;
 pub enum NoWords {
     /// One of them isn't text.
     NotText,
-    Memory,
+    Memory(NoMemory),
+}
+
+impl From<NoMemory> for NoWords {
+    ghost from_gives = { λ why none. none ≡ Lacking why };
+
+    fn from(why: NoMemory) -> NoWords {
+        NoWords::Memory(why)
+    }
+}
+
+/// Want of memory that the system reports.
+fn lacking(kind: io::ErrorKind) -> NoMemory
+    requires { kind ≡ OutOfMemory }
+{
+    prove!(kind == io::ErrorKind::OutOfMemory);
+    NoMemory::from(AllocError)
+}
+
+/// Why there are no words, where the system has an error for them.
+fn no_words(error: &io::Error) -> NoWords
+    ensures { WhyNone (Err error.now) result }
+{
+    let kind = error.kind();
+    if kind == io::ErrorKind::OutOfMemory {
+        NoWords::Memory(lacking(kind))
+    } else {
+        NoWords::NotText
+    }
 }
 
 /// The words after the program's own name, of all words that the system gives.
@@ -24,15 +54,12 @@ pub fn words_of(alloc: Global, given: io::Result<Args>) -> Result<Words, NoWords
 {
     let mut all = match given {
         Ok(all) => all,
-        Err(error) if error.kind() == io::ErrorKind::OutOfMemory => return Err(NoWords::Memory),
-        Err(_) => return Err(NoWords::NotText),
+        Err(error) => return Err(no_words(&error)),
     };
     let _ = all.next();
     let mut words = Words::new(alloc);
     for word in all {
-        if words.push(word.as_str()).is_err() {
-            return Err(NoWords::Memory);
-        }
+        words.push(word.as_str())?;
     }
     Ok(words)
 }
@@ -52,6 +79,6 @@ pub fn start<R, F: Files, K: Sink, G: Gate + Sync>(
     match words {
         Ok(words) => run(rt, alloc, &words, files, out, gate),
         Err(NoWords::NotText) => run(rt, alloc, &Words::new(alloc), files, out, gate),
-        Err(NoWords::Memory) => 8,
+        Err(NoWords::Memory(_)) => 8,
     }
 }

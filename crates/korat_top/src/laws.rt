@@ -1,8 +1,7 @@
 // What holds of the answers that `run` gives.
 ghost use Rattle.korat_top.specs.Ends.{OneAnswer};
-ghost use Rattle.korat_top.specs.Examples.{WorkedCommands, WorkedLines};
+ghost use Rattle.korat_top.specs.Examples.{WorkedLines};
 
-use kr_args::worked_words;
 use kr_lex::{one_list_law, unbroken_law};
 use kr_parse::one_refusal_law;
 use kr_parse_laws::one_tree;
@@ -15,13 +14,6 @@ pub fn one_answer()
     unbroken_law();
     one_refusal_law();
     one_tree();
-}
-
-/// What is served of some words.
-pub fn worked_commands()
-    ensures { WorkedCommands }
-{
-    worked_words();
 }
 
 /// The lines and reports of small problems, worked by hand.

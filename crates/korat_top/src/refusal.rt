@@ -1,13 +1,13 @@
 // What a file of the call is refused with, and why the work for a command stops.
-ghost use Rattle.std.specs.Prelude.{◌≡◌, IfOk};
-ghost use Rattle.kr_types_judging.specs.Numbers.{rule_number};
-ghost use Rattle.korat_top.specs.Refusals.{at_place, of_finitization, refusal_of, type_code};
+ghost use Rattle.std.specs.Prelude.{◌≡◌};
+ghost use Rattle.korat_top.specs.Refusals.{refusal_of};
+ghost use Rattle.korat_top.specs.Found.{StopsAt, StopsImpure, StopsOf};
 ghost use Rattle.korat_top.specs.declared.refusal.Stop.TheVariants.{Memory};
 
-use itoa::Buffer;
-use kr_base::{NoMemory, Place};
+use crate::rules::{CallRule, ItemRule, SourceRule};
+use kr_base::{ItemName, NoMemory, Place, RefusalAt, RefusalOf};
+use kr_pure::PureRefusal;
 use kr_types_judging::TypingRule;
-use std::alloc::{AllocError, AllocFailed, Global};
 
 /// A file of the call.
 #[derive(Clone, Copy)]
@@ -17,61 +17,27 @@ pub(crate) enum InputFile {
     Source(u32),
 }
 
-/// A file breaks a rule: where in it, if there is a place, and of what item, if that isn't empty.
+/// A file breaks a rule. A place says in which source it is.
 #[derive(Drop)]
-pub(crate) struct Refusal {
-    pub(crate) file: InputFile,
-    pub(crate) place: Option<Place>,
-    pub(crate) rule: String,
-    pub(crate) item: Vec<u8>,
+pub(crate) enum Refusal {
+    /// A source, a rule of this code.
+    Source { place: Place, rule: &'static str },
+    /// A node of a source, a typing rule.
+    Node { place: Place, rule: TypingRule },
+    /// An item of the finitization, a rule of this code.
+    Finitization { rule: &'static str, item: ItemName },
 }
 
 impl Refusal {
-    /// A source breaks a rule at a place, which says which source.
-    pub(crate) fn at(alloc: Global, place: Place, rule: &str) -> Result<Refusal, NoMemory>
-        ensures { IfOk result (λ refusal. refusal_of refusal ≡ at_place place rule.now) }
+    /// The file that is refused.
+    pub(crate) fn file(&self) -> InputFile
+        ensures { result ≡ (refusal_of self.now).file }
     {
-        Ok(Refusal {
-            file: InputFile::Source(place.file),
-            place: Some(place),
-            rule: String::from_str(alloc, rule)?,
-            item: Vec::new(alloc),
-        })
-    }
-
-    /// A node at a place breaks a typing rule.
-    pub(crate) fn of_node(
-        alloc: Global,
-        place: Place,
-        rule: TypingRule,
-    ) -> Result<Refusal, NoMemory>
-        ensures { IfOk result (λ refusal. refusal_of refusal ≡ at_place place (type_code (rule_number rule))) }
-    {
-        let mut digits = Buffer::new();
-        let mut code = String::from_str(alloc, "T")?;
-        code.push_str(digits.format(rule.number()))?;
-        Ok(Refusal {
-            file: InputFile::Source(place.file),
-            place: Some(place),
-            rule: code,
-            item: Vec::new(alloc),
-        })
-    }
-
-    /// The finitization breaks a rule, of an item.
-    pub(crate) fn of_finitization(
-        alloc: Global,
-        rule: &str,
-        item: &[u8],
-    ) -> Result<Refusal, NoMemory>
-        ensures { IfOk result (λ refusal. refusal_of refusal ≡ of_finitization rule.now item.now) }
-    {
-        Ok(Refusal {
-            file: InputFile::Finitization,
-            place: None,
-            rule: String::from_str(alloc, rule)?,
-            item: Vec::from_slice(alloc, item)?,
-        })
+        match self {
+            Refusal::Source { place, .. } => InputFile::Source(place.file),
+            Refusal::Node { place, .. } => InputFile::Source(place.file),
+            Refusal::Finitization { .. } => InputFile::Finitization,
+        }
     }
 }
 
@@ -81,29 +47,46 @@ pub(crate) enum Stop {
     /// The file was not read.
     Read(InputFile),
     Refused(Refusal),
-    Memory,
+    Memory(NoMemory),
 }
 
 impl From<NoMemory> for Stop {
-    ghost from_gives = { λ _ stop. stop ≡ Memory };
+    ghost from_gives = { λ why stop. stop ≡ Memory why };
 
-    fn from(_: NoMemory) -> Self {
-        Stop::Memory
+    fn from(why: NoMemory) -> Self {
+        Stop::Memory(why)
     }
 }
 
-impl From<AllocError> for Stop {
-    ghost from_gives = { λ _ stop. stop ≡ Memory };
+impl<R: SourceRule> From<RefusalAt<R>> for Stop {
+    ghost from_gives = { λ refusal stop. StopsAt R.code refusal stop };
 
-    fn from(_: AllocError) -> Self {
-        Stop::Memory
+    fn from(refusal: RefusalAt<R>) -> Self {
+        match refusal {
+            RefusalAt::Broken { place, rule } => Stop::Refused(rule.at(place)),
+            RefusalAt::NoMemory(why) => Stop::Memory(why),
+        }
     }
 }
 
-impl<T: Drop> From<AllocFailed<T>> for Stop {
-    ghost from_gives = { λ _ stop. stop ≡ Memory };
+impl<R: ItemRule> From<RefusalOf<R>> for Stop {
+    ghost from_gives = { λ refusal stop. StopsOf R.code refusal stop };
 
-    fn from(_: AllocFailed<T>) -> Self {
-        Stop::Memory
+    fn from(refusal: RefusalOf<R>) -> Self {
+        match refusal {
+            RefusalOf::Broken(fault) => Stop::Refused(fault.rule.of(fault.item)),
+            RefusalOf::NoMemory(why) => Stop::Memory(why),
+        }
+    }
+}
+
+impl From<PureRefusal> for Stop {
+    ghost from_gives = { StopsImpure };
+
+    fn from(refusal: PureRefusal) -> Self {
+        match refusal {
+            PureRefusal::Impure { place } => Stop::Refused(CallRule::Impure.at(place)),
+            PureRefusal::NoMemory(why) => Stop::Memory(why),
+        }
     }
 }

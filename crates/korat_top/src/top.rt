@@ -1,79 +1,82 @@
 // The call.
-ghost use Rattle.std.specs.Prelude.{◌≡◌, ◌<◌, ◌≤◌, Some, IfOk, OnErr, length};
+ghost use Rattle.std.specs.Prelude.{◌≡◌, ◌<◌, Some, IfOk, OnErr};
+ghost use Rattle.kr_args.specs.Sources.{HasSources};
 ghost use Rattle.kr_mean.specs.declared.mode.Mode.TheVariants.{List as Listing};
 ghost use Rattle.kr_report.specs.Endings.{EndsListing};
-ghost use Rattle.korat_top.specs.Answer.{asked_of, counts_of, inputs_of, listing_of, report_of, tally_of};
 ghost use Rattle.kr_space_problem.specs.Posed.{posed};
-ghost use Rattle.korat_top.specs.Orders.{command_in, range_of};
+ghost use Rattle.korat_top.specs.Answer.{asked_of, counts_of, listing_of, report_of, tally_of};
 ghost use Rattle.korat_top.specs.Ends.{EndsFor, IsComplete};
 
-use crate::command::{Order, Range, order_of};
 use crate::find::find;
 use crate::refusal::Stop;
 use crate::report::{name_of, put_refused, status_of};
-use kr_base::{Failed, NoMemory, Sink, Steps, Words};
+use kr_args::command;
+use kr_args::forms::{ArgRefusal, Ask, Command};
+use kr_base::{NoMemory, Sink, Steps, Words};
 use kr_io::{Files, Gate};
 use kr_judge_predicate::predicate_of;
-use kr_report::{once_written, put_checked, put_out_of_memory, put_read_fault, put_usage_fault};
-use kr_report_listing::{Accepted, Prepared, put_subject, put_tally};
+use kr_judge_prepared::{Accepted, Prepared};
+use kr_report::{
+    Summary, once_written, put_out_of_memory, put_read_fault, put_usage_fault, summary_text,
+};
+use kr_report_listing::{put_span, put_tally};
 use std::alloc::Global;
 use std::marker::Brand;
 use std::sync::ledger::{Blank, Ledger};
 
 /// A problem with what its search and its listing need.
 fn prepare(alloc: Global, found: Accepted) -> Result<Prepared, NoMemory>
-    requires mode { (posed found).mode ≡ Listing }
-    ensures { IfOk result (λ prepared. prepared ≡ found) }
+    ensures { IfOk result (λ prepared. prepared.problem ≡ found) }
 {
     let predicate = predicate_of(alloc, found.problem())?;
     Prepared::new(alloc, found, predicate)
 }
 
-/// Lists the entries of a problem in a range of keys. Where memory is refused before anything is searched, nothing is put.
-fn put_between<K: Sink, L: Ledger>(
+/// Lists the entries of a problem that are asked for. Where memory is refused before anything is searched, nothing is put.
+fn put_asked<K: Sink, L: Ledger>(
     alloc: Global,
     prepared: &Prepared,
-    range: &Range,
+    ask: &Ask,
     out: &mut K,
     runs: &mut Steps<L>,
 ) -> Result<u8, NoMemory>
-    requires mode { (posed prepared.now).mode ≡ Listing }
-    ensures ends { IfOk result (λ status. EndsListing K.taken K.faults (listing_of (range_of range.now) (posed prepared.now)) out.old out.new status) }
+    requires mode { (posed prepared.now.problem).mode ≡ Listing }
+    ensures ends { IfOk result (λ status. EndsListing K.taken K.faults (listing_of ask.now (posed prepared.now.problem)) out.old out.new status) }
     ensures nothing { OnErr result (out.new ≡ out.old) }
 {
-    let upto = range.to.try_clone()?;
-    put_subject(
+    let upto = ask.to.try_clone()?;
+    put_span(
         alloc,
         prepared,
-        range.from.numbers(),
+        ask.from.numbers(),
         upto,
-        range.limit,
+        ask.limit,
         out,
         runs,
     )
 }
 
 /// The same of a problem that isn't prepared yet.
-fn put_range<K: Sink, L: Ledger>(
+fn put_list<K: Sink, L: Ledger>(
     alloc: Global,
     found: Accepted,
-    range: &Range,
+    ask: &Ask,
     out: &mut K,
     runs: &mut Steps<L>,
 ) -> Result<u8, NoMemory>
     requires mode { (posed found).mode ≡ Listing }
-    ensures ends { IfOk result (λ status. EndsListing K.taken K.faults (listing_of (range_of range.now) (posed found)) out.old out.new status) }
+    ensures ends { IfOk result (λ status. EndsListing K.taken K.faults (listing_of ask.now (posed found)) out.old out.new status) }
     ensures nothing { OnErr result (out.new ≡ out.old) }
 {
     let prepared = prepare(alloc, found)?;
-    put_between(alloc, &prepared, range, out, runs)
+    put_asked(alloc, &prepared, ask, out, runs)
 }
 
 /// Lists a problem.
 fn list<K: Sink, L: Ledger>(
     alloc: Global,
     found: Accepted,
-    range: &Range,
+    ask: &Ask,
     out: &mut K,
     blank: Blank,
 ) -> u8
@@ -81,12 +84,12 @@ fn list<K: Sink, L: Ledger>(
     requires ledger { blank.name ≡ L.name }
     requires parts { blank.parts ≡ L.parts }
     requires some { 0 < L.parts }
-    ensures { EndsListing K.taken K.faults (listing_of (range_of range.now) (posed found)) out.old out.new result }
+    ensures { EndsListing K.taken K.faults (listing_of ask.now (posed found)) out.old out.new result }
 {
     let mut runs = Steps::<L>::start(blank);
-    match put_range(alloc, found, range, out, &mut runs) {
+    match put_list(alloc, found, ask, out, &mut runs) {
         Ok(status) => status,
-        Err(NoMemory) => once_written(put_out_of_memory(out), 8),
+        Err(_) => once_written(put_out_of_memory(out), 8),
     }
 }
 
@@ -123,7 +126,7 @@ fn demonstrate<K: Sink, L: Ledger>(
     let mut runs = Steps::<L>::start(blank);
     match put_valid(alloc, found, nodes, out, &mut runs) {
         Ok(status) => status,
-        Err(NoMemory) => once_written(put_out_of_memory(out), 8),
+        Err(_) => once_written(put_out_of_memory(out), 8),
     }
 }
 
@@ -132,36 +135,39 @@ fn count<K: Sink>(found: &Accepted, out: &mut K) -> u8
     ensures { EndsListing K.taken K.faults (counts_of (posed found.now)) out.old out.new result }
 {
     let problem = found.problem();
-    let classes = problem.program.table.members.len() as u64;
-    let slots = problem.layout.slots() as u64;
-    once_written(put_checked(classes, slots, out), 0)
+    let classes = problem.program.table.members.len() as u32;
+    let slots = problem.layout.slots();
+    once_written(summary_text(&Summary::Check { classes, slots }, out), 0)
 }
 
 /// Reports of the problem of a command.
-fn report<K: Sink>(alloc: Global, order: &Order, found: Accepted, out: &mut K) -> u8
+fn report<K: Sink>(alloc: Global, command: &Command, found: Accepted, out: &mut K) -> u8
     requires mode { (posed found).mode ≡ Listing }
-    ensures { EndsListing K.taken K.faults (report_of (command_in order.now) (posed found)) out.old out.new result }
+    ensures { EndsListing K.taken K.faults (report_of command.now (posed found)) out.old out.new result }
 {
-    match order {
-        Order::List(_, range) => list::<K, Brand>(alloc, found, range, out, Blank::new(1)),
-        Order::Check(_) => count(&found, out),
-        Order::Demo(nodes) => demonstrate::<K, Brand>(alloc, found, *nodes, out, Blank::new(1)),
+    match command {
+        Command::List(ask) => list::<K, Brand>(alloc, found, ask, out, Blank::new(1)),
+        Command::Check { .. } => count(&found, out),
+        Command::Demo { n } => demonstrate::<K, Brand>(alloc, found, *n, out, Blank::new(1)),
     }
 }
 
-/// Serves an order.
-fn serve<F: Files, K: Sink>(alloc: Global, order: &Order, files: &mut F, out: &mut K) -> u8
-    requires { length (inputs_of (command_in order.now)).sources ≤ 16 }
-    ensures { EndsFor F.held F.faults F.last K.taken K.faults (Some (command_in order.now)) files.old files.new out.old out.new result }
+/// Serves a command.
+fn serve<F: Files, K: Sink>(alloc: Global, command: &Command, files: &mut F, out: &mut K) -> u8
+    requires sources { HasSources command.now }
+    ensures { EndsFor F.held F.faults F.last K.taken K.faults (Some command.now) files.old files.new out.old out.new result }
 {
-    match find(alloc, order, files) {
-        Ok(found) => report(alloc, order, found, out),
-        Err(Stop::Refused(refusal)) => once_written(
-            put_refused(name_of(order, refusal.file), &refusal, out),
-            status_of(refusal.file),
-        ),
-        Err(Stop::Read(file)) => once_written(put_read_fault(name_of(order, file), out), 6),
-        Err(Stop::Memory) => once_written(put_out_of_memory(out), 8),
+    match find(alloc, command, files) {
+        Ok(found) => report(alloc, command, found, out),
+        Err(Stop::Refused(refusal)) => {
+            let file = refusal.file();
+            once_written(
+                put_refused(name_of(command, file), &refusal, out),
+                status_of(file),
+            )
+        }
+        Err(Stop::Read(file)) => once_written(put_read_fault(name_of(command, file), out), 6),
+        Err(Stop::Memory(_)) => once_written(put_out_of_memory(out), 8),
     }
 }
 
@@ -178,9 +184,9 @@ pub fn run<R, F: Files, K: Sink, G: Gate + Sync>(
     ensures headline { EndsFor F.held F.faults F.last K.taken K.faults (asked_of words.now) files.old files.new out.old out.new result }
     ensures complete { IsComplete F.held F.faults K.taken K.faults (asked_of words.now) files.old files.new out.old out.new result }
 {
-    match order_of(alloc, words) {
-        Ok(Some(order)) => serve(alloc, &order, files, out),
-        Ok(None) => once_written(put_usage_fault(out), 2),
-        Err(NoMemory) => once_written(put_out_of_memory(out), 8),
+    match command(alloc, words) {
+        Ok(asked) => serve(alloc, &asked, files, out),
+        Err(ArgRefusal::Usage) => once_written(put_usage_fault(out), 2),
+        Err(ArgRefusal::NoMemory(_)) => once_written(put_out_of_memory(out), 8),
     }
 }

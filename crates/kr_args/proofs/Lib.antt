@@ -2,3 +2,5 @@ pub mod Numbers
 pub mod Parses
 pub mod Worked
 pub mod Definitions
+pub mod Walks
+pub mod Sources

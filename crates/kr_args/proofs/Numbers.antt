@@ -7,8 +7,7 @@ use Rattle.std.proofs.lemmas.Fmt.{decimal_is_IsNumeral}
 use Rattle.std.proofs.lemmas.Slice.Eq.{bytes_eq-Decides}
 use Rattle.std.proofs.lemmas.Bool.Decides.{nat_tests}
 use Rattle.kr_base.specs.declared.cut.reading.CutRefusal.{CutRefusal}
-use Rattle.kr_base.specs.declared.cut.reading.CutRefusal.TheVariants.{NoMemory}
-use Rattle.kr_base.specs.Parsing.{Parses, cut_of, OneReading, ReadingLaw}
+use Rattle.kr_base.specs.Parsing.{LacksNone, Parses, cut_of, OneReading, ReadingLaw}
 use Rattle.kr_args.specs.Reading.{number_in}
 
 -- ---- numbers
@@ -75,7 +74,7 @@ no_cut : (o : Option (List ℕ)) → ((numbers : List ℕ) → o ≡ Some number
 no_cut None h = refl
 no_cut (Some numbers) h = absurd (h numbers refl)
 
-pub cut_refused : (text : List ℕ) (e : CutRefusal) → ReadingLaw → OneReading → Parses text (Err e) → (e ≡ NoMemory → ⊥) → cut_of text ≡ None
+pub cut_refused : (text : List ℕ) (e : CutRefusal) → ReadingLaw → OneReading → Parses text (Err e) → LacksNone (Err e) → cut_of text ≡ None
 cut_refused text e computed one refused other = no_cut (cut_of text) (λ numbers is.
-    let wrong = one text (Ok numbers) (Err e) ((computed text numbers).sound is) refused (λ m. cc) (λ m. other (cc)) in
+    let wrong = one text (Ok numbers) (Err e) ((computed text numbers).sound is) refused tt other in
     cc)

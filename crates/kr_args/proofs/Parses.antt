@@ -6,7 +6,7 @@ use Rattle.clap.specs.declared.error.ErrorKind.{ErrorKind}
 use Rattle.clap.specs.declared.error.ErrorKind.TheVariants.{OutOfMemory}
 use Rattle.clap.proofs.OnLiterals.{clap_on_literals}
 use Rattle.kr_args.specs.Definition.{korat_app}
-use Rattle.kr_args.specs.Reading.{command_of, task_in}
+use Rattle.kr_args.specs.Reading.{command_of, command_in}
 
 -- the definition is one whose meaning clap states
 pub korat_is_free : is_simple_and_free korat_app ≡ true
@@ -21,7 +21,7 @@ korat_is_simple = refl
 pub command_at_ok : (a : App) (words : List Text) (rows : List Row) (met : Option (Text × List Row)) (own : List Row)
     → a ≡ korat_app → (is_simple_and_free a ≡ true → fault_of a words ≡ [])
     → (is_simple a ≡ true → (rows ≡ own) × (met ≡ subcommand_of a words))
-    → command_of words ≡ task_in met
+    → command_of words ≡ command_in met
 unfolding command_of
 command_at_ok a words rows met own is kinds matches =
     let free : fault_of korat_app words ≡ [] = ap (λ b. fault_of b words) (sym is) ∙ kinds (ap is_simple_and_free is ∙ korat_is_free) in

@@ -1,5 +1,5 @@
 -- To be believed: the definition of the command line, in clap's words.
-use Rattle.std.specs.Prelude.{true, Some, codes}
+use Rattle.std.specs.Prelude.{ℕ, true, Some, codes}
 use Rattle.clap.specs.Words.{App, Rule, Text, new_app, new_rule, with_rule, with_subcommand}
 use Rattle.clap.specs.Simple.{on_top}
 
@@ -7,11 +7,15 @@ use Rattle.clap.specs.Simple.{on_top}
 abbrev pub word_rule : Text → Rule
 word_rule name = record (new_rule name) { required = true }
 
--- from 1 to 16 words
+-- the most sources of a call
+abbrev pub MOST_SOURCES : ℕ
+MOST_SOURCES = 16
+
+-- from 1 word to the most
 abbrev pub sources_rule : Rule
 sources_rule = record (new_rule (codes "source")) {
   required = true;
-  range = Some (record { start_inclusive = 1; end_inclusive = 16 });
+  range = Some (record { start_inclusive = 1; end_inclusive = MOST_SOURCES });
 }
 
 -- `--name VALUE`

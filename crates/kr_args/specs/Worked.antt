@@ -3,32 +3,32 @@ use Rattle.std.specs.Prelude.{◌≡◌, ℕ, List, [], ◌∷◌, Option, Some,
 use Rattle.clap.specs.Words.{Text}
 use Rattle.kr_base.specs.declared.span.Bound.{Bound}
 use Rattle.kr_base.specs.declared.span.Bound.TheVariants.{At, End}
-use Rattle.kr_args.specs.Reading.{Files, Range, Task, Lists, Checks, Demos, command_of}
-
-abbrev pub files : Text → List Text → Files
-files fin sources = record { fin = fin; sources = sources }
-
-abbrev pub range : List ℕ → Bound → ℕ → Range
-range from to limit = record { from = from; to = to; limit = limit }
+use Rattle.kr_args.specs.declared.forms.Command.{Command}
+use Rattle.kr_args.specs.declared.forms.Command.TheVariants.{List as Lists, Check as Checks, Demo as Demos}
+use Rattle.kr_args.specs.Reading.{command_of}
 
 -- the words f and a behind a word, and more
 abbrev pub with_files : Text → List Text → List Text
 with_files name more = name ∷ codes "f" ∷ codes "a" ∷ more
 
-abbrev pub listed : Range → Option Task
-listed asked = Some (Lists (files (codes "f") (codes "a" ∷ [])) asked)
+-- the listing of these files, with keys above one and not above another, and so many valid entries
+abbrev pub listed : List ℕ → Bound → ℕ → Option Command
+listed from to limit = Some (Lists (record { fin = codes "f"; sources = codes "a" ∷ []; from = from; to = to; limit = limit }))
+
+abbrev pub checked_as : Text → List Text → Option Command
+checked_as fin sources = Some (Checks fin sources)
 
 pub record WorkedWords : Type 0 where
   pub no_words : command_of [] ≡ None
-  pub plain : command_of (with_files (codes "list") []) ≡ listed (range [] End 4294967295)
-  pub limit : command_of (with_files (codes "list") (codes "--limit" ∷ codes "3" ∷ [])) ≡ listed (range [] End 3)
-  pub equals : command_of (with_files (codes "list") (codes "--limit=3" ∷ [])) ≡ listed (range [] End 3)
-  pub greatest : command_of (with_files (codes "list") (codes "--limit" ∷ codes "4294967295" ∷ [])) ≡ listed (range [] End 4294967295)
+  pub plain : command_of (with_files (codes "list") []) ≡ listed [] End 4294967295
+  pub limit : command_of (with_files (codes "list") (codes "--limit" ∷ codes "3" ∷ [])) ≡ listed [] End 3
+  pub equals : command_of (with_files (codes "list") (codes "--limit=3" ∷ [])) ≡ listed [] End 3
+  pub greatest : command_of (with_files (codes "list") (codes "--limit" ∷ codes "4294967295" ∷ [])) ≡ listed [] End 4294967295
   pub no_limit : command_of (with_files (codes "list") (codes "--limit" ∷ codes "0" ∷ [])) ≡ None
   pub past_greatest : command_of (with_files (codes "list") (codes "--limit" ∷ codes "4294967296" ∷ [])) ≡ None
   pub padded : command_of (with_files (codes "list") (codes "--limit" ∷ codes "03" ∷ [])) ≡ None
   pub signed : command_of (with_files (codes "list") (codes "--limit" ∷ codes "+3" ∷ [])) ≡ None
-  pub spans : command_of (codes "list" ∷ codes "--from" ∷ codes "0.2" ∷ codes "f" ∷ codes "a" ∷ codes "--to" ∷ codes "1" ∷ []) ≡ listed (range (0 ∷ 2 ∷ []) (At (1 ∷ [])) 4294967295)
+  pub spans : command_of (codes "list" ∷ codes "--from" ∷ codes "0.2" ∷ codes "f" ∷ codes "a" ∷ codes "--to" ∷ codes "1" ∷ []) ≡ listed (0 ∷ 2 ∷ []) (At (1 ∷ [])) 4294967295
   pub two_dots : command_of (with_files (codes "list") (codes "--from" ∷ codes "0..1" ∷ [])) ≡ None
   pub padded_cut : command_of (with_files (codes "list") (codes "--to" ∷ codes "0.01" ∷ [])) ≡ None
   pub no_cut : command_of (with_files (codes "list") (codes "--from" ∷ [] ∷ [])) ≡ None
@@ -38,13 +38,13 @@ pub record WorkedWords : Type 0 where
   pub unknown : command_of (with_files (codes "list") (codes "--lim" ∷ codes "3" ∷ [])) ≡ None
   pub workers : command_of (with_files (codes "list") (codes "--workers" ∷ codes "1" ∷ [])) ≡ None
   pub no_source : command_of (codes "list" ∷ codes "f" ∷ []) ≡ None
-  pub checked : command_of (codes "check" ∷ codes "f" ∷ codes "a" ∷ codes "b" ∷ []) ≡ Some (Checks (files (codes "f") (codes "a" ∷ codes "b" ∷ [])))
+  pub checked : command_of (codes "check" ∷ codes "f" ∷ codes "a" ∷ codes "b" ∷ []) ≡ checked_as (codes "f") (codes "a" ∷ codes "b" ∷ [])
   pub sixteen : command_of (codes "check" ∷ codes "f" ∷ codes "1" ∷ codes "2" ∷ codes "3" ∷ codes "4" ∷ codes "5" ∷ codes "6" ∷ codes "7" ∷ codes "8" ∷ codes "9" ∷ codes "a" ∷ codes "b" ∷ codes "c" ∷ codes "d" ∷ codes "e" ∷ codes "f" ∷ codes "g" ∷ [])
-      ≡ Some (Checks (files (codes "f") (codes "1" ∷ codes "2" ∷ codes "3" ∷ codes "4" ∷ codes "5" ∷ codes "6" ∷ codes "7" ∷ codes "8" ∷ codes "9" ∷ codes "a" ∷ codes "b" ∷ codes "c" ∷ codes "d" ∷ codes "e" ∷ codes "f" ∷ codes "g" ∷ [])))
+      ≡ checked_as (codes "f") (codes "1" ∷ codes "2" ∷ codes "3" ∷ codes "4" ∷ codes "5" ∷ codes "6" ∷ codes "7" ∷ codes "8" ∷ codes "9" ∷ codes "a" ∷ codes "b" ∷ codes "c" ∷ codes "d" ∷ codes "e" ∷ codes "f" ∷ codes "g" ∷ [])
   pub seventeen : command_of (codes "check" ∷ codes "f" ∷ codes "1" ∷ codes "2" ∷ codes "3" ∷ codes "4" ∷ codes "5" ∷ codes "6" ∷ codes "7" ∷ codes "8" ∷ codes "9" ∷ codes "a" ∷ codes "b" ∷ codes "c" ∷ codes "d" ∷ codes "e" ∷ codes "f" ∷ codes "g" ∷ codes "h" ∷ []) ≡ None
   pub check_has_no_limit : command_of (with_files (codes "check") (codes "--limit" ∷ codes "3" ∷ [])) ≡ None
-  pub dashes : command_of (codes "check" ∷ codes "--" ∷ codes "-f" ∷ codes "--a" ∷ []) ≡ Some (Checks (files (codes "-f") (codes "--a" ∷ [])))
-  pub empty_names : command_of (codes "check" ∷ [] ∷ [] ∷ []) ≡ Some (Checks (files [] ([] ∷ [])))
+  pub dashes : command_of (codes "check" ∷ codes "--" ∷ codes "-f" ∷ codes "--a" ∷ []) ≡ checked_as (codes "-f") (codes "--a" ∷ [])
+  pub empty_names : command_of (codes "check" ∷ [] ∷ [] ∷ []) ≡ checked_as [] ([] ∷ [])
   pub demo : command_of (codes "demo" ∷ codes "12" ∷ []) ≡ Some (Demos 12)
   pub demo_of_none : command_of (codes "demo" ∷ codes "0" ∷ []) ≡ None
   pub demo_too_large : command_of (codes "demo" ∷ codes "13" ∷ []) ≡ None

@@ -1,16 +1,17 @@
 // What clap makes of the words, read as a command.
-ghost use Rattle.std.specs.Prelude.{◌≡◌, ◌≢◌, Some, None, MatchResult, string_bytes};
+ghost use Rattle.std.specs.Prelude.{◌≡◌, ◌≢◌, Some, None, IfOk, MatchResult};
 ghost use Rattle.clap.specs.Words.{kind_of, subcommand_rows_of, found_of, rows_of, first_of, all_of};
 ghost use Rattle.clap.specs.declared.error.ErrorKind.TheVariants.{OutOfMemory};
-ghost use Rattle.kr_args.specs.Reading.{text_in, texts_in, files_in, range_in, list_in, check_in, demo_in, demo_with, named_in, task_in, task_of, files_of, command_of};
+ghost use Rattle.kr_args.specs.Reading.{text_in, texts_in, files_in, range_in, list_in, check_in, demo_in, demo_with, named_in, command_in, command_of};
+ghost use Rattle.kr_args.specs.Sources.{HasSources};
 
 use crate::definition::whole_definition;
-use crate::forms::{ArgRefusal, Ask, Command};
+use crate::forms::{ArgRefusal, Ask, Command, Word};
 use crate::values::{read_files, read_from, read_limit, read_number, read_to};
 use clap::error::ErrorKind;
 use clap::{ArgMatches, Error};
-use kr_base::{Bound, Cut, Words};
-use std::alloc::Global;
+use kr_base::{Bound, Cut, NoMemory, Words};
+use std::alloc::{AllocError, Global};
 
 /// The first value of an argument.
 fn text_of<'a>(matches: &ArgMatches<'a>, id: &str) -> Option<&'a str>
@@ -26,9 +27,9 @@ fn texts_of<'m, 'a>(matches: &'m ArgMatches<'a>, id: &str) -> Option<&'m [&'a st
     matches.get_strs(id)
 }
 
-fn read_sources(alloc: Global, matches: &ArgMatches<'_>) -> Result<(String, Words), ArgRefusal>
+fn read_sources(alloc: Global, matches: &ArgMatches<'_>) -> Result<(Word, Words), ArgRefusal>
     ensures { let wanted = files_in (rows_of (found_of matches.now)) in
-        MatchResult result (λ files. wanted ≡ Some (files_of (string_bytes files.0) files.1)) (λ e. e ≡ ArgRefusal.Usage → wanted ≡ None) }
+        MatchResult result (λ files. wanted ≡ Some files) (λ e. e ≡ ArgRefusal.Usage → wanted ≡ None) }
 {
     read_files(alloc, text_of(matches, "fin"), texts_of(matches, "source"))
 }
@@ -43,7 +44,7 @@ struct Range {
 
 fn read_range(alloc: Global, matches: &ArgMatches<'_>) -> Result<Range, ArgRefusal>
     ensures { let wanted = range_in (rows_of (found_of matches.now)) in
-        MatchResult result (λ range. wanted ≡ Some (record { from = range.from; to = range.to; limit = range.limit })) (λ e. e ≡ ArgRefusal.Usage → wanted ≡ None) }
+        MatchResult result (λ range. wanted ≡ Some (range.from, range.to, range.limit)) (λ e. e ≡ ArgRefusal.Usage → wanted ≡ None) }
 {
     let from = read_from(alloc, text_of(matches, "from"))?;
     let to = read_to(alloc, text_of(matches, "to"))?;
@@ -53,7 +54,7 @@ fn read_range(alloc: Global, matches: &ArgMatches<'_>) -> Result<Range, ArgRefus
 
 fn read_list(alloc: Global, matches: &ArgMatches<'_>) -> Result<Command, ArgRefusal>
     ensures { let wanted = list_in (rows_of (found_of matches.now)) in
-        MatchResult result (λ command. wanted ≡ Some (task_of command)) (λ e. e ≡ ArgRefusal.Usage → wanted ≡ None) }
+        MatchResult result (λ command. wanted ≡ Some command) (λ e. e ≡ ArgRefusal.Usage → wanted ≡ None) }
 {
     let (fin, sources) = read_sources(alloc, matches)?;
     let range = read_range(alloc, matches)?;
@@ -68,7 +69,7 @@ fn read_list(alloc: Global, matches: &ArgMatches<'_>) -> Result<Command, ArgRefu
 
 fn read_check(alloc: Global, matches: &ArgMatches<'_>) -> Result<Command, ArgRefusal>
     ensures { let wanted = check_in (rows_of (found_of matches.now)) in
-        MatchResult result (λ command. wanted ≡ Some (task_of command)) (λ e. e ≡ ArgRefusal.Usage → wanted ≡ None) }
+        MatchResult result (λ command. wanted ≡ Some command) (λ e. e ≡ ArgRefusal.Usage → wanted ≡ None) }
 {
     let (fin, sources) = read_sources(alloc, matches)?;
     Ok(Command::Check { fin, sources })
@@ -76,7 +77,7 @@ fn read_check(alloc: Global, matches: &ArgMatches<'_>) -> Result<Command, ArgRef
 
 fn demo_from(nodes: Option<&str>) -> Result<Command, ArgRefusal>
     ensures { let wanted = demo_with (text_in nodes.entry) in
-        MatchResult result (λ command. wanted ≡ Some (task_of command)) (λ e. wanted ≡ None) }
+        MatchResult result (λ command. wanted ≡ Some command) (λ e. wanted ≡ None) }
 {
     let Some(nodes) = nodes else {
         return Err(ArgRefusal::Usage);
@@ -89,7 +90,7 @@ fn demo_from(nodes: Option<&str>) -> Result<Command, ArgRefusal>
 
 fn read_demo(matches: &ArgMatches<'_>) -> Result<Command, ArgRefusal>
     ensures { let wanted = demo_in (rows_of (found_of matches.now)) in
-        MatchResult result (λ command. wanted ≡ Some (task_of command)) (λ e. wanted ≡ None) }
+        MatchResult result (λ command. wanted ≡ Some command) (λ e. wanted ≡ None) }
 {
     demo_from(text_of(matches, "nodes"))
 }
@@ -97,7 +98,7 @@ fn read_demo(matches: &ArgMatches<'_>) -> Result<Command, ArgRefusal>
 /// The command of a name with these matches.
 fn read_named(alloc: Global, name: &str, matches: &ArgMatches<'_>) -> Result<Command, ArgRefusal>
     ensures { let wanted = named_in name.now (rows_of (found_of matches.now)) in
-        MatchResult result (λ command. wanted ≡ Some (task_of command)) (λ e. e ≡ ArgRefusal.Usage → wanted ≡ None) }
+        MatchResult result (λ command. wanted ≡ Some command) (λ e. e ≡ ArgRefusal.Usage → wanted ≡ None) }
 {
     if name == "list" {
         read_list(alloc, matches)
@@ -110,9 +111,9 @@ fn read_named(alloc: Global, name: &str, matches: &ArgMatches<'_>) -> Result<Com
     }
 }
 
-fn read_task(alloc: Global, matches: &ArgMatches<'_>) -> Result<Command, ArgRefusal>
-    ensures { let wanted = task_in (subcommand_rows_of matches.now) in
-        MatchResult result (λ command. wanted ≡ Some (task_of command)) (λ e. e ≡ ArgRefusal.Usage → wanted ≡ None) }
+fn read_command(alloc: Global, matches: &ArgMatches<'_>) -> Result<Command, ArgRefusal>
+    ensures { let wanted = command_in (subcommand_rows_of matches.now) in
+        MatchResult result (λ command. wanted ≡ Some command) (λ e. e ≡ ArgRefusal.Usage → wanted ≡ None) }
 {
     match matches.subcommand() {
         Some((name, inner)) => read_named(alloc, name, inner),
@@ -120,27 +121,35 @@ fn read_task(alloc: Global, matches: &ArgMatches<'_>) -> Result<Command, ArgRefu
     }
 }
 
+/// Want of memory that clap reports.
+fn lacking(kind: ErrorKind) -> NoMemory
+    requires { kind ≡ OutOfMemory }
+{
+    prove!(kind == ErrorKind::OutOfMemory);
+    NoMemory::from(AllocError)
+}
+
 fn refusal_of(error: &Error) -> ArgRefusal
     ensures { result ≡ ArgRefusal.Usage → kind_of error.now ≢ OutOfMemory }
 {
-    match error.kind() {
-        ErrorKind::OutOfMemory => ArgRefusal::NoMemory,
-        _ => ArgRefusal::Usage,
+    let kind = error.kind();
+    if kind == ErrorKind::OutOfMemory {
+        ArgRefusal::NoMemory(lacking(kind))
+    } else {
+        ArgRefusal::Usage
     }
 }
 
 /// The command that the words of a call give, by clap's own meaning of the definition. The words don't begin with the
 /// program's name.
 pub fn command(alloc: Global, words: &Words) -> Result<Command, ArgRefusal>
-    ensures { let wanted = command_of words.now in
-        MatchResult result (λ command. wanted ≡ Some (task_of command)) (λ e. e ≡ ArgRefusal.Usage → wanted ≡ None) }
+    ensures means { let wanted = command_of words.now in
+        MatchResult result (λ command. wanted ≡ Some command) (λ e. e ≡ ArgRefusal.Usage → wanted ≡ None) }
+    ensures sources { IfOk result HasSources }
 {
-    let definition = match whole_definition(alloc) {
-        Ok(definition) => definition,
-        Err(_) => return Err(ArgRefusal::NoMemory),
-    };
+    let definition = whole_definition(alloc)?;
     match definition.try_get_matches_from(words.texts()) {
-        Ok(matches) => read_task(alloc, &matches),
+        Ok(matches) => read_command(alloc, &matches),
         Err(error) => Err(refusal_of(&error)),
     }
 }

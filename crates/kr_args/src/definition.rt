@@ -5,7 +5,8 @@ ghost use Rattle.clap.specs.Words.{rule_of, app_of, with_rule, with_subcommand};
 ghost use Rattle.kr_args.specs.Definition.{sources_rule, option_rule, bare_app, list_app, check_app, demo_app, korat_app};
 
 use clap::{Arg, Command as Definition};
-use std::alloc::{AllocError, Global};
+use kr_base::NoMemory;
+use std::alloc::Global;
 
 /// The sources: 1 to 16 words.
 fn sources_argument<'a>(alloc: Global) -> Arg<'a>
@@ -20,16 +21,16 @@ fn with_option<'a>(
     alloc: Global,
     command: Definition<'a>,
     name: &'a str,
-) -> Result<Definition<'a>, AllocError>
+) -> Result<Definition<'a>, NoMemory>
     requires { (fields_of command).has_globals ≡ false }
     ensures app { IfOk result (λ c. app_of c ≡ with_rule (app_of command.entry) (option_rule name.entry.now)) }
     ensures local { IfOk result (λ c. (fields_of c).has_globals ≡ false) }
 {
-    command.arg(Arg::new(alloc, name).long(name))
+    Ok(command.arg(Arg::new(alloc, name).long(name))?)
 }
 
 /// `list FIN SOURCE..` with its options.
-fn list_definition<'a>(alloc: Global) -> Result<Definition<'a>, AllocError>
+fn list_definition<'a>(alloc: Global) -> Result<Definition<'a>, NoMemory>
     ensures app { IfOk result (λ c. app_of c ≡ list_app) }
     ensures local { IfOk result (λ c. (fields_of c).has_globals ≡ false) }
 {
@@ -43,23 +44,25 @@ fn list_definition<'a>(alloc: Global) -> Result<Definition<'a>, AllocError>
 }
 
 /// `check FIN SOURCE..`.
-fn check_definition<'a>(alloc: Global) -> Result<Definition<'a>, AllocError>
+fn check_definition<'a>(alloc: Global) -> Result<Definition<'a>, NoMemory>
     ensures app { IfOk result (λ c. app_of c ≡ check_app) }
     ensures local { IfOk result (λ c. (fields_of c).has_globals ≡ false) }
 {
     let fin = Arg::new(alloc, "fin").required(true);
-    Definition::new(alloc, "check")
-        .arg(fin)?
-        .arg(sources_argument(alloc))
+    Ok(
+        Definition::new(alloc, "check")
+            .arg(fin)?
+            .arg(sources_argument(alloc))?,
+    )
 }
 
 /// `demo N`.
-fn demo_definition<'a>(alloc: Global) -> Result<Definition<'a>, AllocError>
+fn demo_definition<'a>(alloc: Global) -> Result<Definition<'a>, NoMemory>
     ensures app { IfOk result (λ c. app_of c ≡ demo_app) }
     ensures local { IfOk result (λ c. (fields_of c).has_globals ≡ false) }
 {
     let count = Arg::new(alloc, "nodes").required(true);
-    Definition::new(alloc, "demo").arg(count)
+    Ok(Definition::new(alloc, "demo").arg(count)?)
 }
 
 /// The tool, still without its commands.
@@ -79,15 +82,15 @@ fn bare_definition<'a>(alloc: Global) -> Definition<'a>
 fn with_command<'a>(
     above: Definition<'a>,
     command: Definition<'a>,
-) -> Result<Definition<'a>, AllocError>
+) -> Result<Definition<'a>, NoMemory>
     requires { (fields_of command).has_globals ≡ false }
     ensures { IfOk result (λ c. app_of c ≡ with_subcommand (app_of above.entry) (app_of command.entry).top) }
 {
-    above.subcommand(command)
+    Ok(above.subcommand(command)?)
 }
 
 /// The tool with its first command.
-fn with_list<'a>(alloc: Global) -> Result<Definition<'a>, AllocError>
+fn with_list<'a>(alloc: Global) -> Result<Definition<'a>, NoMemory>
     ensures { IfOk result (λ c. app_of c ≡ with_subcommand bare_app list_app.top) }
 {
     let list = list_definition(alloc)?;
@@ -95,7 +98,7 @@ fn with_list<'a>(alloc: Global) -> Result<Definition<'a>, AllocError>
 }
 
 /// The tool with its first two commands.
-fn with_check<'a>(alloc: Global) -> Result<Definition<'a>, AllocError>
+fn with_check<'a>(alloc: Global) -> Result<Definition<'a>, NoMemory>
     ensures { IfOk result (λ c. app_of c ≡ with_subcommand (with_subcommand bare_app list_app.top) check_app.top) }
 {
     let korat = with_list(alloc)?;
@@ -104,7 +107,7 @@ fn with_check<'a>(alloc: Global) -> Result<Definition<'a>, AllocError>
 }
 
 /// The tool with all its commands.
-pub(crate) fn whole_definition<'a>(alloc: Global) -> Result<Definition<'a>, AllocError>
+pub(crate) fn whole_definition<'a>(alloc: Global) -> Result<Definition<'a>, NoMemory>
     ensures { IfOk result (λ c. app_of c ≡ korat_app) }
 {
     let korat = with_check(alloc)?;

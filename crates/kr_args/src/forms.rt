@@ -1,23 +1,62 @@
 // What the words of a call come to.
+ghost use Rattle.std.specs.Prelude.{◌≡◌, IfOk};
+ghost use Rattle.kr_args.specs.declared.forms.ArgRefusal.TheVariants.{NoMemory as Lacking};
 
-use kr_base::{Bound, Cut, Words};
+use kr_base::{Bound, Cut, NoMemory, Words};
+use std::alloc::Global;
+use std::marker::Model;
 use thiserror::Error;
+
+/// A word of the call, as the name of a file. Contracts see its bytes.
+#[derive(Drop)]
+pub struct Word {
+    text: String,
+}
+
+impl Model for Word {
+    ghost use Rattle.std.specs.Prelude.{List, ℕ, string_bytes};
+
+    ghost Value = { List ℕ };
+
+    ghost view = { λ word. string_bytes word.text };
+}
+
+impl Word {
+    /// A copy of a text.
+    pub fn of(alloc: Global, text: &str) -> Result<Word, NoMemory>
+        ensures { IfOk result (λ word. word ≡ text.now) }
+    {
+        Ok(Word {
+            text: String::from_str(alloc, text)?,
+        })
+    }
+
+    pub fn as_str(&self) -> &str
+        ensures { result.now ≡ self.now }
+    {
+        self.text.as_str()
+    }
+}
 
 /// What a listing is asked for: the files that it reads, the keys above `from` and not above `to`, and how many valid
 /// entries it writes at most.
 #[derive(Drop)]
 pub struct Ask {
-    pub fin: String,
+    pub fin: Word,
     pub sources: Words,
     pub from: Cut,
     pub to: Bound,
     pub limit: u32,
 }
 
+/// What a call is asked for.
 #[derive(Drop)]
 pub enum Command {
+    /// `list FIN SOURCE..`
     List(Ask),
-    Check { fin: String, sources: Words },
+    /// `check FIN SOURCE..`
+    Check { fin: Word, sources: Words },
+    /// `demo N`
     Demo { n: u32 },
 }
 
@@ -27,5 +66,13 @@ pub enum ArgRefusal {
     #[error("the words give no command")]
     Usage,
     #[error("out of memory")]
-    NoMemory,
+    NoMemory(NoMemory),
+}
+
+impl From<NoMemory> for ArgRefusal {
+    ghost from_gives = { λ why refusal. refusal ≡ Lacking why };
+
+    fn from(why: NoMemory) -> ArgRefusal {
+        ArgRefusal::NoMemory(why)
+    }
 }

@@ -1,11 +1,11 @@
 // The values of arguments, read from their words.
-ghost use Rattle.std.specs.Prelude.{◌≡◌, ◌^◌, ◌<◌, Some, None, map, option_map, string_bytes, MatchResult};
+ghost use Rattle.std.specs.Prelude.{◌≡◌, ◌^◌, ◌<◌, Some, None, map, option_map, IfOk, MatchResult};
 ghost use Rattle.kr_base.specs.Parsing.{cut_of};
-ghost use Rattle.kr_args.specs.Reading.{number_in, text_in, texts_in, from_in, to_in, limit_in, files_with, Files, files_of};
+ghost use Rattle.kr_args.specs.Reading.{number_in, text_in, texts_in, from_in, to_in, limit_in, files_with};
 
-use crate::forms::ArgRefusal;
+use crate::forms::{ArgRefusal, Word};
 use itoa::Buffer;
-use kr_base::{Bound, Cut, CutRefusal, Words, reading_law};
+use kr_base::{Bound, Cut, CutRefusal, NoMemory, Words, reading_law};
 use std::alloc::Global;
 
 /// The number that a text is, from `low` to `high`.
@@ -35,7 +35,7 @@ fn read_cut(alloc: Global, text: &str) -> Result<Cut, ArgRefusal>
     reading_law();
     match Cut::parse(alloc, text) {
         Ok(cut) => Ok(cut),
-        Err(CutRefusal::NoMemory) => Err(ArgRefusal::NoMemory),
+        Err(CutRefusal::NoMemory(why)) => Err(ArgRefusal::NoMemory(why)),
         Err(CutRefusal::Malformed(_)) => Err(ArgRefusal::Usage),
         Err(CutRefusal::TooLong(_)) => Err(ArgRefusal::Usage),
     }
@@ -77,24 +77,12 @@ pub(crate) fn read_limit(text: Option<&str>) -> Result<u32, ArgRefusal>
     }
 }
 
-fn copy_text(alloc: Global, text: &str) -> Result<String, ArgRefusal>
-    ensures { MatchResult result (λ copy. string_bytes copy ≡ text.now) (λ e. e ≡ ArgRefusal.NoMemory) }
-{
-    match String::from_str(alloc, text) {
-        Ok(copy) => Ok(copy),
-        Err(_) => Err(ArgRefusal::NoMemory),
-    }
-}
-
-fn copy_texts(alloc: Global, texts: &[&str]) -> Result<Words, ArgRefusal>
-    ensures { MatchResult result (λ copies. copies ≡ map (λ text. text.now) texts.now) (λ e. e ≡ ArgRefusal.NoMemory) }
+fn copy_texts(alloc: Global, texts: &[&str]) -> Result<Words, NoMemory>
+    ensures { IfOk result (λ copies. copies ≡ map (λ text. text.now) texts.now) }
 {
     let mut copies = Words::new(alloc);
     for text in texts {
-        match copies.push(text) {
-            Ok(()) => {}
-            Err(_) => return Err(ArgRefusal::NoMemory),
-        }
+        copies.push(text)?;
     }
     Ok(copies)
 }
@@ -104,13 +92,13 @@ pub(crate) fn read_files(
     alloc: Global,
     fin: Option<&str>,
     sources: Option<&[&str]>,
-) -> Result<(String, Words), ArgRefusal>
+) -> Result<(Word, Words), ArgRefusal>
     ensures { let wanted = files_with (text_in fin.entry) (texts_in sources.entry) in
-        MatchResult result (λ files. wanted ≡ Some (files_of (string_bytes files.0) files.1)) (λ e. e ≡ ArgRefusal.Usage → wanted ≡ None) }
+        MatchResult result (λ files. wanted ≡ Some files) (λ e. e ≡ ArgRefusal.Usage → wanted ≡ None) }
 {
     match (fin, sources) {
         (Some(fin), Some(sources)) => {
-            let fin = copy_text(alloc, fin)?;
+            let fin = Word::of(alloc, fin)?;
             let sources = copy_texts(alloc, sources)?;
             Ok((fin, sources))
         }

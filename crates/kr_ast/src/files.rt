@@ -5,7 +5,7 @@ ghost use Rattle.kr_ast.specs.Files.{file_at};
 use crate::tree::Tree;
 
 /// A node of one of the files.
-#[derive(Clone, Copy, Debug)]
+#[derive(Clone, Copy)]
 pub struct NodeId {
     pub file: u32,
     pub node: u32,

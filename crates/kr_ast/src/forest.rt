@@ -79,8 +79,9 @@ impl Forest {
         ensures unchanged { OnErr result (self.new ≡ self.old) }
     {
         let start = self.text.len();
-        if bytes.len() >= 0xffff_ffff - start {
-            return Err(NoMemory);
+        let end = start.saturating_add(bytes.len());
+        if end >= 0xffff_ffff {
+            return Err(NoMemory::at_limit(end as u64));
         }
         self.text.extend_from_slice(bytes)?;
         Ok(Name {
@@ -104,7 +105,7 @@ impl Forest {
     {
         let at = self.entries.len();
         if at >= 0xffff_ffff {
-            return Err(NoMemory);
+            return Err(NoMemory::at_limit(at as u64));
         }
         self.entries.push(Entry {
             place,

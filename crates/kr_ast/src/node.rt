@@ -3,14 +3,14 @@
 use kr_base::Place;
 
 /// Where the bytes of a name stand in the tree's text: from `start` on, before `end`.
-#[derive(Clone, Copy, Debug)]
+#[derive(Clone, Copy)]
 pub struct Name {
     pub start: u32,
     pub end: u32,
 }
 
 /// A primitive type, or that of a method without a result.
-#[derive(Clone, Copy, Debug, PartialEq, Eq)]
+#[derive(Clone, Copy, PartialEq, Eq)]
 pub enum Primitive {
     Int,
     Boolean,
@@ -18,7 +18,7 @@ pub enum Primitive {
 }
 
 /// An operator before its operand (Java Language Specification 15.15.3 to 15.15.6).
-#[derive(Clone, Copy, Debug, PartialEq, Eq)]
+#[derive(Clone, Copy, PartialEq, Eq)]
 pub enum UnaryOperator {
     Plus,
     Minus,
@@ -27,7 +27,7 @@ pub enum UnaryOperator {
 }
 
 /// `++` and `--`, before or behind their operand (15.14.2, 15.14.3, 15.15.1, 15.15.2).
-#[derive(Clone, Copy, Debug, PartialEq, Eq)]
+#[derive(Clone, Copy, PartialEq, Eq)]
 pub enum StepOperator {
     IncrementBefore,
     DecrementBefore,
@@ -36,7 +36,7 @@ pub enum StepOperator {
 }
 
 /// An operator between two operands (15.17 to 15.24).
-#[derive(Clone, Copy, Debug, PartialEq, Eq)]
+#[derive(Clone, Copy, PartialEq, Eq)]
 pub enum BinaryOperator {
     Multiply,
     Divide,
@@ -60,7 +60,7 @@ pub enum BinaryOperator {
 }
 
 /// A node over the indices of its parts. Where a part may be absent it is a `Nil`.
-#[derive(Clone, Copy, Debug)]
+#[derive(Clone, Copy)]
 pub enum Node {
     // lists, and what is absent
     Nil,
@@ -270,7 +270,7 @@ pub enum Node {
 }
 
 /// A node, its place in the source, and which part of which node it is.
-#[derive(Clone, Copy, Debug)]
+#[derive(Clone, Copy)]
 pub struct Entry {
     pub place: Place,
     pub node: Node,

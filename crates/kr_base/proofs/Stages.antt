@@ -240,8 +240,8 @@ one_reading text (Ok a) (Ok b) p q more also = ap Ok (one_cut a b text p.0 q.0)
 one_reading text (Ok a) (Err (Malformed at)) p q more also = absurd (no_fault text a at p.0 q)
 one_reading text (Ok a) (Err (TooLong n)) p q more also =
     absurd (let same : length a ≡ length q.0 = ap length (one_cut a q.0 text p.0 q.1) in let few : length a ≤ 4096 = p.1 in let long : length q.0 ≡ n = q.2 in let many : 4096 < n = q.3 in omega arith)
-one_reading text r (Err NoMemory) p q more also = absurd (also refl)
-one_reading text (Err NoMemory) s p q more also = absurd (more refl)
+one_reading text r (Err (NoMemory _)) p q more also = absurd also
+one_reading text (Err (NoMemory _)) s p q more also = absurd more
 one_reading text (Err (Malformed at)) (Ok b) p q more also = absurd (no_fault text b at q.0 p)
 one_reading text (Err (Malformed at)) (Err (Malformed later)) p q more also = ap (λ (k : ℕ). Err (Malformed k)) (one_fault text at later p q)
 one_reading text (Err (Malformed at)) (Err (TooLong n)) p q more also = absurd (no_fault text q.0 at q.1 p)
@@ -254,4 +254,4 @@ one_reading text (Err (TooLong n)) (Err (TooLong m)) p q more also =
     ap (λ (k : ℕ). Err (TooLong k)) counts
 
 pub round_trip : RoundTrip
-round_trip numbers r some few small p more = one_reading (cut_text numbers) r (Ok numbers) p (record { some = some; small = small; text = refl }, few) more (λ e. cc)
+round_trip numbers r some few small p more = one_reading (cut_text numbers) r (Ok numbers) p (record { some = some; small = small; text = refl }, few) more tt

@@ -1,5 +1,5 @@
 -- To be believed: which texts are those of cuts, and where a text stops being one.
-use Rattle.std.specs.Prelude.{◌≡◌, ◌≢◌, ℕ, ◌+◌, ◌*◌, ◌^◌, ◌<◌, ◌≤◌, ◌==◌, ◌⊎◌, ◌&&◌, List, [], ◌∷◌, ◌++◌, All, length, take, nat_lt, nat_le, Option, Some, None, Result, Ok, Err, if◌then◌else◌}
+use Rattle.std.specs.Prelude.{◌≡◌, ℕ, ◌+◌, ◌*◌, ◌^◌, ◌<◌, ◌≤◌, ◌==◌, ◌⊎◌, ◌&&◌, List, [], ◌∷◌, ◌++◌, All, length, take, nat_lt, nat_le, Option, Some, None, Result, Ok, Err, if◌then◌else◌}
 use Rattle.std.specs.List.{list_all}
 use Rattle.std.specs.Char.{digit_value}
 use Rattle.std.specs.Str.{bytes_eq}
@@ -31,7 +31,7 @@ abbrev pub Parses : List ℕ → Result (List ℕ) CutRefusal → Type 0
 Parses text (Ok numbers) = IsTextOf numbers text × (length numbers ≤ 4096)
 Parses text (Err (Malformed at)) = IsFault text at
 Parses text (Err (TooLong count)) = (numbers : List ℕ) × IsTextOf numbers text × (length numbers ≡ count) × (4096 < count)
-Parses text (Err NoMemory) = Unit {0}
+Parses text (Err (NoMemory _)) = Unit {0}
 
 -- the numbers that a text would have: the value of what stands between its dots, behind a value so far
 abbrev pub numbers_in : ℕ → List ℕ → List ℕ
@@ -52,11 +52,18 @@ pub record ReadsAs (text numbers : List ℕ) : Type 0 where
 abbrev pub ReadingLaw : Type 0
 ReadingLaw = (text numbers : List ℕ) → ReadsAs text numbers
 
+-- no want of memory
+abbrev pub LacksNone : Result (List ℕ) CutRefusal → Type 0
+LacksNone (Ok numbers) = Unit {0}
+LacksNone (Err (Malformed at)) = Unit {0}
+LacksNone (Err (TooLong count)) = Unit {0}
+LacksNone (Err (NoMemory _)) = ⊥
+
 -- but for want of memory a text has one answer
 abbrev pub OneReading : Type 0
-OneReading = (text : List ℕ) (r s : Result (List ℕ) CutRefusal) → Parses text r → Parses text s → r ≢ Err NoMemory → s ≢ Err NoMemory → r ≡ s
+OneReading = (text : List ℕ) (r s : Result (List ℕ) CutRefusal) → Parses text r → Parses text s → LacksNone r → LacksNone s → r ≡ s
 
 -- what was written of a cut of 1 to 4,096 numbers is read as that cut, but for want of memory
 abbrev pub RoundTrip : Type 0
 RoundTrip = (numbers : List ℕ) (r : Result (List ℕ) CutRefusal) → 0 < length numbers → length numbers ≤ 4096 → All (λ n. n < 2 ^ 32) numbers →
-    Parses (cut_text numbers) r → r ≢ Err NoMemory → r ≡ Ok numbers
+    Parses (cut_text numbers) r → LacksNone r → r ≡ Ok numbers

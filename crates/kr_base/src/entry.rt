@@ -4,7 +4,7 @@ use crate::Cut;
 
 /// What the predicate says of a candidate: it holds, with what is listed of it; it is false or traps; or its run
 /// needs more than the fuel.
-#[derive(Debug, Drop)]
+#[derive(Drop)]
 pub enum Mark<R> {
     Valid(R),
     Invalid,
@@ -12,7 +12,7 @@ pub enum Mark<R> {
 }
 
 /// A candidate's key with its mark.
-#[derive(Debug, Drop)]
+#[derive(Drop)]
 pub struct Entry<R> {
     pub key: Cut,
     pub mark: Mark<R>,

@@ -3,7 +3,7 @@ ghost use Rattle.std.specs.Prelude.{◌≡◌, List, ℕ, Option};
 ghost use Rattle.kr_base.specs.Told.{Puts, Writes};
 
 /// A put failed, and the sink's count of faults rose.
-#[derive(Clone, Copy, Debug, PartialEq, Eq)]
+#[derive(Clone, Copy, PartialEq, Eq)]
 pub struct Failed;
 
 /// What takes the text of a call.

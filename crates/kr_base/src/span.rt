@@ -5,7 +5,7 @@ ghost use Rattle.kr_base.specs.Bounds.{less};
 use crate::{Cut, NoMemory};
 
 /// Where a span ends: at a cut, or behind all. `End` is above every cut.
-#[derive(Debug, Drop)]
+#[derive(Drop)]
 pub enum Bound {
     At(Cut),
     End,
@@ -38,7 +38,7 @@ impl Bound {
 }
 
 /// The keys above `after` and not above `upto`.
-#[derive(Debug, Drop)]
+#[derive(Drop)]
 pub struct Span {
     pub after: Cut,
     pub upto: Bound,

@@ -5,9 +5,9 @@ use Rattle.std.specs.List.{sum_by, list_all}
 use Rattle.std.proofs.lemmas.List.Sums.{sum_by-cons}
 use Rattle.std.proofs.lemmas.List.{drop_at, take_at, append-nil}
 use Rattle.kr_base.specs.declared.span.Bound.{Bound}
-use Rattle.kr_base.specs.declared.span.Bound.TheVariants.{At, End}
+use Rattle.kr_base.specs.declared.span.Bound.TheVariants.{At}
 use Rattle.kr_base.specs.declared.entry.Entry.{Entry}
-use Rattle.kr_base.specs.Entries.{within, entries_in}
+use Rattle.kr_base.specs.Entries.{is_spent, within, entries_in, NoneSpent}
 use Rattle.kr_base.proofs.Bounds.{irreflexive}
 use Rattle.kr_survey.specs.declared.part.Listing.{Listing}
 use Rattle.kr_survey.specs.Joins.{joined}
@@ -18,7 +18,7 @@ use Rattle.kr_core.specs.declared.event.Event.TheVariants.{Drain}
 use Rattle.kr_core.specs.declared.event.Reply.{Reply}
 use Rattle.kr_core.specs.States.{State, capped, is_closed, is_same, Each}
 use Rattle.kr_core.specs.Steps.{front, gone, may_stop}
-use Rattle.kr_core.specs.Counts.{EndsSpent, IsSpentFlag, Counts}
+use Rattle.kr_core.specs.Counts.{IsSpentFlag, Counts}
 use Rattle.kr_core.specs.Rows.{drained}
 use Rattle.kr_core.specs.Beside.{fronts, emptied, gathered}
 use Rattle.kr_core.proofs.Spent.{within-none}
@@ -28,7 +28,7 @@ use Rattle.kr_core.proofs.Ends.{counting_law}
 use Rattle.kr_core.proofs.Rowing.{plus, rows_in, front-rows}
 use Rattle.kr_board.specs.Held.{Held}
 use Rattle.kr_board.specs.Boards.{rows_from, Adds, Stays, AreNext}
-use Rattle.kr_board.specs.Closing.{all_closed, mark_in, front_rows, cut_of, IsListing, Lists}
+use Rattle.kr_board.specs.Closing.{all_closed, mark_in, front_rows, cut_of, spent_in, IsListing, Lists}
 use Rattle.kr_board.specs.Rooms.{IsSound}
 use Rattle.kr_board.proofs.Sound.{join, size, sizes}
 use Rattle.kr_board.proofs.Staying.{holds, stays}
@@ -163,13 +163,18 @@ closed-rows P all next flag last a (s ∷ ss) e [] h same c = absurd (omega (ari
 closed-rows {R} P all next flag last a (s ∷ ss) e (k ∷ ks) h same c =
     ap (λ (l : List R). k ++ (l ++ rows_from all ss ks)) (closed-nothing P all next a s h.1.0 c.0) ∙ ap (λ (l : List R). k ++ l) (closed-rows P all next flag (Some s) s.upto ss e ks h.1.1.1 (omega (arith, same)) c.1)
 
-cut-there : (b : Bound) (key : List ℕ) → cut_of b ≡ Some key → b ≡ At key
-cut-there (At cut) key h = ap At (cc (h))
-cut-there End key h = absurd (cc (h))
+-- the key of the last entry, where that alone is spent
+spent-last : {R : Type 0} (before : List (Entry R)) (last : Entry R) → NoneSpent before → is_spent last.mark ≡ true → spent_in (before ++ last ∷ []) ≡ Some last.key
+spent-last [] last n s = ap (λ (b : Bool). if b then Some last.key else None) s
+spent-last (e ∷ es) last n s = ap (λ (b : Bool). if b then Some e.key else spent_in (es ++ last ∷ [])) n.0 ∙ spent-last es last n.1 s
 
-spent-there : {R : Type 0} (flag : Bool) (e : Bound) (es : List (Entry R)) (key : List ℕ) → IsSpentFlag flag e es → (if flag then cut_of e else None) ≡ Some key → EndsSpent (At key) es
-spent-there {R} true e es key f h = subst (λ (b : Bound). EndsSpent b es) (cut-there e key h) f
-spent-there false e es key f h = absurd (cc (h))
+none-there : {R : Type 0} (es : List (Entry R)) → NoneSpent es → spent_in es ≡ None
+none-there [] n = refl
+none-there (e ∷ es) n = ap (λ (b : Bool). if b then Some e.key else spent_in es) n.0 ∙ none-there es n.1
+
+spent-there : {R : Type 0} (flag : Bool) (e : Bound) (es : List (Entry R)) → IsSpentFlag flag e es → (if flag then cut_of e else None) ≡ spent_in es
+spent-there {R} true e es f = sym (ap cut_of f.key_is) ∙ sym (ap (λ (l : List (Entry R)). spent_in l) f.split ∙ spent-last f.before f.last f.none_before f.last_spent)
+spent-there false e es f = sym (none-there es f)
 
 pub listed : {R : Type 0} (b : Held R) (l : Listing R) → length b.kept ≡ length b.core.segments → all_closed b.core ≡ true → IsListing b l → Lists b l
 listed {R} b l same closed is all span cuts asc inside board =
@@ -183,7 +188,7 @@ listed {R} b l same closed is all span cuts asc inside board =
     record {
       rows = sym (ap (λ (x : List R). drop (drained b.log) x) whole ∙ drop_at w.before l.rows (drained b.log) w.count);
       tried = is.tried ∙ done.tried;
-      spent = λ key h. spent-there b.core.spent b.core.end (entries_in (At span.after) b.core.end all) key done.spent (sym is.spent ∙ h);
+      spent = is.spent ∙ spent-there b.core.spent b.core.end (entries_in (At span.after) b.core.end all) done.spent;
     }
 
 -- a stop at the first segment's mark fits

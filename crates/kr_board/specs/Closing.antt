@@ -5,14 +5,13 @@ use Rattle.kr_base.specs.declared.span.Bound.{Bound}
 use Rattle.kr_base.specs.declared.span.Bound.TheVariants.{At, End}
 use Rattle.kr_base.specs.declared.span.Span.{Span}
 use Rattle.kr_base.specs.declared.entry.Entry.{Entry}
-use Rattle.kr_base.specs.Entries.{Ascends, within, entries_in}
+use Rattle.kr_base.specs.Entries.{Ascends, is_spent, within, entries_in}
 use Rattle.kr_survey.specs.declared.part.Listing.{Listing}
 use Rattle.kr_survey.specs.Joins.{joined}
 use Rattle.kr_survey.specs.Scans.{rows_of}
 use Rattle.kr_core.specs.declared.segment.Segment.{Segment}
 use Rattle.kr_core.specs.States.{State, capped, is_closed}
 use Rattle.kr_core.specs.Openings.{AreInside}
-use Rattle.kr_core.specs.Counts.{EndsSpent}
 use Rattle.kr_core.specs.Rows.{drained}
 use Rattle.kr_core.specs.Beside.{fronts}
 use Rattle.kr_board.specs.Held.{Held}
@@ -50,12 +49,17 @@ pub record IsListing {R : Type 0} (b : Held R) (l : Listing R) : Type 0 where
   pub tried : l.tried ≡ capped (b.core.past + sum_by (λ g. g.tried) b.core.segments)
   pub spent : l.spent ≡ spent_key b.core
 
+-- the key of the first spent entry
+abbrev pub spent_in : {R : Type 0} → List (Entry R) → Option (List ℕ)
+spent_in [] = None
+spent_in (e ∷ es) = if is_spent e.mark then Some e.key else spent_in es
+
 -- of every survey that the board is of: the rows up to the end behind those drained, the number of all entries up to the
--- end, cut after the first spent one, and the key of that
+-- end, cut after the first spent one, and the key of that, or none where there is none
 pub record IsListingOf {R : Type 0} (all : List (Entry R)) (span : Span) (b : Held R) (l : Listing R) : Type 0 where
   pub rows : l.rows ≡ drop (drained b.log) (rows_of (within (At span.after) b.core.end all))
   pub tried : l.tried ≡ capped (length (entries_in (At span.after) b.core.end all))
-  pub spent : (key : List ℕ) → l.spent ≡ Some key → EndsSpent (At key) (entries_in (At span.after) b.core.end all)
+  pub spent : l.spent ≡ spent_in (entries_in (At span.after) b.core.end all)
 
 abbrev pub Lists : {R : Type 0} → Held R → Listing R → Type 0
 Lists {R} b l =

@@ -15,11 +15,11 @@ mod taking;
 use crate::edits::{edit_of, empty_lists, make_room, write};
 pub use closing::Closed;
 use kr_base::{Cut, NoMemory, Span};
-use kr_core::{Core, Event, Reply, Segment};
+use kr_core::{Core, CoreRefusal, Event, Reply, Segment};
 use kr_survey::Survey;
 pub use releasing::GivenUp;
 pub use reporting::{Refused, Reported};
-use std::alloc::{AllocError, Global};
+use std::alloc::Global;
 use std::marker::Model;
 pub use taking::Taken;
 
@@ -45,16 +45,26 @@ impl<R> Model for Board<R> {
 }
 
 // Makes room in the log for an event, and then for each owner to give up, where there are so many segments.
-fn make_log_room(log: &mut Vec<Event>, segments: usize) -> Result<(), AllocError>
+fn make_log_room(log: &mut Vec<Event>, segments: usize) -> Result<(), NoMemory>
     ensures items { log.new.items ≡ log.old.items }
     ensures len { vec_len log.new ≡ vec_len log.old }
     ensures never_less { vec_capacity log.old ≤ vec_capacity log.new }
     ensures room { IfOk result (λ _. vec_len log.new + (segments + 2) ≤ vec_capacity log.new) }
 {
     match segments.checked_add(2) {
-        None => Err(AllocError),
-        Some(places) => log.reserve(places),
+        None => Err(NoMemory::at_limit(segments as u64)),
+        Some(places) => {
+            log.reserve(places)?;
+            Ok(())
+        }
     }
+}
+
+// Rows that weren't taken in, as memory was refused.
+#[derive(Drop)]
+struct Untaken<R> {
+    rows: Vec<R>,
+    why: NoMemory,
 }
 
 impl<R: Drop> Board<R> {
@@ -98,7 +108,7 @@ impl<R: Drop> Board<R> {
 
     // One event that fits, with the rows that it brings: room first, then the step, then what can't fail. Rows that aren't
     // taken are given back.
-    fn add(&mut self, event: Event, logged: Event, rows: Vec<R>) -> Result<Reply, Vec<R>>
+    fn add(&mut self, event: Event, logged: Event, rows: Vec<R>) -> Result<Reply, Untaken<R>>
         requires same { logged ≡ event }
         requires fits { fits self.old.core event ≡ true }
         requires kind { IsAdded event }
@@ -106,17 +116,20 @@ impl<R: Drop> Board<R> {
         requires few { length rows.items ≤ (2 ^ 64 - 1) - length (joined self.old.kept) }
         ensures added { IfOk result (λ reply. Adds self.old event reply rows.items self.new) }
         ensures unchanged { OnErr result (self.new ≡ self.old) }
-        ensures back { IfErr result (λ back. back ≡ rows) }
+        ensures back { IfErr result (λ untaken. untaken.rows ≡ rows) }
     {
         let edit = edit_of(&self.core, &logged);
-        let Ok(()) = make_log_room(&mut self.log, self.core.segments().len()) else {
-            return Err(rows);
-        };
-        let Ok(()) = make_room(&mut self.kept, edit, rows.len()) else {
-            return Err(rows);
-        };
+        match make_log_room(&mut self.log, self.core.segments().len()) {
+            Err(why) => return Err(Untaken { rows, why }),
+            Ok(()) => {}
+        }
+        match make_room(&mut self.kept, edit, rows.len()) {
+            Err(why) => return Err(Untaken { rows, why }),
+            Ok(()) => {}
+        }
         match self.core.apply(event) {
-            Err(_) => Err(rows),
+            Err(CoreRefusal::Illegal(_)) => unreachable!(),
+            Err(CoreRefusal::NoMemory(why)) => Err(Untaken { rows, why }),
             Ok(reply) => {
                 write(self.alloc, &mut self.kept, edit, rows);
                 let _ = self.log.push(logged);
@@ -136,7 +149,7 @@ impl<R: Drop> Board<R> {
             Vec::new(self.alloc),
         ) {
             Ok(_) => Ok(()),
-            Err(_) => Err(NoMemory),
+            Err(untaken) => Err(untaken.why),
         }
     }
 }

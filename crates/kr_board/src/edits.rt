@@ -6,12 +6,12 @@ ghost use Rattle.kr_board.specs.Rooms.{HasRoom, HasRoomAt, IsWithin};
 
 use kr_base::NoMemory;
 use kr_core::{Core, Event};
-use std::alloc::{AllocError, Global};
+use std::alloc::Global;
 use std::mem;
 
 /// An edit of the lists kept: an empty one directly behind a place; rows at the end of the one at a place, and whether that is the last
 /// one then; the first one alone.
-#[derive(Clone, Copy, Debug)]
+#[derive(Clone, Copy)]
 pub enum Edit {
     Nothing,
     Insert(usize),
@@ -38,12 +38,13 @@ pub fn edit_of(core: &Core, event: &Event) -> Edit
 }
 
 // Makes room for rows at a place.
-fn make_room_at<R>(kept: &mut Vec<Vec<R>>, i: usize, extra: usize) -> Result<(), AllocError>
+fn make_room_at<R>(kept: &mut Vec<Vec<R>>, i: usize, extra: usize) -> Result<(), NoMemory>
     requires { i < length kept.old.items }
     ensures same { lists kept.new.items ≡ lists kept.old.items }
     ensures room { OnOk result (HasRoomAt kept.new.items i extra) }
 {
-    kept[i].reserve(extra)
+    kept[i].reserve(extra)?;
+    Ok(())
 }
 
 /// Makes room for an edit.

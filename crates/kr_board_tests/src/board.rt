@@ -1,64 +1,36 @@
 // Boards over four keys, worked by hand. Each row has a call, what comes of it, and the board then: its number of events,
-// and of each segment number, owner or `-`, mark, upto, rows and tried. Cuts are numbers joined by dots, `.` the empty one.
-ghost use Rattle.std.specs.Prelude.{◌≡◌, ◌<◌};
+// and of each segment number, owner or `-`, after, mark, upto, rows and tried. Cuts are numbers joined by dots, `.` the
+// empty one. Comparing takes no memory, so that a call that is refused memory may be made again.
+ghost use Rattle.std.specs.Prelude.{◌<◌};
 
-use crate::texts::{push_bound, push_cut, push_numbers, push_owner};
-use kr_base::{Bound, Cut, Entry, Mark, Span, Steps};
-use kr_board::{Board, Closed, GivenUp, Lease, Refused, Reported, Segment, Taken, is_possible};
+use crate::survey::{cut_of, push_valid, scan, survey_of};
+use crate::texts::{after_cut, after_number, after_word, are_segments, ends, is_cut, is_lease};
+use kr_base::{Bound, Cut, Entry, NoMemory, Span};
+use kr_board::{Board, Closed, GivenUp, Lease, Refused, Reported, Taken, is_possible};
 use kr_core::Core;
-use kr_survey::{ListSurvey, Part, Rows, Survey};
+use kr_survey::{ListSurvey, Part, Rows};
 use std::alloc::Global;
-use std::marker::Brand;
 use std::process::Abort;
-use std::sync::ledger::{Blank, Ledger};
 use std::test::Fail;
 
-fn cut_of(alloc: Global, numbers: &[u32]) -> Result<Cut, Fail> {
-    Ok(Cut::new(Vec::from_slice(alloc, numbers)?))
-}
-
-/// Adds a key that is its row.
-fn push_key(alloc: Global, entries: &mut Vec<Entry<Cut>>, number: u32) -> Result<(), Fail> {
-    let key = cut_of(alloc, &[0, number])?;
-    let mark = Mark::Valid(cut_of(alloc, &[0, number])?);
-    entries.push(Entry { key, mark })?;
-    Ok(())
-}
-
-fn push_keys(alloc: Global, entries: &mut Vec<Entry<Cut>>) -> Result<(), Fail> {
+fn push_keys(alloc: Global, entries: &mut Vec<Entry<Cut>>) -> Result<(), NoMemory> {
     for number in [1, 2, 3, 4] {
-        push_key(alloc, entries, number)?;
+        push_valid(alloc, entries, &[0, number])?;
     }
     Ok(())
 }
 
 // Valid at 0.1, 0.2, 0.3 and 0.4; a row is its key.
-fn four_keys(rt: &impl Abort, alloc: Global) -> Result<ListSurvey, Fail> {
+fn four_keys(rt: &impl Abort, alloc: Global) -> Result<ListSurvey, NoMemory> {
     let mut entries = Vec::new(alloc);
     push_keys(alloc, &mut entries)?;
-    let ascends = ListSurvey::is_ascending(entries.as_slice());
-    assert!(rt; ascends, "the keys ascend");
-    Ok(ListSurvey::new(alloc, entries))
+    Ok(survey_of(rt, alloc, entries))
 }
 
-fn scan_counted<L: Ledger>(
-    survey: &ListSurvey,
-    after: &Cut,
-    upto: &Bound,
-    most: u32,
-    blank: Blank,
-) -> Result<Part<Cut>, Fail>
-    requires ledger { blank.name ≡ L.name }
-    requires parts { blank.parts ≡ L.parts }
-    requires some { 0 < L.parts }
-    requires most { 0 < most }
-{
-    let mut runs = Steps::<L>::start(blank);
-    Ok(survey.scan(after, upto, most, &mut runs)?)
-}
+const MODULUS: u64 = 1_000_000_007;
 
 fn mixed(sum: u64, number: u64) -> u64 {
-    sum.wrapping_mul(31).wrapping_add(number)
+    (sum % MODULUS) * 31 + number % MODULUS
 }
 
 fn bound_sum(sum: u64, bound: &Bound) -> u64 {
@@ -71,7 +43,7 @@ fn bound_sum(sum: u64, bound: &Bound) -> u64 {
     mixed(sum, 11)
 }
 
-// A number of all that shows of a board, made without memory: where a call is refused memory, it stays.
+// A number of all that shows of a board: where a call is refused memory, it stays.
 fn board_sum(board: &Board<Cut>) -> u64 {
     let mut sum = board.log().len() as u64;
     for segment in board.segments() {
@@ -87,44 +59,41 @@ fn board_sum(board: &Board<Cut>) -> u64 {
 }
 
 // A call that is refused memory leaves the board as it was, and is made again.
-fn take(rt: &impl Abort, board: &mut Board<Cut>, seat: u32) -> Result<Taken, Fail> {
+fn take(rt: &impl Abort, board: &mut Board<Cut>, seat: u32) -> Result<Taken, NoMemory> {
     let before = board_sum(board);
     match board.take(seat) {
         Ok(taken) => Ok(taken),
         Err(_) => {
             assert!(rt; board_sum(board) == before, "not as before");
-            Ok(board.take(seat)?)
+            board.take(seat)
         }
     }
 }
 
-fn drain(rt: &impl Abort, board: &mut Board<Cut>) -> Result<Rows<Cut>, Fail> {
+fn drain(rt: &impl Abort, board: &mut Board<Cut>) -> Result<Rows<Cut>, NoMemory> {
     let before = board_sum(board);
     match board.drain() {
         Ok(rows) => Ok(rows),
         Err(_) => {
             assert!(rt; board_sum(board) == before, "not as before");
-            Ok(board.drain()?)
+            board.drain()
         }
     }
 }
 
-fn stop_once(rt: &impl Abort, board: &mut Board<Cut>) -> Option<Cut> {
+fn stop_once(rt: &impl Abort, board: &mut Board<Cut>) -> Result<Cut, NoMemory> {
     let can_stop = board.can_stop();
     assert!(rt; can_stop, "the first mark is a cut");
-    board.stop().ok()
+    board.stop()
 }
 
-fn stop(rt: &impl Abort, board: &mut Board<Cut>) -> Result<Cut, Fail> {
+fn stop(rt: &impl Abort, board: &mut Board<Cut>) -> Result<Cut, NoMemory> {
     let before = board_sum(board);
     match stop_once(rt, board) {
-        Some(mark) => Ok(mark),
-        None => {
+        Ok(mark) => Ok(mark),
+        Err(_) => {
             assert!(rt; board_sum(board) == before, "not as before");
-            match stop_once(rt, board) {
-                Some(mark) => Ok(mark),
-                None => Err(Fail::new("no memory")),
-            }
+            stop_once(rt, board)
         }
     }
 }
@@ -135,230 +104,112 @@ fn report_again(
     board: &mut Board<Cut>,
     lease: Lease,
     part: Part<Cut>,
-) -> Result<Reported, Fail> {
+) -> Result<Reported, NoMemory> {
     let possible = is_possible(&lease.mark, &part);
     assert!(rt; possible, "not as before: the part");
     match board.report(lease, part) {
         Ok(reported) => Ok(reported),
-        Err(_) => Err(Fail::new("no memory")),
+        Err(refused) => Err(refused.why),
     }
 }
 
-// A scan up to a bound, reported under a lease.
-fn report(
+// A part under a lease.
+fn report_part(
     rt: &impl Abort,
     board: &mut Board<Cut>,
-    survey: &ListSurvey,
     lease: Lease,
-    upto: &Bound,
-    most: u32,
-) -> Result<Reported, Fail>
-    requires { 0 < most }
-{
-    let part = scan_counted::<Brand>(survey, &lease.mark, upto, most, Blank::new(1))?;
+    part: Part<Cut>,
+) -> Result<Reported, NoMemory> {
     let possible = is_possible(&lease.mark, &part);
     assert!(rt; possible, "a part of a survey");
     let before = board_sum(board);
     match board.report(lease, part) {
         Ok(reported) => Ok(reported),
-        Err(Refused { lease, part }) => {
+        Err(Refused { lease, part, .. }) => {
             assert!(rt; board_sum(board) == before, "not as before");
             report_again(rt, board, lease, part)
         }
     }
 }
 
-fn push_lease(alloc: Global, text: &mut String, kind: &str, lease: &Lease) -> Result<(), Fail> {
-    text.push_str(kind)?;
-    push_numbers(alloc, text, &[u64::from(lease.seat), lease.segment])?;
-    text.push(' ')?;
-    push_cut(alloc, text, &lease.mark)?;
-    text.push(' ')?;
-    push_bound(alloc, text, &lease.upto)
+fn lease_again(lease: &Lease) -> Result<Lease, NoMemory> {
+    Ok(Lease {
+        seat: lease.seat,
+        segment: lease.segment,
+        mark: lease.mark.try_clone()?,
+        upto: lease.upto.try_clone()?,
+    })
 }
 
-fn push_segment(alloc: Global, text: &mut String, segment: &Segment) -> Result<(), Fail> {
-    text.push(';')?;
-    push_numbers(alloc, text, &[segment.number])?;
-    push_owner(alloc, text, segment.owner)?;
-    push_bound(alloc, text, &segment.mark)?;
-    text.push(' ')?;
-    push_bound(alloc, text, &segment.upto)?;
-    push_numbers(alloc, text, &[segment.rows, segment.tried])
-}
-
-fn push_segments(alloc: Global, text: &mut String, segments: &[Segment]) -> Result<(), Fail> {
-    for segment in segments {
-        push_segment(alloc, text, segment)?;
+// A scan up to a lease's own upto, reported under it.
+fn report(
+    rt: &impl Abort,
+    board: &mut Board<Cut>,
+    survey: &ListSurvey,
+    lease: &Lease,
+    most: u32,
+) -> Result<Reported, NoMemory>
+    requires { 0 < most }
+{
+    let part = scan(survey, &lease.mark, &lease.upto, most)?;
+    match lease_again(lease) {
+        Ok(lease) => report_part(rt, board, lease, part),
+        Err(why) => Err(why),
     }
-    Ok(())
 }
 
-fn board_text(alloc: Global, board: &Board<Cut>) -> Result<String, Fail> {
-    let mut text = format!(in alloc; "{} events", board.log().len())?;
-    push_segments(alloc, &mut text, board.segments())?;
-    Ok(text)
-}
-
-fn push_piece(alloc: Global, text: &mut String, piece: &[Cut]) -> Result<(), Fail> {
-    for row in piece {
-        text.push(' ')?;
-        push_cut(alloc, text, row)?;
-    }
-    Ok(())
-}
-
-fn push_rows(alloc: Global, text: &mut String, pieces: &[Vec<Cut>]) -> Result<(), Fail> {
-    text.push_str("rows")?;
-    for piece in pieces {
-        push_piece(alloc, text, piece.as_slice())?;
-    }
-    Ok(())
-}
-
-fn push_closed(alloc: Global, text: &mut String, closed: &Closed<Cut>) -> Result<(), Fail> {
-    match closed {
-        Closed::Unfinished(_board) => text.push_str("unfinished")?,
-        Closed::Listing(listing) => {
-            push_rows(alloc, text, listing.rows.pieces())?;
-            text.push_str("; tried")?;
-            push_numbers(alloc, text, &[listing.tried])?;
-            let spent = listing.spent.is_some();
-            text.push_str(if spent {
-                "; spent true"
-            } else {
-                "; spent false"
-            })?;
-        }
-    }
-    Ok(())
-}
-
-// What was answered, as text; a lease goes to the others.
-fn push_given(
-    alloc: Global,
-    text: &mut String,
+// A lease goes to the others.
+fn is_given(
     leases: &mut Vec<Lease>,
-    kind: &str,
     lease: Lease,
-) -> Result<(), Fail> {
-    push_lease(alloc, text, kind, &lease)?;
+    kind: &str,
+    wanted: &str,
+) -> Result<bool, NoMemory> {
+    let is_wanted = is_lease(&lease, kind, wanted);
     leases.push(lease)?;
-    Ok(())
+    Ok(is_wanted)
 }
 
-fn push_taken(
-    alloc: Global,
-    text: &mut String,
-    leases: &mut Vec<Lease>,
-    taken: Taken,
-) -> Result<(), Fail> {
+fn is_taken(leases: &mut Vec<Lease>, taken: Taken, wanted: &str) -> Result<bool, NoMemory> {
     match taken {
-        Taken::Lease(lease) => push_given(alloc, text, leases, "lease", lease),
-        Taken::Later => Ok(text.push_str("later")?),
-        Taken::Finished => Ok(text.push_str("finished")?),
+        Taken::Lease(lease) => is_given(leases, lease, "lease", wanted),
+        Taken::Later => Ok(wanted == "later"),
+        Taken::Finished => Ok(wanted == "finished"),
     }
 }
 
-fn push_reported(
-    alloc: Global,
-    text: &mut String,
+fn is_reported(
     leases: &mut Vec<Lease>,
     reported: Reported,
-) -> Result<(), Fail> {
+    wanted: &str,
+) -> Result<bool, NoMemory> {
     match reported {
-        Reported::Gone => Ok(text.push_str("gone")?),
-        Reported::Moved(cut) => {
-            text.push_str("moved ")?;
-            push_cut(alloc, text, &cut)
-        }
-        Reported::Overrun(lease) => push_given(alloc, text, leases, "overrun", lease),
-        Reported::Done => Ok(text.push_str("done")?),
-        Reported::Go(lease) => push_given(alloc, text, leases, "go", lease),
+        Reported::Gone => Ok(wanted == "gone"),
+        Reported::Moved(mark) => Ok(match after_word(wanted, "moved") {
+            Some(text) => is_cut(&mark, text),
+            None => false,
+        }),
+        Reported::Overrun(lease) => is_given(leases, lease, "overrun", wanted),
+        Reported::Done => Ok(wanted == "done"),
+        Reported::Go(lease) => is_given(leases, lease, "go", wanted),
     }
 }
 
-fn lease_again(leases: &[Lease], at: usize) -> Result<Lease, Fail> {
-    match leases.get(at) {
-        None => Err(Fail::new("no such lease")),
-        Some(lease) => {
-            let mark = lease.mark.try_clone()?;
-            let upto = lease.upto.try_clone()?;
-            Ok(Lease {
-                seat: lease.seat,
-                segment: lease.segment,
-                mark,
-                upto,
-            })
-        }
+fn after_piece<'a>(text: &'a str, piece: &[Cut]) -> Option<&'a str> {
+    let mut text = text;
+    for row in piece {
+        text = after_cut(text, row)?;
     }
+    Some(text)
 }
 
-// The lease at a place in the list of all that were given, with a scan up to its own upto.
-fn report_at(
-    rt: &impl Abort,
-    board: &mut Board<Cut>,
-    survey: &ListSurvey,
-    leases: &[Lease],
-    at: usize,
-    most: u32,
-) -> Result<Reported, Fail>
-    requires { 0 < most }
-{
-    let lease = lease_again(leases, at)?;
-    let upto = lease.upto.try_clone()?;
-    report(rt, board, survey, lease, &upto, most)
-}
-
-fn push_report(
-    rt: &impl Abort,
-    alloc: Global,
-    text: &mut String,
-    board: &mut Board<Cut>,
-    survey: &ListSurvey,
-    leases: &mut Vec<Lease>,
-    at: usize,
-    most: u32,
-) -> Result<(), Fail>
-    requires { 0 < most }
-{
-    let reported = report_at(rt, board, survey, leases.as_slice(), at, most)?;
-    push_reported(alloc, text, leases, reported)
-}
-
-fn push_given_up(
-    text: &mut String,
-    board: &mut Board<Cut>,
-    leases: &[Lease],
-    at: usize,
-) -> Result<(), Fail> {
-    let lease = lease_again(leases, at)?;
-    let word = match board.give_up(&lease) {
-        GivenUp::Released => "released",
-        GivenUp::Gone => "gone",
-    };
-    text.push_str(word)?;
-    Ok(())
-}
-
-fn push_drained(
-    rt: &impl Abort,
-    alloc: Global,
-    text: &mut String,
-    board: &mut Board<Cut>,
-) -> Result<(), Fail> {
-    let rows = drain(rt, board)?;
-    push_rows(alloc, text, rows.pieces())
-}
-
-fn push_stopped(
-    rt: &impl Abort,
-    alloc: Global,
-    text: &mut String,
-    board: &mut Board<Cut>,
-) -> Result<(), Fail> {
-    let mark = stop(rt, board)?;
-    push_cut(alloc, text, &mark)
+/// `rows ROW ..`
+fn after_rows<'a>(text: &'a str, pieces: &[Vec<Cut>]) -> Option<&'a str> {
+    let mut text = after_word(text, "rows")?;
+    for piece in pieces {
+        text = after_piece(text, piece.as_slice())?;
+    }
+    Some(text)
 }
 
 #[derive(Clone, Copy)]
@@ -372,69 +223,86 @@ enum Call {
     IsFinished,
 }
 
-fn push_answer(
+// The lease at a place in the list of all that were given.
+fn answers_report(
     rt: &impl Abort,
-    alloc: Global,
-    text: &mut String,
     board: &mut Board<Cut>,
     survey: &ListSurvey,
     leases: &mut Vec<Lease>,
-    call: Call,
-) -> Result<(), Fail> {
-    match call {
-        Call::Take { seat } => {
-            let taken = take(rt, board, seat)?;
-            push_taken(alloc, text, leases, taken)
+    at: usize,
+    most: u32,
+    wanted: &str,
+) -> Result<bool, NoMemory> {
+    match leases.get(at) {
+        Some(lease) => {
+            let reported = report(rt, board, survey, lease, most.max(1))?;
+            is_reported(leases, reported, wanted)
         }
-        Call::Report { lease, most } => {
-            push_report(rt, alloc, text, board, survey, leases, lease, most.max(1))
-        }
-        Call::GiveUp { lease } => push_given_up(text, board, leases.as_slice(), lease),
-        Call::ReleaseAll => {
-            board.release_all();
-            Ok(())
-        }
-        Call::Drain => push_drained(rt, alloc, text, board),
-        Call::Stop => push_stopped(rt, alloc, text, board),
-        Call::IsFinished => {
-            let finished = board.is_finished();
-            Ok(text.push_str(if finished { "true" } else { "false" })?)
-        }
+        None => Ok(false),
     }
 }
 
-fn answer(
+fn answers_give_up(board: &mut Board<Cut>, leases: &[Lease], at: usize, wanted: &str) -> bool {
+    match leases.get(at) {
+        Some(lease) => match board.give_up(lease) {
+            GivenUp::Released => wanted == "released",
+            GivenUp::Gone => wanted == "gone",
+        },
+        None => false,
+    }
+}
+
+fn answers_drain(rt: &impl Abort, board: &mut Board<Cut>, wanted: &str) -> Result<bool, NoMemory> {
+    let rows = drain(rt, board)?;
+    Ok(ends(after_rows(wanted, rows.pieces())))
+}
+
+fn answers_stop(rt: &impl Abort, board: &mut Board<Cut>, wanted: &str) -> Result<bool, NoMemory> {
+    let mark = stop(rt, board)?;
+    Ok(is_cut(&mark, wanted))
+}
+
+/// Whether a call is answered so.
+fn answers(
     rt: &impl Abort,
-    alloc: Global,
     board: &mut Board<Cut>,
     survey: &ListSurvey,
     leases: &mut Vec<Lease>,
     call: Call,
-) -> Result<String, Fail> {
-    let mut text = String::new(alloc);
-    push_answer(rt, alloc, &mut text, board, survey, leases, call)?;
-    Ok(text)
+    wanted: &str,
+) -> Result<bool, NoMemory> {
+    match call {
+        Call::Take { seat } => {
+            let taken = take(rt, board, seat)?;
+            is_taken(leases, taken, wanted)
+        }
+        Call::Report { lease, most } => {
+            answers_report(rt, board, survey, leases, lease, most, wanted)
+        }
+        Call::GiveUp { lease } => Ok(answers_give_up(board, leases.as_slice(), lease, wanted)),
+        Call::ReleaseAll => {
+            board.release_all();
+            Ok(wanted.is_empty())
+        }
+        Call::Drain => answers_drain(rt, board, wanted),
+        Call::Stop => answers_stop(rt, board, wanted),
+        Call::IsFinished => Ok(wanted == if board.is_finished() { "true" } else { "false" }),
+    }
 }
 
-// Makes a call, and compares its answer and the board then.
-fn step(
-    rt: &impl Abort,
-    alloc: Global,
-    board: &mut Board<Cut>,
-    survey: &ListSurvey,
-    leases: &mut Vec<Lease>,
-    row: &(Call, &str, &str),
-) -> Result<(), Fail> {
-    let (call, wanted, then) = *row;
-    let line = answer(rt, alloc, board, survey, leases, call)?;
-    assert!(rt; line.as_str() == wanted, "{line}, not {wanted}");
-    let text = board_text(alloc, board)?;
-    assert!(rt; text.as_str() == then, "{text}, not {then}");
-    Ok(())
+/// `COUNT events`, and the segments.
+fn is_board(board: &Board<Cut>, text: &str) -> bool {
+    match after_number(text, board.log().len() as u64) {
+        Some(text) => match after_word(text, "events") {
+            Some(text) => are_segments(board.segments(), text),
+            None => false,
+        },
+        None => false,
+    }
 }
 
 // From the empty cut up to 1, without cuts.
-fn opened(rt: &impl Abort, alloc: Global, survey: &ListSurvey) -> Result<Board<Cut>, Fail> {
+fn opened(rt: &impl Abort, alloc: Global, survey: &ListSurvey) -> Result<Board<Cut>, NoMemory> {
     let upto = Bound::At(cut_of(alloc, &[1])?);
     let span = Span {
         after: Cut::empty(alloc),
@@ -443,31 +311,49 @@ fn opened(rt: &impl Abort, alloc: Global, survey: &ListSurvey) -> Result<Board<C
     let cuts: [Cut; 0] = [];
     let inside = Core::can_open(&span, &cuts);
     assert!(rt; inside, "the cuts are inside");
-    Ok(Board::new(alloc, survey, span, &cuts)?)
+    Board::new(alloc, survey, span, &cuts)
 }
 
 // Makes the calls one after another.
 fn step_all(
     rt: &impl Abort,
-    alloc: Global,
     board: &mut Board<Cut>,
     survey: &ListSurvey,
+    leases: &mut Vec<Lease>,
     rows: &[(Call, &str, &str)],
-) -> Result<(), Fail> {
-    let mut leases = Vec::new(alloc);
+) -> Result<(), NoMemory> {
     for row in rows {
-        step(rt, alloc, board, survey, &mut leases, row)?;
+        let (call, wanted, then) = *row;
+        let answered = answers(rt, board, survey, leases, call, wanted)?;
+        assert!(rt; answered, "not {wanted}, before {then}");
+        assert!(rt; is_board(board, then), "not {then}");
     }
     Ok(())
 }
 
-// Closes a board, and compares what it is then.
-fn close(rt: &impl Abort, alloc: Global, board: Board<Cut>, wanted: &str) -> Result<(), Fail> {
+/// What is left of a text whose front tells what a board closed to.
+fn after_closed<'a>(text: &'a str, closed: &Closed<Cut>) -> Option<&'a str> {
+    match closed {
+        Closed::Unfinished(_board) => after_word(text, "unfinished"),
+        Closed::Listing(listing) => {
+            let text = after_rows(text, listing.rows.pieces())?;
+            let text = after_word(after_word(text, ";")?, "tried")?;
+            let text = after_word(after_number(text, listing.tried)?, ";")?;
+            after_word(
+                text,
+                if listing.spent.is_some() {
+                    "spent"
+                } else {
+                    "unspent"
+                },
+            )
+        }
+    }
+}
+
+fn closes(board: Board<Cut>, wanted: &str) -> bool {
     let closed = board.close();
-    let mut text = String::new(alloc);
-    push_closed(alloc, &mut text, &closed)?;
-    assert!(rt; text.as_str() == wanted, "{text}, not {wanted}");
-    Ok(())
+    ends(after_closed(wanted, &closed))
 }
 
 fn run_over(
@@ -476,10 +362,12 @@ fn run_over(
     survey: &ListSurvey,
     rows: &[(Call, &str, &str)],
     closed: &str,
-) -> Result<(), Fail> {
+) -> Result<(), NoMemory> {
     let mut board = opened(rt, alloc, survey)?;
-    step_all(rt, alloc, &mut board, survey, rows)?;
-    close(rt, alloc, board, closed)
+    let mut leases = Vec::new(alloc);
+    step_all(rt, &mut board, survey, &mut leases, rows)?;
+    assert!(rt; closes(board, closed), "not {closed}");
+    Ok(())
 }
 
 // Makes the calls one after another on a board, and closes it.
@@ -488,56 +376,56 @@ fn run(
     alloc: Global,
     rows: &[(Call, &str, &str)],
     closed: &str,
-) -> Result<(), Fail> {
+) -> Result<(), NoMemory> {
     let survey = four_keys(rt, alloc)?;
     run_over(rt, alloc, &survey, rows, closed)
 }
 
 #[test]
 fn four_keys_with_a_theft(rt: HostRuntime) -> Result<(), Fail> {
-    run(
+    Ok(run(
         &rt,
         rt.alloc(),
         &[
             (
                 Call::Take { seat: 0 },
                 "lease 0 0 . 1",
-                "1 events; 0 0 . 1 0 0",
+                "1 events ; 0 0 . . 1 0 0",
             ),
             (
                 Call::Report { lease: 0, most: 1 },
                 "go 0 0 0.1 1",
-                "2 events; 0 0 0.1 1 1 1",
+                "2 events ; 0 0 . 0.1 1 1 1",
             ),
             (
                 Call::Report { lease: 0, most: 1 },
                 "moved 0.1",
-                "3 events; 0 0 0.1 1 1 1",
+                "3 events ; 0 0 . 0.1 1 1 1",
             ),
             (
                 Call::Take { seat: 1 },
                 "lease 1 1 0.2 1",
-                "4 events; 0 0 0.1 0.2 1 1; 1 1 0.2 1 0 0",
+                "4 events ; 0 0 . 0.1 0.2 1 1 ; 1 1 0.2 0.2 1 0 0",
             ),
             (
                 Call::Report { lease: 1, most: 2 },
                 "overrun 0 0 0.1 0.2",
-                "5 events; 0 0 0.1 0.2 1 1; 1 1 0.2 1 0 0",
+                "5 events ; 0 0 . 0.1 0.2 1 1 ; 1 1 0.2 0.2 1 0 0",
             ),
             (
                 Call::Report { lease: 3, most: 2 },
                 "done",
-                "6 events; 0 - 0.2 0.2 2 2; 1 1 0.2 1 0 0",
+                "6 events ; 0 - . 0.2 0.2 2 2 ; 1 1 0.2 0.2 1 0 0",
             ),
             (
                 Call::Report { lease: 3, most: 2 },
                 "gone",
-                "7 events; 0 - 0.2 0.2 2 2; 1 1 0.2 1 0 0",
+                "7 events ; 0 - . 0.2 0.2 2 2 ; 1 1 0.2 0.2 1 0 0",
             ),
             (
                 Call::IsFinished,
                 "false",
-                "7 events; 0 - 0.2 0.2 2 2; 1 1 0.2 1 0 0",
+                "7 events ; 0 - . 0.2 0.2 2 2 ; 1 1 0.2 0.2 1 0 0",
             ),
             (
                 Call::Report {
@@ -545,120 +433,120 @@ fn four_keys_with_a_theft(rt: HostRuntime) -> Result<(), Fail> {
                     most: 256,
                 },
                 "done",
-                "8 events; 0 - 0.2 0.2 2 2; 1 - 1 1 2 2",
+                "8 events ; 0 - . 0.2 0.2 2 2 ; 1 - 0.2 1 1 2 2",
             ),
             (
                 Call::Take { seat: 0 },
                 "finished",
-                "9 events; 0 - 0.2 0.2 2 2; 1 - 1 1 2 2",
+                "9 events ; 0 - . 0.2 0.2 2 2 ; 1 - 0.2 1 1 2 2",
             ),
         ],
-        "rows 0.1 0.2 0.3 0.4; tried 4; spent false",
-    )
+        "rows 0.1 0.2 0.3 0.4 ; tried 4 ; unspent",
+    )?)
 }
 
 #[test]
 fn a_seat_gives_up(rt: HostRuntime) -> Result<(), Fail> {
-    run(
+    Ok(run(
         &rt,
         rt.alloc(),
         &[
             (
                 Call::Take { seat: 0 },
                 "lease 0 0 . 1",
-                "1 events; 0 0 . 1 0 0",
+                "1 events ; 0 0 . . 1 0 0",
             ),
             (
                 Call::Report { lease: 0, most: 1 },
                 "go 0 0 0.1 1",
-                "2 events; 0 0 0.1 1 1 1",
+                "2 events ; 0 0 . 0.1 1 1 1",
             ),
             (
                 Call::Report { lease: 0, most: 1 },
                 "moved 0.1",
-                "3 events; 0 0 0.1 1 1 1",
+                "3 events ; 0 0 . 0.1 1 1 1",
             ),
             (
                 Call::Take { seat: 1 },
                 "lease 1 1 0.2 1",
-                "4 events; 0 0 0.1 0.2 1 1; 1 1 0.2 1 0 0",
+                "4 events ; 0 0 . 0.1 0.2 1 1 ; 1 1 0.2 0.2 1 0 0",
             ),
             (
                 Call::GiveUp { lease: 2 },
                 "released",
-                "5 events; 0 0 0.1 0.2 1 1; 1 - 0.2 1 0 0",
+                "5 events ; 0 0 . 0.1 0.2 1 1 ; 1 - 0.2 0.2 1 0 0",
             ),
             (
                 Call::GiveUp { lease: 2 },
                 "gone",
-                "5 events; 0 0 0.1 0.2 1 1; 1 - 0.2 1 0 0",
+                "5 events ; 0 0 . 0.1 0.2 1 1 ; 1 - 0.2 0.2 1 0 0",
             ),
             (
                 Call::Take { seat: 2 },
                 "lease 2 1 0.2 1",
-                "6 events; 0 0 0.1 0.2 1 1; 1 2 0.2 1 0 0",
+                "6 events ; 0 0 . 0.1 0.2 1 1 ; 1 2 0.2 0.2 1 0 0",
             ),
             (
                 Call::Take { seat: 3 },
                 "lease 3 2 0.3 1",
-                "7 events; 0 0 0.1 0.2 1 1; 1 2 0.2 0.3 0 0; 2 3 0.3 1 0 0",
+                "7 events ; 0 0 . 0.1 0.2 1 1 ; 1 2 0.2 0.2 0.3 0 0 ; 2 3 0.3 0.3 1 0 0",
             ),
             (
                 Call::Drain,
                 "rows 0.1",
-                "8 events; 0 0 0.1 0.2 0 1; 1 2 0.2 0.3 0 0; 2 3 0.3 1 0 0",
+                "8 events ; 0 0 . 0.1 0.2 0 1 ; 1 2 0.2 0.2 0.3 0 0 ; 2 3 0.3 0.3 1 0 0",
             ),
-            (Call::Stop, "0.1", "9 events; 0 - 0.1 0.1 0 1"),
+            (Call::Stop, "0.1", "9 events ; 0 - . 0.1 0.1 0 1"),
             (
                 Call::Report {
                     lease: 3,
                     most: 256,
                 },
                 "gone",
-                "10 events; 0 - 0.1 0.1 0 1",
+                "10 events ; 0 - . 0.1 0.1 0 1",
             ),
         ],
-        "rows; tried 1; spent false",
-    )
+        "rows ; tried 1 ; unspent",
+    )?)
 }
 
 #[test]
 fn all_leases_are_given_up(rt: HostRuntime) -> Result<(), Fail> {
-    run(
+    Ok(run(
         &rt,
         rt.alloc(),
         &[
             (
                 Call::Take { seat: 0 },
                 "lease 0 0 . 1",
-                "1 events; 0 0 . 1 0 0",
+                "1 events ; 0 0 . . 1 0 0",
             ),
             (
                 Call::Report { lease: 0, most: 1 },
                 "go 0 0 0.1 1",
-                "2 events; 0 0 0.1 1 1 1",
+                "2 events ; 0 0 . 0.1 1 1 1",
             ),
             (
                 Call::Take { seat: 1 },
                 "lease 1 1 0.2 1",
-                "3 events; 0 0 0.1 0.2 1 1; 1 1 0.2 1 0 0",
+                "3 events ; 0 0 . 0.1 0.2 1 1 ; 1 1 0.2 0.2 1 0 0",
             ),
             (
                 Call::ReleaseAll,
                 "",
-                "5 events; 0 - 0.1 0.2 1 1; 1 - 0.2 1 0 0",
+                "5 events ; 0 - . 0.1 0.2 1 1 ; 1 - 0.2 0.2 1 0 0",
             ),
             (
                 Call::ReleaseAll,
                 "",
-                "5 events; 0 - 0.1 0.2 1 1; 1 - 0.2 1 0 0",
+                "5 events ; 0 - . 0.1 0.2 1 1 ; 1 - 0.2 0.2 1 0 0",
             ),
             (
                 Call::Take { seat: 0 },
                 "lease 0 0 0.1 0.2",
-                "6 events; 0 0 0.1 0.2 1 1; 1 - 0.2 1 0 0",
+                "6 events ; 0 0 . 0.1 0.2 1 1 ; 1 - 0.2 0.2 1 0 0",
             ),
         ],
         "unfinished",
-    )
+    )?)
 }

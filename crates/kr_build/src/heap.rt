@@ -117,8 +117,9 @@ pub fn build(alloc: Global, layout: &Layout, vector: &Vector) -> Result<Heap, No
     requires small { length (slots (bare layout.now)) < 2 ^ 31 }
     ensures { IfOk result (λ heap. heap ≡ heap_of (bare layout.now) vector.now) }
 {
-    let Ok(domains) = u32::try_from(layout.domains()) else {
-        return Err(NoMemory);
+    let count = layout.domains();
+    let Ok(domains) = u32::try_from(count) else {
+        return Err(NoMemory::at_limit(count as u64));
     };
     let mut heap = Heap::new(alloc);
     for domain in 0..domains {

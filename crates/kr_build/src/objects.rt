@@ -43,7 +43,7 @@ fn extent(layout: &Layout, vector: &Vector, class: Class, first: u32, width: u32
 }
 
 /// Slots that stand one after another.
-#[derive(Clone, Copy, Debug)]
+#[derive(Clone, Copy)]
 pub struct Stretch {
     pub first: u32,
     pub count: u32,

@@ -1,13 +1,13 @@
 -- To be believed: what a refusal says of the class rules.
 use Rattle.std.specs.Prelude.{◌≡◌, ℕ, List, [], ◌∷◌, Option, Some, None, codes}
+use Rattle.kr_base.specs.declared.refusal.RefusalAt.{RefusalAt}
+use Rattle.kr_base.specs.declared.refusal.RefusalAt.TheVariants.{Broken, NoMemory}
 use Rattle.kr_ast.specs.Arena.{Arena}
 use Rattle.kr_classes_table.specs.Table.{Table}
 use Rattle.kr_classes_table.specs.Rules.{Fault, C1, C2, C3, class_fault, first_of, least}
 use Rattle.kr_classes_names.specs.Shown.{AreHeads}
 use Rattle.kr_classes.specs.declared.refusal.ClassRule.{ClassRule as Rule}
 use Rattle.kr_classes.specs.declared.refusal.ClassRule.TheVariants.{RepeatedClass, UnknownSuperclass, OwnAncestor, RepeatedMember, OtherParameters, ObjectMethod, OtherResult, TooMany}
-use Rattle.kr_classes.specs.declared.refusal.ClassRefusal.{ClassRefusal}
-use Rattle.kr_classes.specs.declared.refusal.ClassRefusal.TheVariants.{Broken, NoMemory}
 use Rattle.kr_classes.specs.declared.hierarchy.Hierarchy.{Hierarchy}
 use Rattle.kr_classes.specs.Faults.{AreBelow, AreSuperclasses, first_of_rule, table_in}
 
@@ -36,9 +36,9 @@ abbrev pub names_fault : Table → Option Fault
 names_fault t = first_of (least (C1 t) ∷ first_of_rule C2 t ∷ first_of_rule C3 t ∷ [])
 
 -- the rule that is named is the first broken one; want of memory is free
-abbrev pub IsRefusal : List Arena → ClassRefusal → Type 0
+abbrev pub IsRefusal : List Arena → RefusalAt Rule → Type 0
 IsRefusal files (Broken p r) = class_fault (table_in files) ≡ Some (record { place = p; rule = rule_number r })
-IsRefusal files NoMemory = Unit {0}
+IsRefusal files (NoMemory _) = Unit {0}
 
 -- the classes of these files, which break none of these rules
 pub record IsHierarchy (files : List Arena) (h : Hierarchy) : Type 0 where

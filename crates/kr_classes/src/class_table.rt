@@ -62,7 +62,7 @@ pub fn classes(alloc: Global, trees: &[Tree]) -> Result<ClassTable, ClassRefusal
         &table.types,
         &table.numbers,
     ) {
-        Err(_) => return Err(ClassRefusal::NoMemory),
+        Err(why) => return Err(ClassRefusal::NoMemory(why)),
         Ok(broken) => broken,
     };
     match broken {

@@ -11,9 +11,10 @@ use crate::places::{earlier, if_broken};
 use kr_ast::{Tree, tree_of};
 use kr_base::Place;
 use kr_classes_members::{Field, Members};
+use kr_classes_table::ClassId;
 
 /// Whether a field has the name of an inherited one, or of one before it in its class.
-fn is_repeated_field(members: &Members, class: u32, number: usize, name: &[u8]) -> bool
+fn is_repeated_field(members: &Members, class: ClassId, number: usize, name: &[u8]) -> bool
     ensures { (files : List Arena) → AreMembers files members.now → result ≡ is_some (field_on (table_in files) (ancestors (table_in files) class) name.now) || not (is_number (position_from (bytes_eq name.now) 0 (map (λ f. f.name) (own_fields (table_in files) class))) (Some number)) }
 {
     if members.inherited_field(class, name).is_some() {
@@ -26,7 +27,7 @@ fn is_repeated_field(members: &Members, class: u32, number: usize, name: &[u8]) 
 }
 
 /// The first field that has the name of an inherited one, or of one before it.
-fn repeated_field(trees: &[Tree], members: &Members, class: u32) -> Option<Place>
+fn repeated_field(trees: &[Tree], members: &Members, class: ClassId) -> Option<Place>
     requires { AreMembers trees.now members.now }
     ensures { fault_at 4 result ≡ least (repeated 4 (inherited_names (table_in trees.now) class) (field_places (own_fields (table_in trees.now) class))) }
 {
@@ -40,7 +41,7 @@ fn repeated_field(trees: &[Tree], members: &Members, class: u32) -> Option<Place
 }
 
 /// The first constructor behind another.
-fn later_constructor(members: &Members, class: u32) -> Option<Place>
+fn later_constructor(members: &Members, class: ClassId) -> Option<Place>
     ensures { (files : List Arena) → AreMembers files members.now → fault_at 4 result ≡ least (flat_map (λ k. break_if true 4 k.place) (drop 1 (flat_map (λ d. d.constructors) (option_to_list (class_at (table_in files).classes class))))) }
 {
     let constructors = members.constructors(class);
@@ -55,7 +56,7 @@ fn later_constructor(members: &Members, class: u32) -> Option<Place>
 }
 
 /// Where rule C4 is broken first in a class.
-pub(crate) fn repeated_member(trees: &[Tree], members: &Members, class: u32) -> Option<Place>
+pub(crate) fn repeated_member(trees: &[Tree], members: &Members, class: ClassId) -> Option<Place>
     requires members { AreMembers trees.now members.now }
     requires class { class < class_count members.now }
     ensures { fault_at 4 result ≡ least (C4 (table_in trees.now) class (class_in (table_in trees.now) class)) }
@@ -74,7 +75,7 @@ fn counted(field: Field) -> usize
 }
 
 /// How many instance fields a class declares itself.
-fn instance_count(members: &Members, class: u32) -> usize
+fn instance_count(members: &Members, class: ClassId) -> usize
     ensures { (files : List Arena) → AreMembers files members.now → result ≡ length (flat_map is_instance (own_fields (table_in files) class)) }
 {
     let mut count = 0;
@@ -97,7 +98,7 @@ fn capped_sum(total: usize, count: usize) -> usize
 }
 
 /// How many instance fields a class inherits, and 32 where there are more.
-fn inherited_count(members: &Members, class: u32) -> usize
+fn inherited_count(members: &Members, class: ClassId) -> usize
     ensures value { (files : List Arena) → AreMembers files members.now → result ≡ min 32 (length (flat_map is_instance (flat_map (own_fields (table_in files)) (ancestors (table_in files) class)))) }
     ensures small { result ≤ 32 }
 {
@@ -123,7 +124,7 @@ fn is_past(field: Field, seen: usize, room: usize) -> bool
 }
 
 /// The first of a class's own instance fields for which there is no room.
-fn extra_field(members: &Members, class: u32, room: usize) -> Option<Place>
+fn extra_field(members: &Members, class: ClassId, room: usize) -> Option<Place>
     ensures { (files : List Arena) → AreMembers files members.now → fault_at 8 result ≡ least (past room (flat_map is_instance (own_fields (table_in files) class))) }
 {
     let mut first = None;
@@ -136,7 +137,7 @@ fn extra_field(members: &Members, class: u32, room: usize) -> Option<Place>
 }
 
 /// The place of a class past the 64th.
-fn extra_class(members: &Members, class: u32) -> Option<Place>
+fn extra_class(members: &Members, class: ClassId) -> Option<Place>
     requires { class < class_count members.now }
     ensures { (files : List Arena) → AreMembers files members.now → fault_at 8 result ≡ least (break_if (nat_lt 63 class) 8 (class_in (table_in files) class).place) }
 {
@@ -148,7 +149,7 @@ fn extra_class(members: &Members, class: u32) -> Option<Place>
 }
 
 /// Where rule C8 is broken first in a class.
-pub(crate) fn too_many(members: &Members, class: u32) -> Option<Place>
+pub(crate) fn too_many(members: &Members, class: ClassId) -> Option<Place>
     requires { class < class_count members.now }
     ensures { (files : List Arena) → AreMembers files members.now → fault_at 8 result ≡ least (C8 (table_in files) class (class_in (table_in files) class)) }
 {

@@ -10,17 +10,18 @@ use crate::name_rules::{first_own_ancestor, first_repeated_name, first_unknown_s
 use crate::refusal::{ClassRefusal, ClassRule, Found};
 use kr_ast::Tree;
 use kr_classes_names::{Heads, superclasses};
+use kr_classes_table::ClassId;
 use std::alloc::Global;
 
 /// The heads of the classes, and the superclass of each.
 #[derive(Drop)]
 pub struct Hierarchy {
     pub(crate) heads: Heads,
-    pub(crate) supers: Vec<Option<u32>>,
+    pub(crate) supers: Vec<Option<ClassId>>,
 }
 
 /// The first broken rule of those on names and on what classes extend.
-fn first_broken(trees: &[Tree], heads: &Heads, supers: &[Option<u32>]) -> Option<Found>
+fn first_broken(trees: &[Tree], heads: &Heads, supers: &[Option<ClassId>]) -> Option<Found>
     requires heads { AreHeads trees.now heads.now }
     requires count { length supers.now ≡ count_of heads.now }
     requires supers { AreSuperclasses supers.now (table_in trees.now) }
@@ -75,7 +76,7 @@ impl Hierarchy {
     }
 
     /// The superclass of a class.
-    pub fn superclass(&self, class: usize) -> Option<u32>
+    pub fn superclass(&self, class: usize) -> Option<ClassId>
         ensures { (files : List Arena) → IsHierarchy files self.now → result ≡ super_of (table_in files) class }
     {
         if class < self.supers.len() {

@@ -18,6 +18,7 @@ use kr_ast::Tree;
 use kr_base::{NoMemory, Place};
 use kr_classes_members::Members;
 use kr_classes_names::Heads;
+use kr_classes_table::ClassId;
 use kr_classes_types::{NodeTypes, Types};
 use std::alloc::Global;
 
@@ -54,7 +55,7 @@ fn place_in_class(
     types: &Types,
     numbers: &NodeTypes,
     rule: MemberRule,
-    class: u32,
+    class: ClassId,
 ) -> Result<Option<Place>, NoMemory>
     requires members { AreMembers trees.now members.now }
     requires numbers { AreNodeTypes trees.now types.now numbers.now }

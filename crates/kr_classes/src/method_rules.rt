@@ -11,9 +11,10 @@ use crate::places::{earlier, if_broken};
 use kr_ast::{Tree, tree_of};
 use kr_base::Place;
 use kr_classes_members::Members;
+use kr_classes_table::ClassId;
 
 /// Whether a method has the name of one before it in its class.
-fn is_repeated_method(members: &Members, class: u32, number: usize, name: &[u8]) -> bool
+fn is_repeated_method(members: &Members, class: ClassId, number: usize, name: &[u8]) -> bool
     ensures { (files : List Arena) → AreMembers files members.now → result ≡ not (is_number (position_from (bytes_eq name.now) 0 (map (λ m. m.name) (own_methods (table_in files) class))) (Some number)) }
 {
     match members.own_method_number(class, name) {
@@ -23,7 +24,7 @@ fn is_repeated_method(members: &Members, class: u32, number: usize, name: &[u8])
 }
 
 /// The first method that has the name of one before it.
-pub(crate) fn repeated_method(trees: &[Tree], members: &Members, class: u32) -> Option<Place>
+pub(crate) fn repeated_method(trees: &[Tree], members: &Members, class: ClassId) -> Option<Place>
     requires { AreMembers trees.now members.now }
     ensures { fault_at 5 result ≡ least (repeated 5 [] (method_places (own_methods (table_in trees.now) class))) }
 {
@@ -49,7 +50,7 @@ fn is_object_method(name: &[u8]) -> bool
 }
 
 /// Where rule C6 is broken first in a class.
-pub(crate) fn object_method(trees: &[Tree], members: &Members, class: u32) -> Option<Place>
+pub(crate) fn object_method(trees: &[Tree], members: &Members, class: ClassId) -> Option<Place>
     requires members { AreMembers trees.now members.now }
     requires class { class < class_count members.now }
     ensures { fault_at 6 result ≡ least (C6 (table_in trees.now) class (class_in (table_in trees.now) class)) }

@@ -11,6 +11,7 @@ use crate::places::earlier;
 use kr_ast::{Node, Tree, tree_of};
 use kr_base::Place;
 use kr_classes_names::{Heading, Heads};
+use kr_classes_table::ClassId;
 
 /// Whether a name is kept for a collection.
 fn is_collection(name: &[u8]) -> bool
@@ -53,7 +54,7 @@ pub fn first_repeated_name(trees: &[Tree], heads: &Heads) -> Option<Place>
 }
 
 /// Whether a class is its own ancestor.
-fn is_own_ancestor(supers: &[Option<u32>], class: usize) -> bool
+fn is_own_ancestor(supers: &[Option<ClassId>], class: usize) -> bool
     requires class { class < length supers.now }
     requires below { AreBelow supers.now }
     ensures { (t : Table) → AreSuperclasses supers.now t → result ≡ is_among class (ancestors t class) }
@@ -87,7 +88,7 @@ fn extended_place(trees: &[Tree], heading: Heading) -> Option<Place>
 }
 
 /// A class's place where it is its own ancestor.
-fn own_ancestor_place(supers: &[Option<u32>], class: usize, place: Place) -> Option<Place>
+fn own_ancestor_place(supers: &[Option<ClassId>], class: usize, place: Place) -> Option<Place>
     requires class { class < length supers.now }
     requires below { AreBelow supers.now }
     ensures { (t : Table) → AreSuperclasses supers.now t → fault_at 3 result ≡ least (break_if (is_among class (ancestors t class)) 3 place) }
@@ -100,7 +101,7 @@ fn own_ancestor_place(supers: &[Option<u32>], class: usize, place: Place) -> Opt
 }
 
 /// The place behind `extends` where the class has no superclass.
-fn unknown_place(supers: &[Option<u32>], class: usize, extended: Option<Place>) -> Option<Place>
+fn unknown_place(supers: &[Option<ClassId>], class: usize, extended: Option<Place>) -> Option<Place>
     requires { class < length supers.now }
     ensures { fault_at 2 result ≡ least (flat_map (break_if (is_none (superclass_at supers.now class)) 2) (option_to_list extended)) }
 {
@@ -111,7 +112,7 @@ fn unknown_place(supers: &[Option<u32>], class: usize, extended: Option<Place>) 
 }
 
 /// The first class that is its own ancestor (rule C3).
-pub fn first_own_ancestor(heads: &Heads, supers: &[Option<u32>]) -> Option<Place>
+pub fn first_own_ancestor(heads: &Heads, supers: &[Option<ClassId>]) -> Option<Place>
     requires count { length supers.now ≡ count_of heads.now }
     requires below { AreBelow supers.now }
     ensures { (files : List Arena) → AreHeads files heads.now → AreSuperclasses supers.now (table_in files) → fault_at 3 result ≡ first_of_rule C3 (table_in files) }
@@ -128,7 +129,7 @@ pub fn first_own_ancestor(heads: &Heads, supers: &[Option<u32>]) -> Option<Place
 pub fn first_unknown_superclass(
     trees: &[Tree],
     heads: &Heads,
-    supers: &[Option<u32>],
+    supers: &[Option<ClassId>],
 ) -> Option<Place>
     requires heads { AreHeads trees.now heads.now }
     requires count { length supers.now ≡ count_of heads.now }

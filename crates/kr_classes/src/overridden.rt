@@ -15,6 +15,7 @@ use crate::places::{earlier, if_broken};
 use kr_ast::{Tree, tree_of};
 use kr_base::{NoMemory, Place};
 use kr_classes_members::{Members, Method};
+use kr_classes_table::ClassId;
 use kr_classes_types::{NodeTypes, Types};
 use std::alloc::Global;
 
@@ -49,7 +50,7 @@ fn override_place(
     types: &Types,
     numbers: &NodeTypes,
     shared: Shared,
-    class: u32,
+    class: ClassId,
     method: Method,
 ) -> Result<Option<Place>, NoMemory>
     requires method { IsMethod trees.now method }
@@ -75,7 +76,7 @@ fn first_override(
     types: &Types,
     numbers: &NodeTypes,
     shared: Shared,
-    class: u32,
+    class: ClassId,
 ) -> Result<Option<Place>, NoMemory>
     requires members { AreMembers trees.now members.now }
     requires numbers { AreNodeTypes trees.now types.now numbers.now }
@@ -98,7 +99,7 @@ pub(crate) fn other_parameters(
     members: &Members,
     types: &Types,
     numbers: &NodeTypes,
-    class: u32,
+    class: ClassId,
 ) -> Result<Option<Place>, NoMemory>
     requires members { AreMembers trees.now members.now }
     requires numbers { AreNodeTypes trees.now types.now numbers.now }
@@ -118,7 +119,7 @@ pub(crate) fn other_result(
     members: &Members,
     types: &Types,
     numbers: &NodeTypes,
-    class: u32,
+    class: ClassId,
 ) -> Result<Option<Place>, NoMemory>
     requires members { AreMembers trees.now members.now }
     requires numbers { AreNodeTypes trees.now types.now numbers.now }

@@ -15,6 +15,7 @@ use kr_ast::{Node, Tree, tree_of};
 use kr_base::{NoMemory, add_found};
 use kr_classes_members::{Members, Method};
 use kr_classes_names::items;
+use kr_classes_table::TypeId;
 use kr_classes_types::{NodeTypes, Types};
 use kr_types_judging::is_assignable;
 use std::alloc::Global;
@@ -27,7 +28,7 @@ pub(crate) enum Shared {
 }
 
 /// The number of the type of a parameter.
-fn parameter_type(trees: &[Tree], numbers: &NodeTypes, file: u32, node: u32) -> Option<u32>
+fn parameter_type(trees: &[Tree], numbers: &NodeTypes, file: u32, node: u32) -> Option<TypeId>
     requires file { file < length trees.now }
     requires node { node < length (file_at trees.now file).entries }
     ensures within { (l : TypeList) → AreNodeTypes trees.now l numbers.now → IfSome result (λ n. n < count l) }
@@ -46,7 +47,7 @@ fn parameter_types(
     numbers: &NodeTypes,
     file: u32,
     list: u32,
-) -> Result<Vec<u32>, NoMemory>
+) -> Result<Vec<TypeId>, NoMemory>
     requires file { file < length trees.now }
     requires list { list < length (file_at trees.now file).entries }
     ensures within { (l : TypeList) → AreNodeTypes trees.now l numbers.now → IfOk result (λ found. All (λ n. n < count l) found.items) }
@@ -61,7 +62,7 @@ fn parameter_types(
 }
 
 /// Whether there are as many types, each equal.
-fn are_equal(types: &Types, first: &[u32], second: &[u32]) -> bool
+fn are_equal(types: &Types, first: &[TypeId], second: &[TypeId]) -> bool
     requires first { All (λ n. n < count types.now) first.now }
     requires second { All (λ n. n < count types.now) second.now }
     ensures { result ≡ are_same (map (type_at types.now) first.now) (map (type_at types.now) second.now) }
@@ -97,7 +98,7 @@ pub(crate) fn same_parameters(
 }
 
 /// Whether a type may be the result of a method that overrides one of another result.
-fn result_type_fits(types: &Types, members: &Members, own: u32, above: u32) -> bool
+fn result_type_fits(types: &Types, members: &Members, own: TypeId, above: TypeId) -> bool
     requires own { own < count types.now }
     requires above { above < count types.now }
     ensures { (files : List Arena) → AreMembers files members.now → result ≡ result_fits (table_in files) (type_at types.now own) (type_at types.now above) }

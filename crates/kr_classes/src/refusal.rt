@@ -1,12 +1,11 @@
 // Why classes are refused.
 ghost use Rattle.std.specs.Prelude.{◌≡◌};
-ghost use Rattle.kr_classes.specs.declared.refusal.ClassRefusal.TheVariants.{NoMemory as Lacking};
 ghost use Rattle.kr_classes.specs.Refusals.{rule_code};
 
-use kr_base::{NoMemory, Place};
+use kr_base::{Place, RefusalAt};
 
 /// A class rule, by what breaks it.
-#[derive(Clone, Copy, Debug, PartialEq, Eq)]
+#[derive(Clone, Copy, PartialEq, Eq)]
 pub enum ClassRule {
     /// C1: a class has the name of a collection, or of a class before it.
     RepeatedClass,
@@ -52,16 +51,4 @@ impl ClassRule {
 }
 
 /// The classes were refused: they break a rule at a place, or memory was refused.
-#[derive(Clone, Copy, Debug, PartialEq, Eq)]
-pub enum ClassRefusal {
-    Broken { place: Place, rule: ClassRule },
-    NoMemory,
-}
-
-impl From<NoMemory> for ClassRefusal {
-    ghost from_gives = { λ _ refusal. refusal ≡ Lacking };
-
-    fn from(_: NoMemory) -> ClassRefusal {
-        ClassRefusal::NoMemory
-    }
-}
+pub type ClassRefusal = RefusalAt<ClassRule>;

@@ -6,7 +6,7 @@ use Rattle.std.proofs.lemmas.Bool.Decides.{nat_tests}
 use Rattle.kr_base.specs.declared.place.Place.{Place}
 use Rattle.kr_classes_operators.specs.declared.constant.Constant.{Constant}
 use Rattle.kr_classes_operators.specs.Shown.{constant_shown, shown}
-use Rattle.kr_classes_table.specs.Constants.{ConstantValue, Known, is_same_place, value_at, or_else}
+use Rattle.kr_classes_table.specs.Constants.{ConstantValue, Known, is_at_place, value_at, or_else}
 use Rattle.kr_classes_constants.specs.Kept.{Key, is_key_of, found, AreValues}
 
 pub looked : (p : Place) (es : List (Key × Constant)) → lookup (is_key_of p) es ≡ found p es
@@ -17,9 +17,9 @@ choice_or : {A : Type 0} (b : Bool) (x : A) (r s : Option A) → (if b then Some
 choice_or true x r s = refl
 choice_or false x r s = refl
 
-value_push : (known : List Known) (k : Known) (p : Place) → value_at (known ++ k ∷ []) p ≡ or_else (value_at known p) (if is_same_place k.place p then Some k.value else None)
+value_push : (known : List Known) (k : Known) (p : Place) → value_at (known ++ k ∷ []) p ≡ or_else (value_at known p) (if is_at_place k.place p then Some k.value else None)
 value_push [] k p = refl
-value_push (j ∷ known) k p = ap (λ r. if is_same_place j.place p then Some j.value else r) (value_push known k p) ∙ choice_or (is_same_place j.place p) j.value (value_at known p) (if is_same_place k.place p then Some k.value else None)
+value_push (j ∷ known) k p = ap (λ r. if is_at_place j.place p then Some j.value else r) (value_push known k p) ∙ choice_or (is_at_place j.place p) j.value (value_at known p) (if is_at_place k.place p then Some k.value else None)
 
 found_push : (p : Place) (es : List (Key × Constant)) (e : Key × Constant) → found p (es ++ e ∷ []) ≡ or_else (found p es) (if is_key_of p e.0 then Some e.1 else None)
 found_push p [] e = refl
@@ -28,7 +28,7 @@ found_push p (d ∷ es) e = ap (λ r. if is_key_of p d.0 then Some d.1 else r) (
 turned : (a b : ℕ) → nat_eq a b ≡ nat_eq b a
 turned a b = grind (arith, nat_tests)
 
-key_is_place : (p q : Place) → is_key_of p (q.file, q.line, q.col) ≡ is_same_place q p
+key_is_place : (p q : Place) → is_key_of p (q.file, q.line, q.col) ≡ is_at_place q p
 key_is_place p q = λ i. turned p.file q.file i && turned p.line q.line i && turned p.col q.col i
 
 both : (a b : Bool) → a && b ≡ true → (a ≡ true) × (b ≡ true)
@@ -38,7 +38,7 @@ both false b h = absurd (cc h)
 equal : (a b : ℕ) → nat_eq a b ≡ true → a ≡ b
 equal a b h = grind (arith, nat_tests)
 
-same_place : (p q : Place) → is_same_place p q ≡ true → p ≡ q
+same_place : (p q : Place) → is_at_place p q ≡ true → p ≡ q
 same_place p q h =
     let f = both (nat_eq p.file q.file && nat_eq p.line q.line) (nat_eq p.col q.col) h in
     let g = both (nat_eq p.file q.file) (nat_eq p.line q.line) f.0 in
@@ -67,7 +67,7 @@ module _ (known : List Known) (kept : List (Key × Constant)) (place : Place) (v
   kept_value some p =
       let there : is_some (value_at known place) ≡ true = ap is_some (sym (h place)) ∙ some_shown (found place kept) ∙ some in
       h p
-      ∙ present (value_at known p) (is_same_place place p) (constant_shown value)
+      ∙ present (value_at known p) (is_at_place place p) (constant_shown value)
       (λ b. subst (λ (q : Place). is_some (value_at known q) ≡ true) (same_place place p b) there)
       ∙ sym (value_push known (record { place = place; value = constant_shown value }) p)
 

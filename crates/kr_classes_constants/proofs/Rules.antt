@@ -9,7 +9,7 @@ use Rattle.kr_ast.specs.declared.node.UnaryOperator.{UnaryOperator}
 use Rattle.kr_ast.specs.declared.node.BinaryOperator.{BinaryOperator}
 use Rattle.kr_ast.specs.Arena.{Arena, ArePartsFrom, name_in, tree_in, tree_of}
 use Rattle.kr_classes_table.specs.Table.{Table, Field}
-use Rattle.kr_classes_table.specs.Constants.{ConstantValue, Known, known_as, with_constant, is_constant, evaluated, unary_value, binary_value, chosen, value_of, field_meant, constant_of, class_meant, is_primitive}
+use Rattle.kr_classes_table.specs.Constants.{ConstantValue, Known, known_as, with_constant, is_constant, evaluated, unary_value, binary_value, chosen, known_value, field_meant, constant_of, class_meant, is_primitive}
 use Rattle.kr_classes_constants.specs.Outcomes.{outcome, outcome_of, unary_outcome, binary_outcome, conditional_outcome, known_outcome, with_outcome, note_shown}
 use Rattle.kr_classes_operators.specs.declared.constant.Constant.{Constant}
 use Rattle.kr_classes_constants.specs.declared.note.Note.{Note}
@@ -53,8 +53,8 @@ unfolding is_constant evaluated
 node_law s p (nodes.Number v) = refl
 node_law s p (nodes.Truth b) = refl
 node_law s p nodes.Null = refl
-node_law s p (nodes.Variable n) = name_law (value_of s.known (field_meant s.table s.class (name_in s.tree.text n)))
-node_law s p (nodes.FieldAccess x n) = name_law (value_of s.known (constant_of s.table (class_meant s.table s.class (tree_in s.tree x)) (name_in s.tree.text n)))
+node_law s p (nodes.Variable n) = name_law (known_value s.known (field_meant s.table s.class (name_in s.tree.text n)))
+node_law s p (nodes.FieldAccess x n) = name_law (known_value s.known (constant_of s.table (class_meant s.table s.class (tree_in s.tree x)) (name_in s.tree.text n)))
 node_law s p (nodes.Unary o x) = unary_law o (is_constant s.table s.known s.class (tree_in s.tree x)) (evaluated s.table s.known s.class (tree_in s.tree x))
 node_law s p (nodes.Binary o x y) =
     binary_law o (is_constant s.table s.known s.class (tree_in s.tree x)) (is_constant s.table s.known s.class (tree_in s.tree y))

@@ -12,7 +12,7 @@ use std::marker::Model;
 
 /// What is waited for, with what was found before: the operand of a unary operator, the left operand, the right one, the
 /// condition, and the two arms.
-#[derive(Clone, Copy, Debug)]
+#[derive(Clone, Copy)]
 pub(crate) enum Frame {
     Operand(UnaryOperator),
     Left {
@@ -38,7 +38,7 @@ pub(crate) enum Frame {
 }
 
 /// A node to be looked at, or what was found of one.
-#[derive(Clone, Copy, Debug)]
+#[derive(Clone, Copy)]
 pub(crate) enum Task {
     Look(u32),
     Give(Note),

@@ -2,7 +2,7 @@
 ghost use Rattle.std.specs.Prelude.{◌≡◌, ◌++◌, ◌∷◌, [], List, IfOk, Some, option_map};
 ghost use Rattle.kr_base.specs.declared.place.Place.{Place};
 ghost use Rattle.kr_ast.specs.Arena.{Arena};
-ghost use Rattle.kr_classes_table.specs.Constants.{Known, known_as, value_at, value_of};
+ghost use Rattle.kr_classes_table.specs.Constants.{Known, known_as, value_at, known_value};
 ghost use Rattle.kr_classes_members.specs.Shown.{field_shown};
 ghost use Rattle.kr_classes_constants.specs.Outcomes.{note_shown, with_outcome};
 ghost use Rattle.kr_classes_operators.specs.Shown.{constant_shown, shown};
@@ -57,7 +57,7 @@ impl Values {
 
     /// The value of a constant, if there is one.
     pub fn value_of(&self, field: Option<Field>) -> Option<Constant>
-        ensures { (files : List Arena) (known : List Known) → AreValues known self.now → shown result ≡ value_of known (option_map (field_shown files) field) }
+        ensures { (files : List Arena) (known : List Known) → AreValues known self.now → shown result ≡ known_value known (option_map (field_shown files) field) }
     {
         self.value_at(field?.place)
     }

@@ -3,7 +3,7 @@ ghost use Rattle.std.specs.Prelude.{◌≡◌, ◌<◌, List, length};
 ghost use Rattle.kr_base.specs.declared.place.Place.{Place};
 ghost use Rattle.kr_ast.specs.Arena.{Arena, tree_in};
 ghost use Rattle.kr_ast.specs.Tree.{Variable as VariableTree};
-ghost use Rattle.kr_classes_table.specs.Constants.{Known, class_meant, constant_of, field_meant, value_of};
+ghost use Rattle.kr_classes_table.specs.Constants.{Known, class_meant, constant_of, field_meant, known_value};
 ghost use Rattle.kr_classes_names.specs.Shown.{AreHeads};
 ghost use Rattle.kr_ast.specs.Files.{file_at};
 ghost use Rattle.kr_classes_members.specs.Kept.{AreMembers};
@@ -16,23 +16,24 @@ use crate::note::Note;
 use kr_ast::{Node, Tree, tree_of};
 use kr_classes_members::Members;
 use kr_classes_names::Heads;
+use kr_classes_table::ClassId;
 
 /// Where an expression stands: the number of its file, and that of the class whose code it is.
-#[derive(Clone, Copy, Debug)]
+#[derive(Clone, Copy)]
 pub(crate) struct Site {
     pub file: u32,
-    pub class: u32,
+    pub class: ClassId,
 }
 
 /// Of a simple name.
-pub(crate) fn name_note(members: &Members, values: &Values, class: u32, name: &[u8]) -> Note
-    ensures { (files : List Arena) (known : List Known) → AreMembers files members.now → AreValues known values.now → note_shown result ≡ known_outcome (value_of known (field_meant (table_in files) class name.now)) }
+pub(crate) fn name_note(members: &Members, values: &Values, class: ClassId, name: &[u8]) -> Note
+    ensures { (files : List Arena) (known : List Known) → AreMembers files members.now → AreValues known values.now → note_shown result ≡ known_outcome (known_value known (field_meant (table_in files) class name.now)) }
 {
     Note::of_known(values.value_of(members.field_meant(class, name)))
 }
 
 /// The class that a simple name before a dot means, where no field has the name.
-fn class_named(heads: &Heads, members: &Members, class: u32, name: &[u8]) -> Option<u32>
+fn class_named(heads: &Heads, members: &Members, class: ClassId, name: &[u8]) -> Option<ClassId>
     ensures { (files : List Arena) (p : Place) → AreHeads files heads.now → AreMembers files members.now → result ≡ class_meant (table_in files) class (VariableTree p name.now) }
 {
     match members.field_meant(class, name) {
@@ -48,7 +49,7 @@ fn class_before(
     members: &Members,
     site: Site,
     object: u32,
-) -> Option<u32>
+) -> Option<ClassId>
     requires heads { AreHeads trees.now heads.now }
     requires members { AreMembers trees.now members.now }
     requires file { site.file < length trees.now }
@@ -76,7 +77,7 @@ pub(crate) fn access_note(
     requires members { AreMembers trees.now members.now }
     requires file { site.file < length trees.now }
     requires object { object < length (file_at trees.now site.file).entries }
-    ensures { (known : List Known) → AreValues known values.now → note_shown result ≡ known_outcome (value_of known (constant_of (table_in trees.now) (class_meant (table_in trees.now) site.class (tree_in (file_at trees.now site.file) object)) name.now)) }
+    ensures { (known : List Known) → AreValues known values.now → note_shown result ≡ known_outcome (known_value known (constant_of (table_in trees.now) (class_meant (table_in trees.now) site.class (tree_in (file_at trees.now site.file) object)) name.now)) }
 {
     let class = class_before(trees, heads, members, site, object);
     Note::of_known(values.value_of(members.constant_of(class, name)))

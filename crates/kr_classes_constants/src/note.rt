@@ -7,7 +7,7 @@ use kr_ast::{BinaryOperator, UnaryOperator};
 use kr_classes_operators::{Constant, binary, unary};
 
 /// What is found of an expression.
-#[derive(Clone, Copy, Debug)]
+#[derive(Clone, Copy)]
 pub(crate) enum Note {
     /// It is no constant expression.
     NotConstant,

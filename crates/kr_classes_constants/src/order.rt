@@ -9,6 +9,7 @@ ghost use Rattle.kr_classes_constants.specs.Outcomes.{constant_listed};
 
 use kr_base::NoMemory;
 use kr_classes_members::{Field, Members};
+use kr_classes_table::ClassId;
 use std::alloc::Global;
 
 /// A field that is a constant.
@@ -33,7 +34,11 @@ fn add_found(constants: &mut Vec<Field>, found: Option<Field>) -> Result<(), NoM
 }
 
 /// Adds the constants that a class declares itself.
-fn add_constants(members: &Members, class: u32, constants: &mut Vec<Field>) -> Result<(), NoMemory>
+fn add_constants(
+    members: &Members,
+    class: ClassId,
+    constants: &mut Vec<Field>,
+) -> Result<(), NoMemory>
     ensures stands { (files : List Arena) → AreMembers files members.now → IfOk result (λ none. All (IsField files) constants.old.items → All (IsField files) constants.new.items) }
     ensures shown { (files : List Arena) → AreMembers files members.now → IfOk result (λ none. map (field_shown files) constants.new.items ≡ map (field_shown files) constants.old.items ++ flat_map constant_listed (own_fields (table_in files) class)) }
 {
@@ -50,7 +55,7 @@ fn all_constants(alloc: Global, members: &Members) -> Result<Vec<Field>, NoMemor
 {
     let classes = members.len();
     if classes > 0xffff_ffff {
-        return Err(NoMemory);
+        return Err(NoMemory::at_limit(classes as u64));
     }
     let mut constants = Vec::new(alloc);
     for class in 0..classes as u32 {

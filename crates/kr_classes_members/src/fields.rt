@@ -9,13 +9,14 @@ ghost use Rattle.kr_classes_members.specs.Shown.{IsField, field_name, field_show
 use kr_ast::{Name, Node, Tree, tree_of};
 use kr_base::{NoMemory, Place, add_found};
 use kr_classes_names::{Index, items};
+use kr_classes_table::ClassId;
 use std::alloc::Global;
 
 /// A field or constant: the class that declares it, and the nodes of its type and its initial value, which may be absent.
-#[derive(Clone, Copy, Debug)]
+#[derive(Clone, Copy)]
 pub struct Field {
     pub file: u32,
-    pub class: u32,
+    pub class: ClassId,
     pub name: Name,
     pub place: Place,
     pub is_static: bool,
@@ -28,7 +29,7 @@ pub struct Field {
 #[derive(Clone, Copy)]
 struct FieldLine {
     file: u32,
-    class: u32,
+    class: ClassId,
     is_static: bool,
     is_final: bool,
     declared: u32,
@@ -36,7 +37,7 @@ struct FieldLine {
 }
 
 /// The line of fields that a member is.
-fn line_of_fields(trees: &[Tree], file: u32, class: u32, member: u32) -> Option<FieldLine>
+fn line_of_fields(trees: &[Tree], file: u32, class: ClassId, member: u32) -> Option<FieldLine>
     requires file { file < length trees.now }
     requires member { member < length (file_at trees.now file).entries }
     ensures file { IfSome result (λ d. d.file ≡ file) }
@@ -112,7 +113,7 @@ fn add_fields(
     alloc: Global,
     trees: &[Tree],
     file: u32,
-    class: u32,
+    class: ClassId,
     member: u32,
     fields: &mut Vec<Field>,
 ) -> Result<(), NoMemory>
@@ -133,7 +134,7 @@ pub(crate) fn own_fields(
     alloc: Global,
     trees: &[Tree],
     file: u32,
-    class: u32,
+    class: ClassId,
     members: &[u32],
 ) -> Result<Vec<Field>, NoMemory>
     requires file { file < length trees.now }
@@ -155,9 +156,12 @@ pub(crate) fn field_index(
     fields: &[Field],
 ) -> Result<Index, NoMemory>
     requires stands { All (IsField trees.now) fields.now }
-    requires few { length fields.now < 2 ^ 32 }
     ensures { IfOk result (λ index. IsIndexOf (map (field_name trees.now) fields.now) index) }
 {
+    let count = fields.len();
+    if count >= 0xffff_ffff {
+        return Err(NoMemory::at_limit(count as u64));
+    }
     let mut index = Index::new(alloc);
     for (number, field) in fields.iter().enumerate() {
         let name = tree_of(trees, field.file).name(field.name);

@@ -9,6 +9,7 @@ use crate::fields::Field;
 use crate::members::Members;
 use crate::methods::Method;
 use kr_base::{NoMemory, add_found};
+use kr_classes_table::ClassId;
 use std::alloc::Global;
 
 /// A field that every object has.
@@ -21,7 +22,7 @@ fn instance_only(field: Field) -> Option<Field>
 
 impl Members {
     /// Whether the second class is the first one or an ancestor of it.
-    pub fn is_below(&self, class: u32, other: u32) -> bool
+    pub fn is_below(&self, class: ClassId, other: ClassId) -> bool
         ensures { (files : List Arena) → AreMembers files self.now → result ≡ is_below (table_in files) class other }
     {
         let mut at = Some(class);
@@ -41,7 +42,7 @@ impl Members {
     }
 
     /// The field or constant of a name, the nearest of so many classes upwards.
-    fn field_upwards(&self, from: Option<u32>, steps: usize, name: &[u8]) -> Option<Field>
+    fn field_upwards(&self, from: Option<ClassId>, steps: usize, name: &[u8]) -> Option<Field>
         ensures stands { (files : List Arena) → AreMembers files self.now → IfSome result (IsField files) }
         ensures shown { (files : List Arena) → AreMembers files self.now → option_map (field_shown files) result ≡ field_on (table_in files) (line_within steps (table_in files) from) name.now }
     {
@@ -62,7 +63,7 @@ impl Members {
     }
 
     /// The field or constant of a name, the nearest on the line.
-    pub fn field_named(&self, class: u32, name: &[u8]) -> Option<Field>
+    pub fn field_named(&self, class: ClassId, name: &[u8]) -> Option<Field>
         ensures stands { (files : List Arena) → AreMembers files self.now → IfSome result (IsField files) }
         ensures shown { (files : List Arena) → AreMembers files self.now → option_map (field_shown files) result ≡ field_named (table_in files) class name.now }
     {
@@ -70,7 +71,7 @@ impl Members {
     }
 
     /// The field or constant of a name that a class inherits.
-    pub fn inherited_field(&self, class: u32, name: &[u8]) -> Option<Field>
+    pub fn inherited_field(&self, class: ClassId, name: &[u8]) -> Option<Field>
         ensures stands { (files : List Arena) → AreMembers files self.now → IfSome result (IsField files) }
         ensures shown { (files : List Arena) → AreMembers files self.now → option_map (field_shown files) result ≡ field_on (table_in files) (ancestors (table_in files) class) name.now }
     {
@@ -78,7 +79,7 @@ impl Members {
     }
 
     /// The method of a name, the nearest of so many classes upwards.
-    fn method_upwards(&self, from: Option<u32>, steps: usize, name: &[u8]) -> Option<Method>
+    fn method_upwards(&self, from: Option<ClassId>, steps: usize, name: &[u8]) -> Option<Method>
         ensures stands { (files : List Arena) → AreMembers files self.now → IfSome result (IsMethod files) }
         ensures shown { (files : List Arena) → AreMembers files self.now → option_map (method_shown files) result ≡ method_on (table_in files) (line_within steps (table_in files) from) name.now }
     {
@@ -99,7 +100,7 @@ impl Members {
     }
 
     /// The method of a name, the nearest on the line.
-    pub fn method_named(&self, class: u32, name: &[u8]) -> Option<Method>
+    pub fn method_named(&self, class: ClassId, name: &[u8]) -> Option<Method>
         ensures stands { (files : List Arena) → AreMembers files self.now → IfSome result (IsMethod files) }
         ensures shown { (files : List Arena) → AreMembers files self.now → option_map (method_shown files) result ≡ method_named (table_in files) class name.now }
     {
@@ -107,7 +108,7 @@ impl Members {
     }
 
     /// The method of a name that a class inherits.
-    pub fn inherited_method(&self, class: u32, name: &[u8]) -> Option<Method>
+    pub fn inherited_method(&self, class: ClassId, name: &[u8]) -> Option<Method>
         ensures stands { (files : List Arena) → AreMembers files self.now → IfSome result (IsMethod files) }
         ensures shown { (files : List Arena) → AreMembers files self.now → option_map (method_shown files) result ≡ method_on (table_in files) (ancestors (table_in files) class) name.now }
     {
@@ -115,7 +116,7 @@ impl Members {
     }
 
     /// A class and its ancestors.
-    pub fn line(&self, alloc: Global, class: u32) -> Result<Vec<u32>, NoMemory>
+    pub fn line(&self, alloc: Global, class: ClassId) -> Result<Vec<ClassId>, NoMemory>
         ensures { (files : List Arena) → AreMembers files self.now → IfOk result (λ line. line.items ≡ line_of (table_in files) class) }
     {
         let mut line = Vec::new(alloc);
@@ -134,7 +135,7 @@ impl Members {
     }
 
     /// Adds the instance fields that a class declares itself.
-    fn add_instance_fields(&self, class: u32, fields: &mut Vec<Field>) -> Result<(), NoMemory>
+    fn add_instance_fields(&self, class: ClassId, fields: &mut Vec<Field>) -> Result<(), NoMemory>
         ensures stands { (files : List Arena) → AreMembers files self.now → IfOk result (λ none. All (IsField files) fields.old.items → All (IsField files) fields.new.items) }
         ensures shown { (files : List Arena) → AreMembers files self.now → IfOk result (λ none. map (field_shown files) fields.new.items ≡ map (field_shown files) fields.old.items ++ flat_map is_instance (own_fields (table_in files) class)) }
     {
@@ -145,7 +146,7 @@ impl Members {
     }
 
     /// The instance fields of a class's objects, inherited ones first.
-    pub fn fields_of(&self, alloc: Global, class: u32) -> Result<Vec<Field>, NoMemory>
+    pub fn fields_of(&self, alloc: Global, class: ClassId) -> Result<Vec<Field>, NoMemory>
         ensures stands { (files : List Arena) → AreMembers files self.now → IfOk result (λ fields. All (IsField files) fields.items) }
         ensures shown { (files : List Arena) → AreMembers files self.now → IfOk result (λ fields. map (field_shown files) fields.items ≡ fields_of (table_in files) class) }
     {

@@ -9,6 +9,7 @@ ghost use Rattle.kr_classes_members.specs.Kept.{AreMembers, static_only};
 use crate::fields::Field;
 use crate::members::Members;
 use crate::methods::Method;
+use kr_classes_table::ClassId;
 
 /// A field that is a constant.
 fn constant_only(found: Option<Field>) -> Option<Field>
@@ -34,7 +35,7 @@ fn static_method(found: Option<Method>) -> Option<Method>
 
 impl Members {
     /// The constant of a class that a name before a dot means.
-    pub fn constant_of(&self, class: Option<u32>, name: &[u8]) -> Option<Field>
+    pub fn constant_of(&self, class: Option<ClassId>, name: &[u8]) -> Option<Field>
         ensures stands { (files : List Arena) → AreMembers files self.now → IfSome result (IsField files) }
         ensures shown { (files : List Arena) → AreMembers files self.now → option_map (field_shown files) result ≡ constant_of (table_in files) class name.now }
     {
@@ -46,7 +47,7 @@ impl Members {
 
     /// What a simple name means in the code of a class: a field or constant of the class or an ancestor, else a constant of
     /// the outer class.
-    pub fn field_meant(&self, class: u32, name: &[u8]) -> Option<Field>
+    pub fn field_meant(&self, class: ClassId, name: &[u8]) -> Option<Field>
         ensures stands { (files : List Arena) → AreMembers files self.now → IfSome result (IsField files) }
         ensures shown { (files : List Arena) → AreMembers files self.now → option_map (field_shown files) result ≡ field_meant (table_in files) class name.now }
     {
@@ -57,7 +58,7 @@ impl Members {
     }
 
     /// The static method of a name, where the nearest of the name is static.
-    pub fn static_method_named(&self, class: u32, name: &[u8]) -> Option<Method>
+    pub fn static_method_named(&self, class: ClassId, name: &[u8]) -> Option<Method>
         ensures stands { (files : List Arena) → AreMembers files self.now → IfSome result (IsMethod files) }
         ensures shown { (files : List Arena) → AreMembers files self.now → option_map (method_shown files) result ≡ option_and_then static_only (method_named (table_in files) class name.now) }
     {

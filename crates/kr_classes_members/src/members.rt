@@ -11,13 +11,14 @@ use crate::methods::{Constructor, Method, method_index, own_constructors, own_me
 use kr_ast::{Tree, tree_of};
 use kr_base::NoMemory;
 use kr_classes_names::{Heading, Heads, Index, items};
+use kr_classes_table::ClassId;
 use std::alloc::Global;
 
 /// A class with what it declares itself, each in source order.
 #[derive(Drop)]
 pub(crate) struct ClassMembers {
     pub(crate) heading: Heading,
-    pub(crate) superclass: Option<u32>,
+    pub(crate) superclass: Option<ClassId>,
     pub(crate) fields: Vec<Field>,
     pub(crate) methods: Vec<Method>,
     pub(crate) constructors: Vec<Constructor>,
@@ -36,7 +37,7 @@ fn class_members(
     alloc: Global,
     trees: &[Tree],
     heads: &Heads,
-    class: u32,
+    class: ClassId,
     heading: Heading,
 ) -> Result<ClassMembers, NoMemory>
     requires heads { AreHeads trees.now heads.now }
@@ -50,9 +51,6 @@ fn class_members(
     let fields = own_fields(alloc, trees, file, class, &members)?;
     let methods = own_methods(alloc, trees, file, class, &members)?;
     let constructors = own_constructors(alloc, trees, file, class, &members)?;
-    if fields.len() >= 0xffff_ffff || methods.len() >= 0xffff_ffff {
-        return Err(NoMemory);
-    }
     let field_index = field_index(alloc, trees, &fields)?;
     let method_index = method_index(alloc, trees, &methods)?;
     Ok(ClassMembers {

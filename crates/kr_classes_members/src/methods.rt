@@ -9,14 +9,15 @@ ghost use Rattle.kr_classes_members.specs.Shown.{IsConstructor, IsMethod, constr
 use kr_ast::{Name, Node, Tree, tree_of};
 use kr_base::{NoMemory, Place, add_found};
 use kr_classes_names::Index;
+use kr_classes_table::ClassId;
 use std::alloc::Global;
 
 /// A method: the class that declares it, the node of its result's type, and the lists of its parameters, contract lines
 /// and statements.
-#[derive(Clone, Copy, Debug)]
+#[derive(Clone, Copy)]
 pub struct Method {
     pub file: u32,
-    pub class: u32,
+    pub class: ClassId,
     pub name: Name,
     pub place: Place,
     pub is_static: bool,
@@ -28,10 +29,10 @@ pub struct Method {
 
 /// A constructor: the lists of its parameters and statements, and the node of the call of the superclass's constructor,
 /// which may be absent.
-#[derive(Clone, Copy, Debug)]
+#[derive(Clone, Copy)]
 pub struct Constructor {
     pub file: u32,
-    pub class: u32,
+    pub class: ClassId,
     pub place: Place,
     pub parameters: u32,
     pub super_call: u32,
@@ -42,7 +43,7 @@ pub struct Constructor {
 #[derive(Clone, Copy)]
 struct Declared {
     file: u32,
-    class: u32,
+    class: ClassId,
     name: Name,
     place: Place,
     is_static: bool,
@@ -79,7 +80,7 @@ fn with_signature(trees: &[Tree], method: Declared, signature: u32) -> Option<Me
 }
 
 /// The method that a member is.
-fn method_in(trees: &[Tree], file: u32, class: u32, member: u32) -> Option<Method>
+fn method_in(trees: &[Tree], file: u32, class: ClassId, member: u32) -> Option<Method>
     requires file { file < length trees.now }
     requires member { member < length (file_at trees.now file).entries }
     ensures stands { IfSome result (λ m. IsMethod trees.now m) }
@@ -112,7 +113,7 @@ pub(crate) fn own_methods(
     alloc: Global,
     trees: &[Tree],
     file: u32,
-    class: u32,
+    class: ClassId,
     members: &[u32],
 ) -> Result<Vec<Method>, NoMemory>
     requires file { file < length trees.now }
@@ -134,9 +135,12 @@ pub(crate) fn method_index(
     methods: &[Method],
 ) -> Result<Index, NoMemory>
     requires stands { All (IsMethod trees.now) methods.now }
-    requires few { length methods.now < 2 ^ 32 }
     ensures { IfOk result (λ index. IsIndexOf (map (method_name trees.now) methods.now) index) }
 {
+    let count = methods.len();
+    if count >= 0xffff_ffff {
+        return Err(NoMemory::at_limit(count as u64));
+    }
     let mut index = Index::new(alloc);
     for (number, method) in methods.iter().enumerate() {
         let name = tree_of(trees, method.file).name(method.name);
@@ -146,7 +150,7 @@ pub(crate) fn method_index(
 }
 
 /// The constructor that a member is.
-fn constructor_in(trees: &[Tree], file: u32, class: u32, member: u32) -> Option<Constructor>
+fn constructor_in(trees: &[Tree], file: u32, class: ClassId, member: u32) -> Option<Constructor>
     requires file { file < length trees.now }
     requires member { member < length (file_at trees.now file).entries }
     ensures stands { IfSome result (λ k. IsConstructor trees.now k) }
@@ -175,7 +179,7 @@ pub(crate) fn own_constructors(
     alloc: Global,
     trees: &[Tree],
     file: u32,
-    class: u32,
+    class: ClassId,
     members: &[u32],
 ) -> Result<Vec<Constructor>, NoMemory>
     requires file { file < length trees.now }

@@ -12,6 +12,7 @@ use crate::fields::Field;
 use crate::members::{ClassMembers, Members};
 use crate::methods::{Constructor, Method};
 use kr_base::Place;
+use kr_classes_table::ClassId;
 
 impl ClassMembers {
     /// The first of its fields with this name.
@@ -45,14 +46,14 @@ impl Members {
     }
 
     /// A class by its number.
-    fn class(&self, class: u32) -> Option<&ClassMembers>
+    fn class(&self, class: ClassId) -> Option<&ClassMembers>
         ensures { option_copied result ≡ slice_get self.now.classes.items class }
     {
         self.classes.get(class as usize)
     }
 
     /// The superclass of a class.
-    pub fn superclass(&self, class: u32) -> Option<u32>
+    pub fn superclass(&self, class: ClassId) -> Option<ClassId>
         ensures { (files : List Arena) → AreMembers files self.now → result ≡ super_of (table_in files) class }
     {
         match self.class(class) {
@@ -62,7 +63,7 @@ impl Members {
     }
 
     /// The class that a class stands in.
-    pub fn outer_class(&self, class: u32) -> Option<u32>
+    pub fn outer_class(&self, class: ClassId) -> Option<ClassId>
         ensures { (files : List Arena) → AreMembers files self.now → result ≡ outer_class (table_in files) class }
     {
         match self.class(class) {
@@ -72,7 +73,7 @@ impl Members {
     }
 
     /// The fields and constants that a class declares itself, in source order.
-    pub fn fields(&self, class: u32) -> &[Field]
+    pub fn fields(&self, class: ClassId) -> &[Field]
         ensures stands { (files : List Arena) → AreMembers files self.now → All (IsField files) result.now }
         ensures shown { (files : List Arena) → AreMembers files self.now → map (field_shown files) result.now ≡ own_fields (table_in files) class }
     {
@@ -83,7 +84,7 @@ impl Members {
     }
 
     /// The methods that a class declares itself, in source order.
-    pub fn methods(&self, class: u32) -> &[Method]
+    pub fn methods(&self, class: ClassId) -> &[Method]
         ensures stands { (files : List Arena) → AreMembers files self.now → All (IsMethod files) result.now }
         ensures shown { (files : List Arena) → AreMembers files self.now → map (method_shown files) result.now ≡ own_methods (table_in files) class }
     {
@@ -94,7 +95,7 @@ impl Members {
     }
 
     /// The constructors that a class declares, in source order.
-    pub fn constructors(&self, class: u32) -> &[Constructor]
+    pub fn constructors(&self, class: ClassId) -> &[Constructor]
         ensures stands { (files : List Arena) → AreMembers files self.now → All (IsConstructor files) result.now }
         ensures shown { (files : List Arena) → AreMembers files self.now → map (constructor_shown files) result.now ≡ flat_map (λ d. d.constructors) (option_to_list (class_at (table_in files).classes class)) }
     {
@@ -105,7 +106,7 @@ impl Members {
     }
 
     /// The place of a class's name.
-    pub fn place(&self, class: u32) -> Option<Place>
+    pub fn place(&self, class: ClassId) -> Option<Place>
         ensures { (files : List Arena) → AreMembers files self.now → result ≡ option_map (λ d. d.place) (class_at (table_in files).classes class) }
     {
         match self.class(class) {
@@ -115,7 +116,7 @@ impl Members {
     }
 
     /// Which of a class's own fields and constants is the first of a name.
-    pub fn own_field_number(&self, class: u32, name: &[u8]) -> Option<u32>
+    pub fn own_field_number(&self, class: ClassId, name: &[u8]) -> Option<u32>
         ensures { (files : List Arena) → AreMembers files self.now → result ≡ position_from (bytes_eq name.now) 0 (map (λ f. f.name) (own_fields (table_in files) class)) }
     {
         match self.class(class) {
@@ -125,7 +126,7 @@ impl Members {
     }
 
     /// Which of a class's own methods is the first of a name.
-    pub fn own_method_number(&self, class: u32, name: &[u8]) -> Option<u32>
+    pub fn own_method_number(&self, class: ClassId, name: &[u8]) -> Option<u32>
         ensures { (files : List Arena) → AreMembers files self.now → result ≡ position_from (bytes_eq name.now) 0 (map (λ m. m.name) (own_methods (table_in files) class)) }
     {
         match self.class(class) {
@@ -135,7 +136,7 @@ impl Members {
     }
 
     /// The field or constant of a name that a class declares itself.
-    pub fn own_field(&self, class: u32, name: &[u8]) -> Option<Field>
+    pub fn own_field(&self, class: ClassId, name: &[u8]) -> Option<Field>
         ensures stands { (files : List Arena) → AreMembers files self.now → IfSome result (IsField files) }
         ensures shown { (files : List Arena) → AreMembers files self.now → option_map (field_shown files) result ≡ find (λ f. bytes_eq f.name name.now) (own_fields (table_in files) class) }
     {
@@ -146,7 +147,7 @@ impl Members {
     }
 
     /// The method of a name that a class declares itself.
-    pub fn own_method(&self, class: u32, name: &[u8]) -> Option<Method>
+    pub fn own_method(&self, class: ClassId, name: &[u8]) -> Option<Method>
         ensures stands { (files : List Arena) → AreMembers files self.now → IfSome result (IsMethod files) }
         ensures shown { (files : List Arena) → AreMembers files self.now → option_map (method_shown files) result ≡ find (λ m. bytes_eq m.name name.now) (own_methods (table_in files) class) }
     {

@@ -10,6 +10,7 @@ use crate::headings::{Heading, all_headings};
 use crate::names::Index;
 use kr_ast::{Node, Tree, tree_of};
 use kr_base::NoMemory;
+use kr_classes_table::ClassId;
 use std::alloc::Global;
 
 /// The heads of all classes, and which class a name means.
@@ -40,8 +41,9 @@ impl Heads {
         ensures { IfOk result (λ heads. AreHeads trees.now heads) }
     {
         let headings = all_headings(alloc, trees)?;
-        if headings.len() >= 0xffff_ffff {
-            return Err(NoMemory);
+        let count = headings.len();
+        if count >= 0xffff_ffff {
+            return Err(NoMemory::at_limit(count as u64));
         }
         let index = class_index(alloc, trees, &headings)?;
         Ok(Heads { headings, index })
@@ -65,14 +67,14 @@ impl Heads {
     }
 
     /// The class of a name.
-    pub fn number_of(&self, name: &[u8]) -> Option<u32>
+    pub fn number_of(&self, name: &[u8]) -> Option<ClassId>
         ensures { (files : List Arena) → AreHeads files self.now → result ≡ number_of (headings_of (map root files)) name.now }
     {
         self.index.find(name)
     }
 
     /// The class that a type's node means.
-    pub fn class_named(&self, trees: &[Tree], file: u32, node: u32) -> Option<u32>
+    pub fn class_named(&self, trees: &[Tree], file: u32, node: u32) -> Option<ClassId>
         requires heads { AreHeads trees.now self.now }
         requires file { file < length trees.now }
         requires node { node < length (file_at trees.now file).entries }
@@ -105,7 +107,7 @@ pub fn superclasses(
     alloc: Global,
     trees: &[Tree],
     heads: &Heads,
-) -> Result<Vec<Option<u32>>, NoMemory>
+) -> Result<Vec<Option<ClassId>>, NoMemory>
     requires { AreHeads trees.now heads.now }
     ensures { IfOk result (λ supers. supers.items ≡ map (superclass_in (headings_of (map root trees.now))) (headings_of (map root trees.now))) }
 {

@@ -8,21 +8,22 @@ ghost use Rattle.kr_ast.specs.Files.{IsNode, file_at, tree_of_node};
 use crate::lists::items;
 use kr_ast::{Name, Node, NodeId, Tree, tree_of};
 use kr_base::{NoMemory, Place};
+use kr_classes_table::ClassId;
 use std::alloc::Global;
 
 /// What stands at the head of a class, by nodes of its file's tree: what it extends, and the list of its members.
-#[derive(Clone, Copy, Debug)]
+#[derive(Clone, Copy)]
 pub struct Heading {
     pub file: u32,
     pub name: Name,
     pub place: Place,
-    pub outer: Option<u32>,
+    pub outer: Option<ClassId>,
     pub extended: u32,
     pub members: u32,
 }
 
 /// The head of the class that a node is.
-fn class_heading(trees: &[Tree], file: u32, outer: Option<u32>, node: u32) -> Option<Heading>
+fn class_heading(trees: &[Tree], file: u32, outer: Option<ClassId>, node: u32) -> Option<Heading>
     requires file { file < length trees.now }
     requires node { node < length (file_at trees.now file).entries }
     ensures stands { IfSome result (λ h. IsHeading trees.now h) }
@@ -64,7 +65,7 @@ fn add_found(headings: &mut Vec<Heading>, found: Option<Heading>) -> Result<(), 
 fn add_nested(
     trees: &[Tree],
     file: u32,
-    outer: u32,
+    outer: ClassId,
     members: &[u32],
     headings: &mut Vec<Heading>,
 ) -> Result<(), NoMemory>
@@ -95,7 +96,7 @@ fn add_class(
 {
     let number = headings.len();
     if number >= 0xffff_ffff {
-        return Err(NoMemory);
+        return Err(NoMemory::at_limit(number as u64));
     }
     match class_heading(trees, at.file, None, at.node) {
         None => Ok(()),

@@ -156,15 +156,15 @@ pub record Known : Type 0 where
   pub place : Place
   pub value : ConstantValue
 
-abbrev pub is_same_place : Place → Place → Bool
-is_same_place p q = nat_eq p.file q.file && nat_eq p.line q.line && nat_eq p.col q.col
+abbrev pub is_at_place : Place → Place → Bool
+is_at_place p q = nat_eq p.file q.file && nat_eq p.line q.line && nat_eq p.col q.col
 
 abbrev pub value_at : List Known → Place → Option ConstantValue
 value_at [] p = None
-value_at (k ∷ ks) p = if is_same_place k.place p then Some k.value else value_at ks p
+value_at (k ∷ ks) p = if is_at_place k.place p then Some k.value else value_at ks p
 
-abbrev pub value_of : List Known → Option Field → Option ConstantValue
-value_of known f = option_and_then (λ g. value_at known g.place) f
+abbrev pub known_value : List Known → Option Field → Option ConstantValue
+known_value known f = option_and_then (λ g. value_at known g.place) f
 
 abbrev pub is_primitive : Tree → Bool
 is_primitive (trees.PrimitiveType p k) = true
@@ -175,8 +175,8 @@ unfoldable pub is_constant : Table → List Known → ℕ → Tree → Bool
 is_constant t known c (trees.Number p n) = true
 is_constant t known c (trees.Truth p b) = true
 is_constant t known c (trees.Null p) = true
-is_constant t known c (trees.Variable p n) = is_some (value_of known (field_meant t c n))
-is_constant t known c (trees.FieldAccess p e n) = is_some (value_of known (constant_of t (class_meant t c e) n))
+is_constant t known c (trees.Variable p n) = is_some (known_value known (field_meant t c n))
+is_constant t known c (trees.FieldAccess p e n) = is_some (known_value known (constant_of t (class_meant t c e) n))
 is_constant t known c (trees.Unary p o e) = is_constant t known c e
 is_constant t known c (trees.Binary p o a b) = is_constant t known c a && is_constant t known c b
 is_constant t known c (trees.Conditional p e a b) = is_constant t known c e && is_constant t known c a && is_constant t known c b
@@ -188,8 +188,8 @@ unfoldable pub evaluated : Table → List Known → ℕ → Tree → Option Cons
 evaluated t known c (trees.Number p n) = whole (pos n)
 evaluated t known c (trees.Truth p b) = truth b
 evaluated t known c (trees.Null p) = Some Absent
-evaluated t known c (trees.Variable p n) = value_of known (field_meant t c n)
-evaluated t known c (trees.FieldAccess p e n) = value_of known (constant_of t (class_meant t c e) n)
+evaluated t known c (trees.Variable p n) = known_value known (field_meant t c n)
+evaluated t known c (trees.FieldAccess p e n) = known_value known (constant_of t (class_meant t c e) n)
 evaluated t known c (trees.Unary p o e) = option_and_then (unary_value o) (evaluated t known c e)
 evaluated t known c (trees.Binary p o a b) = binary_value o (evaluated t known c a) (evaluated t known c b)
 evaluated t known c (trees.Conditional p e a b) = chosen (evaluated t known c e) (evaluated t known c a) (evaluated t known c b)

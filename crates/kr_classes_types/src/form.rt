@@ -4,24 +4,25 @@ ghost use Rattle.kr_classes_types.specs.Listed.{AreApart, IsAbsent};
 
 use indexmap::IndexSet;
 use kr_base::NoMemory;
+use kr_classes_table::{ClassId, NameId, TypeId};
 use std::alloc::Global;
 use std::marker::Model;
 
 /// A type by its parts. `Class` has the number of a class; `Array`, `Set` and `List` that of the type of the elements or
 /// members; `Unknown` those of the outer name and the name that no class has; `Applied` those of its head and its argument.
-#[derive(Clone, Copy, Debug, PartialEq, Eq, Hash)]
+#[derive(Clone, Copy, PartialEq, Eq, Hash)]
 pub enum TypeForm {
     Int,
     Boolean,
     Null,
     Void,
     Inferred,
-    Class(u32),
-    Array(u32),
-    Set(u32),
-    List(u32),
-    Unknown(u32, u32),
-    Applied(u32, u32),
+    Class(ClassId),
+    Array(TypeId),
+    Set(TypeId),
+    List(TypeId),
+    Unknown(NameId, NameId),
+    Applied(TypeId, TypeId),
 }
 
 /// Forms by their numbers. Contracts see the list of them.

@@ -11,6 +11,7 @@ use crate::{TypeForm, Types};
 use kr_ast::{Node, Primitive, Tree, tree_of};
 use kr_base::NoMemory;
 use kr_classes_names::Heads;
+use kr_classes_table::{ClassId, TypeId};
 use std::alloc::Global;
 use std::marker::Model;
 
@@ -18,7 +19,7 @@ use std::marker::Model;
 /// Contracts see the lists of the numbers, file by file.
 #[derive(Drop)]
 pub struct NodeTypes {
-    files: Vec<Vec<u32>>,
+    files: Vec<Vec<TypeId>>,
 }
 
 impl Model for NodeTypes {
@@ -30,7 +31,7 @@ impl Model for NodeTypes {
 }
 
 /// The number of a primitive type.
-fn primitive_type(types: &Types, primitive: Primitive) -> u32
+fn primitive_type(types: &Types, primitive: Primitive) -> TypeId
     ensures { IsTypeNumber types.now result (primitive_named primitive) }
 {
     match primitive {
@@ -44,10 +45,10 @@ fn primitive_type(types: &Types, primitive: Primitive) -> u32
 fn class_type(
     alloc: Global,
     types: &mut Types,
-    class: Option<u32>,
+    class: Option<ClassId>,
     outer: &[u8],
     name: &[u8],
-) -> Result<u32, NoMemory>
+) -> Result<TypeId, NoMemory>
     ensures number { IfOk result (λ n. IsTypeNumber types.new n (class_or class (UnknownType outer.now name.now))) }
     ensures extends { Extends types.old types.new }
 {
@@ -64,9 +65,9 @@ fn node_type(
     heads: &Heads,
     types: &mut Types,
     file: u32,
-    numbers: &Vec<u32>,
+    numbers: &Vec<TypeId>,
     node: u32,
-) -> Result<u32, NoMemory>
+) -> Result<TypeId, NoMemory>
     requires heads { AreHeads trees.now heads.now }
     requires file { file < length trees.now }
     requires node { node < length (file_at trees.now file).entries }
@@ -102,7 +103,7 @@ fn file_types(
     heads: &Heads,
     types: &mut Types,
     file: u32,
-) -> Result<Vec<u32>, NoMemory>
+) -> Result<Vec<TypeId>, NoMemory>
     requires heads { AreHeads trees.now heads.now }
     requires file { file < length trees.now }
     ensures numbers { IfOk result (λ numbers. AreFileTypes trees.now types.new file numbers.items) }
@@ -141,7 +142,7 @@ impl NodeTypes {
     }
 
     /// The number of the type that a node names; that of what has no value where there is no such node.
-    pub fn number(&self, file: u32, node: u32) -> u32
+    pub fn number(&self, file: u32, node: u32) -> TypeId
         ensures { result ≡ number_in self.now file node }
     {
         match self.files.get(file as usize) {

@@ -4,6 +4,7 @@ ghost use Rattle.kr_classes_types.specs.Listed.{AreApart, IsGrown};
 
 use indexmap::IndexSet;
 use kr_base::NoMemory;
+use kr_classes_table::NameId;
 use std::alloc::Global;
 use std::marker::Model;
 
@@ -34,7 +35,7 @@ impl Spellings {
     }
 
     /// The number of a name, which is added where it isn't there yet.
-    pub(crate) fn number(&mut self, alloc: Global, name: &[u8]) -> Result<u32, NoMemory>
+    pub(crate) fn number(&mut self, alloc: Global, name: &[u8]) -> Result<NameId, NoMemory>
         ensures at { IfOk result (λ n. slice_get self.new n ≡ Some name.now) }
         ensures grown { IsGrown self.old self.new }
         ensures apart { AreApart self.old → AreApart self.new }
@@ -43,13 +44,13 @@ impl Spellings {
         copy.extend_from_slice(name)?;
         let (number, _) = self.set.insert_full(copy)?;
         if number >= 0xffff_ffff {
-            return Err(NoMemory);
+            return Err(NoMemory::at_limit(number as u64));
         }
         Ok(number as u32)
     }
 
     /// The name of a number.
-    pub(crate) fn name(&self, number: u32) -> &[u8]
+    pub(crate) fn name(&self, number: NameId) -> &[u8]
         requires { number < length self.now }
         ensures { result.now ≡ slice_index_or self.now number [] }
     {

@@ -9,6 +9,7 @@ ghost use Rattle.kr_classes_types.specs.Types.{AreDistinct, Extends, IsMadeOf, I
 use crate::form::{Forms, TypeForm};
 use crate::spellings::Spellings;
 use kr_base::NoMemory;
+use kr_classes_table::{NameId, TypeId};
 use std::alloc::Global;
 use std::marker::Model;
 
@@ -85,7 +86,7 @@ impl Types {
     }
 
     /// The form of a type.
-    pub fn form(&self, number: u32) -> TypeForm
+    pub fn form(&self, number: TypeId) -> TypeForm
         requires { number < count self.now }
         ensures at { slice_get self.now.forms number ≡ Some result }
         ensures made { IsMadeOf self.now result }
@@ -95,7 +96,7 @@ impl Types {
     }
 
     /// A name by its number.
-    fn name(&self, number: u32) -> &[u8]
+    fn name(&self, number: NameId) -> &[u8]
         requires { number < length self.now.names }
         ensures { result.now ≡ slice_index_or self.now.names number [] }
     {
@@ -103,7 +104,7 @@ impl Types {
     }
 
     /// `int`
-    pub fn int(&self) -> u32
+    pub fn int(&self) -> TypeId
         ensures { IsTypeNumber self.now result IntType }
     {
         prove!(0 < self.forms.len());
@@ -111,7 +112,7 @@ impl Types {
     }
 
     /// `boolean`
-    pub fn boolean(&self) -> u32
+    pub fn boolean(&self) -> TypeId
         ensures { IsTypeNumber self.now result BooleanType }
     {
         prove!(1 < self.forms.len());
@@ -119,7 +120,7 @@ impl Types {
     }
 
     /// The type of `null`.
-    pub fn null(&self) -> u32
+    pub fn null(&self) -> TypeId
         ensures { IsTypeNumber self.now result NullType }
     {
         prove!(2 < self.forms.len());
@@ -127,7 +128,7 @@ impl Types {
     }
 
     /// What has no value.
-    pub fn void(&self) -> u32
+    pub fn void(&self) -> TypeId
         ensures number { result ≡ 3 }
         ensures is { IsTypeNumber self.now result VoidType }
     {
@@ -136,7 +137,7 @@ impl Types {
     }
 
     /// What stands between the brackets of `new HashSet<>()`.
-    pub(crate) fn inferred(&self) -> u32
+    pub(crate) fn inferred(&self) -> TypeId
         ensures { IsTypeNumber self.now result InferredType }
     {
         prove!(4 < self.forms.len());
@@ -144,7 +145,7 @@ impl Types {
     }
 
     /// Whether two types are the same.
-    pub fn is_same(&self, a: u32, b: u32) -> bool
+    pub fn is_same(&self, a: TypeId, b: TypeId) -> bool
         requires first { a < count self.now }
         requires second { b < count self.now }
         ensures { result ≡ is_same (type_at self.now a) (type_at self.now b) }
@@ -161,7 +162,7 @@ impl Types {
     }
 
     /// Whether typing rule T1 holds of a type.
-    pub fn is_known(&self, number: u32) -> bool
+    pub fn is_known(&self, number: TypeId) -> bool
         requires { number < count self.now }
         ensures { result ≡ is_known (type_at self.now number) }
     {
@@ -169,7 +170,7 @@ impl Types {
     }
 
     /// Whether it is a class or array type.
-    pub fn is_element(&self, number: u32) -> bool
+    pub fn is_element(&self, number: TypeId) -> bool
         requires { number < count self.now }
         ensures { result ≡ is_element (type_at self.now number) }
     {
@@ -181,7 +182,7 @@ impl Types {
     }
 
     /// Whether it is a collection.
-    pub fn is_collection(&self, number: u32) -> bool
+    pub fn is_collection(&self, number: TypeId) -> bool
         requires { number < count self.now }
         ensures { result ≡ is_collection (type_at self.now number) }
     {
@@ -193,7 +194,7 @@ impl Types {
     }
 
     /// Whether it is a reference type.
-    pub fn is_reference(&self, number: u32) -> bool
+    pub fn is_reference(&self, number: TypeId) -> bool
         requires { number < count self.now }
         ensures { result ≡ is_reference (type_at self.now number) }
     {
@@ -223,7 +224,7 @@ impl Types {
     }
 
     /// The number of the type of a form, which is added where it isn't there yet.
-    pub fn number(&mut self, form: TypeForm) -> Result<u32, NoMemory>
+    pub fn number(&mut self, form: TypeForm) -> Result<TypeId, NoMemory>
         requires { IsMadeOf self.old form }
         ensures number { IfOk result (λ n. IsTypeNumber self.new n (type_of_form self.old form)) }
         ensures extends { Extends self.old self.new }
@@ -231,13 +232,13 @@ impl Types {
         let is_known = self.is_known_form(form);
         let number = add_form(&mut self.forms, &mut self.known, form, is_known)?;
         if number >= 0xffff_ffff {
-            return Err(NoMemory);
+            return Err(NoMemory::at_limit(number as u64));
         }
         Ok(number as u32)
     }
 
     /// The number of a name, which is added where it isn't there yet.
-    fn spell(&mut self, alloc: Global, name: &[u8]) -> Result<u32, NoMemory>
+    fn spell(&mut self, alloc: Global, name: &[u8]) -> Result<NameId, NoMemory>
         ensures at { IfOk result (λ n. slice_get self.new.names n ≡ Some name.now) }
         ensures grown { IsGrown self.old.names self.new.names }
         ensures extends { Extends self.old self.new }
@@ -246,7 +247,7 @@ impl Types {
     }
 
     /// The number of what a name means that no class has; the outer name may be empty.
-    pub fn unknown(&mut self, alloc: Global, outer: &[u8], name: &[u8]) -> Result<u32, NoMemory>
+    pub fn unknown(&mut self, alloc: Global, outer: &[u8], name: &[u8]) -> Result<TypeId, NoMemory>
         ensures number { IfOk result (λ n. IsTypeNumber self.new n (UnknownType outer.now name.now)) }
         ensures extends { Extends self.old self.new }
     {
@@ -256,7 +257,7 @@ impl Types {
     }
 
     /// The form of a name with an argument: only the two collections take one.
-    fn applied_name(&self, outer: u32, name: u32, head: u32, argument: u32) -> TypeForm
+    fn applied_name(&self, outer: NameId, name: NameId, head: TypeId, argument: TypeId) -> TypeForm
         requires names { IsMadeOf self.now (Unknown outer name) }
         requires parts { IsMadeOf self.now (Applied head argument) }
         requires head_is { type_at self.now head ≡ type_of_form self.now (Unknown outer name) }
@@ -276,7 +277,7 @@ impl Types {
     }
 
     /// The form of a type with an argument.
-    fn applied_form(&self, head: u32, argument: u32) -> TypeForm
+    fn applied_form(&self, head: TypeId, argument: TypeId) -> TypeForm
         requires head { head < count self.now }
         requires argument { argument < count self.now }
         ensures made { IsMadeOf self.now result }
@@ -289,7 +290,7 @@ impl Types {
     }
 
     /// The number of a type with an argument.
-    pub fn applied(&mut self, head: u32, argument: u32) -> Result<u32, NoMemory>
+    pub fn applied(&mut self, head: TypeId, argument: TypeId) -> Result<TypeId, NoMemory>
         requires head { head < count self.old }
         requires argument { argument < count self.old }
         ensures number { IfOk result (λ n. IsTypeNumber self.new n (applied (type_at self.old head) (type_at self.old argument))) }

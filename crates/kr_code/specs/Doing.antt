@@ -200,61 +200,61 @@ compound o m v = do
 
 -- ---- expressions, after their unit
 
-abbrev pub value_of : Code → Doing → Expression → Run Value
-value_of code d expressions.Stuck = stop Stuck
-value_of code d (expressions.Literal v) = give v
-value_of code d expressions.This = get_this
-value_of code d (expressions.Local k) = read_local k
-value_of code d (expressions.OwnField name) = get_this >>= load_named code name
-value_of code d (expressions.FieldOf e name) = d.value e >>= load_named code name
-value_of code d (expressions.Element a i) = do
+abbrev pub value_done : Code → Doing → Expression → Run Value
+value_done code d expressions.Stuck = stop Stuck
+value_done code d (expressions.Literal v) = give v
+value_done code d expressions.This = get_this
+value_done code d (expressions.Local k) = read_local k
+value_done code d (expressions.OwnField name) = get_this >>= load_named code name
+value_done code d (expressions.FieldOf e name) = d.value e >>= load_named code name
+value_done code d (expressions.Element a i) = do
   o ← d.value a
   j ← d.value i
   element o j
-value_of code d (expressions.Call callee arguments) = call code d callee (listed code arguments)
-value_of code d (expressions.CallOn e m arguments) = do
+value_done code d (expressions.Call callee arguments) = call code d callee (listed code arguments)
+value_done code d (expressions.CallOn e m arguments) = do
   o ← d.value e
   vs ← values_at d (listed code arguments)
   run_on code d m o vs
-value_of code d (expressions.StaticCallOn e m arguments) = do
+value_done code d (expressions.StaticCallOn e m arguments) = do
   o ← d.value e
   vs ← values_at d (listed code arguments)
   class_of o >> run_method code d Null vs (method_at code m)
-value_of code d (expressions.CallCollection e c arguments) = do
+value_done code d (expressions.CallCollection e c arguments) = do
   o ← d.value e
   vs ← values_at d (listed code arguments)
   collect (name_of c) o vs
-value_of code d (expressions.NewArray k default e) = d.value e >>= array_of k default
-value_of code d (expressions.Unary o e) = do
+value_done code d (expressions.NewArray k default e) = d.value e >>= array_of k default
+value_done code d (expressions.Unary o e) = do
   v ← d.value e
   say (operated_alone o v)
-value_of code d (expressions.And a b) = do
+value_done code d (expressions.And a b) = do
   v ← d.value a
   choose v (d.value b) (give (Truth false))
-value_of code d (expressions.Or a b) = do
+value_done code d (expressions.Or a b) = do
   v ← d.value a
   choose v (give (Truth true)) (d.value b)
-value_of code d (expressions.Binary o a b) = do
+value_done code d (expressions.Binary o a b) = do
   v ← d.value a
   w ← d.value b
   say (operated o v w)
-value_of code d (expressions.InstanceOf e t) = do
+value_done code d (expressions.InstanceOf e t) = do
   v ← d.value e
   class ← class_or_null v
   give (instance_of code t class)
-value_of code d (expressions.Conditional c a b) = do
+value_done code d (expressions.Conditional c a b) = do
   v ← d.value c
   choose v (d.value a) (d.value b)
-value_of code d (expressions.Cast t e) = do
+value_done code d (expressions.Cast t e) = do
   v ← d.value e
   class ← class_or_null v
   cast_to code t v class
-value_of code d (expressions.Same e) = d.value e
-value_of code d (expressions.Assign x e) = assigned code d x (d.value e)
-value_of code d (expressions.Compound o x e) = changed code d x (compound o (d.value e))
-value_of code d (expressions.Step o x) = changed code d x (stepped o)
-value_of code d expressions.Result = get_result
-value_of code d (expressions.Old p) = get_old p
+value_done code d (expressions.Same e) = d.value e
+value_done code d (expressions.Assign x e) = assigned code d x (d.value e)
+value_done code d (expressions.Compound o x e) = changed code d x (compound o (d.value e))
+value_done code d (expressions.Step o x) = changed code d x (stepped o)
+value_done code d expressions.Result = get_result
+value_done code d (expressions.Old p) = get_old p
 
 -- ---- statements
 
@@ -329,7 +329,7 @@ rounds_of d test body = do
 
 -- what nodes do is what they do by what their parts do
 pub record IsMeaning (code : Code) (d : Doing) : Type 0 where
-  pub value_is : (i : ℕ) (s : State) → d.value i s ≡ (tick >> value_of code d (expression_of (node_at code i))) s
+  pub value_is : (i : ℕ) (s : State) → d.value i s ≡ (tick >> value_done code d (expression_of (node_at code i))) s
   pub exec_is : (i : ℕ) (s : State) → d.exec i s ≡ statement_done code d (statement_of (node_at code i)) s
   pub while_is : (e a : ℕ) (s : State) → d.loop (d.value e) (d.exec a) s ≡ rounds_of d (d.value e) (d.exec a) s
   pub for_is : (e : Option ℕ) (a : ℕ) (us : List ℕ) (s : State) → d.loop (condition d e) (for_round d a us) s ≡ rounds_of d (condition d e) (for_round d a us) s

@@ -15,8 +15,8 @@ use Rattle.kr_classes_table.specs.Types.{JavaType, ClassType, ArrayType, SetType
 use Rattle.kr_classes_table.specs.Table as tables
 use Rattle.kr_classes_table.specs.Table.{Field, Method, items, fields_of, line_of, method_named}
 use Rattle.kr_classes_table.specs.Arrays.{array_number}
-use Rattle.kr_classes_table.specs.Constants.{constant_of, wrap, value_of as constant_value}
-use Rattle.kr_types_meaning.specs.Scopes.{Scope, LocalName, FieldName, NoName, written, bind, after, meant, class_before, static_only, method_meant}
+use Rattle.kr_classes_table.specs.Constants.{constant_of, wrap, known_value as constant_value}
+use Rattle.kr_types_meaning.specs.Scopes.{Scope, LocalName, FieldName, NoName, written, bind_local, after, meant, class_before, static_only, method_meant}
 use Rattle.kr_mean.specs.Program.{Program, default_of, is_of_type, overriding, class_scope, method_scope, constructor_scope, constructor_of, declared_fields, field_position, spot_of_field}
 use Rattle.kr_mean.specs.Operators.{value_of_constant}
 use Rattle.kr_mean.specs.Meaning.{Target, LocalTarget, OwnField, FieldOf, ElementOf, NoTarget, target_of, typed_method, super_method, is_primitive, declaring_locals}
@@ -227,7 +227,7 @@ is_no_statement t = true
 -- a declarator by its node, which declares the local of the next number
 abbrev pub IsDeclarator : Numbering → Scope → Tree → Option Declarator → Type 0
 IsDeclarator n s (trees.Declarator p x e) (Some d) =
-    (d.local ≡ length s.locals) × (d.default ≡ default_of s.declared) × IsPartial n (bind x s.declared s) e d.initial
+    (d.local ≡ length s.locals) × (d.default ≡ default_of s.declared) × IsPartial n (bind_local x s.declared s) e d.initial
 IsDeclarator n s (trees.Declarator p x e) None = ⊥
 IsDeclarator n s t None = Unit {0}
 IsDeclarator n s t (Some d) = ⊥

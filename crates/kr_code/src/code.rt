@@ -2,17 +2,18 @@
 ghost use Rattle.std.specs.Prelude.{◌≤◌, vec_len};
 
 use crate::{Declarator, Expression, Nodes, Statement};
+use kr_classes_table::{FieldId, MethodId};
 use kr_value::Value;
 
 /// A field with an initial value, as one that is stored.
-#[derive(Clone, Copy, Debug)]
+#[derive(Clone, Copy)]
 pub struct Initialiser {
-    pub field: u32,
+    pub field: FieldId,
     pub value: u32,
 }
 
 /// A node.
-#[derive(Clone, Copy, Debug)]
+#[derive(Clone, Copy)]
 pub enum Node {
     Expression(Expression),
     Statement(Statement),
@@ -21,7 +22,7 @@ pub enum Node {
 }
 
 /// A method: how many parameters it has, whether it gives no value, and its statements.
-#[derive(Clone, Copy, Debug)]
+#[derive(Clone, Copy)]
 pub struct MethodCode {
     pub parameters: u32,
     pub is_void: bool,
@@ -29,7 +30,7 @@ pub struct MethodCode {
 }
 
 /// A constructor: how many parameters it has, the arguments of a written call of the superclass's, and its statements.
-#[derive(Clone, Copy, Debug)]
+#[derive(Clone, Copy)]
 pub struct Constructor {
     pub parameters: u32,
     pub call: Option<Nodes>,
@@ -38,7 +39,7 @@ pub struct Constructor {
 
 /// A class: what the fields of its objects begin with, the classes from it upwards, the initial values of the fields that it
 /// declares itself, and the constructor that it declares, if it does.
-#[derive(Clone, Copy, Debug)]
+#[derive(Clone, Copy)]
 pub struct ClassCode {
     /// Among the code's values.
     pub defaults: Nodes,
@@ -51,7 +52,7 @@ pub struct ClassCode {
 /// The nodes, the links of lists to their nodes, values, methods and classes by their numbers, and the tables: where the objects
 /// of a class have the field of a name, where they have a field that is stored, which method they run in place of one,
 /// and which classes and array types are instances of a type. The name with the number 0 is `length`.
-#[derive(Debug, Drop)]
+#[derive(Drop)]
 pub struct Code {
     pub nodes: Vec<Node>,
     pub links: Vec<u32>,
@@ -60,7 +61,7 @@ pub struct Code {
     pub classes: Vec<ClassCode>,
     pub positions: Vec<Vec<Option<u32>>>,
     pub spots: Vec<Vec<Option<u32>>>,
-    pub dispatch: Vec<Vec<Option<u32>>>,
+    pub dispatch: Vec<Vec<Option<MethodId>>>,
     pub instances: Vec<Vec<bool>>,
     pub array_instances: Vec<Vec<bool>>,
     /// A link has a number.

@@ -3,7 +3,7 @@ ghost use Rattle.std.specs.Prelude.{◌≡◌};
 ghost use Rattle.kr_code.specs.Collections.{call_named};
 
 /// A call on a `HashSet` or a `LinkedList`.
-#[derive(Clone, Copy, Debug, PartialEq, Eq)]
+#[derive(Clone, Copy, PartialEq, Eq)]
 pub enum CollectionCall {
     /// One that no collection has.
     Unknown,

@@ -3,28 +3,29 @@
 use crate::CollectionCall;
 use kr_ast::{BinaryOperator, StepOperator, UnaryOperator};
 use kr_base::Place;
+use kr_classes_table::{ClassId, FieldId, MethodId, NameId, TypeId};
 use kr_value::Value;
 
 /// Nodes that follow one another: so many links of the code, from one on.
-#[derive(Clone, Copy, Debug)]
+#[derive(Clone, Copy)]
 pub struct Nodes {
     pub first: u32,
     pub count: u32,
 }
 
 /// What is called with arguments.
-#[derive(Clone, Copy, Debug)]
+#[derive(Clone, Copy)]
 pub enum Callee {
     /// Nothing that is known: the run is stuck behind the arguments.
     Unknown,
     /// A static method.
-    Static(u32),
+    Static(MethodId),
     /// The method that `this`'s class has in place of this one.
-    Own(u32),
+    Own(MethodId),
     /// The superclass's method on `this`, if it has one.
-    Super(Option<u32>),
+    Super(Option<MethodId>),
     /// The constructors of a class, on a new object.
-    New(u32),
+    New(ClassId),
     /// A new `HashSet`, which takes no arguments.
     NewSet,
     /// A new `LinkedList`, which takes no arguments.
@@ -32,20 +33,31 @@ pub enum Callee {
 }
 
 /// What is written.
-#[derive(Clone, Copy, Debug)]
+#[derive(Clone, Copy)]
 pub enum Variable {
     Unknown,
     Local(u32),
     /// A field of `this`, by its name, and as one that is stored.
-    Own { name: u32, field: u32 },
+    Own {
+        name: NameId,
+        field: FieldId,
+    },
     /// A field of an object.
-    Of { object: u32, name: u32, field: u32 },
+    Of {
+        object: u32,
+        name: NameId,
+        field: FieldId,
+    },
     /// An element of an array, whose type has a number.
-    Element { array: u32, index: u32, class: u32 },
+    Element {
+        array: u32,
+        index: u32,
+        class: TypeId,
+    },
 }
 
 /// An expression over the indices of its parts.
-#[derive(Clone, Copy, Debug)]
+#[derive(Clone, Copy)]
 pub enum Expression {
     /// Nothing that has a meaning.
     Stuck,
@@ -53,11 +65,11 @@ pub enum Expression {
     This,
     Local(u32),
     /// A field of `this`, by its name.
-    OwnField(u32),
+    OwnField(NameId),
     /// A field of an object, or an array's length.
     FieldOf {
         object: u32,
-        name: u32,
+        name: NameId,
     },
     Element {
         array: u32,
@@ -70,13 +82,13 @@ pub enum Expression {
     /// The method that an object's class has in place of this one.
     CallOn {
         object: u32,
-        method: u32,
+        method: MethodId,
         arguments: Nodes,
     },
     /// A static method that is called through an object.
     StaticCallOn {
         object: u32,
-        method: u32,
+        method: MethodId,
         arguments: Nodes,
     },
     /// A call on a collection.
@@ -110,7 +122,7 @@ pub enum Expression {
     },
     InstanceOf {
         operand: u32,
-        class: u32,
+        class: TypeId,
     },
     Conditional {
         condition: u32,
@@ -118,7 +130,7 @@ pub enum Expression {
         otherwise: u32,
     },
     Cast {
-        class: u32,
+        class: TypeId,
         operand: u32,
     },
     /// A cast to a primitive type.

@@ -4,6 +4,7 @@ ghost use Rattle.kr_code.specs.Tables.{node_at, declarator_of, initialiser_of, l
 
 use crate::{ClassCode, Code, Declarator, Expression, Initialiser, MethodCode, Node, Nodes};
 use kr_base::NoMemory;
+use kr_classes_table::{ClassId, FieldId, MethodId, NameId, TypeId};
 use kr_value::{Class, Value};
 use std::alloc::Global;
 
@@ -80,27 +81,27 @@ impl Code {
         }
     }
 
-    pub fn method(&self, method: u32) -> Option<MethodCode>
+    pub fn method(&self, method: MethodId) -> Option<MethodCode>
         ensures { result ≡ method_at self.now method }
     {
         self.methods.get(method as usize).copied()
     }
 
-    pub fn class(&self, class: u32) -> Option<ClassCode>
+    pub fn class(&self, class: ClassId) -> Option<ClassCode>
         ensures { result ≡ class_at self.now class }
     {
         self.classes.get(class as usize).copied()
     }
 
     /// Where the objects of a class have the field of a name.
-    pub fn position(&self, name: u32, class: u32) -> Option<u32>
+    pub fn position(&self, name: NameId, class: ClassId) -> Option<u32>
         ensures { result ≡ position_in self.now name class }
     {
         number_in(&self.positions, name, class)
     }
 
     /// Where what is of a class has a field that is stored.
-    pub fn spot(&self, field: u32, class: Class) -> Option<u32>
+    pub fn spot(&self, field: FieldId, class: Class) -> Option<u32>
         ensures { result ≡ spot_in self.now field class }
     {
         match class {
@@ -110,7 +111,7 @@ impl Code {
     }
 
     /// The method that what is of a class runs in place of one.
-    pub fn method_in(&self, method: u32, class: Class) -> Option<u32>
+    pub fn method_in(&self, method: MethodId, class: Class) -> Option<MethodId>
         ensures { result ≡ method_in self.now method class }
     {
         match class {
@@ -120,7 +121,7 @@ impl Code {
     }
 
     /// Whether what is of a class is an instance of a type.
-    pub fn is_instance(&self, type_number: u32, class: Class) -> bool
+    pub fn is_instance(&self, type_number: TypeId, class: Class) -> bool
         ensures { result ≡ is_instance self.now type_number class }
     {
         match class {

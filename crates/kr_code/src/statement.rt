@@ -4,7 +4,7 @@ use crate::Nodes;
 use kr_value::Value;
 
 /// A local that is declared: its number, what it begins with, and its initial value, if it has one.
-#[derive(Clone, Copy, Debug)]
+#[derive(Clone, Copy)]
 pub struct Declarator {
     pub local: u32,
     pub default: Value,
@@ -12,7 +12,7 @@ pub struct Declarator {
 }
 
 /// A statement over the indices of its parts.
-#[derive(Clone, Copy, Debug)]
+#[derive(Clone, Copy)]
 pub enum Statement {
     /// Nothing that has a meaning.
     Stuck,

@@ -7,6 +7,7 @@ ghost use Rattle.kr_space_problem.specs.Posed.{table};
 ghost use Rattle.kr_code_bodies.specs.Made.{AreThere};
 
 use kr_base::NoMemory;
+use kr_classes_table::ClassId;
 use kr_code::Nodes;
 use kr_code_lowering::Links;
 use kr_types::Program;
@@ -31,7 +32,7 @@ pub(crate) fn add_links(numbers: &[u32], links: &mut Links) -> Result<Nodes, NoM
 pub(crate) fn add_line(
     alloc: Global,
     program: &Program,
-    class: u32,
+    class: ClassId,
     links: &mut Links,
 ) -> Result<Nodes, NoMemory>
     requires program { IsProgram program.now }

@@ -12,6 +12,7 @@ use crate::constructors::maybe_constructor;
 use crate::fields::{add_initialisers, class_initialisers};
 use crate::values::add_defaults;
 use kr_base::NoMemory;
+use kr_classes_table::{ClassId, FieldId};
 use kr_code::{ClassCode, Node};
 use kr_code_lowering::Links;
 use kr_code_members::ClassNodes;
@@ -24,9 +25,9 @@ use std::alloc::Global;
 pub(crate) fn class_code(
     alloc: Global,
     program: &Program,
-    class: u32,
+    class: ClassId,
     members: &ClassNodes,
-    first_field: u32,
+    first_field: FieldId,
     nodes: &mut Vec<Node>,
     links: &mut Links,
     values: &mut Vec<Value>,

@@ -9,6 +9,7 @@ ghost use Rattle.kr_code_bodies.specs.Tabled.{IsOverrider};
 use kr_ast::{Tree, tree_of};
 use kr_base::NoMemory;
 use kr_classes_members::{Members, Method};
+use kr_classes_table::{ClassId, MethodId};
 use kr_code_members::Roster;
 use std::alloc::Global;
 
@@ -18,8 +19,8 @@ fn overrider(
     members: &Members,
     roster: &Roster,
     method: Method,
-    class: u32,
-) -> Option<u32>
+    class: ClassId,
+) -> Option<MethodId>
     requires members { AreMembers trees.now members.now }
     requires roster { IsRoster trees.now roster.now }
     requires method { IsMethod trees.now method }
@@ -40,7 +41,7 @@ fn dispatch_row(
     members: &Members,
     roster: &Roster,
     method: Method,
-) -> Result<Vec<Option<u32>>, NoMemory>
+) -> Result<Vec<Option<MethodId>>, NoMemory>
     requires members { AreMembers trees.now members.now }
     requires roster { IsRoster trees.now roster.now }
     requires method { IsMethod trees.now method }
@@ -48,7 +49,7 @@ fn dispatch_row(
 {
     let count = members.len();
     if count > 0xffff_ffff {
-        return Err(NoMemory);
+        return Err(NoMemory::at_limit(count as u64));
     }
     let mut row = Vec::new(alloc);
     for class in 0..count as u32 {
@@ -63,7 +64,7 @@ pub(crate) fn dispatch(
     trees: &[Tree],
     members: &Members,
     roster: &Roster,
-) -> Result<Vec<Vec<Option<u32>>>, NoMemory>
+) -> Result<Vec<Vec<Option<MethodId>>>, NoMemory>
     requires members { AreMembers trees.now members.now }
     requires roster { IsRoster trees.now roster.now }
     ensures { IfOk result (λ rows. AreRows None (λ k. IsOverrider trees.now (method_numbered (table_in trees.now) k)) rows.items) }

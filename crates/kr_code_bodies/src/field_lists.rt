@@ -9,6 +9,7 @@ ghost use Rattle.kr_code_bodies.specs.Tabled.{AreObjectFields, IsPosition, field
 use kr_ast::{Tree, tree_of};
 use kr_base::NoMemory;
 use kr_classes_members::{Field, Members};
+use kr_classes_table::ClassId;
 use std::alloc::Global;
 
 /// The fields of the objects of each class, inherited ones first.
@@ -38,13 +39,13 @@ impl ObjectFields {
     {
         let count = members.len();
         if count > 0xffff_ffff {
-            return Err(NoMemory);
+            return Err(NoMemory::at_limit(count as u64));
         }
         let mut classes = Vec::new(alloc);
         for class in 0..count as u32 {
             let fields = members.fields_of(alloc, class)?;
             if fields.len() > 0xffff_ffff {
-                return Err(NoMemory);
+                return Err(NoMemory::at_limit(fields.len() as u64));
             }
             classes.push(fields)?;
         }
@@ -52,7 +53,7 @@ impl ObjectFields {
     }
 
     /// The fields of a class's objects.
-    fn fields(&self, class: u32) -> &[Field]
+    fn fields(&self, class: ClassId) -> &[Field]
         ensures { result.now ≡ fields_at self.now class }
     {
         match self.classes.get(class as usize) {
@@ -62,7 +63,7 @@ impl ObjectFields {
     }
 
     /// Where the objects of a class have the field of a name.
-    pub(crate) fn position(&self, trees: &[Tree], class: u32, name: &[u8]) -> Option<u32>
+    pub(crate) fn position(&self, trees: &[Tree], class: ClassId, name: &[u8]) -> Option<u32>
         requires { AreObjectFields trees.now self.now }
         ensures { IsPosition trees.now name.now class result }
     {

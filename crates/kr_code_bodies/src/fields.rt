@@ -15,6 +15,7 @@ ghost use Rattle.kr_code_bodies.specs.Made.{AreThere, IsInitial};
 
 use kr_ast::Node;
 use kr_base::{NoMemory, add_found};
+use kr_classes_table::{ClassId, FieldId};
 use kr_code::{Initialiser, Node as CodeNode, Nodes};
 use kr_code_lowering::{Links, Site};
 use kr_code_members::FieldNode;
@@ -22,7 +23,7 @@ use kr_types::Program;
 use std::alloc::Global;
 
 /// The initial value of a field that each object has, if there is one.
-fn initialiser_at(program: &Program, node: FieldNode, field: u32) -> Option<Initialiser>
+fn initialiser_at(program: &Program, node: FieldNode, field: FieldId) -> Option<Initialiser>
     requires program { IsProgram program.now }
     requires there { IsThere program.now node.file node.initial }
     ensures { (f : tables.Field) → IsFieldNode program.now f node → field_numbered (table program.now) field ≡ f → AllZip (IsInitial program.now) (flat_map has_initial (instance_only f)) (option_to_list result) }
@@ -44,9 +45,9 @@ fn initialiser_at(program: &Program, node: FieldNode, field: u32) -> Option<Init
 pub(crate) fn class_initialisers(
     alloc: Global,
     program: &Program,
-    class: u32,
+    class: ClassId,
     nodes: &[FieldNode],
-    first_field: u32,
+    first_field: FieldId,
 ) -> Result<Vec<Initialiser>, NoMemory>
     requires program { IsProgram program.now }
     requires class { class < length (table program.now).classes }
@@ -77,7 +78,7 @@ pub(crate) fn add_initialisers(
     let start = links.len();
     for initialiser in initialisers {
         if nodes.len() >= 0xffff_ffff {
-            return Err(NoMemory);
+            return Err(NoMemory::at_limit(nodes.len() as u64));
         }
         links.push(nodes.len() as u32)?;
         nodes.push(CodeNode::Initialiser(*initialiser))?;

@@ -11,16 +11,17 @@ ghost use Rattle.kr_code_bodies.specs.Tabled.{IsArrayInstance, IsInstance};
 
 use kr_base::NoMemory;
 use kr_classes_members::Members;
+use kr_classes_table::{ClassId, TypeId};
 use kr_classes_types::{TypeForm, Types};
 use std::alloc::Global;
 
 /// Of each class whether it is the given one or below it. The given one has a column, though no class may have the number.
-fn heirs(alloc: Global, members: &Members, class: u32) -> Result<Vec<bool>, NoMemory>
+fn heirs(alloc: Global, members: &Members, class: ClassId) -> Result<Vec<bool>, NoMemory>
     ensures { (files : List Arena) → AreMembers files members.now → IfOk result (λ row. IsRow false (λ c b. b ≡ is_below (table_in files) c class) row.items) }
 {
     let columns = members.len().max(class as usize + 1);
     if columns > 0xffff_ffff {
-        return Err(NoMemory);
+        return Err(NoMemory::at_limit(columns as u64));
     }
     let mut row = Vec::new(alloc);
     for column in 0..columns as u32 {
@@ -34,7 +35,7 @@ fn instance_row(
     alloc: Global,
     members: &Members,
     types: &Types,
-    number: u32,
+    number: TypeId,
 ) -> Result<Vec<bool>, NoMemory>
     requires { number < count types.now }
     ensures { (files : List Arena) (arrays : List JavaType) → AreMembers files members.now → IfOk result (λ row. IsRow false (IsInstance files arrays (type_at types.now number)) row.items) }
@@ -55,7 +56,7 @@ pub(crate) fn instances(
 {
     let count = types.len();
     if count > 0xffff_ffff {
-        return Err(NoMemory);
+        return Err(NoMemory::at_limit(count as u64));
     }
     let mut rows = Vec::new(alloc);
     for number in 0..count as u32 {
@@ -68,8 +69,8 @@ pub(crate) fn instances(
 fn same_arrays(
     alloc: Global,
     types: &Types,
-    arrays: &[u32],
-    number: u32,
+    arrays: &[TypeId],
+    number: TypeId,
 ) -> Result<Vec<bool>, NoMemory>
     requires arrays { All (λ t. t < count types.now) arrays.now }
     requires number { number < count types.now }
@@ -86,8 +87,8 @@ fn same_arrays(
 fn array_row(
     alloc: Global,
     types: &Types,
-    arrays: &[u32],
-    number: u32,
+    arrays: &[TypeId],
+    number: TypeId,
 ) -> Result<Vec<bool>, NoMemory>
     requires arrays { All (λ t. t < count types.now) arrays.now }
     requires number { number < count types.now }
@@ -103,14 +104,14 @@ fn array_row(
 pub(crate) fn array_instances(
     alloc: Global,
     types: &Types,
-    arrays: &[u32],
+    arrays: &[TypeId],
 ) -> Result<Vec<Vec<bool>>, NoMemory>
     requires { All (λ t. t < count types.now) arrays.now }
     ensures { (files : List Arena) → IfOk result (λ rows. AreRows false (λ k. IsArrayInstance files (map (type_at types.now) arrays.now) (type_at types.now k)) rows.items) }
 {
     let count = types.len();
     if count > 0xffff_ffff {
-        return Err(NoMemory);
+        return Err(NoMemory::at_limit(count as u64));
     }
     let mut rows = Vec::new(alloc);
     for number in 0..count as u32 {

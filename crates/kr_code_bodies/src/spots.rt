@@ -10,6 +10,7 @@ use crate::field_lists::ObjectFields;
 use kr_ast::{Tree, tree_of};
 use kr_base::NoMemory;
 use kr_classes_members::{Field, Members};
+use kr_classes_table::ClassId;
 use kr_code_members::Roster;
 use std::alloc::Global;
 
@@ -19,7 +20,7 @@ fn spot(
     members: &Members,
     fields: &ObjectFields,
     field: Field,
-    class: u32,
+    class: ClassId,
 ) -> Option<u32>
     requires members { AreMembers trees.now members.now }
     requires fields { AreObjectFields trees.now fields.now }

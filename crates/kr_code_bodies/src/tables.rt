@@ -15,6 +15,7 @@ use crate::spots::spots;
 use kr_ast::Tree;
 use kr_base::NoMemory;
 use kr_classes_members::Members;
+use kr_classes_table::{MethodId, TypeId};
 use kr_classes_types::Types;
 use kr_code_members::Roster;
 use std::alloc::Global;
@@ -25,7 +26,7 @@ use std::alloc::Global;
 pub struct Tables {
     pub positions: Vec<Vec<Option<u32>>>,
     pub spots: Vec<Vec<Option<u32>>>,
-    pub dispatch: Vec<Vec<Option<u32>>>,
+    pub dispatch: Vec<Vec<Option<MethodId>>>,
     pub instances: Vec<Vec<bool>>,
     pub array_instances: Vec<Vec<bool>>,
 }
@@ -38,7 +39,7 @@ impl Tables {
         members: &Members,
         types: &Types,
         roster: &Roster,
-        arrays: &[u32],
+        arrays: &[TypeId],
         names: &[Vec<u8>],
     ) -> Result<Tables, NoMemory>
         requires members { AreMembers trees.now members.now }

@@ -10,6 +10,7 @@ ghost use Rattle.kr_code_bodies.specs.Made.{AreThere};
 
 use kr_base::NoMemory;
 use kr_classes_members::Field;
+use kr_classes_table::ClassId;
 use kr_code::Nodes;
 use kr_code_lowering::default_value;
 use kr_types::Program;
@@ -45,7 +46,7 @@ fn add_values(
     let start = values.len() as u32;
     for field in fields {
         if values.len() >= 0xffff_ffff {
-            return Err(NoMemory);
+            return Err(NoMemory::at_limit(values.len() as u64));
         }
         values.push(field_default(program, *field))?;
     }
@@ -59,7 +60,7 @@ fn add_values(
 pub(crate) fn add_defaults(
     alloc: Global,
     program: &Program,
-    class: u32,
+    class: ClassId,
     values: &mut Vec<Value>,
 ) -> Result<Nodes, NoMemory>
     requires program { IsProgram program.now }

@@ -152,7 +152,7 @@ module _ (program : Program) (code : Code) (n : Numbering) (tables : AreTables p
   called_same : (s : Scope) (e : Tree) (x : List ℕ) (es : List Tree) (c : Option ℕ) (m : Run Value) → class_before s e ≡ c → Agree m (method_call program p s e x es c) → Agree m (method_call program p s e x es (class_before s e))
   called_same s e x es c m g q state = q state ∙ ap (λ (z : Option ℕ). method_call program p s e x es z state) (sym g)
 
-  pub expression_same : (s : Scope) (t : Tree) (x : Expression) → IsExpression program code n s t x → Agree (doings.value_of code d x) (value_of program p s t)
+  pub expression_same : (s : Scope) (t : Tree) (x : Expression) → IsExpression program code n s t x → Agree (doings.value_done code d x) (value_of program p s t)
   expression_same s t x (resolved.number r k) = λ state. refl
   expression_same s t x (resolved.truth r b) = λ state. refl
   expression_same s t x (resolved.null r) = λ state. refl
@@ -178,13 +178,13 @@ module _ (program : Program) (code : Code) (n : Numbering) (tables : AreTables p
       called_same s e y (items es) (Some c) (doings.call code d callees.Unknown (listed code ns)) g
       (then_same (values_at d (listed code ns)) (values_of p s (items es)) _ _ (parts s (items es) (listed code ns) j) (λ vs state. ap (λ (z : Option Method). means.run_method program p Null vs z state) (sym h)))
   expression_same s t x (resolved.call_on r e y es i m k ns g h f l a j) =
-      called_same s e y (items es) None (doings.value_of code d (expressions.CallOn i k ns)) g
+      called_same s e y (items es) None (doings.value_done code d (expressions.CallOn i k ns)) g
       (then_same (d.value i) (p.value s e) _ _ (part s e i a) (λ o. then_same (values_at d (listed code ns)) (values_of p s (items es)) _ _ (parts s (items es) (listed code ns) j) (λ vs state. virtual_on m k l f y o vs state ∙ ap (λ (z : Option Method). called program p y o vs z state) (sym h))))
   expression_same s t x (resolved.static_call_on r e y es i m k ns g h f l a j) =
-      called_same s e y (items es) None (doings.value_of code d (expressions.StaticCallOn i k ns)) g
+      called_same s e y (items es) None (doings.value_done code d (expressions.StaticCallOn i k ns)) g
       (then_same (d.value i) (p.value s e) _ _ (part s e i a) (λ o. then_same (values_at d (listed code ns)) (values_of p s (items es)) _ _ (parts s (items es) (listed code ns) j) (λ vs state. static_on m k l f y o vs state ∙ ap (λ (z : Option Method). called program p y o vs z state) (sym h))))
   expression_same s t x (resolved.collection_call r e y es i ns g h a j) =
-      called_same s e y (items es) None (doings.value_of code d (expressions.CallCollection i (call_named y) ns)) g
+      called_same s e y (items es) None (doings.value_done code d (expressions.CallCollection i (call_named y) ns)) g
       (then_same (d.value i) (p.value s e) _ _ (part s e i a) (λ o. then_same (values_at d (listed code ns)) (values_of p s (items es)) _ _ (parts s (items es) (listed code ns) j) (λ vs state. collects y o vs state ∙ ap (λ (z : Option Method). called program p y o vs z state) (sym h))))
   expression_same s t x (resolved.super_call r y es m k ns e h j) =
       then_same get_this get_this _ _ (λ state. refl) (λ o. then_same (values_at d (listed code ns)) (values_of p s (items es)) _ _ (parts s (items es) (listed code ns) j) (λ vs state. method_runs program code n tables m k h o vs state ∙ ap (λ (z : Option Method). means.run_method program p o vs z state) (sym e)))

@@ -9,7 +9,7 @@ use Rattle.kr_ast.specs.declared.node.Node.TheVariants as nodes
 use Rattle.kr_value.specs.declared.value.Value.{Value}
 use Rattle.kr_classes_table.specs.Types.{JavaType}
 use Rattle.kr_classes_table.specs.Table.{Field}
-use Rattle.kr_types_meaning.specs.Scopes.{Declaring, Scope, LocalName, NoName, Locals, bind, bind_as, meant_by}
+use Rattle.kr_types_meaning.specs.Scopes.{Declaring, Scope, LocalName, NoName, Locals, bind_local, bind_as, meant_by}
 use Rattle.kr_types_meaning.specs.Handing.{handed}
 use Rattle.kr_types_meaning.specs.Running.{local_type, running}
 use Rattle.kr_types.specs.declared.program.Program.{Program}
@@ -25,17 +25,17 @@ use Rattle.kr_code_lowering.proofs.Parts.{part_in, part_scope, tree_is}
 use Rattle.kr_code_lowering.proofs.Naming.{parts_are}
 use Rattle.kr_code_lowering.proofs.Performed.{partial_is}
 
-newest : (x : List ℕ) (t : JavaType) (s : Scope) (f : Option Field) → meant_by (bind x t s).locals f x ≡ LocalName (length s.locals) t
+newest : (x : List ℕ) (t : JavaType) (s : Scope) (f : Option Field) → meant_by (bind_local x t s).locals f x ≡ LocalName (length s.locals) t
 newest x t s f = ap (λ (b : Bool). cond b (LocalName (length s.locals) t) (meant_by s.locals f x)) ((bytes_eq-Decides x x).1 refl)
 
 -- the number of a local in its own initial value
-pub own_number : (x : List ℕ) (t : JavaType) (s r : Scope) (k : ℕ) → r ≡ bind x t s → IsLocal r x k → k ≡ length s.locals
+pub own_number : (x : List ℕ) (t : JavaType) (s r : Scope) (k : ℕ) → r ≡ bind_local x t s → IsLocal r x k → k ≡ length s.locals
 own_number x t s r k e h =
     let w = h None in
     let same : LocalName k w.0 ≡ LocalName (length s.locals) t = sym w.1 ∙ (ap (λ (q : Scope). meant_by q.locals None x) e ∙ newest x t s None) in
     cc (same)
 
-pub own_there : (x : List ℕ) (t : JavaType) (s r : Scope) → r ≡ bind x t s → IsNoLocal r x → ⊥
+pub own_there : (x : List ℕ) (t : JavaType) (s r : Scope) → r ≡ bind_local x t s → IsNoLocal r x → ⊥
 own_there x t s r e h =
     let same : NoName ≡ LocalName (length s.locals) t = sym (h None) ∙ (ap (λ (q : Scope). meant_by q.locals None x) e ∙ newest x t s None) in
     cc (same)
@@ -47,7 +47,7 @@ module _ (p : Program) (program : IsProgram p) (s : Site) (e : Entry) (at : IsHe
   abbrev r : Scope
   r = scope_at p s
 
-  pub initial_scope : node_scope p s.file i ≡ bind x r.declared r
+  pub initial_scope : node_scope p s.file i ≡ bind_local x r.declared r
   initial_scope = part_scope p program s at.site 0 i (parts_are p s e (nodes.Declarator n i) at is).0 ∙ (ap (λ (t : Tree). handed r t 0) (tree_is p s e (nodes.Declarator n i) at is) ∙ ap (λ (d : Declaring). bind_as d x r) locals)
 
   declared : (running r).declared ≡ r.declared
@@ -55,7 +55,7 @@ module _ (p : Program) (program : IsProgram p) (s : Site) (e : Entry) (at : IsHe
 
   pub declares : (k : ℕ) (v : Value) (o : Option ℕ) → k ≡ length r.locals → v ≡ default_of r.declared → IsMaybe (node_tree p s.file i) (s.first + i) o → (final : Final) → IsDeclarator (numbering_of p final) (running r) (tree_at p s) (Some (record { local = k; default = v; initial = o }))
   declares k v o number default maybe final =
-      let inner : Scope = bind x (running r).declared (running r) in
-      let same : running (bind_as r.declaring x r) ≡ inner = ap (λ (d : Declaring). running (bind_as d x r)) locals ∙ ap (λ (t : JavaType). bind x t (running r)) (sym declared) in
+      let inner : Scope = bind_local x (running r).declared (running r) in
+      let same : running (bind_as r.declaring x r) ≡ inner = ap (λ (d : Declaring). running (bind_as d x r)) locals ∙ ap (λ (t : JavaType). bind_local x t (running r)) (sym declared) in
       subst (λ (t : Tree). IsDeclarator (numbering_of p final) (running r) t (Some (record { local = k; default = v; initial = o }))) (sym (tree_is p s e (nodes.Declarator n i) at is))
       (number, default ∙ ap default_of (sym declared), partial_is p final inner (node_tree p s.file i) (s.first + i) o maybe (part_in p program final s e (nodes.Declarator n i) at is 0 i (parts_are p s e (nodes.Declarator n i) at is).0 inner same))

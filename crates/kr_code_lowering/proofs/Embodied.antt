@@ -13,7 +13,7 @@ use Rattle.kr_ast.specs.declared.node.Node.TheVariants as nodes
 use Rattle.kr_classes_table.specs.Types.{is_void}
 use Rattle.kr_classes_table.specs.Table.{Heading, Table, Method, Constructor, items, methods_in, constructors_in, parameters_in, type_named}
 use Rattle.kr_classes_table.specs.Constants.{Known, values_of}
-use Rattle.kr_types_meaning.specs.Scopes.{Scope, Local, after, bind, scope_of, static_if, written}
+use Rattle.kr_types_meaning.specs.Scopes.{Scope, Local, after, bind_local, scope_of, static_if, written}
 use Rattle.kr_types_meaning.specs.Handing.{handed}
 use Rattle.kr_types_meaning.specs.Running.{running}
 use Rattle.kr_classes_types.specs.Listed.{IsGrown}
@@ -46,7 +46,7 @@ after_parameters s (trees.Cons (trees.Parameter p t n) b) h =
     let w = written s t in
     let rest = map parameter_local (parameters_in s.table.headings b) in
     let l : Local = record { name = n; type = w } in
-    after_parameters (bind n w s) b h
+    after_parameters (bind_local n w s) b h
     ∙ ap (λ (ls : List Local). with_locals ls s) (sym (append_assoc (reverse rest) (l ∷ []) s.locals) ∙ ap (λ (ls : List Local). ls ++ s.locals) (sym (reverse-append (l ∷ []) rest)))
 after_parameters s (trees.Cons _ b) h = absurd h
 after_parameters s _ h = absurd h

@@ -1,7 +1,7 @@
 // Names and field accesses as expressions.
 ghost use Rattle.std.specs.Prelude.{◌≡◌, ◌∷◌, [], List, ℕ, Some, IfOk, option_map};
 ghost use Rattle.kr_ast.specs.declared.node.Node.TheVariants as nodes;
-ghost use Rattle.kr_classes_table.specs.Constants.{constant_of, value_of, values_of};
+ghost use Rattle.kr_classes_table.specs.Constants.{constant_of, known_value, values_of};
 ghost use Rattle.kr_mean.specs.Operators.{value_of_constant};
 ghost use Rattle.kr_classes_types.specs.Listed.{IsGrown};
 ghost use Rattle.kr_types.specs.Programs.{IsProgram};
@@ -15,6 +15,7 @@ use crate::names::Names;
 use crate::site::Site;
 use kr_ast::{Entry, Name};
 use kr_base::NoMemory;
+use kr_classes_table::ClassId;
 use kr_code::Expression;
 use kr_code_members::Roster;
 use kr_types::Program;
@@ -32,10 +33,10 @@ fn literal(value: Option<Value>) -> Expression
 }
 
 /// The value of a class's constant, if there is one.
-fn class_constant(program: &Program, roster: &Roster, class: u32, name: &[u8]) -> Option<Value>
+fn class_constant(program: &Program, roster: &Roster, class: ClassId, name: &[u8]) -> Option<Value>
     requires program { IsProgram program.now }
     requires roster { IsRoster program.now.trees.items roster.now }
-    ensures { result ≡ option_map value_of_constant (value_of (values_of (table program.now)) (constant_of (table program.now) (Some class) name.now)) }
+    ensures { result ≡ option_map value_of_constant (known_value (values_of (table program.now)) (constant_of (table program.now) (Some class) name.now)) }
 {
     match constant_named(program, roster, class, name) {
         None => None,

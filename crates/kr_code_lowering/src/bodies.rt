@@ -59,7 +59,7 @@ fn names_void(program: &Program, site: Site, node: u32) -> bool
 }
 
 /// How many parameters a method has, and whether it has no result.
-#[derive(Clone, Copy, Debug)]
+#[derive(Clone, Copy)]
 struct Head {
     parameters: u32,
     is_void: bool,

@@ -20,13 +20,19 @@ use crate::named::class_before;
 use crate::site::Site;
 use kr_ast::{Entry, Name};
 use kr_base::NoMemory;
+use kr_classes_table::{ClassId, MethodId};
 use kr_classes_types::TypeForm;
 use kr_code::{Callee, Expression};
 use kr_code_members::Roster;
 use kr_types::Program;
 
 /// The static method of a name, where the nearest of the name is static.
-fn static_method(program: &Program, roster: &Roster, class: u32, name: &[u8]) -> Option<u32>
+fn static_method(
+    program: &Program,
+    roster: &Roster,
+    class: ClassId,
+    name: &[u8],
+) -> Option<MethodId>
     requires program { IsProgram program.now }
     requires roster { IsRoster program.now.trees.items roster.now }
     ensures { IsFound program.now result (option_and_then static_only (method_named (table program.now) class name.now)) }
@@ -44,7 +50,7 @@ fn static_method(program: &Program, roster: &Roster, class: u32, name: &[u8]) ->
 }
 
 /// The method that a call without object means in the code of a class.
-fn method_meant(program: &Program, roster: &Roster, class: u32, name: &[u8]) -> Option<u32>
+fn method_meant(program: &Program, roster: &Roster, class: ClassId, name: &[u8]) -> Option<MethodId>
     requires program { IsProgram program.now }
     requires roster { IsRoster program.now.trees.items roster.now }
     ensures { (s : Scope) → s.table ≡ table program.now → s.class ≡ class → IsFound program.now result (method_meant s name.now) }
@@ -79,7 +85,12 @@ fn own_callee(program: &Program, roster: &Roster, site: Site, name: &[u8]) -> Ca
 }
 
 /// What a call behind a class's name calls.
-pub(crate) fn static_callee(program: &Program, roster: &Roster, class: u32, name: &[u8]) -> Callee
+pub(crate) fn static_callee(
+    program: &Program,
+    roster: &Roster,
+    class: ClassId,
+    name: &[u8],
+) -> Callee
     requires program { IsProgram program.now }
     requires roster { IsRoster program.now.trees.items roster.now }
     ensures { IsStaticCallee program.now (option_and_then static_only (method_named (table program.now) class name.now)) result }
@@ -91,7 +102,7 @@ pub(crate) fn static_callee(program: &Program, roster: &Roster, class: u32, name
 }
 
 /// The method of a name that the superclass of a node's class has.
-fn super_number(program: &Program, roster: &Roster, site: Site, name: &[u8]) -> Option<u32>
+fn super_number(program: &Program, roster: &Roster, site: Site, name: &[u8]) -> Option<MethodId>
     requires program { IsProgram program.now }
     requires roster { IsRoster program.now.trees.items roster.now }
     requires site { IsSite program.now site }
@@ -110,7 +121,7 @@ pub(crate) fn typed_number(
     roster: &Roster,
     object: Site,
     name: &[u8],
-) -> Option<u32>
+) -> Option<MethodId>
     requires program { IsProgram program.now }
     requires roster { IsRoster program.now.trees.items roster.now }
     requires site { IsSite program.now object }

@@ -1,7 +1,7 @@
 // What a node is as a declarator of a local.
 ghost use Rattle.std.specs.Prelude.{◌≡◌, IfOk, length};
 ghost use Rattle.kr_classes_table.specs.Types.{JavaType};
-ghost use Rattle.kr_types_meaning.specs.Scopes.{Scope, bind};
+ghost use Rattle.kr_types_meaning.specs.Scopes.{Scope, bind_local};
 ghost use Rattle.kr_ast.specs.declared.node.Node.TheVariants as nodes;
 ghost use Rattle.kr_classes_types.specs.Types.{IsTypeNumber};
 ghost use Rattle.kr_types.specs.Programs.{IsProgram};
@@ -14,12 +14,13 @@ use crate::statements::maybe_part;
 use crate::types::default_value;
 use kr_ast::{Entry, Name};
 use kr_base::NoMemory;
+use kr_classes_table::TypeId;
 use kr_code::Declarator;
 use kr_types::Program;
 use kr_types_judging::type_of_node;
 
 /// The number of the type that a node's scope declares.
-fn declared_type(program: &Program, site: Site) -> u32
+fn declared_type(program: &Program, site: Site) -> TypeId
     requires program { IsProgram program.now }
     requires site { IsSite program.now site }
     ensures { IsTypeNumber program.now.table.types result (scope_at program.now site).declared }
@@ -38,7 +39,7 @@ fn declared_type(program: &Program, site: Site) -> u32
 fn own_number(program: &Program, initial: Site, name: &[u8]) -> usize
     requires program { IsProgram program.now }
     requires site { IsSite program.now initial }
-    ensures { (t : JavaType) (s : Scope) → scope_at program.now initial ≡ bind name.now t s → result ≡ length s.locals }
+    ensures { (t : JavaType) (s : Scope) → scope_at program.now initial ≡ bind_local name.now t s → result ≡ length s.locals }
 {
     match local_at(program, initial, name) {
         Some(local) => local.number,
@@ -63,7 +64,7 @@ pub(crate) fn declarator_at(
     let text = site.text(program, name);
     let number = own_number(program, site.at(initial), text);
     if number >= 0xffff_ffff {
-        return Err(NoMemory);
+        return Err(NoMemory::at_limit(number as u64));
     }
     Ok(Declarator {
         local: number as u32,

@@ -25,6 +25,7 @@ use crate::types::{array_expression, cast_expression, instance_expression};
 use crate::writes::{assignment_expression, compound_expression, step_expression};
 use kr_ast::Node;
 use kr_base::NoMemory;
+use kr_classes_table::TypeId;
 use kr_code::Expression;
 use kr_code_members::Roster;
 use kr_types::Program;
@@ -120,7 +121,7 @@ pub(crate) fn expression_at(
     alloc: Global,
     program: &Program,
     roster: &Roster,
-    arrays: &[u32],
+    arrays: &[TypeId],
     names: &mut Names,
     links: &mut Links,
     site: Site,

@@ -13,6 +13,7 @@ ghost use Rattle.kr_code_lowering.specs.Sites.{IsSite, scope_at, tree_at};
 use crate::site::Site;
 use kr_ast::{Tree, tree_of};
 use kr_classes_names::Heads;
+use kr_classes_table::{ClassId, TypeId};
 use kr_types::Program;
 use kr_types_expressions::{class_of, part_type};
 
@@ -29,7 +30,7 @@ fn class_of_node(trees: &[Tree], heads: &Heads, file: u32, node: u32) -> u32
 }
 
 /// The class whose code a node stands in.
-pub(crate) fn class_at(program: &Program, site: Site) -> u32
+pub(crate) fn class_at(program: &Program, site: Site) -> ClassId
     requires program { IsProgram program.now }
     requires site { IsSite program.now site }
     ensures { (scope_at program.now site).class ≡ result }
@@ -42,7 +43,7 @@ pub(crate) fn class_at(program: &Program, site: Site) -> u32
 }
 
 /// The type of an expression, by its number.
-pub(crate) fn type_of(program: &Program, site: Site) -> Option<u32>
+pub(crate) fn type_of(program: &Program, site: Site) -> Option<TypeId>
     requires program { IsProgram program.now }
     requires site { IsSite program.now site }
     ensures within { IfSome result (λ t. t < count program.now.table.types) }

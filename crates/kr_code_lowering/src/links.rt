@@ -42,8 +42,9 @@ impl Links {
         ensures added { IfOk result (λ none. self.new ≡ self.old ++ node ∷ []) }
         ensures unchanged { OnErr result (self.new ≡ self.old) }
     {
-        if self.items.len() >= 0xffff_ffff {
-            return Err(NoMemory);
+        let count = self.items.len();
+        if count >= 0xffff_ffff {
+            return Err(NoMemory::at_limit(count as u64));
         }
         self.items.push(node)?;
         Ok(())

@@ -17,6 +17,7 @@ use crate::site::Site;
 use crate::types::named_type;
 use kr_ast::{Entry, Name};
 use kr_base::NoMemory;
+use kr_classes_table::{MethodId, TypeId};
 use kr_classes_types::{TypeForm, Types};
 use kr_code::{Callee, CollectionCall, Expression, Nodes};
 use kr_code_members::Roster;
@@ -27,7 +28,7 @@ pub fn called_on(
     program: &Program,
     roster: &Roster,
     object: u32,
-    method: Option<u32>,
+    method: Option<MethodId>,
     name: &[u8],
     arguments: Nodes,
 ) -> Expression
@@ -92,7 +93,7 @@ pub(crate) fn method_call_expression(
 }
 
 /// What makes an object of a type.
-fn creator(types: &Types, created: u32) -> Callee
+fn creator(types: &Types, created: TypeId) -> Callee
     requires { created < count types.now }
     ensures { IsCreator (type_at types.now created) result }
 {

@@ -1,6 +1,6 @@
 // What a name means where a node stands.
 ghost use Rattle.std.specs.Prelude.{◌≡◌, ◌<◌, Some, IfOk, IfNone, IfSome, length, option_and_then, option_map, slice_get};
-ghost use Rattle.kr_classes_table.specs.Constants.{constant_of, field_meant, value_of, values_of};
+ghost use Rattle.kr_classes_table.specs.Constants.{constant_of, field_meant, known_value, values_of};
 ghost use Rattle.kr_types_meaning.specs.Scopes.{class_before, meant};
 ghost use Rattle.kr_mean.specs.Operators.{value_of_constant};
 ghost use Rattle.kr_classes_operators.specs.Shown.{constant_shown};
@@ -16,17 +16,18 @@ use crate::site::Site;
 use kr_ast::{Node, tree_of};
 use kr_base::NoMemory;
 use kr_classes_operators::Constant;
+use kr_classes_table::{ClassId, FieldId};
 use kr_code_members::Roster;
 use kr_types::Program;
 use kr_types_scopes::LocalFound;
 use kr_value::Value;
 
 /// What a name means: a local by its number, a constant by its value, if it has one, or a field of `this` by its number.
-#[derive(Clone, Copy, Debug)]
+#[derive(Clone, Copy)]
 pub(crate) enum Named {
     Local(u32),
     Constant(Option<Value>),
-    Own(u32),
+    Own(FieldId),
     Nothing,
 }
 
@@ -42,11 +43,11 @@ fn value_of(constant: Constant) -> Value
 }
 
 /// The value of a constant by its number among all fields, if it has one.
-pub(crate) fn constant_value(program: &Program, roster: &Roster, number: u32) -> Option<Value>
+pub(crate) fn constant_value(program: &Program, roster: &Roster, number: FieldId) -> Option<Value>
     requires program { IsProgram program.now }
     requires roster { IsRoster program.now.trees.items roster.now }
     requires number { number < length (all_fields (table program.now)) }
-    ensures { result ≡ option_map value_of_constant (value_of (values_of (table program.now)) (Some (field_numbered (table program.now) number))) }
+    ensures { result ≡ option_map value_of_constant (known_value (values_of (table program.now)) (Some (field_numbered (table program.now) number))) }
 {
     match program
         .table
@@ -62,9 +63,9 @@ pub(crate) fn constant_value(program: &Program, roster: &Roster, number: u32) ->
 pub(crate) fn constant_named(
     program: &Program,
     roster: &Roster,
-    class: u32,
+    class: ClassId,
     name: &[u8],
-) -> Option<u32>
+) -> Option<FieldId>
     requires program { IsProgram program.now }
     requires roster { IsRoster program.now.trees.items roster.now }
     ensures within { IfSome result (λ k. k < length (all_fields (table program.now))) }
@@ -83,7 +84,7 @@ pub(crate) fn constant_named(
 }
 
 /// The field or constant that a name means in the code of a class where no local has it, by its number.
-fn field_meant(program: &Program, roster: &Roster, class: u32, name: &[u8]) -> Option<u32>
+fn field_meant(program: &Program, roster: &Roster, class: ClassId, name: &[u8]) -> Option<FieldId>
     requires program { IsProgram program.now }
     requires roster { IsRoster program.now.trees.items roster.now }
     ensures within { IfSome result (λ k. k < length (all_fields (table program.now))) }
@@ -100,7 +101,7 @@ fn field_meant(program: &Program, roster: &Roster, class: u32, name: &[u8]) -> O
 }
 
 /// What a field or constant is by its name alone.
-fn field_by_name(program: &Program, roster: &Roster, number: u32) -> Named
+fn field_by_name(program: &Program, roster: &Roster, number: FieldId) -> Named
     requires program { IsProgram program.now }
     requires roster { IsRoster program.now.trees.items roster.now }
     requires number { number < length (all_fields (table program.now)) }
@@ -139,7 +140,7 @@ pub(crate) fn meaning_of(
     match local_at(program, site, name) {
         Some(local) => {
             if local.number >= 0xffff_ffff {
-                return Err(NoMemory);
+                return Err(NoMemory::at_limit(local.number as u64));
             }
             Ok(Named::Local(local.number as u32))
         }
@@ -172,7 +173,7 @@ pub(crate) fn class_before(
     roster: &Roster,
     site: Site,
     object: u32,
-) -> Option<u32>
+) -> Option<ClassId>
     requires program { IsProgram program.now }
     requires roster { IsRoster program.now.trees.items roster.now }
     requires site { IsSite program.now site }

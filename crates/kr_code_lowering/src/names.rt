@@ -6,6 +6,7 @@ ghost use Rattle.kr_code_lowering.specs.Names.{AreNames};
 
 use indexmap::IndexSet;
 use kr_base::NoMemory;
+use kr_classes_table::NameId;
 use std::alloc::Global;
 use std::marker::Model;
 
@@ -39,7 +40,7 @@ impl Names {
     }
 
     /// The number of a name, which is added where it isn't there yet.
-    fn insert(&mut self, alloc: Global, name: &[u8]) -> Result<u32, NoMemory>
+    fn insert(&mut self, alloc: Global, name: &[u8]) -> Result<NameId, NoMemory>
         ensures at { IfOk result (λ n. slice_get self.new n ≡ Some name.now) }
         ensures grown { IsGrown self.old self.new }
         ensures apart { AreApart self.old → AreApart self.new }
@@ -49,13 +50,13 @@ impl Names {
         copy.extend_from_slice(name)?;
         let (number, _) = self.set.insert_full(copy)?;
         if number >= 0xffff_ffff {
-            return Err(NoMemory);
+            return Err(NoMemory::at_limit(number as u64));
         }
         Ok(number as u32)
     }
 
     /// The number of a name, which is added where it isn't there yet.
-    pub(crate) fn number(&mut self, alloc: Global, name: &[u8]) -> Result<u32, NoMemory>
+    pub(crate) fn number(&mut self, alloc: Global, name: &[u8]) -> Result<NameId, NoMemory>
         ensures at { IfOk result (λ n. slice_get self.new n ≡ Some name.now) }
         ensures grown { IsGrown self.old self.new }
         ensures stay { AreNames self.old → AreNames self.new }

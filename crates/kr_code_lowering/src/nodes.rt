@@ -17,6 +17,7 @@ use crate::site::Site;
 use crate::statements::statement_at;
 use kr_ast::{Node as TreeNode, tree_of};
 use kr_base::NoMemory;
+use kr_classes_table::TypeId;
 use kr_code::Node;
 use kr_code_members::Roster;
 use kr_types::Program;
@@ -27,7 +28,7 @@ fn node_at(
     alloc: Global,
     program: &Program,
     roster: &Roster,
-    arrays: &[u32],
+    arrays: &[TypeId],
     names: &mut Names,
     links: &mut Links,
     site: Site,
@@ -64,7 +65,7 @@ fn add_file(
     alloc: Global,
     program: &Program,
     roster: &Roster,
-    arrays: &[u32],
+    arrays: &[TypeId],
     names: &mut Names,
     links: &mut Links,
     file: u32,
@@ -105,7 +106,7 @@ pub fn resolve_nodes(
     alloc: Global,
     program: &Program,
     roster: &Roster,
-    arrays: &[u32],
+    arrays: &[TypeId],
 ) -> Result<ResolvedNodes, NoMemory>
     requires program { IsProgram program.now }
     requires roster { IsRoster program.now.trees.items roster.now }

@@ -9,7 +9,7 @@ use kr_ast::{Entry, Name, tree_of};
 use kr_types::{Program, TypedFile};
 
 /// A node of a file, and the number of the file's first node.
-#[derive(Clone, Copy, Debug)]
+#[derive(Clone, Copy)]
 pub struct Site {
     pub file: u32,
     pub node: u32,

@@ -18,6 +18,7 @@ use crate::names::Names;
 use crate::site::Site;
 use kr_ast::{Entry, Name, Node};
 use kr_base::NoMemory;
+use kr_classes_table::{ClassId, FieldId, TypeId};
 use kr_classes_types::{TypeForm, Types};
 use kr_code::Variable;
 use kr_code_members::Roster;
@@ -59,7 +60,7 @@ fn name_target(
 }
 
 /// The instance field of a name that an object's type has.
-fn field_number(program: &Program, roster: &Roster, object: Site, name: &[u8]) -> Option<u32>
+fn field_number(program: &Program, roster: &Roster, object: Site, name: &[u8]) -> Option<FieldId>
     requires program { IsProgram program.now }
     requires roster { IsRoster program.now.trees.items roster.now }
     requires site { IsSite program.now object }
@@ -75,7 +76,12 @@ fn field_number(program: &Program, roster: &Roster, object: Site, name: &[u8]) -
 }
 
 /// The instance field of a name that a class has.
-fn instance_field(program: &Program, roster: &Roster, class: u32, name: &[u8]) -> Option<u32>
+fn instance_field(
+    program: &Program,
+    roster: &Roster,
+    class: ClassId,
+    name: &[u8],
+) -> Option<FieldId>
     requires program { IsProgram program.now }
     requires roster { IsRoster program.now.trees.items roster.now }
     ensures { IsFieldFound program.now result (field_of_type (table program.now) name.now (Some (ClassType class))) }
@@ -127,7 +133,7 @@ fn field_target(
 }
 
 /// Whether a type is that of arrays.
-fn is_array(types: &Types, number: u32) -> bool
+fn is_array(types: &Types, number: TypeId) -> bool
     requires { number < count types.now }
     ensures { result ≡ is_array_type (Some (type_at types.now number)) }
 {

@@ -13,6 +13,7 @@ ghost use Rattle.kr_code_lowering.specs.Sites.{IsHere, IsSite, Resolves, arena_a
 
 use crate::site::Site;
 use kr_ast::{Entry, Node};
+use kr_classes_table::TypeId;
 use kr_classes_types::{TypeForm, Types};
 use kr_code::Expression;
 use kr_types::Program;
@@ -28,7 +29,7 @@ pub(crate) fn named_type(program: &Program, site: Site, node: u32) -> u32
 }
 
 /// What a variable of a type begins with.
-pub fn default_value(types: &Types, number: u32) -> Value
+pub fn default_value(types: &Types, number: TypeId) -> Value
     requires { number < count types.now }
     ensures { result ≡ default_of (type_at types.now number) }
 {
@@ -40,7 +41,7 @@ pub fn default_value(types: &Types, number: u32) -> Value
 }
 
 /// Whether a type is that of an array of these elements.
-fn is_array_of(types: &Types, array: u32, element: u32) -> bool
+fn is_array_of(types: &Types, array: TypeId, element: TypeId) -> bool
     requires array { array < count types.now }
     requires element { element < count types.now }
     ensures { result ≡ is_same (ArrayType (type_at types.now element)) (type_at types.now array) }
@@ -105,7 +106,7 @@ pub(crate) fn cast_expression(
 }
 
 /// The number of the type of arrays of these elements among the program's array types, if it is one.
-fn array_number(types: &Types, arrays: &[u32], element: u32) -> Option<u32>
+fn array_number(types: &Types, arrays: &[TypeId], element: TypeId) -> Option<u32>
     requires arrays { All (λ t. t < count types.now) arrays.now }
     requires few { length arrays.now < 2 ^ 32 }
     requires element { element < count types.now }
@@ -122,7 +123,7 @@ fn array_number(types: &Types, arrays: &[u32], element: u32) -> Option<u32>
 /// A creation of an array as an expression.
 pub(crate) fn array_expression(
     program: &Program,
-    arrays: &[u32],
+    arrays: &[TypeId],
     site: Site,
     entry: Entry,
     element: u32,

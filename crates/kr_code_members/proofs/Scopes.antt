@@ -11,7 +11,7 @@ use Rattle.kr_ast.specs.declared.node.Entry.{Entry}
 use Rattle.kr_ast.specs.declared.node.Node.{Node}
 use Rattle.kr_classes_table.specs.Table.{Table, parameters_in, type_named}
 use Rattle.kr_classes_table.specs.Constants.{Known, values_of}
-use Rattle.kr_types_meaning.specs.Scopes.{Scope, Local, after, bind, scope_of, static_if, written}
+use Rattle.kr_types_meaning.specs.Scopes.{Scope, Local, after, bind_local, scope_of, static_if, written}
 use Rattle.kr_laws_shapes.specs.Shapes.{AreParameters}
 use Rattle.kr_types_meaning.specs.Handing.{handed}
 use Rattle.kr_types_meaning.specs.Running.{running}
@@ -67,7 +67,7 @@ after_parameters s (trees.Cons (trees.Parameter p t n) b) h =
     let w = written s t in
     let rest = map parameter_local (parameters_in s.table.headings b) in
     let l : Local = record { name = n; type = w } in
-    after_parameters (bind n w s) b h.1
+    after_parameters (bind_local n w s) b h.1
     ∙ ap (λ (ls : List Local). with_locals ls s) (sym (append_assoc (reverse rest) (l ∷ []) s.locals) ∙ ap (λ (ls : List Local). ls ++ s.locals) (sym (reverse-append (l ∷ []) rest)))
 after_parameters s (trees.Cons _ b) h = absurd h
 after_parameters s _ h = absurd h

@@ -14,7 +14,7 @@ use kr_types::Program;
 use std::alloc::Global;
 
 /// What the declarators of one line of fields share, and the list of them.
-#[derive(Clone, Copy, Debug)]
+#[derive(Clone, Copy)]
 pub(crate) struct FieldLine {
     pub(crate) is_static: bool,
     pub(crate) is_final: bool,

@@ -6,7 +6,7 @@ use kr_ast::{Entry, Tree, tree_of};
 use kr_types::Program;
 
 /// A method: its own node, the lists of its contract lines and of its statements, and the class that declares it.
-#[derive(Clone, Copy, Debug)]
+#[derive(Clone, Copy)]
 pub struct MethodNode {
     pub file: u32,
     pub class: u32,
@@ -16,7 +16,7 @@ pub struct MethodNode {
 }
 
 /// A field or constant: its initial value, which may be absent.
-#[derive(Clone, Copy, Debug)]
+#[derive(Clone, Copy)]
 pub struct FieldNode {
     pub file: u32,
     pub is_static: bool,
@@ -24,7 +24,7 @@ pub struct FieldNode {
 }
 
 /// A constructor: its own node, the call of the superclass's constructor, which may be absent, and the list of its statements.
-#[derive(Clone, Copy, Debug)]
+#[derive(Clone, Copy)]
 pub struct ConstructorNode {
     pub file: u32,
     pub node: u32,

@@ -24,6 +24,16 @@ struct Methods {
     first: Vec<u32>,
 }
 
+/// How many there are, where there are fewer than 2^32 - 1.
+fn counted(count: usize) -> Result<u32, NoMemory>
+    ensures { IfOk result (λ number. (number ≡ count) × (number < 4294967295)) }
+{
+    if count >= 0xffff_ffff {
+        return Err(NoMemory::at_limit(count as u64));
+    }
+    Ok(count as u32)
+}
+
 fn all_fields(alloc: Global, members: &Members) -> Result<Fields, NoMemory>
     requires { class_count members.now < 4294967295 }
     ensures few { IfOk result (λ r. length r.all.items < 4294967295) }
@@ -36,15 +46,10 @@ fn all_fields(alloc: Global, members: &Members) -> Result<Fields, NoMemory>
     let mut first = Vec::new(alloc);
     let count = members.len() as u32;
     for class in 0..count {
-        if all.len() >= 0xffff_ffff {
-            return Err(NoMemory);
-        }
-        first.push(all.len() as u32)?;
+        first.push(counted(all.len())?)?;
         all.extend_from_slice(members.fields(class))?;
     }
-    if all.len() >= 0xffff_ffff {
-        return Err(NoMemory);
-    }
+    counted(all.len())?;
     Ok(Fields { all, first })
 }
 
@@ -60,15 +65,10 @@ fn all_methods(alloc: Global, members: &Members) -> Result<Methods, NoMemory>
     let mut first = Vec::new(alloc);
     let count = members.len() as u32;
     for class in 0..count {
-        if all.len() >= 0xffff_ffff {
-            return Err(NoMemory);
-        }
-        first.push(all.len() as u32)?;
+        first.push(counted(all.len())?)?;
         all.extend_from_slice(members.methods(class))?;
     }
-    if all.len() >= 0xffff_ffff {
-        return Err(NoMemory);
-    }
+    counted(all.len())?;
     Ok(Methods { all, first })
 }
 
@@ -77,9 +77,7 @@ impl Roster {
     pub fn read(alloc: Global, members: &Members) -> Result<Roster, NoMemory>
         ensures { (files : List Arena) → AreMembers files members.now → IfOk result (λ roster. IsRoster files roster) }
     {
-        if members.len() >= 0xffff_ffff {
-            return Err(NoMemory);
-        }
+        counted(members.len())?;
         let fields = all_fields(alloc, members)?;
         let methods = all_methods(alloc, members)?;
         Ok(Roster {

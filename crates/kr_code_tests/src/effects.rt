@@ -6,7 +6,7 @@ ghost use Rattle.kr_types.specs.Programs.{IsProgram};
 use kr_ast::{Tree, tree_of};
 use kr_base::{NoMemory, Place};
 use kr_pure_effects::{Touch, runs_of, touch_of};
-use kr_sources::program_of;
+use kr_sources::{Unread, program_of};
 use kr_types::Program;
 use std::alloc::Global;
 
@@ -52,7 +52,7 @@ fn effects(alloc: Global, program: &Program) -> Result<u32, NoMemory>
 }
 
 #[test]
-fn a_creation(rt: HostRuntime) -> Result<(), NoMemory> {
+fn a_creation(rt: HostRuntime) -> Result<(), Unread> {
     let program = program_of(rt.alloc(), "class A { A a = new A(); }")?;
     let nodes = program.nodes();
     let effects = effects(rt.alloc(), &program)?;

@@ -9,7 +9,7 @@ use kr_code::{Expression, Node};
 use kr_code_bodies::{Bodies, bodies_of};
 use kr_code_lowering::{Links, resolve_nodes};
 use kr_code_members::{ClassNodes, FieldNode, MemberNodes, Roster, member_nodes};
-use kr_sources::program_of;
+use kr_sources::{Unread, program_of};
 use kr_types::Program;
 use kr_value::Value;
 use std::alloc::Global;
@@ -133,7 +133,7 @@ fn program_fits(alloc: Global, program: &Program) -> Result<(bool, bool, bool), 
 }
 
 #[test]
-fn a_field_with_an_initial_value(rt: HostRuntime) -> Result<(), NoMemory> {
+fn a_field_with_an_initial_value(rt: HostRuntime) -> Result<(), Unread> {
     let program = program_of(rt.alloc(), "class A { int v = 7; }")?;
     let (nodes, members, made) = program_fits(rt.alloc(), &program)?;
     assert!(rt; nodes);

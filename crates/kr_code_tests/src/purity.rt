@@ -6,7 +6,7 @@ use kr_base::NoMemory;
 use kr_fin::Listed;
 use kr_mean::Mode;
 use kr_pure::{PureRefusal, pure};
-use kr_sources::program_of;
+use kr_sources::{Unread, program_of};
 use kr_space_layout::{ClassDomain, Layout};
 use kr_space_problem::Problem;
 use kr_value::Class;
@@ -32,12 +32,12 @@ fn is_impure_at(alloc: Global, problem: &Problem, column: Option<u32>) -> bool
     match pure(alloc, problem) {
         Ok(()) => column.is_none(),
         Err(PureRefusal::Impure { place }) => column == Some(place.col),
-        Err(PureRefusal::NoMemory) => false,
+        Err(PureRefusal::NoMemory(_)) => false,
     }
 }
 
 /// The same of the problem of one object of a source's first class.
-fn is_source_impure_at(alloc: Global, source: &str, column: Option<u32>) -> Result<bool, NoMemory> {
+fn is_source_impure_at(alloc: Global, source: &str, column: Option<u32>) -> Result<bool, Unread> {
     let layout = layout(alloc)?;
     let program = program_of(alloc, source)?;
     let problem = Problem {
@@ -49,7 +49,7 @@ fn is_source_impure_at(alloc: Global, source: &str, column: Option<u32>) -> Resu
 }
 
 #[test]
-fn writes(rt: HostRuntime) -> Result<(), NoMemory> {
+fn writes(rt: HostRuntime) -> Result<(), Unread> {
     for (source, column) in [
         (
             "class Cell { int v; boolean repOk() { v = 1; return true; } }",

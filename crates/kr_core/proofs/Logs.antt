@@ -12,7 +12,7 @@ use Rattle.kr_core.specs.declared.event.Reply.{Reply}
 use Rattle.kr_core.specs.declared.event.Reply.TheVariants.{Lease as Leased, Go, Done, Noted}
 use Rattle.kr_core.specs.declared.segment.Segment.{Segment}
 use Rattle.kr_core.specs.States.{State, has_remainder, is_owned, segment_of, change, capped}
-use Rattle.kr_core.specs.Steps.{Step, fits, after, replay, IsAnswer, IsLeased, IsReported, may_take, may_steal, may_report, owned, stolen, scanned}
+use Rattle.kr_core.specs.Steps.{Step, fits, after, replay, IsReply, IsLeased, IsReported, may_take, may_steal, may_report, owned, stolen, scanned}
 use Rattle.kr_core.specs.Logs.{ReplayLaw, GrowthLaw}
 use Rattle.kr_core.proofs.Bools.{and-left}
 use Rattle.kr_core.proofs.Places.{segment_of_change, segment_of_cut}
@@ -91,7 +91,7 @@ answer-report seat n reach rows tried false segs (Some s) found may =
     let a = answer-scanned seat reach rows tried false s in
     (a.0, subst (λ (x : Option Segment). IsReported seat x a.0) (sym (segment_of_change n segs (scanned reach rows tried false) s (λ t. refl) found)) a.1)
 
-answer : (old : State) (event : Event) → fits old event ≡ true → (reply : Reply) × IsAnswer old event reply (after old event)
+answer : (old : State) (event : Event) → fits old event ≡ true → (reply : Reply) × IsReply old event reply (after old event)
 answer old (Take seat n) fit = answer-take seat n old.segments (segment_of n old.segments) refl fit
 answer old (Steal seat victim c n) fit = answer-steal seat c n (segment_of victim old.segments) (and-left (may_steal c (segment_of victim old.segments)) _ fit)
 answer old (Report seat n reach rows tried spent) fit = answer-report seat n reach rows tried spent old.segments (segment_of n old.segments) refl fit

@@ -1,5 +1,5 @@
 -- Between crates: when the machine refuses an event.
-use Rattle.std.specs.Prelude.{◌≡◌, true}
+use Rattle.std.specs.Prelude.{◌≡◌, true, false}
 use Rattle.kr_core.specs.declared.event.Event.{Event}
 use Rattle.kr_core.specs.declared.event.Event.TheVariants.{Take, Steal, Report, GiveUp, Drain, StopAt, Look}
 use Rattle.kr_core.specs.declared.event.Reply.{Reply}
@@ -24,5 +24,5 @@ TakesMemory (Look seat) = ⊥
 
 -- the event fits nowhere and is handed back, or it fits and its step lacked memory
 abbrev pub IsRefused : State → Event → CoreRefusal → Type 0
-IsRefused old event (Illegal back) = (back ≡ event) × FitsNowhere old event
-IsRefused old event NoMemory = TakesMemory event × (fits old event ≡ true)
+IsRefused old event (Illegal back) = (back ≡ event) × (fits old event ≡ false) × FitsNowhere old event
+IsRefused old event (NoMemory _) = TakesMemory event × (fits old event ≡ true)

@@ -160,16 +160,16 @@ after old (StopAt mark) = record old { segments = stopped mark old.segments; end
 after old (Look seat) = old
 
 -- what is answered, where the new state is this
-abbrev pub IsAnswer : State → Event → Reply → State → Type 0
+abbrev pub IsReply : State → Event → Reply → State → Type 0
 -- the lease of the segment as it then stands
-IsAnswer old (Take seat n) reply new = IsLeased seat (segment_of n new.segments) reply
+IsReply old (Take seat n) reply new = IsLeased seat (segment_of n new.segments) reply
 -- the lease of the rest
-IsAnswer old (Steal seat victim cut n) reply new = IsLeased seat (option_map (stolen seat cut n) (segment_of victim old.segments)) reply
-IsAnswer old (Report seat n reach rows tried spent) reply new = IsReported seat (segment_of n new.segments) reply
-IsAnswer old (GiveUp seat n) reply new = reply ≡ Noted
-IsAnswer old (Drain rows) reply new = reply ≡ Noted
-IsAnswer old (StopAt mark) reply new = reply ≡ Noted
-IsAnswer old (Look seat) reply new = reply ≡ Noted
+IsReply old (Steal seat victim cut n) reply new = IsLeased seat (option_map (stolen seat cut n) (segment_of victim old.segments)) reply
+IsReply old (Report seat n reach rows tried spent) reply new = IsReported seat (segment_of n new.segments) reply
+IsReply old (GiveUp seat n) reply new = reply ≡ Noted
+IsReply old (Drain rows) reply new = reply ≡ Noted
+IsReply old (StopAt mark) reply new = reply ≡ Noted
+IsReply old (Look seat) reply new = reply ≡ Noted
 
 -- The relation: the event fits, the state is the one after it, and this is answered.
 pub record Case (fits : Bool) (new state : State) (replies : Type 0) : Type 0 where
@@ -178,7 +178,7 @@ pub record Case (fits : Bool) (new state : State) (replies : Type 0) : Type 0 wh
   pub reply_is : replies
 
 abbrev pub Step : State → Event → Reply → State → Type 0
-Step old event reply new = Case (fits old event) new (after old event) (IsAnswer old event reply new)
+Step old event reply new = Case (fits old event) new (after old event) (IsReply old event reply new)
 
 -- the state to which events lead, one after another, where each fits
 abbrev pub replay : State → List Event → Option State

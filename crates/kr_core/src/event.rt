@@ -3,7 +3,7 @@
 use kr_base::{Bound, Cut};
 
 /// What happens to the segments. Seats are the workers' numbers, and segments go by their numbers.
-#[derive(Debug, Drop)]
+#[derive(Drop)]
 pub enum Event {
     /// The seat becomes the owner of a segment.
     Take {
@@ -47,7 +47,7 @@ pub enum Event {
 }
 
 /// What a seat has to scan: a segment from its mark on.
-#[derive(Debug, Drop)]
+#[derive(Drop)]
 pub struct Lease {
     pub seat: u32,
     pub segment: u64,
@@ -56,7 +56,7 @@ pub struct Lease {
 }
 
 /// What the machine answers an event that it took.
-#[derive(Debug, Drop)]
+#[derive(Drop)]
 pub enum Reply {
     /// The lease of the segment that was taken or stolen.
     Lease(Lease),

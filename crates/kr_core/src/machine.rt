@@ -20,7 +20,7 @@ use std::alloc::Global;
 use std::marker::Model;
 
 /// The machine. Contracts see its state.
-#[derive(Debug, Drop)]
+#[derive(Drop)]
 pub struct Core {
     segments: Vec<Segment>,
     next: u64,
@@ -38,20 +38,20 @@ impl Model for Core {
 }
 
 /// Why an event was not taken: it fits nowhere, and is handed back; or memory was refused.
-#[derive(Debug, Drop)]
+#[derive(Drop)]
 pub enum CoreRefusal {
     Illegal(Event),
-    NoMemory,
+    NoMemory(NoMemory),
 }
 
 impl From<NoMemory> for CoreRefusal {
     ghost use Rattle.std.specs.Prelude.{◌≡◌};
-    ghost use Rattle.kr_core.specs.declared.machine.CoreRefusal.TheVariants.{NoMemory};
+    ghost use Rattle.kr_core.specs.declared.machine.CoreRefusal.TheVariants.{NoMemory as Lacking};
 
-    ghost from_gives = { λ e r. r ≡ NoMemory };
+    ghost from_gives = { λ why refusal. refusal ≡ Lacking why };
 
-    fn from(_: NoMemory) -> CoreRefusal {
-        CoreRefusal::NoMemory
+    fn from(why: NoMemory) -> CoreRefusal {
+        CoreRefusal::NoMemory(why)
     }
 }
 

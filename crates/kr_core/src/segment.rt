@@ -6,7 +6,7 @@ use kr_base::Bound;
 
 /// The candidates above `after` and not above `upto`. Those up to `mark` are scanned: `tried` of them were counted, and
 /// `rows` of their rows are not yet drained. The owner is a seat.
-#[derive(Debug, Drop)]
+#[derive(Drop)]
 pub struct Segment {
     pub number: u64,
     pub after: Bound,

@@ -1,11 +1,11 @@
 -- Each value of a domain that breaks no rule is an item.
 use Rattle.std.proofs.Common.{◌≡◌, ℕ, ℤ, List, [], ◌∷◌, ◌++◌, length, codes, Option, Some, None, option_and_then, refl}
 use Rattle.toml.specs.Data.{Data, string, integer, float, boolean, datetime, array, table, Members, get_member, as_integer}
-use Rattle.kr_fin.specs.declared.refusal.Fault.{Fault}
 use Rattle.kr_fin.specs.declared.shapes.Limits.{Limits}
 use Rattle.kr_fin.specs.declared.shapes.Shape.TheVariants.{Range}
 use Rattle.kr_fin.specs.Document.{range_in}
 use Rattle.kr_fin.specs.Faults.{range, required, number, unknown_keys}
+use Rattle.kr_fin.specs.Order.{Fault}
 use Rattle.kr_fin.specs.Shapes.{limits_of}
 use Rattle.kr_fin.specs.Laws.{ItemLaw}
 

@@ -7,7 +7,7 @@ use Rattle.std.proofs.Math.Dec.{leb}
 use Rattle.toml.specs.Data.{Members}
 use Rattle.toml.specs.Parse.{parse_document}
 use Rattle.kr_fin.specs.declared.refusal.FinRule.TheVariants.{TooLong, NotToml}
-use Rattle.kr_fin.specs.Meaning.{judged, meaning, of_table, table_in}
+use Rattle.kr_fin.specs.Meaning.{document_in, meaning, of_table, table_in}
 
 -- what isn't told to be above a limit isn't
 pub within_limit : (n limit : ℕ) (told : Bool) → told ≡ false → (limit < n → told ≡ true) → n ≤ limit
@@ -29,7 +29,7 @@ pub of_too_long : (bytes : List ℕ) → 1048576 < length bytes → meaning byte
 unfolding meaning
 of_too_long bytes long = rw (lt-leb (length bytes) 1048576 long) refl
 
-pub of_toml : (bytes : List ℕ) (ms : Members) → length bytes ≤ 1048576 → IsUtf8 bytes → parse_document bytes ≡ Some ms → meaning bytes ≡ judged ms
+pub of_toml : (bytes : List ℕ) (ms : Members) → length bytes ≤ 1048576 → IsUtf8 bytes → parse_document bytes ≡ Some ms → meaning bytes ≡ document_in ms
 unfolding meaning
 of_toml bytes ms short utf8 parsed = rw (le-leb (length bytes) 1048576 short) (ap of_table (table_at_ok bytes ms utf8 parsed))
 

@@ -2,7 +2,6 @@
 -- the text below, which means nothing (`least` of the order names one).
 use Rattle.std.specs.Prelude.{ℕ, ℤ, List, [], ◌++◌, Option, Some, None, codes, if◌then◌else◌}
 use Rattle.toml.specs.Data.{Data, string, integer, float, boolean, datetime, array, table, Items, no_items, item, Members, no_members, member, get_member, as_integer, as_str, as_array, as_table}
-use Rattle.kr_fin.specs.declared.refusal.Fault.{Fault}
 use Rattle.kr_fin.specs.declared.refusal.FinRule.TheVariants.{UnknownKey, WrongKind, OutOfLimit, MissingKey}
 use Rattle.kr_fin.specs.declared.shapes.Limits.{Limits}
 use Rattle.kr_fin.specs.declared.shapes.Purpose.{Purpose}
@@ -11,7 +10,7 @@ use Rattle.kr_fin.specs.declared.shapes.Section.{Section}
 use Rattle.kr_fin.specs.declared.shapes.Section.TheVariants.{Objects, Arrays, Fields, Params}
 use Rattle.kr_fin.specs.declared.shapes.Shape.{Shape}
 use Rattle.kr_fin.specs.declared.shapes.Shape.TheVariants.{Document, Range, Array}
-use Rattle.kr_fin.specs.Order.{broken}
+use Rattle.kr_fin.specs.Order.{Fault, broken}
 use Rattle.kr_fin.specs.Shapes.{knows, name_of, item_of, have, counts, fuels, limits_of, is_pair}
 
 abbrev Text : Type 0

@@ -1,3 +1,4 @@
+pub mod Least
 pub mod Order
 pub mod Shapes
 pub mod Faults

@@ -1,10 +1,12 @@
--- To be believed: which of some broken rules is named: the least rule, and of one rule the least item in the order of bytes.
-use Rattle.std.specs.Prelude.{ℕ, Bool, List, [], ◌∷◌, fold, Option, Some, None, codes, if◌then◌else◌}
-use Rattle.std.specs.Ordering.{nat_cmp, is_lt}
-use Rattle.std.specs.Cmp.Lexicographic.{slice_cmp}
-use Rattle.kr_fin.specs.declared.refusal.Fault.{Fault}
+-- To be believed: the rules of a finitization, their codes, and the order in which broken ones are named.
+use Rattle.std.specs.Prelude.{ℕ, List, [], ◌∷◌, Option, codes}
+use Rattle.kr_base.specs.declared.refusal.Fault.{Fault as FaultOf}
 use Rattle.kr_fin.specs.declared.refusal.FinRule.{FinRule}
 use Rattle.kr_fin.specs.declared.refusal.FinRule.TheVariants.{TooLong, NotToml, UnknownKey, WrongKind, OutOfLimit, MissingKey}
+use Rattle.kr_fin.specs.Least as by
+
+abbrev pub Fault : Type 0
+Fault = FaultOf FinRule
 
 abbrev pub rule_code : FinRule → List ℕ
 rule_code TooLong = codes "F6"
@@ -23,18 +25,13 @@ rank_of WrongKind = 3
 rank_of OutOfLimit = 4
 rank_of MissingKey = 5
 
--- the first fault has the lesser rule, or the same one and the lesser item
-abbrev pub comes_before : Fault → Fault → Bool
-comes_before f g = is_lt (slice_cmp nat_cmp (rank_of f.rule ∷ f.item) (rank_of g.rule ∷ g.item))
-
 -- the lesser of the fault so far, if there is one, and one more
 abbrev pub lesser : Option Fault → Fault → Option Fault
-lesser None g = Some g
-lesser (Some f) g = if comes_before g f then Some g else Some f
+lesser = by.lesser rank_of
 
 -- the least of some faults, if there are any
 abbrev pub least : List Fault → Option Fault
-least faults = fold lesser None faults
+least = by.least rank_of
 
 -- the fault of a rule at an item, alone
 abbrev pub broken : FinRule → List ℕ → List Fault

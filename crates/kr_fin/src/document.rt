@@ -5,7 +5,7 @@ use crate::text::Text;
 
 /// A value of a domain, or several: a number, the numbers of a range with both its ends, a truth value, or a name:
 /// `null`, or a class or array type, which stands for all its objects.
-#[derive(Debug, Drop)]
+#[derive(Drop)]
 pub enum Item {
     Number(i64),
     Range(i64, i64),
@@ -17,14 +17,14 @@ pub enum Item {
 pub type Domain = Listed<Item>;
 
 /// A class, and how many objects it has.
-#[derive(Debug, Drop)]
+#[derive(Drop)]
 pub struct Count {
     pub name: Text,
     pub count: u32,
 }
 
 /// An array type, how many arrays it has, and which lengths they have.
-#[derive(Debug, Drop)]
+#[derive(Drop)]
 pub struct ArrayBound {
     pub name: Text,
     pub count: u32,
@@ -32,14 +32,14 @@ pub struct ArrayBound {
 }
 
 /// A field, the elements of an array type, or a parameter, and which values it has.
-#[derive(Debug, Drop)]
+#[derive(Drop)]
 pub struct NamedDomain {
     pub key: Text,
     pub domain: Domain,
 }
 
 /// A finitization. Each list is in the order in which the TOML table has its keys.
-#[derive(Debug, Drop)]
+#[derive(Drop)]
 pub struct FinDoc {
     pub root: Text,
     pub fuel: u64,

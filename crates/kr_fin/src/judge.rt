@@ -7,9 +7,9 @@ ghost use Rattle.kr_fin.specs.Faults as spec;
 ghost use Rattle.kr_fin.specs.Shapes as shape;
 
 use crate::least::Least;
-use crate::refusal::{Fault, FinRule};
+use crate::refusal::FinRule;
 use crate::shapes::{COUNTS, FUEL, Limits, Purpose, Section, Shape, is_pair};
-use kr_base::NoMemory;
+use kr_base::{Fault, NoMemory};
 use std::alloc::Global;
 use toml::value::Array;
 use toml::{Table, Value};
@@ -23,7 +23,7 @@ pub(crate) fn value_at<'t>(table: &'t Table, key: &str) -> Option<&'t Value>
 
 // Each key is one that the table may have. The item is the one given, else the key.
 fn unknown_keys(
-    least: &mut Least,
+    least: &mut Least<FinRule>,
     shape: Shape,
     item: Option<&str>,
     table: &Table,
@@ -40,7 +40,7 @@ fn unknown_keys(
     Ok(())
 }
 
-fn within(least: &mut Least, limits: Limits, at: &str, number: i64) -> Result<(), NoMemory>
+fn within(least: &mut Least<FinRule>, limits: Limits, at: &str, number: i64) -> Result<(), NoMemory>
     ensures { OnOk result (least.new ≡ fold lesser least.old (spec.within limits at.now number)) }
 {
     if !limits.have(number) {
@@ -49,7 +49,12 @@ fn within(least: &mut Least, limits: Limits, at: &str, number: i64) -> Result<()
     Ok(())
 }
 
-fn number(least: &mut Least, limits: Limits, at: &str, value: &Value) -> Result<(), NoMemory>
+fn number(
+    least: &mut Least<FinRule>,
+    limits: Limits,
+    at: &str,
+    value: &Value,
+) -> Result<(), NoMemory>
     ensures { OnOk result (least.new ≡ fold lesser least.old (spec.number limits at.now (view value.now))) }
 {
     match value.as_integer() {
@@ -60,7 +65,7 @@ fn number(least: &mut Least, limits: Limits, at: &str, value: &Value) -> Result<
 
 // A number that has to be there.
 fn required_number(
-    least: &mut Least,
+    least: &mut Least<FinRule>,
     limits: Limits,
     at: &str,
     value: Option<&Value>,
@@ -74,7 +79,12 @@ fn required_number(
     }
 }
 
-fn range(least: &mut Least, limits: Limits, at: &str, table: &Table) -> Result<(), NoMemory>
+fn range(
+    least: &mut Least<FinRule>,
+    limits: Limits,
+    at: &str,
+    table: &Table,
+) -> Result<(), NoMemory>
     ensures { OnOk result (least.new ≡ fold lesser least.old (spec.range limits at.now (table_view table.now))) }
 {
     unknown_keys(least, Shape::Range, Some(at), table)?;
@@ -83,7 +93,12 @@ fn range(least: &mut Least, limits: Limits, at: &str, table: &Table) -> Result<(
 }
 
 // A value of a domain.
-fn value(least: &mut Least, purpose: Purpose, at: &str, value: &Value) -> Result<(), NoMemory>
+fn value(
+    least: &mut Least<FinRule>,
+    purpose: Purpose,
+    at: &str,
+    value: &Value,
+) -> Result<(), NoMemory>
     ensures { OnOk result (least.new ≡ fold lesser least.old (spec.value purpose at.now (view value.now))) }
 {
     match value {
@@ -98,7 +113,7 @@ fn value(least: &mut Least, purpose: Purpose, at: &str, value: &Value) -> Result
 }
 
 // A truth value or a name, which lengths don't have.
-fn plain(least: &mut Least, purpose: Purpose, at: &str) -> Result<(), NoMemory>
+fn plain(least: &mut Least<FinRule>, purpose: Purpose, at: &str) -> Result<(), NoMemory>
     ensures { OnOk result (least.new ≡ fold lesser least.old (spec.plain purpose at.now)) }
 {
     match purpose {
@@ -107,7 +122,12 @@ fn plain(least: &mut Least, purpose: Purpose, at: &str) -> Result<(), NoMemory>
     }
 }
 
-fn values(least: &mut Least, purpose: Purpose, at: &str, array: &Array) -> Result<(), NoMemory>
+fn values(
+    least: &mut Least<FinRule>,
+    purpose: Purpose,
+    at: &str,
+    array: &Array,
+) -> Result<(), NoMemory>
     ensures { OnOk result (least.new ≡ fold lesser least.old (spec.values purpose at.now (array_view array.now))) }
 {
     for one in array {
@@ -116,7 +136,12 @@ fn values(least: &mut Least, purpose: Purpose, at: &str, array: &Array) -> Resul
     Ok(())
 }
 
-fn domain(least: &mut Least, purpose: Purpose, at: &str, value: &Value) -> Result<(), NoMemory>
+fn domain(
+    least: &mut Least<FinRule>,
+    purpose: Purpose,
+    at: &str,
+    value: &Value,
+) -> Result<(), NoMemory>
     ensures { OnOk result (least.new ≡ fold lesser least.old (spec.domain purpose at.now (view value.now))) }
 {
     match value.as_array() {
@@ -126,7 +151,11 @@ fn domain(least: &mut Least, purpose: Purpose, at: &str, value: &Value) -> Resul
 }
 
 // The lengths of an array type, which have to be there.
-fn required_lengths(least: &mut Least, at: &str, value: Option<&Value>) -> Result<(), NoMemory>
+fn required_lengths(
+    least: &mut Least<FinRule>,
+    at: &str,
+    value: Option<&Value>,
+) -> Result<(), NoMemory>
     ensures { OnOk result (least.new ≡ fold lesser least.old
         (spec.required (spec.domain Purpose.Lengths at.now) at.now (option_map (λ v. view v.now) value.entry))) }
 {
@@ -137,7 +166,7 @@ fn required_lengths(least: &mut Least, at: &str, value: Option<&Value>) -> Resul
 }
 
 // How many arrays of a type there are, and how long they are.
-fn bound(least: &mut Least, at: &str, table: &Table) -> Result<(), NoMemory>
+fn bound(least: &mut Least<FinRule>, at: &str, table: &Table) -> Result<(), NoMemory>
     ensures { OnOk result (least.new ≡ fold lesser least.old (spec.bound at.now (table_view table.now))) }
 {
     unknown_keys(least, Shape::Array, Some(at), table)?;
@@ -146,7 +175,7 @@ fn bound(least: &mut Least, at: &str, table: &Table) -> Result<(), NoMemory>
 }
 
 // The domain of a field, of elements or of a parameter.
-fn keyed(least: &mut Least, key: &str, at: &str, value: &Value) -> Result<(), NoMemory>
+fn keyed(least: &mut Least<FinRule>, key: &str, at: &str, value: &Value) -> Result<(), NoMemory>
     ensures { OnOk result (least.new ≡ fold lesser least.old (spec.keyed key.now at.now (view value.now))) }
 {
     if !is_pair(key.as_bytes()) {
@@ -157,7 +186,7 @@ fn keyed(least: &mut Least, key: &str, at: &str, value: &Value) -> Result<(), No
 
 // What a table of names says of one of them.
 fn entry(
-    least: &mut Least,
+    least: &mut Least<FinRule>,
     section: Section,
     key: &str,
     at: &str,
@@ -185,7 +214,7 @@ fn item_of(alloc: Global, section: Section, name: &str) -> Result<String, NoMemo
     Ok(item)
 }
 
-fn entries(least: &mut Least, section: Section, table: &Table) -> Result<(), NoMemory>
+fn entries(least: &mut Least<FinRule>, section: Section, table: &Table) -> Result<(), NoMemory>
     ensures { OnOk result (least.new ≡ fold lesser least.old (spec.entries section (table_view table.now))) }
 {
     for (key, value) in table {
@@ -196,7 +225,7 @@ fn entries(least: &mut Least, section: Section, table: &Table) -> Result<(), NoM
 }
 
 // A table of names, which may be absent.
-fn section(least: &mut Least, section: Section, document: &Table) -> Result<(), NoMemory>
+fn section(least: &mut Least<FinRule>, section: Section, document: &Table) -> Result<(), NoMemory>
     ensures { OnOk result (least.new ≡ fold lesser least.old (spec.section section (table_view document.now))) }
 {
     match value_at(document, section.name()) {
@@ -208,7 +237,7 @@ fn section(least: &mut Least, section: Section, document: &Table) -> Result<(), 
     }
 }
 
-fn root(least: &mut Least, document: &Table) -> Result<(), NoMemory>
+fn root(least: &mut Least<FinRule>, document: &Table) -> Result<(), NoMemory>
     ensures { OnOk result (least.new ≡ fold lesser least.old (spec.root (table_view document.now))) }
 {
     match value_at(document, "root") {
@@ -222,7 +251,10 @@ fn root(least: &mut Least, document: &Table) -> Result<(), NoMemory>
 
 /// The least of the faults of the document's table, if it has any.
 #[tactic(auto, unfolding(crate::specs::Faults::faults_in))]
-pub(crate) fn least_fault(alloc: Global, document: &Table) -> Result<Option<Fault>, NoMemory>
+pub(crate) fn least_fault(
+    alloc: Global,
+    document: &Table,
+) -> Result<Option<Fault<FinRule>>, NoMemory>
     ensures { IfOk result (λ fault. fault ≡ least_of (spec.faults_in (table_view document.now))) }
 {
     let mut least = Least::new(alloc);

@@ -13,7 +13,8 @@ mod text;
 
 pub use document::{ArrayBound, Count, Domain, FinDoc, Item, NamedDomain};
 pub use laws::{item_law, least_law};
+pub use least::{Least, Ranked};
 pub use list::Listed;
 pub use reading::{MAX_FIN_BYTES, is_too_long, read_fin};
-pub use refusal::{Fault, FinRefusal, FinRule};
+pub use refusal::{FinRefusal, FinRule};
 pub use text::Text;

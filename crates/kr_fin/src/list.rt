@@ -6,7 +6,7 @@ use std::alloc::Global;
 use std::marker::Model;
 
 /// A list. Contracts see its items.
-#[derive(Debug, Drop)]
+#[derive(Drop)]
 pub struct Listed<T> {
     items: Vec<T>,
 }

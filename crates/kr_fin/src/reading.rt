@@ -2,17 +2,18 @@
 ghost use Rattle.std.specs.Prelude.{◌≡◌, ◌↔◌, ◌<◌, ℕ, length, IsTrue, Some, Ok, Err, option_map, option_and_then, option_to_list, unwrap_or, IfOk, IfErr, MatchResult};
 ghost use Rattle.toml.specs.Data.{as_integer, get_member, no_members};
 ghost use Rattle.kr_fin.specs.Shapes.{counts, fuels};
+ghost use Rattle.toml.specs.Errors.{IsMemory};
 ghost use Rattle.toml.specs.View.{view, table_view, array_view};
 ghost use Rattle.kr_fin.specs.Document as spec;
-ghost use Rattle.kr_fin.specs.Meaning.{Refuses, judged, meaning};
+ghost use Rattle.kr_fin.specs.Meaning.{Refuses, document_in, meaning};
 
 use crate::document::{ArrayBound, Count, Domain, FinDoc, Item, NamedDomain};
 use crate::judge::{least_fault, value_at};
 use crate::list::Listed;
-use crate::refusal::{Fault, FinRefusal, FinRule};
+use crate::refusal::{FinRefusal, FinRule};
 use crate::shapes::Section;
 use crate::text::Text;
-use kr_base::NoMemory;
+use kr_base::{Fault, ItemName, NoMemory};
 use std::alloc::Global;
 use toml::value::Array;
 use toml::{Table, Value};
@@ -268,25 +269,36 @@ fn document_of(alloc: Global, document: &Table) -> Result<FinDoc, NoMemory>
 fn broken(alloc: Global, rule: FinRule, item: &str) -> FinRefusal
     ensures { Refuses (Err (record { rule = rule; item = item.now })) result }
 {
-    match Text::of(alloc, item) {
+    match ItemName::of(alloc, item.as_bytes()) {
         Ok(item) => FinRefusal::Broken(Fault { rule, item }),
-        Err(_) => FinRefusal::NoMemory,
+        Err(why) => FinRefusal::NoMemory(why),
     }
 }
 
 // The document of a table, or its least fault.
-#[tactic(auto, unfolding(crate::specs::Meaning::judged))]
+#[tactic(auto, unfolding(crate::specs::Meaning::document_in))]
 fn judge(alloc: Global, table: &Table) -> Result<FinDoc, FinRefusal>
-    ensures { MatchResult result (λ doc. judged (table_view table.now) ≡ Ok doc) (Refuses (judged (table_view table.now))) }
+    ensures { MatchResult result (λ doc. document_in (table_view table.now) ≡ Ok doc) (Refuses (document_in (table_view table.now))) }
 {
     match least_fault(alloc, table) {
         Ok(None) => {}
         Ok(Some(fault)) => return Err(FinRefusal::Broken(fault)),
-        Err(_) => return Err(FinRefusal::NoMemory),
+        Err(why) => return Err(FinRefusal::NoMemory(why)),
     }
     match document_of(alloc, table) {
         Ok(document) => Ok(document),
-        Err(_) => Err(FinRefusal::NoMemory),
+        Err(why) => Err(FinRefusal::NoMemory(why)),
+    }
+}
+
+/// Want of memory that the reader of TOML tells: it hands no error of the allocator on, so that one is had by asking for
+/// more than there can be.
+fn lacking(alloc: Global, error: &toml::de::Error) -> NoMemory
+    requires { IsMemory error.now }
+{
+    match Vec::<u64>::with_capacity(alloc, usize::MAX) {
+        Ok(all) => NoMemory::at_limit(all.capacity() as u64),
+        Err(why) => NoMemory::from(why),
     }
 }
 
@@ -302,7 +314,7 @@ pub fn read_fin(alloc: Global, bytes: &[u8]) -> Result<FinDoc, FinRefusal>
         Ok(table) => judge(alloc, &table),
         Err(error) => {
             if error.is_memory() {
-                Err(FinRefusal::NoMemory)
+                Err(FinRefusal::NoMemory(lacking(alloc, &error)))
             } else {
                 Err(broken(alloc, FinRule::NotToml, "toml"))
             }

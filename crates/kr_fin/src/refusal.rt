@@ -1,11 +1,12 @@
 // Why bytes are no finitization.
 ghost use Rattle.std.specs.Prelude.{◌≡◌};
-ghost use Rattle.kr_fin.specs.Order.{rank_of, rule_code};
+ghost use Rattle.kr_fin.specs.Order as order;
 
-use crate::text::Text;
+use crate::least::Ranked;
+use kr_base::RefusalOf;
 
 /// A rule of finitizations, by what breaks it.
-#[derive(Clone, Copy, Debug, PartialEq, Eq)]
+#[derive(Clone, Copy, PartialEq, Eq)]
 pub enum FinRule {
     /// F6: longer than 1 MiB.
     TooLong,
@@ -24,7 +25,7 @@ pub enum FinRule {
 impl FinRule {
     /// The rule's code, as `F1`.
     pub fn code(self) -> &'static str
-        ensures { result.now ≡ rule_code self }
+        ensures { result.now ≡ order.rule_code self }
     {
         match self {
             FinRule::TooLong => "F6",
@@ -35,11 +36,12 @@ impl FinRule {
             FinRule::MissingKey => "F5",
         }
     }
+}
 
-    /// The rule's number in the order in which broken rules are named.
-    pub(crate) fn rank(self) -> u32
-        ensures { result ≡ rank_of self }
-    {
+impl Ranked for FinRule {
+    ghost rank_of = { order.rank_of };
+
+    fn rank(self) -> u32 {
         match self {
             FinRule::TooLong => 0,
             FinRule::NotToml => 1,
@@ -51,16 +53,5 @@ impl FinRule {
     }
 }
 
-/// A rule that is broken, and the item that breaks it.
-#[derive(Debug, Drop)]
-pub struct Fault {
-    pub rule: FinRule,
-    pub item: Text,
-}
-
 /// The bytes were refused: they break a rule, or memory was refused.
-#[derive(Debug, Drop)]
-pub enum FinRefusal {
-    Broken(Fault),
-    NoMemory,
-}
+pub type FinRefusal = RefusalOf<FinRule>;

@@ -3,7 +3,7 @@ ghost use Rattle.std.specs.Prelude.{◌≡◌, position};
 ghost use Rattle.kr_fin.specs.Shapes as spec;
 
 /// A table whose keys are fixed: the whole document, a range, or an array type's bound.
-#[derive(Clone, Copy, Debug, PartialEq, Eq)]
+#[derive(Clone, Copy, PartialEq, Eq)]
 pub enum Shape {
     Document,
     Range,
@@ -11,7 +11,7 @@ pub enum Shape {
 }
 
 /// A table whose keys are names.
-#[derive(Clone, Copy, Debug, PartialEq, Eq)]
+#[derive(Clone, Copy, PartialEq, Eq)]
 pub enum Section {
     Objects,
     Arrays,
@@ -20,14 +20,14 @@ pub enum Section {
 }
 
 /// What a list of values is for: the lengths of arrays, or a slot.
-#[derive(Clone, Copy, Debug, PartialEq, Eq)]
+#[derive(Clone, Copy, PartialEq, Eq)]
 pub enum Purpose {
     Lengths,
     Slot,
 }
 
 /// The least and the greatest of some numbers.
-#[derive(Clone, Copy, Debug, PartialEq, Eq)]
+#[derive(Clone, Copy, PartialEq, Eq)]
 pub struct Limits {
     pub low: i64,
     pub high: i64,

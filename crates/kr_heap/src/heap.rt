@@ -14,7 +14,7 @@ use std::alloc::Global;
 use std::marker::Model;
 
 /// A heap. Contracts see the list of its objects, each with its class and values.
-#[derive(Debug, Drop)]
+#[derive(Drop)]
 pub struct Heap {
     objects: Vec<Object>,
 }
@@ -159,8 +159,9 @@ impl Heap {
         ensures added { OnOk result (self.new ≡ self.old ++ record { class = class; values = values.items } ∷ []) }
         ensures unchanged { OnErr result (self.new ≡ self.old) }
     {
-        let Ok(number) = u32::try_from(self.objects.len()) else {
-            return Err(NoMemory);
+        let count = self.objects.len();
+        let Ok(number) = u32::try_from(count) else {
+            return Err(NoMemory::at_limit(count as u64));
         };
         let values = Members::from_vec(values);
         self.objects.push(Object { class, values })?;

@@ -8,4 +8,4 @@ mod object;
 
 pub use heap::Heap;
 pub use lists::{append, refill};
-pub use members::Members;
+pub use members::{Members, too_many};

@@ -8,9 +8,16 @@ use kr_value::Value;
 use std::alloc::Global;
 use std::marker::Model;
 
+/// Want of memory for more values than an object has: each takes more than two bytes.
+pub fn too_many(values: &[Value]) -> NoMemory
+    requires { 2147483647 ≤ length values.now }
+{
+    NoMemory::at_limit(values.len() as u64 * 2 + 1)
+}
+
 /// The fields, elements or members of an object: at most 2147483647, so that a length is an int. The first one is taken away
 /// in constant time, on average over the calls. Contracts see the list.
-#[derive(Debug, Drop)]
+#[derive(Drop)]
 pub struct Members {
     items: Vec<Value>,
     // how many of the items are gone from the front
@@ -106,7 +113,7 @@ impl Members {
         ensures unchanged { OnErr result (self.new ≡ self.old) }
     {
         if self.as_slice().len() >= 2147483647 {
-            return Err(NoMemory);
+            return Err(too_many(self.as_slice()));
         }
         if self.items.len() / 2 < self.gone {
             self.compact();

@@ -5,7 +5,7 @@ use kr_value::{Class, Spot, Value};
 use std::alloc::Global;
 
 /// What it is of, and its fields, elements or members.
-#[derive(Debug, Drop)]
+#[derive(Drop)]
 pub struct Object {
     pub class: Class,
     pub values: Members,

@@ -1,7 +1,9 @@
 // The real files.
-ghost use Rattle.std.specs.Prelude.{◌≡◌, ◌≤◌, None, option_map, string_bytes, length, take, IfOk, IfSome};
+ghost use Rattle.std.specs.Prelude.{◌≡◌, ◌≤◌, ◌++◌, None, option_map, string_bytes, length, take, IfOk, IfSome};
 
+use crate::files::name_of;
 use crate::{Files, ReadRefusal};
+use kr_base::NoMemory;
 use std::alloc::Global;
 use std::io::Read;
 use std::{fs, rt};
@@ -34,6 +36,13 @@ impl<'a, R: rt::Files> DiskFiles<'a, R> {
     }
 }
 
+fn append(bytes: &mut Vec<u8>, more: &[u8]) -> Result<(), NoMemory>
+    ensures { IfOk result (λ _. bytes.new.items ≡ bytes.old.items ++ more.now) }
+{
+    bytes.extend_from_slice(more)?;
+    Ok(())
+}
+
 /// The first bytes that a reader gives, at most so many.
 #[tactic(auto, using(crate::proofs::Front::front_at_end, crate::proofs::Front::front_full))]
 fn read_front<S: Read>(alloc: Global, source: &mut S, most: usize) -> Result<Vec<u8>, ReadRefusal>
@@ -50,7 +59,7 @@ fn read_front<S: Read>(alloc: Global, source: &mut S, most: usize) -> Result<Vec
         if count == 0 {
             return Ok(bytes);
         }
-        bytes.extend_from_slice(&buffer[..count])?;
+        append(&mut bytes, &buffer[..count])?;
     }
     Ok(bytes)
 }
@@ -81,10 +90,10 @@ impl<'a, R: rt::Files> Files for DiskFiles<'a, R> {
 
     fn read(&mut self, name: &str, most: usize) -> Result<Vec<u8>, ReadRefusal> {
         // The name comes first, so that a fault never lacks memory for it.
-        let kept = String::from_str(self.alloc, name)?;
+        let kept = name_of(self.alloc, name)?;
         match read_file(self.rt, self.alloc, name, most) {
             Ok(bytes) => Ok(bytes),
-            Err(ReadRefusal::NoMemory) => Err(ReadRefusal::NoMemory),
+            Err(ReadRefusal::NoMemory(why)) => Err(ReadRefusal::NoMemory(why)),
             Err(ReadRefusal::Failed) => {
                 self.faults = self.faults.saturating_add(1);
                 self.last = Some(kept);

@@ -1,9 +1,11 @@
 // Files in memory.
-ghost use Rattle.std.specs.Prelude.{◌≡◌, List, ℕ, None, option_map, string_bytes};
+ghost use Rattle.std.specs.Prelude.{◌≡◌, List, ℕ, None, option_map, string_bytes, take, IfOk};
 ghost use Rattle.std.specs.Option.{option_copied};
 ghost use Rattle.kr_io.specs.Held.{held_by};
 
+use crate::files::name_of;
 use crate::{Files, ReadRefusal};
+use kr_base::NoMemory;
 use std::alloc::Global;
 
 /// A named text.
@@ -57,8 +59,16 @@ fn find<'a>(files: &'a [MemFile], name: &str) -> Option<&'a [u8]>
     None
 }
 
+/// A copy of the first bytes, at most so many.
+fn first_of(alloc: Global, bytes: &[u8], most: usize) -> Result<Vec<u8>, NoMemory>
+    ensures { IfOk result (λ first. first.items ≡ take most bytes.now) }
+{
+    let count = bytes.len().min(most);
+    Ok(Vec::from_slice(alloc, &bytes[..count])?)
+}
+
 impl Files for MemFiles {
-    ghost use Rattle.std.specs.Prelude.{true, false, IfOk, IsErrOf};
+    ghost use Rattle.std.specs.Prelude.{true, false, IsErrOf};
     ghost use Rattle.kr_io.specs.Reads.{Reads};
     ghost use Rattle.kr_io.specs.Memory.{files_held, files_faults, files_last, files_failing, files_calls};
     ghost use Rattle.kr_io.specs.Memory.{next_call, read_fails};
@@ -78,7 +88,7 @@ impl Files for MemFiles {
         ensures alike { files_failing self.new ≡ files_failing self.old }
     {
         self.calls = self.calls.saturating_add(1);
-        let kept = String::from_str(self.alloc, name)?;
+        let kept = name_of(self.alloc, name)?;
         let found = if self.failing.contains(&self.calls) {
             None
         } else {
@@ -89,7 +99,6 @@ impl Files for MemFiles {
             self.last = Some(kept);
             return Err(ReadRefusal::Failed);
         };
-        let count = bytes.len().min(most);
-        Ok(Vec::from_slice(self.alloc, &bytes[..count])?)
+        Ok(first_of(self.alloc, bytes, most)?)
     }
 }

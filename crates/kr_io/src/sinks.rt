@@ -5,7 +5,7 @@ use kr_base::{Failed, NoMemory, Sink};
 use std::alloc::Global;
 
 /// Takes all, keeps and tells nothing, and never fails.
-#[derive(Clone, Copy, Debug)]
+#[derive(Clone, Copy)]
 pub struct SafeSink;
 
 impl Sink for SafeSink {

@@ -91,7 +91,7 @@ fn sinks_in_memory(rt: HostRuntime) -> Result<(), Fail> {
         let mut out = sink_of(alloc, capacity, step, failing)?;
         assert!(rt; takes(&mut out, text.as_bytes(), is_whole), "{text}");
     }
-    assert_eq!(rt; SafeSink.put(b"0.10.2"), Ok(6));
+    assert!(rt; SafeSink.put(b"0.10.2") == Ok(6));
     Ok(())
 }
 
@@ -163,10 +163,10 @@ fn long_file_on_disk(rt: HostRuntime) -> Result<(), Fail> {
 #[test]
 fn output(rt: HostRuntime) -> Result<(), Fail> {
     let mut out = StdSink::new(io::writer(&rt));
-    assert_eq!(rt; out.put(b""), Ok(0));
-    put_all(&mut out, b"0.10.2\n")?;
+    assert!(rt; out.put(b"") == Ok(0));
+    assert!(rt; put_all(&mut out, b"0.10.2\n").is_ok());
     let mut full = StdSink::new(fs::create(&rt, "/dev/full")?);
-    assert_eq!(rt; full.put(b"0.10.2\n"), Err(Failed));
+    assert!(rt; full.put(b"0.10.2\n") == Err(Failed));
     OpenGate.pass(0, 0);
     Ok(())
 }

@@ -74,7 +74,7 @@ stuck m rest seen s v w h is =
 -- the end of a run is that of its conditions
 pub halted : (code : Code) (h : Halt) (w before : World) (i : ℕ) → Answers code (Err h) w before (λ d x. d.value i (state_at before x)) → OneAs code (Err h) w before.reads i (state_of before)
 halted code (Ended e) w before i a = λ d m rest. ended (d.value i) (λ v. where_true v rest) before.reads (state_of before) e w ((a None tt).1 d m)
-halted code Memory w before i a = tt
+halted code (Memory why) w before i a = tt
 halted code Written w before i a = tt
 
 -- ---- what is left of the conditions

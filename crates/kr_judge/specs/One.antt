@@ -16,5 +16,5 @@ use Rattle.kr_judge.specs.Judged.{IsEnded}
 abbrev pub OneAs : Code → Result Bool Halt → World → List SlotPlace → ℕ → State → Type 0
 OneAs code (Ok b) w seen i s = (d : Doing) → IsMeaning code d → (m : Run Bool) → noting seen ((d.value i >>= (λ v. where_true v m)) s) ≡ noting w.reads (where_true (Truth b) m (state_of w))
 OneAs code (Err (Ended e)) w seen i s = (d : Doing) → IsMeaning code d → (m : Run Bool) → IsEnded e w (noting seen ((d.value i >>= (λ v. where_true v m)) s))
-OneAs code (Err Memory) w seen i s = Unit {0}
+OneAs code (Err (Memory why)) w seen i s = Unit {0}
 OneAs code (Err Written) w seen i s = Unit {0}

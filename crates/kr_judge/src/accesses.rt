@@ -14,17 +14,16 @@ ghost use Rattle.kr_judge.specs.Runs.{end_said};
 
 use crate::order::Order;
 use crate::places::slot_of;
-use crate::run::Judgement;
 use kr_base::NoMemory;
 use kr_build::Walk;
-use kr_run_state::Reads;
+use kr_run_state::{End, Reads};
 use kr_space_layout::Layout;
 use kr_value::{SlotPlace, Spot};
 use kr_vector::Vector;
 use std::alloc::Global;
 
 /// A place that was read, and how many slots had come before it.
-#[derive(Clone, Copy, Debug)]
+#[derive(Clone, Copy)]
 pub struct Access {
     pub place: SlotPlace,
     pub before: usize,
@@ -180,7 +179,7 @@ fn add_slots(order: &mut Order, slots: &[u32]) -> Result<(), NoMemory>
 
 /// Where a run accepts, the slots that are reachable come.
 fn add_reachable(
-    end: Judgement,
+    end: Result<bool, End>,
     order: &mut Order,
     reachable: &mut Walk,
     layout: &Layout,
@@ -192,13 +191,14 @@ fn add_reachable(
     ensures { OnOk result (order.new ≡ with_slots order.old (if is_accepted (end_said end) then walk (bare layout.now) vector.now else [])) }
 {
     match end {
-        Judgement::True => {
+        Ok(true) => {
             reachable.walk(layout, vector)?;
             add_slots(order, reachable.slots())
         }
-        Judgement::False => Ok(()),
-        Judgement::Trap(_) => Ok(()),
-        Judgement::Spent => Ok(()),
+        Ok(false) => Ok(()),
+        Err(End::Trapped(_)) => Ok(()),
+        Err(End::OutOfFuel) => Ok(()),
+        Err(End::Stuck) => Ok(()),
     }
 }
 
@@ -242,7 +242,7 @@ impl Accesses {
         &mut self,
         layout: &Layout,
         vector: &Vector,
-        end: Judgement,
+        end: Result<bool, End>,
         reads: &Reads,
         shared: usize,
     ) -> Result<(), NoMemory>
@@ -273,7 +273,7 @@ impl Accesses {
         &mut self,
         layout: &Layout,
         vector: &Vector,
-        end: Judgement,
+        end: Result<bool, End>,
         reads: &Reads,
         shared: usize,
     ) -> Result<(), NoMemory>
@@ -287,9 +287,9 @@ impl Accesses {
     {
         match self.fill(layout, vector, end, reads, shared) {
             Ok(()) => Ok(()),
-            Err(NoMemory) => {
+            Err(why) => {
                 self.forget();
-                Err(NoMemory)
+                Err(why)
             }
         }
     }

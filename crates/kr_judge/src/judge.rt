@@ -14,9 +14,9 @@ ghost use Rattle.kr_judge.specs.Runs.{end_said};
 
 use crate::accesses::Accesses;
 use crate::predicate::Predicate;
-use crate::run::{Judgement, run_predicate};
+use crate::run::run_predicate;
 use kr_base::{NoMemory, Steps};
-use kr_run_state::Reads;
+use kr_run_state::{End, Reads};
 use kr_space_layout::Layout;
 use kr_vector::Vector;
 use std::alloc::Global;
@@ -54,7 +54,7 @@ impl Judge {
         &mut self,
         layout: &Layout,
         vector: &Vector,
-        end: Judgement,
+        end: Result<bool, End>,
         reads: &Reads,
     ) -> Result<(), NoMemory>
         requires well { IsWellFormed (bare layout.now) }
@@ -67,32 +67,14 @@ impl Judge {
     }
 
     /// Runs the predicate on a candidate: how the run ends, and the order of the slots that decide it, those that it has read
-    /// and, where it accepts, the reachable ones behind them (Korat's order of first accesses).
-    pub fn run(
-        &mut self,
-        layout: &Layout,
-        predicate: &Predicate,
-        vector: &Vector,
-    ) -> Result<Judgement, NoMemory>
-        requires well { IsWellFormed (bare layout.now) }
-        requires vector { IsVector (space_of (bare layout.now)) vector.now }
-        requires small { length (slots (bare layout.now)) < 2 ^ 31 }
-        ensures ends { IfOk result (λ end. (program : Program) (n : Numbering) → IsPredicateOf (problem_with program layout.now) predicate.now n → end_said end ≡ end_on (problem_with program layout.now) vector.now) }
-        ensures order { OnOk result ((program : Program) (n : Numbering) → IsPredicateOf (problem_with program layout.now) predicate.now n → self.new ≡ order_of (problem_with program layout.now) vector.now) }
-    {
-        let ran = run_predicate(self.alloc, layout, predicate, vector)?;
-        self.take_order(layout, vector, ran.end, &ran.reads)?;
-        Ok(ran.end)
-    }
-
-    /// Such a run, which is counted.
+    /// and, where it accepts, the reachable ones behind them (Korat's order of first accesses). The run is counted.
     pub fn judge<L: Ledger>(
         &mut self,
         layout: &Layout,
         predicate: &Predicate,
         vector: &Vector,
         runs: &mut Steps<L>,
-    ) -> Result<Judgement, NoMemory>
+    ) -> Result<Result<bool, End>, NoMemory>
         requires well { IsWellFormed (bare layout.now) }
         requires vector { IsVector (space_of (bare layout.now)) vector.now }
         requires small { length (slots (bare layout.now)) < 2 ^ 31 }
@@ -100,8 +82,9 @@ impl Judge {
         ensures order { OnOk result ((program : Program) (n : Numbering) → IsPredicateOf (problem_with program layout.now) predicate.now n → self.new ≡ order_of (problem_with program layout.now) vector.now) }
         ensures runs { runs.new ≡ runs.old + 1 }
     {
-        runs.tick();
-        self.run(layout, predicate, vector)
+        let ran = run_predicate(self.alloc, layout, predicate, vector, runs)?;
+        self.take_order(layout, vector, ran.end, &ran.reads)?;
+        Ok(ran.end)
     }
 
     /// The order of the last candidate.

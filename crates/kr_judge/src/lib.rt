@@ -12,10 +12,9 @@ mod run;
 mod start;
 
 pub use accesses::{Access, Accesses};
-pub use conditions::hold_all;
 pub use judge::Judge;
 pub use order::Order;
 pub use places::object_numbered;
 pub use predicate::Predicate;
-pub use run::{Judgement, Ran, judged, run_predicate};
+pub use run::{Ran, run_predicate};
 pub use start::begin;

@@ -10,7 +10,7 @@ use std::alloc::Global;
 use std::marker::Model;
 
 /// Slots, each once, in the order in which they came. Contracts see the list.
-#[derive(Debug, Drop)]
+#[derive(Drop)]
 pub struct Order {
     slots: Vec<u32>,
     marks: Vec<bool>,
@@ -122,12 +122,14 @@ impl Order {
             return Ok(());
         }
         mark(&mut self.marks, slot)?;
-        if self.slots.push(slot).is_err() {
-            self.slots.clear();
-            self.marks.clear();
-            return Err(NoMemory);
+        match self.slots.push(slot) {
+            Ok(()) => Ok(()),
+            Err(failed) => {
+                self.slots.clear();
+                self.marks.clear();
+                Err(NoMemory::from(failed))
+            }
         }
-        Ok(())
     }
 
     /// The slots, in order.

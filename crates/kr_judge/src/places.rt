@@ -78,8 +78,9 @@ fn parameter_slot(layout: &Layout, number: u32) -> Option<u32>
 pub fn object_numbered(layout: &Layout, number: Obj) -> Result<Option<Object>, NoMemory>
     ensures { IfOk result (λ found. IsFound (bare layout.now) number found) }
 {
-    let Ok(domains) = u32::try_from(layout.domains()) else {
-        return Err(NoMemory);
+    let count = layout.domains();
+    let Ok(domains) = u32::try_from(count) else {
+        return Err(NoMemory::at_limit(count as u64));
     };
     let mut left = number;
     for domain in 0..domains {
@@ -120,7 +121,7 @@ pub(crate) fn slot_of(layout: &Layout, place: SlotPlace) -> Result<Option<u32>, 
         SlotPlace::This => Ok(Some(0)),
         SlotPlace::Parameter(number) => Ok(parameter_slot(layout, number)),
         SlotPlace::At(number, spot) => match object_numbered(layout, number) {
-            Err(NoMemory) => Err(NoMemory),
+            Err(why) => Err(why),
             Ok(None) => Ok(None),
             Ok(Some(object)) => Ok(spot_slot(layout, object, spot)),
         },

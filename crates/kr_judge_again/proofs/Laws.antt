@@ -14,9 +14,9 @@ use Rattle.kr_mean.specs.WellFormed.{IsWellFormed}
 use Rattle.kr_mean.specs.declared.row.Row.{Row}
 use Rattle.kr_laws_pruning.specs.Laws.{IsLawful}
 use Rattle.kr_laws_slots.proofs.Places.{this_slots}
-use Rattle.kr_step.specs.declared.runner.Ending.{Ending}
-use Rattle.kr_step.specs.declared.runner.Ending.TheVariants.{Valid, Invalid, Spent}
-use Rattle.kr_scan.specs.Scans.{ending_of}
+use Rattle.kr_step.specs.declared.candidates.Ending.{Ending}
+use Rattle.kr_step.specs.declared.candidates.Ending.TheVariants.{Valid, Invalid, Spent}
+use Rattle.kr_step_span.specs.Scans.{ending_of}
 
 -- ---- what decides a run decides how it ends
 

@@ -42,10 +42,9 @@ use Rattle.kr_run.specs.declared.steps.Step.TheVariants as steps
 use Rattle.kr_judge.specs.Follows.{Follow, place_in}
 use Rattle.kr_judge.specs.declared.accesses.Accesses.{Accesses}
 use Rattle.kr_judge.specs.Judged.{hold_at, HoldsAs, IsEnded}
-use Rattle.kr_judge.specs.Runs.{IsJudged}
+use Rattle.kr_run_state.specs.Ends.{IsEnd}
 use Rattle.kr_judge.proofs.Ends.{ran}
 use Rattle.kr_judge.specs.declared.predicate.Predicate.{Predicate}
-use Rattle.kr_judge.specs.declared.run.Judgement.{Judgement}
 use Rattle.kr_judge_again.specs.Kept.{AreReads, AreShared, GoesOn, Gave, IsClosed, IsOn, Kept, Shares, behind, reads_on, rest_of, whole, with_heap, woken}
 use Rattle.kr_judge_again.specs.Going.{Adds, Alike, Gives, IsCheckOf, IsHeld, IsLast, Stays, Wakes}
 use Rattle.kr_judge_again.specs.States.{HasStateOf}
@@ -420,7 +419,7 @@ module _ (b : Bounds) (p : Predicate) (v : List ℕ) (i : IsVector (space_of (ba
   -- a step that doesn't lead on
   pub halts_on : (condition : ℕ) (fs fs' : List Frame) (task task' : Task) (halt : Halt) (w w' : World) → GoesOn b p v condition fs task w → StepsTo p.code (Err halt) task' fs' w' w (λ d x. resumed p.code d fs task (state_at w x)) → Gives b p v condition (Err halt) w'
   halts_on condition fs fs' task task' (Ended e) w w' g l = ends_on b p v condition fs task e w w' i g l
-  halts_on condition fs fs' task task' Memory w w' g l = tt
+  halts_on condition fs fs' task task' (Memory why) w w' g l = tt
   halts_on condition fs fs' task task' Written w w' g l = tt
 
   pub finishes_on : (condition : ℕ) (fs fs' : List Frame) (task task' : Task) (stepped : Step) (given : Value) (w w' : World) → stepped ≡ steps.Finished given → GoesOn b p v condition fs task w → StepsTo p.code (Ok stepped) task' fs' w' w (λ d x. resumed p.code d fs task (state_at w x)) → Gave b p v condition given w'
@@ -432,23 +431,21 @@ module _ (b : Bounds) (p : Predicate) (v : List ℕ) (i : IsVector (space_of (ba
   -- candidates stay
   pub stays_on : (condition : ℕ) (fs fs' : List Frame) (task task' : Task) (halt : Halt) (w w' : World) → GoesOn b p v condition fs task w → StepsTo p.code (Err halt) task' fs' w' w (λ d x. resumed p.code d fs task (state_at w x)) → Stays {A = Value} b v (Err halt) w'
   stays_on condition fs fs' task task' (Ended e) w w' g l = (l None tt).0.same g.frozen ∙ g.same
-  stays_on condition fs fs' task task' Memory w w' g l = tt
+  stays_on condition fs fs' task task' (Memory why) w w' g l = tt
   stays_on condition fs fs' task task' Written w w' g l = tt
 
   pub stays_halted : (halt : Halt) (w : World) → Stays {A = Value} b v (Err halt) w → Stays {A = Bool} b v (Err halt) w
   stays_halted (Ended e) w s = s
-  stays_halted Memory w s = tt
+  stays_halted (Memory why) w s = tt
   stays_halted Written w s = tt
 
-  pub stays_same : (answer : Result Bool Halt) (j : Judgement) (w : World) → IsJudged answer (Ok j) → Stays b v answer w → w.candidates ≡ heap_of (bare b) v
-  stays_same (Ok t) j w q s = s
-  stays_same (Err (Ended e)) j w q s = s
-  stays_same (Err Memory) j w q s = absurd q
-  stays_same (Err Written) j w q s = absurd q
+  pub stays_same : (answer : Result Bool Halt) (end : Result Bool End) (w : World) → IsEnd answer (Ok (Some end)) → Stays b v answer w → w.candidates ≡ heap_of (bare b) v
+  stays_same answer (Ok t) w q s = subst (λ (r : Result Bool Halt). Stays b v r w) q s
+  stays_same answer (Err e) w q s = subst (λ (r : Result Bool Halt). Stays b v r w) q s
 
   -- what has been read is what the run reads
-  pub reads_of : (answer : Result Bool Halt) (j : Judgement) (w : World) → IsJudged answer (Ok j) → HoldsAs p.code answer w (This ∷ []) (λ d. hold_at d p.conditions.items (start (bare b) v)) → AreReads b p v w.reads
-  reads_of answer j w q h = λ d m. (ran answer j w (hold_at d p.conditions.items (start (bare b) v)) q (h d m)).1
+  pub reads_of : (answer : Result Bool Halt) (end : Result Bool End) (w : World) → IsEnd answer (Ok (Some end)) → HoldsAs p.code answer w (This ∷ []) (λ d. hold_at d p.conditions.items (start (bare b) v)) → AreReads b p v w.reads
+  reads_of answer end w q h = λ d m. (ran answer end w (hold_at d p.conditions.items (start (bare b) v)) q (h d m)).1
 
   truth_is : (condition : ℕ) (given : Value) (truth t : Bool) (w : World) → given ≡ Truth truth → truth ≡ t → Gave b p v condition given w → Gave b p v condition (Truth t) w
   truth_is condition given truth t w e is g = subst (λ (x : Value). Gave b p v condition x w) (e ∙ ap (λ (x : Bool). Truth x) is) g

@@ -1,5 +1,5 @@
 -- Between crates: what is known of a run before it goes on from the last checkpoint.
-use Rattle.std.specs.Prelude.{◌≡◌, ◌⊎◌, ℕ, Bool, List, [], Ok, take}
+use Rattle.std.specs.Prelude.{◌≡◌, ◌⊎◌, ℕ, Bool, List, [], Result, Ok, take}
 use Rattle.std.specs.List.{All}
 use Rattle.kr_value.specs.declared.value.Value.{Value}
 use Rattle.kr_mean.specs.Places.{SlotPlace}
@@ -8,6 +8,7 @@ use Rattle.kr_mean.specs.Steps.{State, give}
 use Rattle.kr_code.specs.declared.code.Code.{Code}
 use Rattle.kr_code.specs.Doing.{Doing, IsMeaning}
 use Rattle.kr_space_layout.specs.Bounds.{Bounds}
+use Rattle.kr_run_state.specs.declared.world.End.{End}
 use Rattle.kr_run_state.specs.declared.world.World.{World}
 use Rattle.kr_run_state.specs.Noting.{noting}
 use Rattle.kr_run_state.specs.Worlds.{state_of}
@@ -17,7 +18,6 @@ use Rattle.kr_run_foretold.specs.Ahead.{Grows, IsTold}
 use Rattle.kr_judge.specs.Judged.{hold_at}
 use Rattle.kr_judge.specs.Runs.{end_said}
 use Rattle.kr_judge.specs.declared.predicate.Predicate.{Predicate}
-use Rattle.kr_judge.specs.declared.run.Judgement.{Judgement}
 use Rattle.kr_judge_again.specs.declared.check.Check.{Check}
 use Rattle.kr_judge_again.specs.declared.check.Foreseen.{Foreseen}
 use Rattle.kr_judge_again.specs.declared.going.Went.{Went}
@@ -46,7 +46,7 @@ abbrev pub ReadOn : List Check → List SlotPlace → List SlotPlace → Type 0
 ReadOn checks before after = (checks ≡ []) ⊎ ReadFrom checks before after
 
 -- Where a condition gives a value that alone says how the run ends.
-pub record Decides (p : Predicate) (condition : ℕ) (v : Value) (end : Judgement) : Type 0 where
+pub record Decides (p : Predicate) (condition : ℕ) (v : Value) (end : Result Bool End) : Type 0 where
   pub truth : Bool
   pub ends : end_said end ≡ end_of (Ok truth)
   pub is : (d : Doing) (s : State) → where_true v (hold_at d (behind p condition)) s ≡ give truth s
@@ -61,5 +61,5 @@ pub record IsForetold (p : Predicate) (checks : List Check) (before after : Worl
   pub decides : Decides p check.condition value went.end
 
 -- the run on a candidate ends so, and these are the places that it reads
-abbrev pub EndsAs : Bounds → Predicate → List ℕ → Judgement → List SlotPlace → Type 0
+abbrev pub EndsAs : Bounds → Predicate → List ℕ → Result Bool End → List SlotPlace → Type 0
 EndsAs b p v end reads = (d : Doing) → IsMeaning p.code d → (end_said end ≡ end_of (whole b p v v d).said) × (reads ≡ (whole b p v v d).reads)

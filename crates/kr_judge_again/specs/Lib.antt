@@ -1,4 +1,3 @@
-pub mod Subjects
 pub mod Kept
 pub mod Seen
 pub mod Going

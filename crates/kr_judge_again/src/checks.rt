@@ -206,7 +206,7 @@ impl Checks {
         self.truncate(count);
         match self.add(alloc, condition, action, stack, world) {
             Ok(()) => Ok(()),
-            Err(NoMemory) => Err(NoMemory),
+            Err(why) => Err(why),
         }
     }
 

@@ -15,21 +15,22 @@ ghost use Rattle.kr_judge.specs.Judged.{HoldsAs, hold_at};
 ghost use Rattle.kr_judge.specs.Predicates.{IsPredicateOf};
 ghost use Rattle.kr_build.specs.Renewed.{IsSameBut};
 ghost use Rattle.kr_judge_again.specs.Foretelling.{Decides, IsForetold, ReadOn};
-ghost use Rattle.kr_judge_again.specs.Going.{Alike, Gives, HasGone, IsHeld, IsLast, IsRunTo, Stays};
+ghost use Rattle.kr_judge_again.specs.Going.{Alike, Gives, HasGone, IsCounted, IsHeld, IsLast, IsRunTo, Stays};
 ghost use Rattle.kr_judge_again.specs.Kept.{AreShared, GoesOn, Kept, Shares};
 
 use crate::checks::{Checks, Start};
 use crate::fresh::refresh;
 use crate::pauses::pause_of;
-use kr_base::NoMemory;
-use kr_judge::{Accesses, Judgement, Predicate, begin, judged};
+use kr_base::{NoMemory, Steps};
+use kr_judge::{Accesses, Predicate, begin};
 use kr_run::{Step, advance};
 use kr_run_frames::{Stack, Task};
-use kr_run_state::{End, Halt, World};
+use kr_run_state::{End, Halt, World, ended};
 use kr_space_layout::Layout;
 use kr_value::Value;
 use kr_vector::Vector;
 use std::alloc::Global;
+use std::sync::ledger::Ledger;
 
 /// Keeps where a run stands, if the next step reads a place for the first time.
 #[inline(always)]
@@ -78,7 +79,8 @@ fn give(
     ensures kept { All (Kept layout.now predicate.now vector.now) checks.new }
 {
     let mut next = task;
-    'steps: for _ in 0..u64::MAX {
+    let mut count: u64 = 0;
+    'steps: for step in 0..u64::MAX {
         match advance(alloc, &predicate.code, world, stack, &mut next) {
             Err(halt) => return Err(halt),
             Ok(stepped) => match stepped {
@@ -89,11 +91,11 @@ fn give(
         match consider(
             alloc, layout, vector, predicate, world, checks, condition, &next, stack,
         ) {
-            Ok(()) => {}
-            Err(_) => return Err(Halt::Memory),
+            Ok(()) => count += 1,
+            Err(why) => return Err(Halt::Memory(why)),
         }
     }
-    Err(Halt::Memory)
+    Err(Halt::Memory(NoMemory::at_limit(count)))
 }
 
 /// The node of a condition, if there is one.
@@ -125,7 +127,8 @@ fn go_on(
 {
     let mut at = condition;
     let mut next = task;
-    'conditions: for _ in 0..u64::MAX {
+    let mut count: u64 = 0;
+    'conditions: for round in 0..u64::MAX {
         match give(
             alloc, layout, vector, predicate, world, checks, at, next, stack,
         ) {
@@ -136,7 +139,7 @@ fn go_on(
                         return Ok(false);
                     }
                     let Some(following) = at.checked_add(1) else {
-                        return Err(Halt::Memory);
+                        return Err(Halt::Memory(NoMemory::at_limit(at as u64)));
                     };
                     match condition_at(predicate, following) {
                         None => return Ok(true),
@@ -144,6 +147,7 @@ fn go_on(
                             at = following;
                             next = Task::Evaluate(node);
                             stack.clear();
+                            count += 1;
                         }
                     }
                 }
@@ -153,7 +157,7 @@ fn go_on(
             },
         }
     }
-    Err(Halt::Memory)
+    Err(Halt::Memory(NoMemory::at_limit(count)))
 }
 
 /// The checkpoints alone that a candidate holds to, if what they are of is known.
@@ -209,25 +213,25 @@ fn stand(
 /// How a run has ended, and how many of the places that it has read were read from the start by the run before, too.
 #[derive(Clone, Copy)]
 pub(crate) struct Went {
-    pub end: Judgement,
+    pub end: Result<bool, End>,
     pub shared: usize,
 }
 
 /// How a run ends whose condition gives a value, where that says it.
 #[inline(always)]
-fn decided(predicate: &Predicate, condition: usize, value: Value) -> Option<Judgement>
+fn decided(predicate: &Predicate, condition: usize, value: Value) -> Option<Result<bool, End>>
     ensures { IfSome result (λ end. Decides predicate.now condition value end) }
 {
     match value {
         Value::Bool(truth) => {
             if !truth {
-                return Some(Judgement::False);
+                return Some(Ok(false));
             }
             let Some(following) = condition.checked_add(1) else {
                 return None;
             };
             match condition_at(predicate, following) {
-                None => Some(Judgement::True),
+                None => Some(Ok(true)),
                 Some(_) => None,
             }
         }
@@ -265,7 +269,7 @@ fn foretell(
 /// the places that the world then has read; none where the candidate has no conditions, or would have been written. If the
 /// known vector is known, it is the one of the last run, the world has its heap, and the accesses are that run's; the
 /// candidate has its indices at so many of their first slots, and at all but those from one to another.
-pub(crate) fn run(
+fn attempt(
     alloc: Global,
     layout: &Layout,
     predicate: &Predicate,
@@ -289,7 +293,7 @@ pub(crate) fn run(
     requires same { is_known ≡ true → IsSameBut known.old vector.now low high }
     requires high { high ≤ length (slots (bare layout.now)) }
     requires alike { is_known ≡ true → Alike layout.now known.old vector.now fresh accesses.now }
-    ensures runs { IfOk result (λ found. IfSome found (λ went. (program : Program) (n : Numbering) → IsPredicateOf (problem_with program layout.now) predicate.now n → IsRunTo (problem_with program layout.now) vector.now went.end world.new.reads)) }
+    ensures ends { IfOk result (λ found. IfSome found (λ went. (program : Program) (n : Numbering) → IsPredicateOf (problem_with program layout.now) predicate.now n → IsRunTo (problem_with program layout.now) vector.now went.end world.new.reads)) }
     ensures went { IfOk result (λ found. IfSome found (λ went. HasGone layout.now predicate.now vector.now went known.new checks.new world.new accesses.now)) }
     ensures long { length known.new ≡ length known.old }
 {
@@ -325,9 +329,57 @@ pub(crate) fn run(
         start.task,
         stack,
     );
-    if matches!(&answer, Err(Halt::Written)) {
-        return Ok(None);
+    match ended(answer) {
+        Err(why) => Err(why),
+        Ok(None) => Ok(None),
+        Ok(Some(end)) => Ok(Some(Went { end, shared })),
     }
-    let end = judged(answer)?;
-    Ok(Some(Went { end, shared }))
+}
+
+/// Such a run, which counts itself. One that is given up gives nothing, and isn't counted: it has to be made from the
+/// beginning. No other function of the crate starts the machine, or wakes a checkpoint.
+pub(crate) fn run<L: Ledger>(
+    alloc: Global,
+    layout: &Layout,
+    predicate: &Predicate,
+    vector: &Vector,
+    is_known: bool,
+    known: &mut Vector,
+    low: u32,
+    high: u32,
+    fresh: usize,
+    accesses: &Accesses,
+    checks: &mut Checks,
+    world: &mut World,
+    stack: &mut Stack,
+    runs: &mut Steps<L>,
+) -> Result<Option<Went>, NoMemory>
+    requires well { IsWellFormed (bare layout.now) }
+    requires vector { IsVector (space_of (bare layout.now)) vector.now }
+    requires small { length (slots (bare layout.now)) < 2 ^ 31 }
+    requires long { length known.old ≡ length (slots (bare layout.now)) }
+    requires follow { Follow (slots_for (bare layout.now)) accesses.now }
+    requires last { is_known ≡ true → IsLast layout.now predicate.now known.old checks.old world.old accesses.now }
+    requires same { is_known ≡ true → IsSameBut known.old vector.now low high }
+    requires high { high ≤ length (slots (bare layout.now)) }
+    requires alike { is_known ≡ true → Alike layout.now known.old vector.now fresh accesses.now }
+    ensures ends { IfOk result (λ found. IfSome found (λ went. (program : Program) (n : Numbering) → IsPredicateOf (problem_with program layout.now) predicate.now n → IsRunTo (problem_with program layout.now) vector.now went.end world.new.reads)) }
+    ensures went { IfOk result (λ found. IfSome found (λ went. HasGone layout.now predicate.now vector.now went known.new checks.new world.new accesses.now)) }
+    ensures long { length known.new ≡ length known.old }
+    ensures runs { IsCounted result runs.old runs.new }
+{
+    match attempt(
+        alloc, layout, predicate, vector, is_known, known, low, high, fresh, accesses, checks,
+        world, stack,
+    ) {
+        Ok(None) => Ok(None),
+        Ok(Some(went)) => {
+            runs.tick();
+            Ok(Some(went))
+        }
+        Err(why) => {
+            runs.tick();
+            Err(why)
+        }
+    }
 }

@@ -1,5 +1,5 @@
-// Runs of candidates that go on from before the first place that changed.
-ghost use Rattle.std.specs.Prelude.{◌≡◌, ◌<◌, ◌≤◌, ◌^◌, [], false, take, IfOk, OnOk, length, replicate, slice_index, slice_set};
+// The candidates of a problem, whose runs go on from before the first place that changed.
+ghost use Rattle.std.specs.Prelude.{◌≡◌, ◌<◌, ◌≤◌, ◌+◌, ◌^◌, [], false, take, IfOk, OnOk, length, replicate};
 ghost use Rattle.std.specs.List.{All};
 ghost use Rattle.kr_code.specs.Resolved.{Numbering};
 ghost use Rattle.kr_mean.specs.Problem.{slots};
@@ -10,26 +10,33 @@ ghost use Rattle.kr_mean.specs.WellFormed.{IsWellFormed};
 ghost use Rattle.kr_space_layout.specs.Bounds.{bare, problem_with};
 ghost use Rattle.kr_judge.specs.Predicates.{IsPredicateOf};
 ghost use Rattle.kr_judge.specs.Runs.{end_said};
+ghost use Rattle.kr_space_problem.specs.Posed.{posed};
+ghost use Rattle.kr_step_span.specs.Scans.{RunsOn, ending_of};
 ghost use Rattle.kr_judge_again.specs.Kept.{Kept};
 
 use crate::check::blank_world;
 use crate::checks::Checks;
 use crate::going::run;
-use kr_base::NoMemory;
-use kr_judge::{Accesses, Judgement, Predicate, run_predicate};
+use kr_base::{NoMemory, Steps};
+use kr_iso::{Object, Slots};
+use kr_judge::{Accesses, Predicate, run_predicate};
+use kr_judge_prepared::Prepared;
 use kr_run_frames::Stack;
-use kr_run_state::World;
+use kr_run_state::{End, World};
 use kr_space_layout::Layout;
+use kr_step::{Candidates, Ending};
 use kr_vector::{Slot, Vector};
 use std::alloc::Global;
 use std::marker::Model;
+use std::sync::ledger::Ledger;
 
-/// A candidate that can be changed slot by slot and run. A run goes on from the last checkpoint of earlier runs at which the
-/// candidate can't be told from theirs. Contracts see the problem's slots and domains, its predicate, the candidate and the
-/// order of slots of the last run.
+/// A candidate of a problem that can be changed slot by slot and run. A run goes on from the last checkpoint of earlier runs at
+/// which the candidate can't be told from theirs. Contracts see the problem, its slots and domains, its predicate's code, the
+/// candidate and the order of slots of the last run.
 #[derive(Drop)]
 pub struct Runner<'s> {
     alloc: Global,
+    prepared: &'s Prepared,
     layout: &'s Layout,
     predicate: &'s Predicate,
     vector: Vector,
@@ -54,16 +61,18 @@ impl<'s> Model for Runner<'s> {
     ghost use Rattle.kr_mean.specs.Runs.{slots_for};
     ghost use Rattle.kr_space_layout.specs.Bounds.{bare};
     ghost use Rattle.kr_judge.specs.Follows.{Follow};
+    ghost use Rattle.kr_space_problem.specs.Posed.{posed};
     ghost use Rattle.kr_judge_again.specs.Going.{Alike, IsLast};
-    ghost use Rattle.kr_judge_again.specs.Seen.{Seen};
+    ghost use Rattle.kr_judge_again.specs.Seen.{IsRunOn, Seen};
 
     ghost Value = { Seen };
 
-    ghost view = { λ r. record { bounds = r.layout.now; predicate = r.predicate.now; vector = r.vector; order = r.accesses.order } };
+    ghost view = { λ r. record { problem = r.prepared.now.problem; bounds = r.layout.now; predicate = r.predicate.now; vector = r.vector; order = r.accesses.order } };
 
     ghost invariant = { λ r. Follow (slots_for (bare r.layout.now)) r.accesses × (length r.known ≡ length (slots (bare r.layout.now)))
         × (length r.vector ≡ length (slots (bare r.layout.now))) × (r.high ≤ length (slots (bare r.layout.now)))
-        × (r.is_known ≡ true → IsLast r.layout.now r.predicate.now r.known r.checks r.world r.accesses × Alike r.layout.now r.known r.vector r.fresh r.accesses × IsSameBut r.known r.vector r.low r.high) };
+        × (r.is_known ≡ true → IsLast r.layout.now r.predicate.now r.known r.checks r.world r.accesses × Alike r.layout.now r.known r.vector r.fresh r.accesses × IsSameBut r.known r.vector r.low r.high)
+        × IsRunOn (posed r.prepared.now.problem) r.layout.now r.predicate.now };
 }
 
 /// How many of the first slots, of so many, come before one; none where it's a root.
@@ -99,23 +108,35 @@ fn behind(layout: &Layout, high: u32, slot: u32) -> u32
     }
 }
 
+/// How a run ends, as the search asks: one that traps is invalid.
+fn ending_for(end: Result<bool, End>) -> Ending
+    ensures { result ≡ ending_of (end_said end) }
+{
+    match end {
+        Ok(true) => Ending::Valid,
+        Ok(false) => Ending::Invalid,
+        Err(End::Trapped(_)) => Ending::Invalid,
+        Err(End::OutOfFuel) => Ending::Spent,
+        Err(End::Stuck) => Ending::Invalid,
+    }
+}
+
 impl<'s> Runner<'s> {
-    /// The candidate of index 0 in every slot stands.
-    pub fn new(
-        alloc: Global,
-        layout: &'s Layout,
-        predicate: &'s Predicate,
-    ) -> Result<Runner<'s>, NoMemory>
-        ensures bounds { IfOk result (λ runner. runner.bounds ≡ layout.now) }
-        ensures predicate { IfOk result (λ runner. runner.predicate ≡ predicate.now) }
-        ensures vector { IfOk result (λ runner. runner.vector ≡ replicate (length (slots (bare layout.now))) 0) }
+    /// The candidate of index 0 in every slot stands. What a search over these candidates finds is the problem's.
+    pub fn new(alloc: Global, prepared: &'s Prepared) -> Result<Runner<'s>, NoMemory>
+        ensures problem { IfOk result (λ runner. runner.problem ≡ prepared.now.problem) }
+        ensures first { IfOk result (λ runner. ⟦<Runner<'s> as Candidates>⟧.vector runner ≡ replicate (⟦<Runner<'s> as Slots>⟧.space runner).slots 0) }
+        ensures runs_on { IfOk result (λ runner. RunsOn (posed prepared.now.problem) (⟦<Runner<'s> as Slots>⟧.space runner) (⟦<Runner<'s> as Candidates>⟧.order runner) (⟦<Runner<'s> as Candidates>⟧.ending runner)) }
     {
+        prepared.laws();
+        let layout = prepared.layout();
         let vector = Vector::zero(alloc, layout.slots() as usize)?;
         let known = Vector::zero(alloc, layout.slots() as usize)?;
         Ok(Runner {
             alloc,
+            prepared,
             layout,
-            predicate,
+            predicate: prepared.predicate(),
             vector,
             checks: Checks::new(alloc),
             known,
@@ -129,40 +150,15 @@ impl<'s> Runner<'s> {
         })
     }
 
-    /// What is run.
-    pub fn layout(&self) -> &'s Layout
-        ensures { result.now ≡ self.now.bounds }
-    {
-        self.layout
-    }
-
-    /// The index of a slot.
-    pub fn index(&self, slot: u32) -> u32
-        requires { slot < length self.now.vector }
-        ensures { result ≡ slice_index self.now.vector slot }
-    {
-        self.vector.get(Slot(slot))
-    }
-
-    /// Gives a slot another index.
-    pub fn set(&mut self, slot: u32, index: u32)
-        requires { slot < length self.old.vector }
-        ensures { self.new ≡ record self.old { vector = slice_set self.old.vector slot index } }
-    {
-        self.fresh = first_without(self.layout, &self.accesses, self.fresh, slot);
-        self.low = self.low.min(slot);
-        self.high = behind(self.layout, self.high, slot);
-        self.vector.set(Slot(slot), index);
-    }
-
-    /// Runs the predicate on the candidate: how the run ends, and the order of the slots that decide it.
-    pub fn run(&mut self) -> Result<Judgement, NoMemory>
+    /// Runs the predicate on the candidate, once: how the run ends, and the order of the slots that decide it.
+    fn judge<L: Ledger>(&mut self, runs: &mut Steps<L>) -> Result<Result<bool, End>, NoMemory>
         requires well { IsWellFormed (bare self.old.bounds) }
         requires vector { IsVector (space_of (bare self.old.bounds)) self.old.vector }
         requires small { length (slots (bare self.old.bounds)) < 2 ^ 31 }
         ensures ends { IfOk result (λ end. (program : Program) (n : Numbering) → IsPredicateOf (problem_with program self.old.bounds) self.old.predicate n → end_said end ≡ end_on (problem_with program self.old.bounds) self.old.vector) }
         ensures order { OnOk result ((program : Program) (n : Numbering) → IsPredicateOf (problem_with program self.old.bounds) self.old.predicate n → self.new.order ≡ order_of (problem_with program self.old.bounds) self.old.vector) }
         ensures others { self.new ≡ record self.old { order = self.new.order } }
+        ensures runs { runs.new ≡ runs.old + 1 }
     {
         let is_known = self.is_known;
         self.is_known = false;
@@ -180,6 +176,7 @@ impl<'s> Runner<'s> {
             &mut self.checks,
             &mut self.world,
             &mut self.stack,
+            runs,
         )? {
             Some(went) => {
                 self.accesses.take(
@@ -196,18 +193,80 @@ impl<'s> Runner<'s> {
                 Ok(went.end)
             }
             None => {
-                let ran = run_predicate(self.alloc, self.layout, self.predicate, &self.vector)?;
+                let ran = run_predicate(
+                    self.alloc,
+                    self.layout,
+                    self.predicate,
+                    &self.vector,
+                    runs,
+                )?;
                 self.accesses
                     .take(self.layout, &self.vector, ran.end, &ran.reads, 0)?;
                 Ok(ran.end)
             }
         }
     }
+}
 
-    /// The order of the last candidate.
-    pub fn order(&self) -> &[u32]
-        ensures { result.now ≡ self.now.order }
-    {
+impl<'s> Slots for Runner<'s> {
+    ghost use Rattle.kr_mean.specs.Space.{space_of};
+    ghost use Rattle.kr_space_problem.specs.Posed.{posed};
+
+    ghost space = { λ r. space_of (posed r.problem) };
+
+    fn slots(&self) -> u32 {
+        self.layout.slots()
+    }
+
+    #[inline(always)]
+    fn size(&self, slot: u32) -> u32 {
+        self.layout.size(slot)
+    }
+
+    #[inline(always)]
+    fn object_at(&self, slot: u32, index: u32) -> Option<Object> {
+        self.layout.object(slot, index)
+    }
+}
+
+impl<'s> Candidates for Runner<'s> {
+    ghost use Rattle.kr_mean.specs.Runs.{end_on, order_of};
+    ghost use Rattle.kr_step_span.specs.Scans.{ending_of};
+    ghost use Rattle.kr_space_problem.specs.Posed.{posed};
+
+    ghost order = { λ r. order_of (posed r.problem) };
+
+    ghost ending = { λ r v. ending_of (end_on (posed r.problem) v) };
+
+    ghost vector = { λ r. r.vector };
+
+    ghost last = { λ r. r.order };
+
+    #[inline(always)]
+    fn set(&mut self, slot: u32, index: u32) {
+        self.fresh = first_without(self.layout, &self.accesses, self.fresh, slot);
+        self.low = self.low.min(slot);
+        self.high = behind(self.layout, self.high, slot);
+        self.vector.set(Slot(slot), index);
+    }
+
+    fn run<L: Ledger>(&mut self, runs: &mut Steps<L>) -> Result<Ending, NoMemory> {
+        self.prepared.laws();
+        let end = self.judge(runs)?;
+        Ok(ending_for(end))
+    }
+
+    #[inline(always)]
+    fn last_order(&self) -> &[u32] {
         self.accesses.order.as_slice()
+    }
+
+    #[inline(always)]
+    fn index(&self, slot: u32) -> u32 {
+        self.vector.get(Slot(slot))
+    }
+
+    fn laws(&self) {
+        self.prepared.laws();
     }
 }

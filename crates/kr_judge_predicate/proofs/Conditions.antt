@@ -8,7 +8,7 @@ use Rattle.kr_mean.specs.Code as meaning
 use Rattle.kr_mean.specs.Program.{method_scope}
 use Rattle.kr_mean.specs.Runs.{conditions, rep_ok_node, requires_of, tested_method}
 use Rattle.kr_judge.specs.declared.predicate.Predicate.{Predicate}
-use Rattle.kr_judge_again.specs.Subjects.{IsRunBy}
+use Rattle.kr_judge_prepared.specs.Preparing.{IsRunBy}
 use Rattle.kr_classes_types.specs.Types.{type_at}
 use Rattle.kr_types.specs.declared.program.Program.{Program}
 use Rattle.kr_types.specs.Programs.{all_entries}

@@ -4,13 +4,19 @@ ghost use Rattle.kr_code_members.specs.Rosters.{IsRoster};
 ghost use Rattle.kr_judge_predicate.specs.Compiled.{CallsRepOk};
 
 use crate::root::named_method;
+use kr_classes_table::ClassId;
 use kr_code::{Expression, Nodes};
 use kr_code_lowering::called_on;
 use kr_code_members::Roster;
 use kr_types::Program;
 
 /// `this.repOk()` in the code of a class, by the number of the node of its `this`.
-pub(crate) fn rep_ok_call(program: &Program, roster: &Roster, class: u32, object: u32) -> Expression
+pub(crate) fn rep_ok_call(
+    program: &Program,
+    roster: &Roster,
+    class: ClassId,
+    object: u32,
+) -> Expression
     requires program { IsProgram program.now }
     requires roster { IsRoster program.now.trees.items roster.now }
     ensures { CallsRepOk program.now class object result }

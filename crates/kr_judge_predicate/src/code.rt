@@ -21,11 +21,10 @@ fn add_call(problem: &Problem, roster: &Roster, nodes: &mut Vec<Node>) -> Result
     requires roster { IsRoster problem.now.program.trees.items roster.now }
     ensures { IfOk result (λ none. HasCall problem.now nodes.old.items nodes.new.items) }
 {
-    let count = nodes.len();
-    if count >= 0xffff_fffe {
-        return Err(NoMemory);
-    }
-    let object = count as u32 + 1;
+    let behind = nodes.len() as u64 + 1;
+    let Ok(object) = u32::try_from(behind) else {
+        return Err(NoMemory::at_limit(behind));
+    };
     let call = rep_ok_call(&problem.program, roster, root_class(problem), object);
     nodes.push(Node::Expression(call))?;
     nodes.push(Node::Expression(Expression::This))?;

@@ -5,13 +5,14 @@ ghost use Rattle.kr_code_members.specs.Rosters.{IsRoster, all_methods, method_nu
 ghost use Rattle.kr_code_members.specs.Nodes.{AreMemberNodes, AreShaped};
 ghost use Rattle.kr_space_problem.specs.Posed.{IsPosed, posed, table};
 ghost use Rattle.kr_code_lowering.specs.Origins.{Final, numbering_of};
-ghost use Rattle.kr_judge_again.specs.Subjects.{IsRunBy};
+ghost use Rattle.kr_judge_prepared.specs.Preparing.{IsRunBy};
 ghost use Rattle.kr_judge_predicate.specs.Compiled.{call_nodes};
 
 use crate::code::code_of;
 use crate::required::add_required;
 use crate::root::tested_method;
 use kr_base::NoMemory;
+use kr_classes_table::MethodId;
 use kr_code_lowering::Site;
 use kr_code_members::{MemberNodes, Roster, member_nodes};
 use kr_judge::Predicate;
@@ -22,7 +23,7 @@ use std::alloc::Global;
 fn add_preconditions(
     problem: &Problem,
     members: &MemberNodes,
-    method: u32,
+    method: MethodId,
     conditions: &mut Vec<u32>,
 ) -> Result<(), NoMemory>
     requires posed { IsPosed problem.now }

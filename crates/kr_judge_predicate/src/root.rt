@@ -7,6 +7,7 @@ ghost use Rattle.kr_mean.specs.Runs.{root_class, tested_method};
 ghost use Rattle.kr_space_problem.specs.Posed.{IsPosed, posed, table};
 ghost use Rattle.kr_code_lowering.specs.Calls.{IsFound};
 
+use kr_classes_table::{ClassId, MethodId};
 use kr_code_members::Roster;
 use kr_mean::Mode;
 use kr_space_problem::Problem;
@@ -14,7 +15,7 @@ use kr_types::Program;
 use kr_value::Class;
 
 /// The class of the root's objects.
-pub(crate) fn root_class(problem: &Problem) -> u32
+pub(crate) fn root_class(problem: &Problem) -> ClassId
     ensures { result ≡ root_class (posed problem.now) }
 {
     let layout = &problem.layout;
@@ -32,9 +33,9 @@ pub(crate) fn root_class(problem: &Problem) -> u32
 pub(crate) fn named_method(
     program: &Program,
     roster: &Roster,
-    class: u32,
+    class: ClassId,
     name: &[u8],
-) -> Option<u32>
+) -> Option<MethodId>
     requires program { IsProgram program.now }
     requires roster { IsRoster program.now.trees.items roster.now }
     ensures { IsFound program.now result (method_named (table program.now) class name.now) }
@@ -43,7 +44,7 @@ pub(crate) fn named_method(
 }
 
 /// The number of the method under test, where one is tested and the root's class has it.
-pub(crate) fn tested_method(problem: &Problem, roster: &Roster) -> Option<u32>
+pub(crate) fn tested_method(problem: &Problem, roster: &Roster) -> Option<MethodId>
     requires posed { IsPosed problem.now }
     requires roster { IsRoster problem.now.program.trees.items roster.now }
     ensures { IsFound problem.now.program result (tested_method (posed problem.now) (posed problem.now).mode) }

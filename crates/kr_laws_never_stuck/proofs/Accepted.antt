@@ -17,14 +17,13 @@ use Rattle.kr_mean.specs.Problem.{Problem, ClassDomain, no_objects}
 use Rattle.kr_mean.specs.Runs.{class_number, root_class, tested_method}
 use Rattle.kr_mean.specs.Space.{space_of, IsVector}
 use Rattle.kr_fin.specs.declared.document.FinDoc.{FinDoc}
-use Rattle.kr_space_meaning.specs.declared.refusal.Fault.{Fault}
 use Rattle.kr_space_meaning.specs.Bounds.{Setting, setting_of, bounded, class_domains, array_class_domain, domains_of, root_of, method_at, program_in, problem_in, problem_of}
 use Rattle.kr_space_meaning.specs.Faults.{is_predicate, S1, S2, S3_S5_S6, S4, S7, S8, S9, faults_in}
-use Rattle.kr_space_meaning.specs.Laws.{IsLeast}
+use Rattle.kr_fin.specs.Least.{IsLeast}
 use Rattle.kr_space_meaning.specs.Meaning.{faults_of, unless, meaning}
-use Rattle.kr_space_meaning.specs.Order.{least}
+use Rattle.kr_space_meaning.specs.Order.{Fault, least, rank_of}
 use Rattle.kr_space_meaning.proofs.Each.{both_none, unbroken}
-use Rattle.kr_space_meaning.proofs.Leasts.{least_of_all}
+use Rattle.kr_fin.proofs.Leasts.{least_of_all}
 use Rattle.kr_space_meaning.proofs.WellFormed.{well_formed}
 use Rattle.kr_laws_shapes.proofs.Shapes.{file_shape}
 use Rattle.kr_value.specs.declared.object.Class.TheVariants.{Object}
@@ -70,7 +69,7 @@ posed files document mode problem e = go (least (faults_of files document mode))
     inside (Err f) = problem
 
     go : (o : Option Fault) → least (faults_of files document mode) ≡ o → unless o (problem_of files document mode) ≡ Ok problem → IsPosed files document mode problem
-    go None n e = record { unbroken = subst (λ (o : Option Fault). MatchOption o (faults_of files document mode ≡ []) (IsLeast (faults_of files document mode))) n (least_of_all (faults_of files document mode)); is = ap inside e }
+    go None n e = record { unbroken = subst (λ (o : Option Fault). MatchOption o (faults_of files document mode ≡ []) (IsLeast rank_of (faults_of files document mode))) n (least_of_all rank_of (faults_of files document mode)); is = ap inside e }
     go (Some f) n e = absurd (cc (e))
 
 -- its program is that of the files, with more array types

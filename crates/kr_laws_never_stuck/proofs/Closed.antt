@@ -12,7 +12,7 @@ use Rattle.kr_classes_table.specs.Types.{JavaType, IntType, BooleanType, NullTyp
 use Rattle.kr_classes_table.specs.Table.{Field, Method, field_named, method_named, is_assignable, are_related}
 use Rattle.kr_classes_table.specs.Rules.{Fault}
 use Rattle.kr_types_meaning.specs.Scopes.{Scope, Meant, LocalName, FieldName, NoName, value, in_old, meant, method_meant, class_before, super_class}
-use Rattle.kr_types_meaning.specs.Rules.{Typed, Value, Variable, Values, Untyped, Verdict, Fits, Breaks, ask, gives, variable_of, number_rule, this_rule, name_rule, unary_rule, operator_rule, choice_rule, cast_rule, instance_rule, written_rule, assignment_rule, compound_rule, step_rule, field_rule, access_rule, constant_rule, element_rule, result_rule, arguments_rule, call_rule, static_rule, above_rule, super_rule, collection_rule, method_rule, object_call_rule, creation_rule, array_creation_rule, result_value_rule, old_rule, is_code, is_statement, is_ensuring, is_under_minus, is_int, is_boolean, both_int, both_boolean, related_references, arguments_fit, is_variable, is_broken, creation_fits}
+use Rattle.kr_types_meaning.specs.Rules.{Typed, Value, Variable, Values, Untyped, Judgement, Fits, Breaks, ask, gives, variable_of, number_rule, this_rule, name_rule, unary_rule, operator_rule, choice_rule, cast_rule, instance_rule, written_rule, assignment_rule, compound_rule, step_rule, field_rule, access_rule, constant_rule, element_rule, result_rule, arguments_rule, call_rule, static_rule, above_rule, super_rule, collection_rule, method_rule, object_call_rule, creation_rule, array_creation_rule, result_value_rule, old_rule, is_code, is_statement, is_ensuring, is_under_minus, is_int, is_boolean, both_int, both_boolean, related_references, arguments_fit, is_variable, is_broken, creation_fits}
 use Rattle.kr_types_meaning.specs.Typing.{Judged, judge, on_one, on_list, field_of, method_of, operand, judged}
 use Rattle.kr_laws_types.specs.Types.{is_variable_type, is_result_type, is_value_type, AreVariables, HasVariables}
 use Rattle.kr_laws_types.specs.Shapes.{Expression, IsCode}
@@ -67,31 +67,31 @@ Closed (Value t) = is_open t ≡ false
 Closed (Variable t) = is_open t ≡ false
 Closed x = Unit {0}
 
-abbrev Gives : Verdict → Type 0
+abbrev Gives : Judgement → Type 0
 Gives (Fits x) = Closed x
 Gives (Breaks r) = Unit {0}
 
-judged_closed : (p : Place) (v : Verdict) (below : List Fault) → Gives v → Closed (judge p v below).typed
+judged_closed : (p : Place) (v : Judgement) (below : List Fault) → Gives v → Closed (judge p v below).typed
 judged_closed p (Fits x) below h = h
 judged_closed p (Breaks r) below h = tt
 
-asked : (b : Bool) (r : ℕ) (v : Verdict) → (b ≡ true → Gives v) → Gives (ask b r v)
+asked : (b : Bool) (r : ℕ) (v : Judgement) → (b ≡ true → Gives v) → Gives (ask b r v)
 asked true r v h = h refl
 asked false r v h = tt
 
-on_any : (f : JavaType → Verdict) (x : Typed) → ((t : JavaType) → Gives (f t)) → Gives (on_one f x)
+on_any : (f : JavaType → Judgement) (x : Typed) → ((t : JavaType) → Gives (f t)) → Gives (on_one f x)
 on_any f (Value t) h = h t
 on_any f (Variable t) h = h t
 on_any f (Values ts) h = tt
 on_any f Untyped h = tt
 
-on_closed : (f : JavaType → Verdict) (x : Typed) → Closed x → ((t : JavaType) → is_open t ≡ false → Gives (f t)) → Gives (on_one f x)
+on_closed : (f : JavaType → Judgement) (x : Typed) → Closed x → ((t : JavaType) → is_open t ≡ false → Gives (f t)) → Gives (on_one f x)
 on_closed f (Value t) c h = h t c
 on_closed f (Variable t) c h = h t c
 on_closed f (Values ts) c h = tt
 on_closed f Untyped c h = tt
 
-on_all : (f : List JavaType → Verdict) (x : Typed) → ((ts : List JavaType) → Gives (f ts)) → Gives (on_list f x)
+on_all : (f : List JavaType → Judgement) (x : Typed) → ((ts : List JavaType) → Gives (f ts)) → Gives (on_list f x)
 on_all f (Values ts) h = h ts
 on_all f (Value t) h = tt
 on_all f (Variable t) h = tt
@@ -111,7 +111,7 @@ known_varies t = go (is_known t) refl
     go true e = known_closed t e
     go false e = tt
 
-either : (b : Bool) (v w : Verdict) → Gives v → Gives w → Gives (if b then v else w)
+either : (b : Bool) (v w : Judgement) → Gives v → Gives w → Gives (if b then v else w)
 either true v w h k = h
 either false v w h k = k
 
@@ -297,7 +297,7 @@ element place b (Variable t) h n = variable_closed t h.1
 element place b (Values ts) h n = tt
 element place b Untyped h n = tt
 
-no_value : (p : Place) (v : Verdict) (below : List Fault) → ((t : JavaType) → v ≡ Fits (Value t) → ⊥) → (t : JavaType) → (judge p v below).typed ≡ Value t → ⊥
+no_value : (p : Place) (v : Judgement) (below : List Fault) → ((t : JavaType) → v ≡ Fits (Value t) → ⊥) → (t : JavaType) → (judge p v below).typed ≡ Value t → ⊥
 no_value p (Fits x) below h t e = h t (ap Fits e)
 no_value p (Breaks r) below h t e = cc (e)
 

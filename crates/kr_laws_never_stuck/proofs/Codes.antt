@@ -7,7 +7,7 @@ use Rattle.kr_classes_table.specs.Nodes.{nodes}
 use Rattle.kr_classes_table.specs.Types.{JavaType, ArrayType, is_same}
 use Rattle.kr_classes_table.specs.Table.{Heading, items, headings_of, type_named}
 use Rattle.kr_classes_table.specs.Arrays.{arrays_in, arrays_named, is_listed, once, array_types_of, array_number_from, array_number}
-use Rattle.kr_types_meaning.specs.Scopes.{Scope, Declaring, Locals, Fields, Constants, in_old, bind, bind_as, declaring, after}
+use Rattle.kr_types_meaning.specs.Scopes.{Scope, Declaring, Locals, Fields, Constants, in_old, bind_local, bind_as, declaring, after}
 use Rattle.kr_types_meaning.specs.Rules.{is_ensuring}
 use Rattle.kr_laws_shapes.specs.Expressions.{Shaped}
 use Rattle.kr_laws_shapes.specs.Shapes as shapes
@@ -163,7 +163,7 @@ module _ (arrays : List JavaType) (olds : Olds) (hs : List Heading) where
   declarators_code s trees.Nil k h a = tt
   declarators_code s (trees.Cons (trees.Declarator p n e) b) k h a =
       let f = front (nodes (trees.Declarator p n e)) (nodes b) a in
-      (maybe_code (bind n s.declared s) e k h.0 f.1, declarators_code (after s (trees.Declarator p n e)) b (after_plain s (trees.Declarator p n e) k) h.1 (back (nodes (trees.Declarator p n e)) (nodes b) a))
+      (maybe_code (bind_local n s.declared s) e k h.0 f.1, declarators_code (after s (trees.Declarator p n e)) b (after_plain s (trees.Declarator p n e) k) h.1 (back (nodes (trees.Declarator p n e)) (nodes b) a))
   declarators_code s (trees.Cons _ b) k h a = absurd h.0
   declarators_code s _ k h a = absurd h
 

@@ -3,7 +3,6 @@ use Rattle.std.proofs.Common.{◌≡◌, ℕ, Bool, true, false, cond, List, [],
 use Rattle.std.specs.Prelude.{MatchOption}
 use Rattle.std.specs.List.{AllByRecursion}
 use Rattle.toml.specs.Data.{Data, string, integer, float, boolean, datetime, array, table, Members, no_members, member, get_member, as_table}
-use Rattle.kr_fin.specs.declared.refusal.Fault.{Fault}
 use Rattle.kr_fin.specs.declared.refusal.FinRule.TheVariants.{WrongKind, TooLong}
 use Rattle.kr_fin.specs.declared.document.FinDoc.{FinDoc}
 use Rattle.kr_fin.specs.declared.shapes.Purpose.TheVariants.{Slot}
@@ -12,10 +11,10 @@ use Rattle.kr_fin.specs.declared.shapes.Section.TheVariants.{Objects, Arrays, Fi
 use Rattle.kr_fin.specs.declared.shapes.Shape.TheVariants.{Document}
 use Rattle.kr_fin.specs.Document.{document_of, domains_of, members_of, table_of}
 use Rattle.kr_fin.specs.Faults.{domain, entries, faults_in, fuel, keyed, of_kind, optional, root, section, unknown_keys}
-use Rattle.kr_fin.specs.Meaning.{is_short, judged, meaning, of_table, table_in, unless}
-use Rattle.kr_fin.specs.Order.{broken, least}
+use Rattle.kr_fin.specs.Meaning.{is_short, document_in, meaning, of_table, table_in, unless}
+use Rattle.kr_fin.specs.Order.{Fault, broken, least, rank_of}
 use Rattle.kr_fin.specs.Shapes.{is_pair, item_of, name_of}
-use Rattle.kr_fin.specs.Laws.{IsLeast}
+use Rattle.kr_fin.specs.Least.{IsLeast}
 use Rattle.kr_fin.proofs.Leasts.{least_of_all}
 use Rattle.kr_laws_never_stuck.specs.Keys.{HasPairs}
 
@@ -64,10 +63,10 @@ of_members ms e =
     }
 
 unbroken : (fs : List Fault) → least fs ≡ None → fs ≡ []
-unbroken fs e = subst (λ (o : Option Fault). MatchOption o (fs ≡ []) (IsLeast fs)) e (least_of_all fs)
+unbroken fs e = subst (λ (o : Option Fault). MatchOption o (fs ≡ []) (IsLeast rank_of fs)) e (least_of_all rank_of fs)
 
-judged_pairs : (ms : Members) (document : FinDoc) → judged ms ≡ Ok document → HasPairs document
-unfolding judged
+judged_pairs : (ms : Members) (document : FinDoc) → document_in ms ≡ Ok document → HasPairs document
+unfolding document_in
 judged_pairs ms document e = go (least (faults_in ms)) refl e
   where
     go : (o : Option Fault) → least (faults_in ms) ≡ o → unless o (document_of ms) ≡ Ok document → HasPairs document

@@ -12,10 +12,10 @@ use Rattle.kr_value.specs.declared.value.Value.TheVariants.{Int, Bool as Truth}
 use Rattle.kr_classes_table.specs.Types.{JavaType, IntType, BooleanType, NullType, is_reference, is_collection}
 use Rattle.kr_classes_table.specs.Table.{Table, Field, field_named, number_of, is_assignable, are_related}
 use Rattle.kr_classes_table.specs.Constants as constants
-use Rattle.kr_classes_table.specs.Constants.{ConstantValue, Whole, Absent, Known, whole, truth, unary_value, of_ints, of_booleans, of_nulls, of_values, binary_value, chosen, constant_only, constant_of, class_meant, field_meant, is_same_place, value_at, value_of, is_constant, evaluated, known_as, with_constant}
+use Rattle.kr_classes_table.specs.Constants.{ConstantValue, Whole, Absent, Known, whole, truth, unary_value, of_ints, of_booleans, of_nulls, of_values, binary_value, chosen, constant_only, constant_of, class_meant, field_meant, is_at_place, value_at, known_value, is_constant, evaluated, known_as, with_constant}
 use Rattle.kr_types_meaning.specs.Scopes.{Scope, Meant, FieldName, NoName, value, under_minus, meant, meant_by, field_or_none, class_before}
 use Rattle.kr_types_meaning.specs.Rules as rules
-use Rattle.kr_types_meaning.specs.Rules.{Typed, Verdict, Fits, Breaks, ask, gives, both_int, both_boolean, related_references, name_rule, unary_rule, operator_rule, choice_rule, cast_rule, constant_rule}
+use Rattle.kr_types_meaning.specs.Rules.{Typed, Judgement, Fits, Breaks, ask, gives, both_int, both_boolean, related_references, name_rule, unary_rule, operator_rule, choice_rule, cast_rule, constant_rule}
 use Rattle.kr_types_meaning.specs.Typing.{Judged, judge, on_one, on_two, field_of, operand, judged, type_in}
 use Rattle.kr_mean.specs.Operators.{value_of_constant, is_division, constant_result, operated}
 use Rattle.kr_laws_safety.specs.Fits.{IsOf}
@@ -35,11 +35,11 @@ some_is : (v w : ConstantValue) → Some v ≡ Some w → v ≡ w
 some_is v w e = ap (λ (o : Option ConstantValue). elim o as (λ y. ConstantValue) [ Some z ↦ z | None ↦ v ]) e
 
 -- two operands have types where their operation has one
-ruled_both : (f : JavaType → JavaType → Verdict) (x y : Typed) (t : JavaType) → Ruled (on_two f x y) t → (a : JavaType) × (b : JavaType) × (type_in x ≡ Some a) × (type_in y ≡ Some b) × Ruled (f a b) t
+ruled_both : (f : JavaType → JavaType → Judgement) (x y : Typed) (t : JavaType) → Ruled (on_two f x y) t → (a : JavaType) × (b : JavaType) × (type_in x ≡ Some a) × (type_in y ≡ Some b) × Ruled (f a b) t
 ruled_both f x y t r = let a = ruled_part (λ c. on_one (f c) y) x t r in let b = ruled_part (f a.0) y t a.2 in (a.0, b.0, a.1, b.1, b.2)
 
 -- a node of a type keeps its rule
-ruled_node : (p : Place) (v : Verdict) (below : List Rattle.kr_classes_table.specs.Rules.Fault) (t : JavaType) → type_in (judge p v below).typed ≡ Some t → Ruled v t
+ruled_node : (p : Place) (v : Judgement) (below : List Rattle.kr_classes_table.specs.Rules.Fault) (t : JavaType) → type_in (judge p v below).typed ≡ Some t → Ruled v t
 ruled_node p (Fits x) below t e = (x, refl, e)
 ruled_node p (Breaks r) below t e = absurd (cc (e))
 
@@ -254,13 +254,13 @@ module _ (table : Table) (onward : IsOnward table) where
   abbrev IsInside : ℕ → Scope → Type 0
   IsInside c s = (s.table ≡ table) × (s.class ≡ c) × (s.locals ≡ []) × (s.is_static ≡ true)
 
-  named : (known : List Known) (c : ℕ) (s : Scope) (n : List ℕ) (t : JavaType) (v : ConstantValue) → AreKnown known → IsInside c s → Ruled (name_rule s (meant s n)) t → value_of known (field_meant table c n) ≡ Some v → Of t v
+  named : (known : List Known) (c : ℕ) (s : Scope) (n : List ℕ) (t : JavaType) (v : ConstantValue) → AreKnown known → IsInside c s → Ruled (name_rule s (meant s n)) t → known_value known (field_meant table c n) ≡ Some v → Of t v
   named known c s n t v k i r e = go (field_meant table c n) refl e
     where
       there : meant s n ≡ field_or_none (field_meant table c n)
       there = ap (λ (ls : _). meant_by ls (field_meant s.table s.class n) n) i.2 ∙ (ap (λ (x : Table). field_or_none (field_meant x s.class n)) i.0 ∙ ap (λ (x : ℕ). field_or_none (field_meant table x n)) i.1)
 
-      go : (o : Option Field) → field_meant table c n ≡ o → value_of known o ≡ Some v → Of t v
+      go : (o : Option Field) → field_meant table c n ≡ o → known_value known o ≡ Some v → Of t v
       go None q e = absurd (cc (e))
       go (Some h) q e = by h.is_static refl (ruled_as (name_rule s (meant s n)) (name_rule s (FieldName h)) t (ap (name_rule s) (there ∙ ap field_or_none q)) r)
         where
@@ -281,16 +281,16 @@ module _ (table : Table) (onward : IsOnward table) where
       by (Some h) = refl
   class_same c s _ i = refl
 
-  accessed : (known : List Known) (c : ℕ) (s : Scope) (p : Place) (n : List ℕ) (x : Judged) (t : JavaType) (v : ConstantValue) → AreKnown known → s.table ≡ table → (d : Option ℕ) → type_in (field_of s p n d x).typed ≡ Some t → value_of known (constant_of table d n) ≡ Some v → Of t v
+  accessed : (known : List Known) (c : ℕ) (s : Scope) (p : Place) (n : List ℕ) (x : Judged) (t : JavaType) (v : ConstantValue) → AreKnown known → s.table ≡ table → (d : Option ℕ) → type_in (field_of s p n d x).typed ≡ Some t → known_value known (constant_of table d n) ≡ Some v → Of t v
   accessed known c s p n x t v k ts None r e = absurd (cc (e))
   accessed known c s p n x t v k ts (Some d) r e = go (field_named table d n) refl e (ruled_as (constant_rule (field_named s.table d n)) (constant_rule (field_named table d n)) t (ap (λ (y : Table). constant_rule (field_named y d n)) ts) (ruled_node p (constant_rule (field_named s.table d n)) [] t r))
     where
-      go : (o : Option Field) → field_named table d n ≡ o → value_of known (option_and_then constant_only o) ≡ Some v → Ruled (constant_rule o) t → Of t v
+      go : (o : Option Field) → field_named table d n ≡ o → known_value known (option_and_then constant_only o) ≡ Some v → Ruled (constant_rule o) t → Of t v
       go None q e r = absurd (cc (e))
       go (Some h) q e r =
           let a = ruled_ask h.is_static 22 (gives h.type) t r in
           let only : option_and_then constant_only (Some h) ≡ Some h = ap (λ (b : Bool). if b then Some h else None) a.0 in
-          subst (λ (u : JavaType). Of u v) (ruled_gives h.type t a.1) (k h v (d, n, q, a.0) (sym (ap (value_of known) only) ∙ e))
+          subst (λ (u : JavaType). Of u v) (ruled_gives h.type t a.1) (k h v (d, n, q, a.0) (sym (ap (known_value known) only) ∙ e))
 
   pub evaluated_kept : (known : List Known) (c : ℕ) (s : Scope) (e : Tree) (t : JavaType) (v : ConstantValue) → AreKnown known → IsInside c s → type_in (judged s e).typed ≡ Some t → evaluated table known c e ≡ Some v → Of t v
   unfolding judged evaluated
@@ -338,7 +338,7 @@ module _ (table : Table) (onward : IsOnward table) where
       go : (r : Option ConstantValue) → None ≡ r → value_at more p ≡ (elim r as (λ z. Option ConstantValue) [ Some v ↦ Some v | None ↦ value_at more p ])
       go None q = refl
       go (Some v) q = absurd (cc (q))
-  value_behind (x ∷ known) more p r q = go (is_same_place x.place p) q (value_behind known more p r)
+  value_behind (x ∷ known) more p r q = go (is_at_place x.place p) q (value_behind known more p r)
     where
       go : (b : Bool) → (if b then Some x.value else value_at known p) ≡ r → (value_at known p ≡ r → value_at (known ++ more) p ≡ (elim r as (λ z. Option ConstantValue) [ Some v ↦ Some v | None ↦ value_at more p ])) → (if b then Some x.value else value_at (known ++ more) p) ≡ (elim r as (λ z. Option ConstantValue) [ Some v ↦ Some v | None ↦ value_at more p ])
       go false q f = f q
@@ -354,18 +354,18 @@ module _ (table : Table) (onward : IsOnward table) where
 
   -- a constant that stands where another does is of its type
   abbrev pub IsAlone : Field → Type 0
-  IsAlone g = (h : Field) → IsConstant h → is_same_place g.place h.place ≡ true → g.type ≡ h.type
+  IsAlone g = (h : Field) → IsConstant h → is_at_place g.place h.place ≡ true → g.type ≡ h.type
 
   behind_known : (known : List Known) (g : Field) (v : ConstantValue) → AreKnown known → IsAlone g → Of g.type v → AreKnown (known ++ record { place = g.place; value = v } ∷ [])
   behind_known known g v k alone i h w c e = go (value_at known h.place) refl (sym (value_behind known (record { place = g.place; value = v } ∷ []) h.place (value_at known h.place) refl) ∙ e)
     where
-      last : (b : Bool) → is_same_place g.place h.place ≡ b → (if b then Some v else None) ≡ Some w → Of h.type w
+      last : (b : Bool) → is_at_place g.place h.place ≡ b → (if b then Some v else None) ≡ Some w → Of h.type w
       last true q e = subst (λ (u : JavaType). Of u w) (alone h c q) (subst (λ (x : ConstantValue). Of g.type x) (some_is v w e) i)
       last false q e = absurd (cc (e))
 
       go : (r : Option ConstantValue) → value_at known h.place ≡ r → (elim r as (λ z. Option ConstantValue) [ Some x ↦ Some x | None ↦ value_at (record { place = g.place; value = v } ∷ []) h.place ]) ≡ Some w → Of h.type w
       go (Some x) q e = k h w c (q ∙ e)
-      go None q e = last (is_same_place g.place h.place) refl e
+      go None q e = last (is_at_place g.place h.place) refl e
 
   with_known : (known : List Known) (g : Field) → AreKnown known → IsAlone g → Gives g → AreKnown (with_constant table known g)
   with_known known g k alone f = go (is_constant table known g.class g.initial)

@@ -7,7 +7,7 @@ use Rattle.std.proofs.lemmas.List.{append-nil}
 use Rattle.kr_base.specs.declared.place.Place.{Place}
 use Rattle.kr_ast.specs.Tree.{Tree}
 use Rattle.kr_classes_table.specs.Table.{Heading, Table, Class, Field, headings_of, table_of, class_at, own_fields, is_instance, line_of, ancestors, fields_of, number_of}
-use Rattle.kr_classes_table.specs.Constants.{is_same_place}
+use Rattle.kr_classes_table.specs.Constants.{is_at_place}
 use Rattle.kr_classes_table.specs.Rules.{class_fault, break_if, is_name_among, repeated}
 use Rattle.kr_types_meaning.specs.Typing.{IsWellTyped}
 use Rattle.kr_mean.specs.Purity.{IsOneOf}
@@ -22,7 +22,7 @@ use Rattle.kr_laws_never_stuck.specs.Keys.{IsKeyed}
 
 -- ---- places
 
-same_self : (p : Place) → is_same_place p p ≡ true
+same_self : (p : Place) → is_at_place p p ≡ true
 same_self p = ap (λ (b : Bool). all b (nat_eq p.line p.line) (nat_eq p.col p.col)) (eq-eqb p.file p.file refl) ∙ (ap (λ (b : Bool). all true b (nat_eq p.col p.col)) (eq-eqb p.line p.line refl) ∙ ap (all true true) (eq-eqb p.col p.col refl))
   where
     all : Bool → Bool → Bool → Bool

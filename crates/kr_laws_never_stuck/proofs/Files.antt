@@ -52,7 +52,7 @@ module _ (t : Table) where
     pub shape : IsMember true tree
     pub unbroken : (judge h.place (class_rule (has_constructor (in_class h.name around)) (in_class h.name around)) (judged (in_class h.name around) tree).faults).faults ≡ []
 
-  below_good : (p : Place) (v : Rattle.kr_types_meaning.specs.Rules.Verdict) (below : List Fault) → (judge p v below).faults ≡ [] → below ≡ []
+  below_good : (p : Place) (v : Rattle.kr_types_meaning.specs.Rules.Judgement) (below : List Fault) → (judge p v below).faults ≡ [] → below ≡ []
   below_good p v below e = Rattle.kr_laws_safety.proofs.Glue.below_none p v below e
 
   class_good : (outer : Option ℕ) (m : Tree) (n : List ℕ) → IsGoodMember (in_class n around) m → AllOf IsGood (heading_of outer m)

@@ -6,7 +6,7 @@ use Rattle.kr_base.specs.declared.place.Place.{Place}
 use Rattle.kr_ast.specs.Tree as trees
 use Rattle.kr_ast.specs.Tree.{Tree}
 use Rattle.kr_classes_table.specs.Nodes.{nodes}
-use Rattle.kr_classes_table.specs.Constants.{is_same_place}
+use Rattle.kr_classes_table.specs.Constants.{is_at_place}
 use Rattle.kr_types_meaning.specs.Scopes.{Scope, in_old, after}
 use Rattle.kr_laws_types.specs.Shapes.{Sort, Expression, Expressions}
 use Rattle.kr_mean.specs.Purity.{IsOneOf}
@@ -28,7 +28,7 @@ olds_append p (x ∷ xs) ys = omega (arith, olds_append p xs ys)
 
 -- ---- by place
 
-same_self : (p : Place) → is_same_place p p ≡ true
+same_self : (p : Place) → is_at_place p p ≡ true
 same_self p = ap (λ (b : Bool). b && nat_eq p.line p.line && nat_eq p.col p.col) (eq-eqb p.file p.file refl) ∙ (ap (λ (b : Bool). true && b && nat_eq p.col p.col) (eq-eqb p.line p.line refl) ∙ ap (λ (b : Bool). true && true && b) (eq-eqb p.col p.col refl))
 
 some_at : (p : Place) (os : List OldNode) (o : OldNode) → IsOneOf o os → one_at p o.place ≡ 1 → 1 ≤ olds_at p os
@@ -39,10 +39,10 @@ some_at p (x ∷ os) o (inr i) e = omega (arith, some_at p os o i e)
 pub type_found : (os : List OldNode) (o : OldNode) → olds_at o.place os ≤ 1 → IsOneOf o os → type_of_old (old_types os) o.place ≡ Some (old_type o)
 type_found [] o few i = absurd i
 type_found (x ∷ os) o few (inl i) =
-    ap (λ (b : Bool). if b then Some (old_type x) else type_of_old (old_types os) o.place) (ap (λ (z : OldNode). is_same_place z.place o.place) i ∙ same_self o.place) ∙ ap (λ (z : OldNode). Some (old_type z)) i
-type_found (x ∷ os) o few (inr i) = go (is_same_place x.place o.place) refl (type_found os o (omega (arith, few)) i)
+    ap (λ (b : Bool). if b then Some (old_type x) else type_of_old (old_types os) o.place) (ap (λ (z : OldNode). is_at_place z.place o.place) i ∙ same_self o.place) ∙ ap (λ (z : OldNode). Some (old_type z)) i
+type_found (x ∷ os) o few (inr i) = go (is_at_place x.place o.place) refl (type_found os o (omega (arith, few)) i)
   where
-    go : (b : Bool) → is_same_place x.place o.place ≡ b → type_of_old (old_types os) o.place ≡ Some (old_type o) → (if b then Some (old_type x) else type_of_old (old_types os) o.place) ≡ Some (old_type o)
+    go : (b : Bool) → is_at_place x.place o.place ≡ b → type_of_old (old_types os) o.place ≡ Some (old_type o) → (if b then Some (old_type x) else type_of_old (old_types os) o.place) ≡ Some (old_type o)
     go false e r = r
     go true e r = absurd (omega (arith, few, ap one_if e, some_at o.place os o i (ap one_if (same_self o.place))))
 

@@ -10,7 +10,7 @@ use Rattle.kr_classes_table.specs.Types.{JavaType, is_known}
 use Rattle.kr_classes_table.specs.Table.{Heading, Field, items, type_named, declared_in, fields_in, is_assignable}
 use Rattle.kr_types_meaning.specs.Scopes.{Scope, Declaring, Fields, Constants, written, value, in_old, under_minus, after, static_if, declaring, class_before}
 use Rattle.kr_types_meaning.specs.Rules as rules
-use Rattle.kr_types_meaning.specs.Rules.{Typed, Verdict, Fits, ask, fine, takes, initial_fits, declaration_rule, unary_rule, operator_rule, choice_rule, cast_rule, instance_rule, assignment_rule, compound_rule, step_rule, element_rule, call_rule, super_rule, creation_rule, array_creation_rule, old_rule}
+use Rattle.kr_types_meaning.specs.Rules.{Typed, Judgement, Fits, ask, fine, takes, initial_fits, declaration_rule, unary_rule, operator_rule, choice_rule, cast_rule, instance_rule, assignment_rule, compound_rule, step_rule, element_rule, call_rule, super_rule, creation_rule, array_creation_rule, old_rule}
 use Rattle.kr_types_meaning.specs.Typing.{Judged, judge, on_maybe, one, two, three, list, one_and_list, both, field_of, method_of, judged, type_in}
 use Rattle.kr_types_meaning.specs.Running.{elsewhere}
 use Rattle.kr_laws_shapes.specs.Shapes.{AreDeclarators, IsMember}
@@ -112,7 +112,7 @@ pub record IsGoodField (s : Scope) (c : ℕ) (f : Field) : Type 0 where
   pub unbroken : f.is_static ≡ false → (judged (declaring_field f.type s) f.initial).faults ≡ []
   pub fits : f.is_static ≡ false → (t : JavaType) → type_in (judged (declaring_field f.type s) f.initial).typed ≡ Some t → is_assignable s.table t f.type ≡ true
 
-on_given : (f : Option JavaType → Verdict) (x : Typed) (t : JavaType) → type_in x ≡ Some t → on_maybe f x ≡ f (Some t)
+on_given : (f : Option JavaType → Judgement) (x : Typed) (t : JavaType) → type_in x ≡ Some t → on_maybe f x ≡ f (Some t)
 on_given f (rules.Value u) t e = ap f e
 on_given f (rules.Variable u) t e = ap f e
 on_given f (rules.Values ts) t e = absurd (cc (e))

@@ -9,9 +9,9 @@ use Rattle.kr_ast.specs.Tree.{Tree}
 use Rattle.kr_classes_table.specs.Types.{JavaType, is_void}
 use Rattle.kr_classes_table.specs.Table.{Heading, Parameter, Method, Constructor, items, type_named, parameters_in, methods_in, constructors_in}
 use Rattle.kr_classes_table.specs.Rules.{Fault}
-use Rattle.kr_types_meaning.specs.Scopes.{Scope, Local, written, after, bind, static_if, super_parameters}
+use Rattle.kr_types_meaning.specs.Scopes.{Scope, Local, written, after, bind_local, static_if, super_parameters}
 use Rattle.kr_types_meaning.specs.Rules as rules
-use Rattle.kr_types_meaning.specs.Rules.{Typed, Values, Verdict, Fits, ask, fine, takes, initial_fits, declaration_rule, implied_rule, is_none_of}
+use Rattle.kr_types_meaning.specs.Rules.{Typed, Values, Judgement, Fits, ask, fine, takes, initial_fits, declaration_rule, implied_rule, is_none_of}
 use Rattle.kr_types_meaning.specs.Typing.{judge, on_maybe, judged}
 use Rattle.kr_laws_shapes.specs.Shapes.{IsVariableType, IsResultType, AreParameters, MayCallSuper, IsMember}
 use Rattle.kr_laws_types.specs.Types.{is_variable_type, is_result_type}
@@ -72,7 +72,7 @@ after_parameters s (trees.Cons (trees.Parameter p t n) b) h =
     let w = written s t in
     let rest = map parameter_local (parameters_in s.table.headings b) in
     let l : Local = record { name = n; type = w } in
-    after_parameters (bind n w s) b h.1
+    after_parameters (bind_local n w s) b h.1
     ∙ ap (λ (ls : List Local). with_locals ls s) (sym (append_assoc (reverse rest) (l ∷ []) s.locals) ∙ ap (λ (ls : List Local). ls ++ s.locals) (sym (reverse-append (l ∷ []) rest)))
 after_parameters s (trees.Cons _ b) h = absurd h
 after_parameters s _ h = absurd h
@@ -81,8 +81,8 @@ pub parameters_variable : (s : Scope) (ps : Tree) → AreParameters ps → (judg
 unfolding judged
 parameters_variable s trees.Nil h f = tt
 parameters_variable s (trees.Cons (trees.Parameter p t n) b) h f =
-    let parts = both_empty (judged s (trees.Parameter p t n)).faults (judged (bind n (written s t) s) b).faults f in
-    (type_variable s t h.0 (below_none p (rules.parameter_rule s n) (judged s t).faults parts.0), parameters_variable (bind n (written s t) s) b h.1 parts.1)
+    let parts = both_empty (judged s (trees.Parameter p t n)).faults (judged (bind_local n (written s t) s) b).faults f in
+    (type_variable s t h.0 (below_none p (rules.parameter_rule s n) (judged s t).faults parts.0), parameters_variable (bind_local n (written s t) s) b h.1 parts.1)
 parameters_variable s (trees.Cons _ b) h f = absurd h
 parameters_variable s _ h f = absurd h
 
@@ -158,7 +158,7 @@ constructor_good s k (trees.Constructor p ps call b) none f h (inl i) = subst (I
     inside : after s ps ≡ with_locals (locals_of (parameters_in s.table.headings ps)) s
     inside = after_parameters s ps h.0 ∙ ap (λ (ls : List Local). with_locals ls s) (ap (λ (ls : List Local). locals_of (parameters_in s.table.headings ps) ++ ls) none ∙ append-nil (locals_of (parameters_in s.table.headings ps)))
 
-    v : Verdict
+    v : Judgement
     v = on_maybe (λ t. implied_rule s) (judged (after s ps) call).typed
 
     made : IsGoodConstructor s (record { place = p; parameters = parameters_in s.table.headings ps; call = call; body = items b })

@@ -7,7 +7,7 @@ use Rattle.kr_ast.specs.Tree.{Tree}
 use Rattle.kr_classes_table.specs.Table.{Table, Class, Field, Parameter, Method, items, headings_of, table_of, class_at, own_methods, line_of, method_named, methods_in, parameters_in}
 use Rattle.kr_classes_table.specs.Constants.{field_meant}
 use Rattle.kr_classes_table.specs.Rules.{class_fault}
-use Rattle.kr_types_meaning.specs.Scopes.{Scope, Local, Meant, written, after, bind, static_if, meant_by, meant, scope_of}
+use Rattle.kr_types_meaning.specs.Scopes.{Scope, Local, Meant, written, after, bind_local, static_if, meant_by, meant, scope_of}
 use Rattle.kr_types_meaning.specs.Rules.{Typed, Fits, ask, fine, is_new, parameter_rule}
 use Rattle.kr_types_meaning.specs.Typing.{judged, IsWellTyped}
 use Rattle.kr_laws_shapes.specs.Shapes.{AreParameters, IsMember}
@@ -49,10 +49,10 @@ record IsFound (ls : List Local) (ps : List Parameter) (q : Parameter) : Type 0 
 parameters_found : (s : Scope) (ps : Tree) (q : Parameter) → AreParameters ps → (judged s ps).faults ≡ [] → IsOneOf q (parameters_in s.table.headings ps) → IsFound s.locals (parameters_in s.table.headings ps) q
 unfolding judged HasNone
 parameters_found s trees.Nil q h f i = absurd i
-parameters_found s (trees.Cons (trees.Parameter p t n) b) q h f i = go i (parameters_found (bind n (written s t) s) b q h.1 parts.1)
+parameters_found s (trees.Cons (trees.Parameter p t n) b) q h f i = go i (parameters_found (bind_local n (written s t) s) b q h.1 parts.1)
   where
-    parts : ((judged s (trees.Parameter p t n)).faults ≡ []) × ((judged (bind n (written s t) s) b).faults ≡ [])
-    parts = both_empty (judged s (trees.Parameter p t n)).faults (judged (bind n (written s t) s) b).faults f
+    parts : ((judged s (trees.Parameter p t n)).faults ≡ []) × ((judged (bind_local n (written s t) s) b).faults ≡ [])
+    parts = both_empty (judged s (trees.Parameter p t n)).faults (judged (bind_local n (written s t) s) b).faults f
 
     ps : List Parameter
     ps = parameters_in s.table.headings b

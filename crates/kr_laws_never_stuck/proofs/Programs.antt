@@ -31,7 +31,7 @@ use Rattle.kr_laws_never_stuck.proofs.Files.{IsGoodAt, class_good_at}
 use Rattle.kr_laws_never_stuck.proofs.Members.{member_of, statements_unbroken, IsGoodMethod, method_good, IsGoodConstructor, constructor_good, none_implied}
 use Rattle.kr_laws_never_stuck.proofs.Initials.{expression_same, IsGoodField, field_good, declaring_constant, IsGoodConstant, constant_good}
 use Rattle.kr_laws_never_stuck.proofs.Evaluated.{IsConstantOf, AreKnown, evaluated_kept, Gives, IsAlone, all_known}
-use Rattle.kr_classes_table.specs.Constants.{ConstantValue, constant_only, constants_in, placed, in_order, evaluated, value_at, value_of, values_of}
+use Rattle.kr_classes_table.specs.Constants.{ConstantValue, constant_only, constants_in, placed, in_order, evaluated, value_at, known_value, values_of}
 use Rattle.kr_classes_table.specs.Rules.{is_earlier}
 use Rattle.kr_laws_types.specs.Types.{HasVariables}
 use Rattle.kr_laws_types.specs.Expressions.{plain, IsTyped}
@@ -265,7 +265,7 @@ module _ (files : List Tree) (arrays : List JavaType) (shapes : AreFiles files) 
       all_known t follows.below [] fs (λ h v k e. absurd (cc (e))) (all_alone fs fine) (all_give fs fine)
 
   -- the value of a constant
-  constant_value : (c : ℕ) (n : List ℕ) (f : Field) → field_named t c n ≡ Some f → f.is_static ≡ true → (v : ConstantValue) × (value_of program.values (Some f) ≡ Some v) × IsConstantOf t f.type v
+  constant_value : (c : ℕ) (n : List ℕ) (f : Field) → field_named t c n ≡ Some f → f.is_static ≡ true → (v : ConstantValue) × (known_value program.values (Some f) ≡ Some v) × IsConstantOf t f.type v
   constant_value c n f q static =
       let part = one_part f (own_fields t) (line_of t c) (found_one (λ (y : Field). bytes_eq y.name n) f (flat_map (own_fields t) (line_of t c)) q).0 in
       let d = own_in part.0 f part.2 in
@@ -278,7 +278,7 @@ module _ (files : List Tree) (arrays : List JavaType) (shapes : AreFiles files) 
           go true m = (good_constant e d p f i static).absent (nil_is f.initial m)
           go false m = let x = constant_typed e d p f i static m in ((good_constant e d p f i static).fits x.type x.known).1
 
-      found : (o : Option ConstantValue) → value_at (values_of t) f.place ≡ o → is_some (value_at (values_of t) f.place) ≡ true → (v : ConstantValue) × (value_of program.values (Some f) ≡ Some v) × IsConstantOf t f.type v
+      found : (o : Option ConstantValue) → value_at (values_of t) f.place ≡ o → is_some (value_at (values_of t) f.place) ≡ true → (v : ConstantValue) × (known_value program.values (Some f) ≡ Some v) × IsConstantOf t f.type v
       found (Some v) e s = (v, e, values_known f v (c, n, q, static) e)
       found None e s = absurd (cc (ap is_some e, s))
 

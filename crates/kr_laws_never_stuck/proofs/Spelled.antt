@@ -19,7 +19,7 @@ use Rattle.kr_lex.specs.declared.kind.Kind.TheVariants as kinds
 use Rattle.kr_lex.proofs.Listing.{is_symbol}
 use Rattle.kr_lex.proofs.Classes.{start_ascii, symbol_facts, token_shape, token_some}
 use Rattle.kr_lex.proofs.Unique.{name_byte, token_no_white}
-use Rattle.kr_classes_table.specs.Constants.{is_same_place}
+use Rattle.kr_classes_table.specs.Constants.{is_at_place}
 use Rattle.kr_laws_never_stuck.specs.Apart.{one_if, one_at}
 use Rattle.kr_laws_never_stuck.proofs.Positions.{IsBefore, before_trans, onward, Starts, passes}
 
@@ -99,7 +99,7 @@ abbrev pub placed : Place → List Lexeme → ℕ
 placed p [] = 0
 placed p (a ∷ i) = one_at p a.place + placed p i
 
-same_parts : (q p : Place) → is_same_place q p ≡ true → (q.file ≡ p.file) × (q.line ≡ p.line) × (q.col ≡ p.col)
+same_parts : (q p : Place) → is_at_place q p ≡ true → (q.file ≡ p.file) × (q.line ≡ p.line) × (q.col ≡ p.col)
 same_parts q p e = (grind (arith, nat_tests), grind (arith, nat_tests), grind (arith, nat_tests))
 
 -- the place is before what stands behind a front
@@ -115,9 +115,9 @@ ahead_elsewhere l c (inr h) = omega (arith, h.1)
 
 not_there : (p : Place) (file : ℕ) (front : List ℕ) → IsAhead p front → one_at p (place_after file front) ≡ 0
 unfolding place_after
-not_there p file front h = go (is_same_place (place_after file front) p) refl
+not_there p file front h = go (is_at_place (place_after file front) p) refl
   where
-    go : (b : Bool) → is_same_place (place_after file front) p ≡ b → one_if b ≡ 0
+    go : (b : Bool) → is_at_place (place_after file front) p ≡ b → one_if b ≡ 0
     go false e = refl
     go true e =
         let s = same_parts (place_after file front) p e in
@@ -131,7 +131,7 @@ behind {file = file} (contract {front = front} kind blank rest c d) p h =
     omega (arith, not_there p file front h, not_there p file (front ++ 47 ∷ 47 ∷ 64 ∷ blank) (ahead_onward p front (47 ∷ 47 ∷ 64 ∷ blank) h), behind d p (ahead_onward p front (head_of kind blank) h))
 
 -- a place that is that of a front
-at_front : (p : Place) (file : ℕ) (front part : List ℕ) → is_same_place (place_after file front) p ≡ true → Starts part → IsAhead p (front ++ part)
+at_front : (p : Place) (file : ℕ) (front part : List ℕ) → is_at_place (place_after file front) p ≡ true → Starts part → IsAhead p (front ++ part)
 unfolding place_after
 at_front p file front part e s =
     let q = same_parts (place_after file front) p e in
@@ -142,33 +142,33 @@ at_front p file front part e s =
 pub once : {file : ℕ} {inside last : Bool} {front text end left : List ℕ} {list : List Lexeme} → Reaches file inside front text list last end left → (p : Place) → placed p list ≤ 1
 once here p = omega arith
 once (gap part rest z g d) p = once d p
-once {file = file} (token {inside = inside} {front = front} {list = list} kind part rest z t d) p = go (is_same_place (place_after file front) p) refl (once d p)
+once {file = file} (token {inside = inside} {front = front} {list = list} kind part rest z t d) p = go (is_at_place (place_after file front) p) refl (once d p)
   where
-    go : (b : Bool) → is_same_place (place_after file front) p ≡ b → placed p list ≤ 1 → one_if b + placed p list ≤ 1
+    go : (b : Bool) → is_at_place (place_after file front) p ≡ b → placed p list ≤ 1 → one_if b + placed p list ≤ 1
     go true e r = omega (arith, behind d p (at_front p file front part e (here_starts inside kind part rest t)))
     go false e r = omega (arith, r)
-once {file = file} (contract {front = front} {list = list} kind blank rest c d) p = go (is_same_place (place_after file front) p) refl (once d p)
+once {file = file} (contract {front = front} {list = list} kind blank rest c d) p = go (is_at_place (place_after file front) p) refl (once d p)
   where
     mark : List ℕ
     mark = 47 ∷ 47 ∷ 64 ∷ blank
 
-    here_or_later : (b : Bool) → is_same_place (place_after file (front ++ mark)) p ≡ b → placed p list ≤ 1 → one_if b + placed p list ≤ 1
+    here_or_later : (b : Bool) → is_at_place (place_after file (front ++ mark)) p ≡ b → placed p list ≤ 1 → one_if b + placed p list ≤ 1
     here_or_later true e r =
         let longer = append_assoc front mark (contract_spelling kind) in
         omega (arith, behind d p (subst (λ (x : List ℕ). IsAhead p x) longer (at_front p file (front ++ mark) (contract_spelling kind) e (word_starts kind c.word))))
     here_or_later false e r = omega (arith, r)
 
-    go : (b : Bool) → is_same_place (place_after file front) p ≡ b → placed p list ≤ 1 → one_if b + (one_at p (place_after file (front ++ mark)) + placed p list) ≤ 1
+    go : (b : Bool) → is_at_place (place_after file front) p ≡ b → placed p list ≤ 1 → one_if b + (one_at p (place_after file (front ++ mark)) + placed p list) ≤ 1
     go true e r =
         let h = at_front p file front mark e (slashes (47 ∷ 64 ∷ blank)) in
         omega (arith, not_there p file (front ++ mark) h, behind d p (at_front p file front (head_of kind blank) e (slashes (47 ∷ 64 ∷ blank ++ contract_spelling kind))))
-    go false e r = omega (arith, here_or_later (is_same_place (place_after file (front ++ mark)) p) refl r)
+    go false e r = omega (arith, here_or_later (is_at_place (place_after file (front ++ mark)) p) refl r)
 
 other : (p : Place) (file : ℕ) (front : List ℕ) → (file ≡ p.file → ⊥) → one_at p (place_after file front) ≡ 0
 unfolding place_after
-other p file front n = go (is_same_place (place_after file front) p) refl
+other p file front n = go (is_at_place (place_after file front) p) refl
   where
-    go : (b : Bool) → is_same_place (place_after file front) p ≡ b → one_if b ≡ 0
+    go : (b : Bool) → is_at_place (place_after file front) p ≡ b → one_if b ≡ 0
     go false e = refl
     go true e = absurd (n (same_parts (place_after file front) p e).0)
 

@@ -7,7 +7,7 @@ use Rattle.std.proofs.lemmas.Slice.Eq.{bytes_eq-Decides}
 use Rattle.kr_classes_table.specs.Types.{JavaType, IntType, BooleanType, ClassType, is_same}
 use Rattle.kr_classes_table.specs.Table.{Heading, Table, is_assignable, number_from, number_of}
 use Rattle.kr_value.specs.declared.value.Value.TheVariants.{Int, Bool as Truth, Null}
-use Rattle.kr_mean.specs.Problem.{Problem, Item, Domain, Plain, Objects, domain_at}
+use Rattle.kr_mean.specs.Problem.{Problem, DomainItem, Domain, Plain, Objects, domain_at}
 use Rattle.kr_space_layout.specs.Items.{integers}
 use Rattle.kr_fin.specs.declared.document.ArrayBound.{ArrayBound}
 use Rattle.kr_fin.specs.declared.document.NamedDomain.{NamedDomain}
@@ -41,7 +41,7 @@ given_holds Q (d ∷ ds) key items h e = go (bytes_eq d.key key) refl e (given_h
 
 -- ---- lengths
 
-abbrev AtMost : Item → Type 0
+abbrev AtMost : DomainItem → Type 0
 AtMost (Plain (Int z)) = IsShort z
 AtMost i = Unit {0}
 

@@ -6,7 +6,7 @@ use Rattle.kr_ast.specs.Tree as trees
 use Rattle.kr_ast.specs.Tree.{Tree}
 use Rattle.kr_classes_table.specs.Nodes.{nodes}
 use Rattle.kr_classes_table.specs.Table.{Table, Field, table_of}
-use Rattle.kr_classes_table.specs.Constants.{is_same_place}
+use Rattle.kr_classes_table.specs.Constants.{is_at_place}
 use Rattle.kr_laws_never_stuck.specs.Grown.{AreGrown}
 
 abbrev pub one_if : Bool → ℕ
@@ -15,7 +15,7 @@ one_if false = 0
 
 -- 1 for a place that is the one asked for
 abbrev pub one_at : Place → Place → ℕ
-one_at p q = one_if (is_same_place q p)
+one_at p q = one_if (is_at_place q p)
 
 -- 1 for a declarator or an `\old` that stands there
 abbrev pub node_at : Place → Tree → ℕ

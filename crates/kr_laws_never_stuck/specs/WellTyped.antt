@@ -3,7 +3,7 @@ use Rattle.std.specs.Prelude.{◌≡◌, ℕ, true, List, [], ◌∷◌, ◌++�
 use Rattle.kr_ast.specs.Tree.{Tree}
 use Rattle.kr_classes_table.specs.Types.{JavaType}
 use Rattle.kr_classes_table.specs.Table.{Table, Field, Method, table_of, own_fields}
-use Rattle.kr_classes_table.specs.Constants.{is_same_place}
+use Rattle.kr_classes_table.specs.Constants.{is_at_place}
 use Rattle.kr_classes_table.specs.Arrays.{array_types_of}
 use Rattle.kr_classes_table.specs.Rules.{class_fault}
 use Rattle.kr_types_meaning.specs.Typing.{IsWellTyped}
@@ -21,7 +21,7 @@ use Rattle.kr_laws_safety.specs.Tested.{HasContracts, IsTestable}
 
 -- No two fields of the program stand at one place: names of a text don't.
 abbrev pub AreApart : Table → Type 0
-AreApart table = (c d : ℕ) (f g : Field) → IsOneOf f (own_fields table c) → IsOneOf g (own_fields table d) → is_same_place f.place g.place ≡ true → f ≡ g
+AreApart table = (c d : ℕ) (f g : Field) → IsOneOf f (own_fields table c) → IsOneOf g (own_fields table d) → is_at_place f.place g.place ≡ true → f ≡ g
 
 abbrev pub AreFiles : List Tree → Type 0
 AreFiles [] = Unit {0}
@@ -37,7 +37,7 @@ WellTypedProgramsLaw = (files : List Tree) (more : List JavaType) → AreFiles f
 -- on a candidate neither the predicate nor a precondition is stuck, nor any part of a test
 pub record IsNeverStuck (problem : Problem) (vector : List ℕ) : Type 0 where
   pub candidate : IsStuck problem vector → ⊥
-  pub tests : (m : Method) → tested_method problem problem.mode ≡ Some m → IsTestable problem m (test_start problem vector)
+  pub tests : (m : Method) → tested_method problem problem.mode ≡ Some m → (fuel : ℕ) → IsTestable problem m (test_start problem vector fuel)
 
 -- of a problem of such a program, whose predicate and contract are typed, and whose domains are of their slots' types
 abbrev pub RunsLaw : Type 0

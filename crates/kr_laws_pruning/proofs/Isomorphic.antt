@@ -8,7 +8,7 @@ use Rattle.kr_mean.specs.Problem.{Problem}
 use Rattle.kr_mean.specs.Space.{Space, space_of, IsVector, IsSpace}
 use Rattle.kr_mean.specs.Heaps.{walk}
 use Rattle.kr_mean.specs.Readings.{IsIn, AreIn, IsReading}
-use Rattle.kr_mean.specs.Runs.{True, end_on, order_of, key_along}
+use Rattle.kr_mean.specs.Runs.{End, True, end_on, order_of, key_along}
 use Rattle.kr_mean.specs.Isomorphism.{AgreeOn, IsIsomorphic}
 use Rattle.kr_mean.specs.Entries.{entry_of, mark_of, IsAll, IsListed, all_entries}
 use Rattle.kr_laws_pruning.specs.Laws.{ClassLaw}
@@ -61,7 +61,7 @@ pub one_class : ClassLaw
 one_class problem lawful v iv accepted = record {
   entry = entry;
   listed = all.complete chosen s.listed;
-  valid = ap is_valid s.same_mark ∙ valid_mark problem m.other (lawful.ends m.name v m.other m.renaming iv m.is_renamed ∙ accepted);
+  valid = ap is_valid s.same_mark ∙ valid_mark problem m.other (ap (λ (x : End × ℕ). x.0) (lawful.ends m.name v m.other m.renaming iv m.is_renamed) ∙ accepted);
   member = (
     m.other,
     m.is_renamed.vector,

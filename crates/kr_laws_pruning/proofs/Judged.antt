@@ -28,7 +28,8 @@ use Rattle.kr_mean.specs.Steps.{Stop, OutOfFuel, Local, State, Outcome, Run, sto
 use Rattle.kr_mean.specs.Meaning.{Target, LocalTarget, OwnField, FieldOf as FieldTarget, ElementOf, NoTarget, parts_within, called, run_chosen, run_method, eval, value}
 use Rattle.kr_mean.specs.Code.{Node, code, code_of_method, code_run}
 use Rattle.kr_mean.specs.Purity.{IsOneOf, written_by, writes_to, may_touch, rep_ok_method, tested, contract_of, roots, IsPredicateCode, root, run, IsCounted, IsFinitized, IsPure}
-use Rattle.kr_mean.specs.Runs.{class_number, root_class, requires_of, ensures_of, rep_ok, where_true, hold_all, parameters_from, start, end_of, outcome_of, end_on, slots_for, read_slots}
+use Rattle.kr_laws_pruning.specs.Laws.{ended}
+use Rattle.kr_mean.specs.Runs.{End, class_number, root_class, requires_of, ensures_of, rep_ok, where_true, hold_all, parameters_from, start, end_of, outcome_of, end_on, slots_for, read_slots}
 use Rattle.kr_mean.specs.WellFormed.{IsWellFormed, AreSpots}
 use Rattle.kr_laws_slots.proofs.Numbering.{object, count_at, width_at, parameters, first_slot, parameter_slot, object_slot, object_at_number, number_of_object}
 use Rattle.kr_laws_slots.proofs.Spaces.{objects_long, objects_get}
@@ -573,11 +574,17 @@ module _ (problem : Problem) (w : IsWellFormed problem) (pure : IsPure problem) 
           subst (λ (x : List ℕ). SlotForks (on problem w name n) K A X (slots_for problem p ++ flat_map (slots_for problem) ps) (x ++ flat_map (slots_for problem) qs)) (sym (ap (slots_for problem) f.0 ∙ r.renamed))
           (slots_then (on problem w name n) A K (AllOf A (slots_for problem p)) X (slots_for problem p) (map (on problem w name n) (slots_for problem p)) (flat_map (slots_for problem) ps) (flat_map (slots_for problem) qs) (slots_same (on problem w name n) A K (slots_for problem p) r.known) (λ agree. places_fork X ps qs (f.2 agree)))
 
-      -- the slots that are read fork, and where the two vectors agree on them the runs end the same
-      pub reads_fork : SlotForks (on problem w name n) K (AgreeAt problem w name n v u) (end_on problem u ≡ end_on problem v) (read_slots problem v) (read_slots problem u)
+      abbrev paired : End → ℕ → End × ℕ
+      paired e n = (e, n)
+
+      same_ended : (e e' : End) (n n' : ℕ) → e' ≡ e → n' ≡ n → paired e' n' ≡ paired e n
+      same_ended e e' n n' p q = ap (λ (x : End). paired x n') p ∙ ap (paired e) q
+
+      -- the slots that are read fork, and where the two vectors agree on them the runs end the same and leave the same fuel
+      pub reads_fork : SlotForks (on problem w name n) K (AgreeAt problem w name n v u) (ended problem u ≡ ended problem v) (read_slots problem v) (read_slots problem u)
       unfolding read_slots end_on
       reads_fork =
           let o = outcome_of problem v in
           let o' = outcome_of problem u in
-          slots_map (on problem w name n) (AgreeAt problem w name n v u) K (Reaches problem.program setting Same o o') (end_of o'.said ≡ end_of o.said) (flat_map (slots_for problem) o.reads) (flat_map (slots_for problem) o'.reads)
-          (places_fork (Reaches problem.program setting Same o o') o.reads o'.reads outcomes_meet) (λ r. said_same o.said o'.said r.0)
+          slots_map (on problem w name n) (AgreeAt problem w name n v u) K (Reaches problem.program setting Same o o') (ended problem u ≡ ended problem v) (flat_map (slots_for problem) o.reads) (flat_map (slots_for problem) o'.reads)
+          (places_fork (Reaches problem.program setting Same o o') o.reads o'.reads outcomes_meet) (λ r. same_ended (end_of o.said) (end_of o'.said) o.after.fuel o'.after.fuel (said_same o.said o'.said r.0) r.1.fuel)

@@ -10,7 +10,7 @@ use Rattle.kr_mean.specs.Readings.{Forks, AllBelow, Differ, IsIn, AreIn}
 use Rattle.kr_mean.specs.Entries.{row_of, structure_of, mark_for, mark_of}
 use Rattle.kr_mean.specs.Purity.{IsPure}
 use Rattle.kr_mean.specs.WellFormed.{IsWellFormed}
-use Rattle.kr_laws_pruning.specs.Laws.{IsLawful}
+use Rattle.kr_laws_pruning.specs.Laws.{ended, IsLawful}
 use Rattle.kr_value.specs.declared.value.Value.{Value}
 use Rattle.kr_value.specs.declared.value.Value.TheVariants.{Int, Bool as Truth, Null, Ref as Reference}
 use Rattle.kr_laws_slots.proofs.Membership.{Has, has_append_right}
@@ -42,7 +42,7 @@ module _ (problem : Problem) (w : IsWellFormed problem) (pure : IsPure problem) 
 
   module _ (v u : List ℕ) (iv : IsVector (space_of problem) v) (KO : ℕ → Type 0) (closed : IsClosed problem w pure name n v u iv KO) (K : ℕ → Type 0) (below : (s : ℕ) → K s → Below problem s) (known_this : K 0) (known_parameter : (i : ℕ) → i < parameters problem → K (i + 1)) (known_slot : (d k f : ℕ) → d < length problem.domains → k < count_at problem d → f < extent problem w v d k → KO (heap_number problem (object d k)) → K (first_slot problem d k + f)) (known_walk : AllOf K (walk problem v)) where
     abbrev SameEnd : Type 0
-    SameEnd = end_on problem u ≡ end_on problem v
+    SameEnd = ended problem u ≡ ended problem v
 
     tails_fork : (b : Bool) → SameEnd → SlotForks move K (Agrees v u) SameEnd (if b then walk problem v else []) (if b then walk problem u else [])
     tails_fork true e = slots_map move (Agrees v u) K (Unit {0}) SameEnd (walk problem v) (walk problem u) (slots_with move (Agrees v u) (Below problem) K (Unit {0}) (walk problem v) (walk problem u) known_walk (walks_fork problem w name n v u)) (λ x. e)
@@ -54,7 +54,7 @@ module _ (problem : Problem) (w : IsWellFormed problem) (pure : IsPure problem) 
         slots_distinct move (Agrees v u) K (λ x y a b e. moved_apart x y (below x a) (below y b) e) SameEnd (read_slots problem v ++ accepted_walk problem v) (read_slots problem u ++ accepted_walk problem u)
         (slots_then move (Agrees v u) K SameEnd SameEnd (read_slots problem v) (read_slots problem u) (accepted_walk problem v) (accepted_walk problem u)
         (reads_fork problem w pure name n v u iv KO closed K known_this known_parameter known_slot)
-        (λ e. subst (λ (x : End). SlotForks move K (Agrees v u) SameEnd (accepted_walk problem v) (if is_accepted x then walk problem u else [])) (sym e) (tails_fork (is_accepted (end_on problem v)) e)))
+        (λ e. subst (λ (x : End). SlotForks move K (Agrees v u) SameEnd (accepted_walk problem v) (if is_accepted x then walk problem u else [])) (sym (ap (λ (x : End × ℕ). x.0) e)) (tails_fork (is_accepted (end_on problem v)) e)))
 
 -- nothing is asked of what is known
 trivially_known : (n : ℕ) (x : Value) → KnownValue n (λ o. (o < n) × Unit {0}) x
@@ -69,7 +69,7 @@ module _ (problem : Problem) (w : IsWellFormed problem) (pure : IsPure problem) 
   walk_is_below v = walk_below problem w v (length (all_objects problem))
 
   -- orders with nothing known but that they have slots
-  plain_fork : (name : ℕ → ℕ → ℕ) (n : IsRenaming (space_of problem) name) (v u : List ℕ) → IsVector (space_of problem) v → SlotForks (on problem w name n) (Below problem) (AgreeAt problem w name n v u) (end_on problem u ≡ end_on problem v) (order_of problem v) (order_of problem u)
+  plain_fork : (name : ℕ → ℕ → ℕ) (n : IsRenaming (space_of problem) name) (v u : List ℕ) → IsVector (space_of problem) v → SlotForks (on problem w name n) (Below problem) (AgreeAt problem w name n v u) (ended problem u ≡ ended problem v) (order_of problem v) (order_of problem u)
   plain_fork name n v u iv =
       orders_fork problem w pure name n v u iv (λ o. Unit {0})
       (record { this = trivially_known _ _; parameter = λ i h. trivially_known _ _; slot = λ d k f a b c x. trivially_known _ _ })
@@ -114,7 +114,7 @@ module _ (problem : Problem) (w : IsWellFormed problem) (pure : IsPure problem) 
   all_below (s ∷ ss) h = (h.0, all_below ss h.1)
 
   order_below : (v : List ℕ) → IsVector (space_of problem) v → AllOf (Below problem) (order_of problem v)
-  order_below v iv = (slots_always (on problem w same_name no_names) (AgreeAt problem w same_name no_names v v) (Below problem) (end_on problem v ≡ end_on problem v) (order_of problem v) (order_of problem v) (λ s h. agrees_at v v s h refl) (plain_fork same_name no_names v v iv)).2
+  order_below v iv = (slots_always (on problem w same_name no_names) (AgreeAt problem w same_name no_names v v) (Below problem) (ended problem v ≡ ended problem v) (order_of problem v) (order_of problem v) (λ s h. agrees_at v v s h refl) (plain_fork same_name no_names v v iv)).2
 
   order_once : (v : List ℕ) → Differ (order_of problem v)
   unfolding order_of
@@ -129,7 +129,7 @@ module _ (problem : Problem) (w : IsWellFormed problem) (pure : IsPure problem) 
 
   order_walked : (v : List ℕ) → IsVector (space_of problem) v → AllOf (Walked v) (order_of problem v)
   order_walked v iv =
-      (slots_always (on problem w same_name no_names) (AgreeAt problem w same_name no_names v v) (Walked v) (end_on problem v ≡ end_on problem v) (order_of problem v) (order_of problem v) (λ s h. agrees_at v v s h.0 refl)
+      (slots_always (on problem w same_name no_names) (AgreeAt problem w same_name no_names v v) (Walked v) (ended problem v ≡ ended problem v) (order_of problem v) (order_of problem v) (λ s h. agrees_at v v s h.0 refl)
       (orders_fork problem w pure same_name no_names v v iv (IsMet problem w v)
       (record { this = this_known problem w v; parameter = parameter_known problem w v; slot = field_known problem w v })
       (Walked v) (λ s h. h.0)
@@ -210,7 +210,10 @@ module _ (problem : Problem) (w : IsWellFormed problem) (pure : IsPure problem) 
       go Spent q = both Spent q refl
 
   all_fork : (u v : List ℕ) → IsVector (space_of problem) u → IsVector (space_of problem) v → Forks u v (mark_of problem u ≡ mark_of problem v) (order_of problem u) (order_of problem v)
-  all_fork u v iu iv = forks_from u v (end_on problem v ≡ end_on problem u) (mark_of problem u ≡ mark_of problem v) (order_of problem u) (order_of problem v) (plain_fork same_name no_names u v iu) (marks_same u v)
+  all_fork u v iu iv = forks_from u v (ended problem v ≡ ended problem u) (mark_of problem u ≡ mark_of problem v) (order_of problem u) (order_of problem v) (plain_fork same_name no_names u v iu) (λ e o all. marks_same u v (ap (λ (x : End × ℕ). x.0) e) o all)
+
+  all_agreed : (u v : List ℕ) → IsVector (space_of problem) u → IsVector (space_of problem) v → Forks u v (ended problem u ≡ ended problem v) (order_of problem u) (order_of problem v)
+  all_agreed u v iu iv = forks_from u v (ended problem v ≡ ended problem u) (ended problem u ≡ ended problem v) (order_of problem u) (order_of problem v) (plain_fork same_name no_names u v iu) (λ e o all. sym e)
 
   -- ---- renamed vectors
 
@@ -218,8 +221,8 @@ module _ (problem : Problem) (w : IsWellFormed problem) (pure : IsPure problem) 
   unfolding space_of
   renamed_agree name v u n r s h = r.values s h
 
-  renamed_runs : (name : ℕ → ℕ → ℕ) (v u : List ℕ) (n : IsRenaming (space_of problem) name) → IsVector (space_of problem) v → IsRenamed (space_of problem) name v u → (end_on problem u ≡ end_on problem v) × (order_of problem u ≡ map (on problem w name n) (order_of problem v)) × AllOf (Below problem) (order_of problem v)
-  renamed_runs name v u n iv r = slots_always (on problem w name n) (AgreeAt problem w name n v u) (Below problem) (end_on problem u ≡ end_on problem v) (order_of problem v) (order_of problem u) (renamed_agree name v u n r) (plain_fork name n v u iv)
+  renamed_runs : (name : ℕ → ℕ → ℕ) (v u : List ℕ) (n : IsRenaming (space_of problem) name) → IsVector (space_of problem) v → IsRenamed (space_of problem) name v u → (ended problem u ≡ ended problem v) × (order_of problem u ≡ map (on problem w name n) (order_of problem v)) × AllOf (Below problem) (order_of problem v)
+  renamed_runs name v u n iv r = slots_always (on problem w name n) (AgreeAt problem w name n v u) (Below problem) (ended problem u ≡ ended problem v) (order_of problem v) (order_of problem u) (renamed_agree name v u n r) (plain_fork name n v u iv)
 
   pub is_lawful : IsLawful problem
   is_lawful = record {
@@ -230,6 +233,7 @@ module _ (problem : Problem) (w : IsWellFormed problem) (pure : IsPure problem) 
       forks = all_fork;
       renames = λ name v u n iv r. (renamed_runs name v u n iv r).1;
     };
+    agreed = all_agreed;
     ends = λ name v u n iv r. (renamed_runs name v u n iv r).0;
     reachable = reachable;
   }

@@ -15,3 +15,4 @@ pub mod Comparisons
 pub mod OneFieldRun
 pub mod OneFieldOrder
 pub mod OneFieldEntries
+pub mod Keys

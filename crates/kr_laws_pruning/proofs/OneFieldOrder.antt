@@ -4,7 +4,7 @@ use Rattle.kr_ast.specs.Tree as trees
 use Rattle.kr_ast.specs.Tree.{Tree}
 use Rattle.kr_mean.specs.Space.{space_of, IsVector, IsRenaming, IsRenamed, on_slot}
 use Rattle.kr_mean.specs.Heaps.{walk}
-use Rattle.kr_mean.specs.Runs.{end_on, order_of}
+use Rattle.kr_mean.specs.Runs.{order_of}
 use Rattle.kr_mean.specs.Readings.{Forks, AllBelow, Differ, AreIn, IsReading}
 use Rattle.kr_mean.specs.Entries.{mark_of}
 use Rattle.kr_classes_table.specs.Table.{table_of}
@@ -14,7 +14,7 @@ use Rattle.kr_mean.specs.Program.{Program}
 use Rattle.kr_mean.specs.Meaning.{NoTarget}
 use Rattle.kr_mean.specs.Code.{Node, code_run}
 use Rattle.kr_mean.specs.Purity.{IsOneOf, IsPure, writes_to, may_touch, roots, IsPredicateCode, root, run}
-use Rattle.kr_laws_pruning.specs.Laws.{IsLawful}
+use Rattle.kr_laws_pruning.specs.Laws.{ended, IsLawful}
 use Rattle.kr_value.specs.declared.object.Class.{Class}
 use Rattle.kr_laws_pruning.proofs.OneFieldSpace.{Form, problem_of, space_for, spelled, is_space, slots_stay, vectors_stay}
 use Rattle.kr_laws_pruning.proofs.OneFieldRun.{orders_both, walks_both}
@@ -80,19 +80,20 @@ two_slots form = (omega arith, (omega arith, tt))
 apart : Differ (0 ∷ 1 ∷ [])
 apart = ((λ e. cc, tt), (tt, tt))
 
-forks_spelled : (form : Form) (i j : ℕ) → Forks (0 ∷ i ∷ []) (0 ∷ j ∷ []) (mark_of (problem_of form) (0 ∷ i ∷ []) ≡ mark_of (problem_of form) (0 ∷ j ∷ [])) (0 ∷ 1 ∷ []) (0 ∷ 1 ∷ [])
-forks_spelled form i j = (refl, λ e. (refl, λ same. ap (λ i. mark_of (problem_of form) (0 ∷ i ∷ [])) same))
+-- vectors that agree along the order are one, so that all that is said of them is the same
+forks_spelled : {M : Type 0} (said : List ℕ → M) (i j : ℕ) → Forks (0 ∷ i ∷ []) (0 ∷ j ∷ []) (said (0 ∷ i ∷ []) ≡ said (0 ∷ j ∷ [])) (0 ∷ 1 ∷ []) (0 ∷ 1 ∷ [])
+forks_spelled said i j = (refl, λ e. (refl, λ same. ap (λ i. said (0 ∷ i ∷ [])) same))
 
-orders_fork : (form : Form) (u v : List ℕ) → IsVector (space_for form) u → IsVector (space_for form) v
-    → Forks u v (mark_of (problem_of form) u ≡ mark_of (problem_of form) v) (order_of (problem_of form) u) (order_of (problem_of form) v)
-orders_fork form u v h k =
+orders_fork : {M : Type 0} (said : List ℕ → M) (form : Form) (u v : List ℕ) → IsVector (space_for form) u → IsVector (space_for form) v
+    → Forks u v (said u ≡ said v) (order_of (problem_of form) u) (order_of (problem_of form) v)
+orders_fork said form u v h k =
     let p = problem_of form in
     let a = spelled form u h in
     let b = spelled form v k in
-    subst (λ o. Forks u v (mark_of p u ≡ mark_of p v) o (order_of p v)) (sym (order_there form u h))
-    (subst (λ o. Forks u v (mark_of p u ≡ mark_of p v) (0 ∷ 1 ∷ []) o) (sym (order_there form v k))
-    (subst (λ u. Forks u v (mark_of p u ≡ mark_of p v) (0 ∷ 1 ∷ []) (0 ∷ 1 ∷ [])) (sym a.2)
-    (subst (λ v. Forks (0 ∷ a.0 ∷ []) v (mark_of p (0 ∷ a.0 ∷ []) ≡ mark_of p v) (0 ∷ 1 ∷ []) (0 ∷ 1 ∷ [])) (sym b.2) (forks_spelled form a.0 b.0))))
+    subst (λ o. Forks u v (said u ≡ said v) o (order_of p v)) (sym (order_there form u h))
+    (subst (λ o. Forks u v (said u ≡ said v) (0 ∷ 1 ∷ []) o) (sym (order_there form v k))
+    (subst (λ u. Forks u v (said u ≡ said v) (0 ∷ 1 ∷ []) (0 ∷ 1 ∷ [])) (sym a.2)
+    (subst (λ v. Forks (0 ∷ a.0 ∷ []) v (said (0 ∷ a.0 ∷ []) ≡ said v) (0 ∷ 1 ∷ []) (0 ∷ 1 ∷ [])) (sym b.2) (forks_spelled said a.0 b.0))))
 
 orders_rename : (form : Form) (name : ℕ → ℕ → ℕ) (v w : List ℕ) → IsRenaming (space_for form) name → IsVector (space_for form) v → IsRenamed (space_for form) name v w
     → order_of (problem_of form) w ≡ map (on_slot (space_for form) name) (order_of (problem_of form) v)
@@ -103,7 +104,7 @@ pub is_reading : (form : Form) → IsReading (space_for form) (order_of (problem
 is_reading form = record {
   below = λ v h. subst (λ o. AllBelow (space_for form).slots o) (sym (order_there form v h)) (two_slots form);
   once = λ v h. subst (λ o. Differ o) (sym (order_there form v h)) apart;
-  forks = orders_fork form;
+  forks = orders_fork (mark_of (problem_of form)) form;
   renames = orders_rename form;
 }
 
@@ -120,6 +121,7 @@ pub is_lawful : (form : Form) → 0 < length form.values → IsLawful (problem_o
 is_lawful form h = record {
   space = is_space form h;
   reading = is_reading form;
-  ends = λ name v w r k m. ap (end_on (problem_of form)) (vectors_stay form name v w r k m);
+  agreed = orders_fork (ended (problem_of form)) form;
+  ends = λ name v w r k m. ap (ended (problem_of form)) (vectors_stay form name v w r k m);
   reachable = reads_reachable form;
 }

@@ -24,7 +24,7 @@ use Rattle.kr_mean.specs.Meaning.{Target, LocalTarget, OwnField, FieldOf, Elemen
 use Rattle.kr_mean.specs.Code.{Node, code, code_of_method, code_run}
 use Rattle.kr_mean.specs.Purity.{written_by}
 use Rattle.kr_mean.specs.Runs.{rep_ok_node, ensures_of, parameter_values, tested_method}
-use Rattle.kr_mean.specs.Verdicts.{OldNode, olds_of, olds_valued, judged_as, judged, where_holds, ensured, checked, verdict_from, test_start, verdict_by, verdict_of}
+use Rattle.kr_mean.specs.Verdicts.{OldNode, olds_of, olds_valued, judged_as, then_judged, where_holds, ensured, checked, verdict_from, test_start, verdict_by, verdict_of}
 use Rattle.kr_mean.specs.WellFormed.{IsWellFormed}
 use Rattle.kr_laws_slots.proofs.Membership.{Has}
 use Rattle.kr_laws_slots.proofs.Numbering.{object, count_at, width_at, parameters, first_slot, number_of_object}
@@ -175,8 +175,8 @@ module _ (problem : Problem) (w : IsWellFormed problem) (u v : List ℕ) (on_wal
   parameters_like i zero h = tt
   parameters_like i (suc m) h = (related (i + 1) (root_walked problem w u (i + 1) (omega (arith, h))) (parameter_known problem w u i (omega (arith, h))), parameters_like (i + 1) m (omega (arith, h)))
 
-  starts_like : Like problem.program setting (test_start problem u) (test_start problem v)
-  starts_like = record {
+  starts_like : (fuel : ℕ) → Like problem.program setting (test_start problem u fuel) (test_start problem v fuel)
+  starts_like fuel = record {
     this_value = related 0 (root_walked problem w u 0 (omega arith)) (this_known problem w u);
     locals = plain_like problem.program setting (parameter_values problem u) (parameter_values problem v) (parameters_like 0 (parameters problem) (omega arith));
     result = tt;
@@ -231,7 +231,7 @@ module _ (problem : Problem) (w : IsWellFormed problem) (u v : List ℕ) (on_wal
 
   -- ---- what is said of them
 
-  judged_same : {A : Type 0} (S : A → A → Type 0) (trap : Kind → Verdict) (o o' : Outcome A) (next next' : A → State → Verdict) → Meets problem.program setting S o o' → ((a b : A) (s s' : State) → S a b → Like problem.program setting s s' → next a s ≡ next' b s') → judged trap o next ≡ judged trap o' next'
+  judged_same : {A : Type 0} (S : A → A → Type 0) (trap : Kind → Verdict) (o o' : Outcome A) (next next' : A → State → Verdict) → Meets problem.program setting S o o' → ((a b : A) (s s' : State) → S a b → Like problem.program setting s s' → next a s ≡ next' b s') → then_judged trap o next ≡ then_judged trap o' next'
   judged_same {A} S trap o o' next next' m f =
       let r = forked_end (renamed_place (λ o. o)) (KnownPlace 0 0 KnownHere []) (λ p. Unit {0}) (Reaches problem.program setting S o o') o.reads o'.reads (λ p. tt) m in
       go o.said o'.said o.after o'.after r.0 r.1
@@ -272,10 +272,10 @@ module _ (problem : Problem) (w : IsWellFormed problem) (u v : List ℕ) (on_wal
       judged_same Rel Trap (body_of problem.program t.this_value (map (λ l. l.value) t.locals) m t) (body_of problem.program t'.this_value (map (λ l. l.value) t'.locals) m t') _ _ ((bodies_alike m t.this_value t'.this_value _ _ k.this_value (locals_like t.locals t'.locals k.locals)).by t t' k) (λ x y a a' r q.
       checked_same m os ps x y a a' h r q))
 
-  by_same : (m : Option Method) → verdict_by problem u m ≡ verdict_by problem v m
-  by_same None = refl
-  by_same (Some m) = ap (λ (x : Verdict). Some x) (from_same m (test_start problem u) (test_start problem v) starts_like)
+  by_same : (fuel : ℕ) (m : Option Method) → verdict_by problem u fuel m ≡ verdict_by problem v fuel m
+  by_same fuel None = refl
+  by_same fuel (Some m) = ap (λ (x : Verdict). Some x) (from_same m (test_start problem u fuel) (test_start problem v fuel) (starts_like fuel))
 
   pub verdicts_same : verdict_of problem u ≡ verdict_of problem v
   unfolding verdict_of
-  verdicts_same = by_same (tested_method problem problem.mode)
+  verdicts_same = by_same problem.fuel (tested_method problem problem.mode)

@@ -1,5 +1,5 @@
 // What holds of the entries of every problem.
-ghost use Rattle.kr_laws_pruning.specs.Laws.{PlainLaw, ClassLaw, LawfulLaw};
+ghost use Rattle.kr_laws_pruning.specs.Laws.{PlainLaw, ClassLaw, LawfulLaw, KeysLaw, EntryLaw};
 ghost use Rattle.kr_laws_pruning.specs.OneField.{OneFieldLaw};
 
 /// Every pure, well formed problem is lawful: its orders fork, renamed vectors have renamed runs, and runs read only what
@@ -16,6 +16,16 @@ pub fn plain_law()
 /// Each valid vector is isomorphic to a vector with the key of exactly one valid entry.
 pub fn class_law()
     ensures { ClassLaw }
+{}
+
+/// No key is a proper front of another's, and vectors with one key are read and end alike.
+pub fn keys_law()
+    ensures { KeysLaw }
+{}
+
+/// Each least vector, valid or not or spent, has its entry.
+pub fn entry_law()
+    ensures { EntryLaw }
 {}
 
 /// Of a class of one `int` field, the premises hold, and each value of the field has its entry.

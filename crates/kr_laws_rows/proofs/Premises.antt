@@ -1,20 +1,21 @@
 -- The worked problems, as the checker computes them.
 use Rattle.std.proofs.Common.{◌≡◌, ℕ, zero, suc, ◌<◌, ◌≤◌, ◌⊎◌, inl, inr, true, [], ◌∷◌, length, refl, arith, subst}
-use Rattle.std.specs.Prelude.{Option, Some, None, pos, codes, map}
+use Rattle.std.specs.Prelude.{Option, Some, None, pos, map}
 use Rattle.std.proofs.lemmas.Bool.{cases_lt}
-use Rattle.kr_ast.specs.Tree as trees
 use Rattle.kr_classes_table.specs.Table.{table_of, Method}
 use Rattle.kr_classes_table.specs.Constants.{values_of, is_constant, evaluated}
 use Rattle.kr_types_meaning.specs.Typing.{judged}
 use Rattle.kr_value.specs.declared.value.Value.TheVariants.{Int, Bool as Truth, Null}
 use Rattle.kr_value.specs.declared.object.Class.TheVariants.{Object}
 use Rattle.kr_mean.specs.Problem.{Problem, Plain, slots, slot_at, choices_at, domain_at}
-use Rattle.kr_mean.specs.Runs.{nowhere, root_class, tested_method}
+use Rattle.kr_mean.specs.Runs.{root_class, tested_method}
 use Rattle.kr_mean.specs.WellFormed.{ArePlain, AreSpots}
 use Rattle.kr_mean.specs.Purity.{IsPure}
-use Rattle.kr_mean_rows.specs.Listings.{two_nodes, two_subclasses, sorted_array, plus, tree}
+use Rattle.kr_mean_rows.specs.Words.{int, boolean, named, number, yes, this, ◌dot◌, ◌at◌, new, new_array, local, evaluate, assign, increment}
+use Rattle.kr_mean_rows.specs.Listings.{sorted_array, plus, tree}
+use Rattle.kr_mean_rows.specs.Examples.{nodes_with, two_nodes, two_subclasses}
 use Rattle.kr_laws_safety.specs.Domains.{AreSpotsOf, AreDomainsOf, HaveDomainsTypes}
-use Rattle.kr_laws_rows.specs.Premises.{Meets, Premises, nodes_with, running, name, number, int, boolean, local, create, evaluate, assign, add_to, step, element, of_box, box}
+use Rattle.kr_laws_rows.specs.Premises.{Meets, Premises, running, v, x, add_one, element, box}
 use Rattle.kr_laws_safety.proofs.Pure.{pure_by, impure_by}
 
 -- ---- a fact of each number below one
@@ -109,53 +110,53 @@ boolean_for_node : HaveDomainsTypes (nodes_with (Plain Null ∷ Plain (Truth tru
 unfolding table_of values_of is_constant evaluated judged
 boolean_for_node h = absurd (cc ((h.spots 0 (omega arith)).0.1.0))
 
-own_field_assigned : IsPure (running (assign (name (codes "v")) (number 1) ∷ [])) → ⊥
+own_field_assigned : IsPure (running (assign v (number 1) ∷ [])) → ⊥
 unfolding table_of values_of is_constant evaluated judged
-own_field_assigned = impure_by (running (assign (name (codes "v")) (number 1) ∷ [])) (omega arith, (tt, tt)) refl
+own_field_assigned = impure_by (running (assign v (number 1) ∷ [])) (omega arith, (tt, tt)) refl
 
-field_assigned : IsPure (running (assign (trees.FieldAccess nowhere (trees.This nowhere) (codes "v")) (number 1) ∷ [])) → ⊥
+field_assigned : IsPure (running (assign (this dot "v") (number 1) ∷ [])) → ⊥
 unfolding table_of values_of is_constant evaluated judged
-field_assigned = impure_by (running (assign (trees.FieldAccess nowhere (trees.This nowhere) (codes "v")) (number 1) ∷ [])) (omega arith, (tt, tt)) refl
+field_assigned = impure_by (running (assign (this dot "v") (number 1) ∷ [])) (omega arith, (tt, tt)) refl
 
-field_added_to : IsPure (running (add_to (name (codes "v")) ∷ [])) → ⊥
+field_added_to : IsPure (running (add_one v ∷ [])) → ⊥
 unfolding table_of values_of is_constant evaluated judged
-field_added_to = impure_by (running (add_to (name (codes "v")) ∷ [])) (omega arith, (tt, tt)) refl
+field_added_to = impure_by (running (add_one v ∷ [])) (omega arith, (tt, tt)) refl
 
-field_stepped : IsPure (running (step (name (codes "v")) ∷ [])) → ⊥
+field_stepped : IsPure (running (increment v ∷ [])) → ⊥
 unfolding table_of values_of is_constant evaluated judged
-field_stepped = impure_by (running (step (name (codes "v")) ∷ [])) (omega arith, (tt, tt)) refl
+field_stepped = impure_by (running (increment v ∷ [])) (omega arith, (tt, tt)) refl
 
-element_assigned : IsPure (running (assign (element (name (codes "a"))) (number 1) ∷ [])) → ⊥
+element_assigned : IsPure (running (assign element (number 1) ∷ [])) → ⊥
 unfolding table_of values_of is_constant evaluated judged
-element_assigned = impure_by (running (assign (element (name (codes "a"))) (number 1) ∷ [])) (omega arith, (tt, tt)) refl
+element_assigned = impure_by (running (assign element (number 1) ∷ [])) (omega arith, (tt, tt)) refl
 
-element_added_to : IsPure (running (add_to (element (name (codes "a"))) ∷ [])) → ⊥
+element_added_to : IsPure (running (add_one element ∷ [])) → ⊥
 unfolding table_of values_of is_constant evaluated judged
-element_added_to = impure_by (running (add_to (element (name (codes "a"))) ∷ [])) (omega arith, (tt, tt)) refl
+element_added_to = impure_by (running (add_one element ∷ [])) (omega arith, (tt, tt)) refl
 
-element_stepped : IsPure (running (step (element (name (codes "a"))) ∷ [])) → ⊥
+element_stepped : IsPure (running (increment element ∷ [])) → ⊥
 unfolding table_of values_of is_constant evaluated judged
-element_stepped = impure_by (running (step (element (name (codes "a"))) ∷ [])) (omega arith, (tt, tt)) refl
+element_stepped = impure_by (running (increment element ∷ [])) (omega arith, (tt, tt)) refl
 
-candidate_made : IsPure (running (evaluate (create (codes "R")) ∷ [])) → ⊥
+candidate_made : IsPure (running (evaluate (new (named "R") []) ∷ [])) → ⊥
 unfolding table_of values_of is_constant evaluated judged
-candidate_made = impure_by (running (evaluate (create (codes "R")) ∷ [])) (omega arith, (tt, tt)) refl
+candidate_made = impure_by (running (evaluate (new (named "R") []) ∷ [])) (omega arith, (tt, tt)) refl
 
-array_made : IsPure (running (evaluate (trees.ArrayCreation nowhere int (number 1)) ∷ [])) → ⊥
+array_made : IsPure (running (evaluate (new_array int (number 1)) ∷ [])) → ⊥
 unfolding table_of values_of is_constant evaluated judged
-array_made = impure_by (running (evaluate (trees.ArrayCreation nowhere int (number 1)) ∷ [])) (omega arith, (tt, tt)) refl
+array_made = impure_by (running (evaluate (new_array int (number 1)) ∷ [])) (omega arith, (tt, tt)) refl
 
-local_written : IsPure (running (local int (codes "x") (number 0) ∷ assign (name (codes "x")) (number 1) ∷ add_to (name (codes "x")) ∷ step (name (codes "x")) ∷ []))
+local_written : IsPure (running (local int "x" (number 0) ∷ assign x (number 1) ∷ add_one x ∷ increment x ∷ []))
 unfolding table_of values_of is_constant evaluated judged
-local_written = pure_by (running (local int (codes "x") (number 0) ∷ assign (name (codes "x")) (number 1) ∷ add_to (name (codes "x")) ∷ step (name (codes "x")) ∷ [])) 1 refl refl
+local_written = pure_by (running (local int "x" (number 0) ∷ assign x (number 1) ∷ add_one x ∷ increment x ∷ [])) 1 refl refl
 
-box_written : IsPure (running (box ∷ assign (of_box (codes "w")) (number 1) ∷ add_to (of_box (codes "w")) ∷ step (of_box (codes "w")) ∷ []))
+box_written : IsPure (running (box ∷ assign (x dot "w") (number 1) ∷ add_one (x dot "w") ∷ increment (x dot "w") ∷ []))
 unfolding table_of values_of is_constant evaluated judged
-box_written = pure_by (running (box ∷ assign (of_box (codes "w")) (number 1) ∷ add_to (of_box (codes "w")) ∷ step (of_box (codes "w")) ∷ [])) 1 refl refl
+box_written = pure_by (running (box ∷ assign (x dot "w") (number 1) ∷ add_one (x dot "w") ∷ increment (x dot "w") ∷ [])) 1 refl refl
 
-other_array_written : IsPure (running (box ∷ assign (of_box (codes "b")) (trees.ArrayCreation nowhere boolean (number 1)) ∷ assign (element (of_box (codes "b"))) (trees.Truth nowhere true) ∷ []))
+other_array_written : IsPure (running (box ∷ assign (x dot "b") (new_array boolean (number 1)) ∷ assign (x dot "b" at number 0) yes ∷ []))
 unfolding table_of values_of is_constant evaluated judged
-other_array_written = pure_by (running (box ∷ assign (of_box (codes "b")) (trees.ArrayCreation nowhere boolean (number 1)) ∷ assign (element (of_box (codes "b"))) (trees.Truth nowhere true) ∷ [])) 1 refl refl
+other_array_written = pure_by (running (box ∷ assign (x dot "b") (new_array boolean (number 1)) ∷ assign (x dot "b" at number 0) yes ∷ [])) 1 refl refl
 
 pub premises : Premises
 premises = record {

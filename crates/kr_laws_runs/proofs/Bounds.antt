@@ -44,7 +44,7 @@ pub record Under (j : ℕ) {A : Type 0} (S : A → A → Type 0) (m m' : Run A) 
 fewer : (i j : ℕ) {A : Type 0} (S : A → A → Type 0) (m m' : Run A) → i ≤ j → Under j S m m' → Under i S m m'
 fewer i j S m m' le p = record { by = λ s small. p.by s (omega (arith, le, small)) }
 
-bind_under : (j : ℕ) {A B : Type 0} (S : A → A → Type 0) (T : B → B → Type 0) (m m' : Run A) (f f' : A → Run B) → Under j S m m' → ((a b : A) → S a b → Under j T (f a) (f' b)) → Under j T (m >>= f) (m' >>= f')
+pub bind_under : (j : ℕ) {A B : Type 0} (S : A → A → Type 0) (T : B → B → Type 0) (m m' : Run A) (f f' : A → Run B) → Under j S m m' → ((a b : A) → S a b → Under j T (f a) (f' b)) → Under j T (m >>= f) (m' >>= f')
 unfolding bind
 bind_under j {A} {B} S T m m' f f' p q = record { by = λ s le. go s le (m s) (m' s) (p.by s le) }
   where
@@ -62,13 +62,13 @@ said_self S one (Ok a) = one a
 said_self S one (Err e) = refl
 
 -- a step that gives no fuel back, beside itself
-self : (j : ℕ) {A : Type 0} (S : A → A → Type 0) → ((a : A) → S a a) → (m : Run A) → Spends m → Under j S m m
+pub self : (j : ℕ) {A : Type 0} (S : A → A → Type 0) → ((a : A) → S a a) → (m : Run A) → Spends m → Under j S m m
 self j S one m kept = record { by = λ s le. record { said = said_self S one (m s).said; after = refl; reads = refl; less = kept s } }
 
-same_option : (x : Option Class) → Same x x
+pub same_option : (x : Option Class) → Same x x
 same_option x = refl
 
-each_same : {A : Type 0} (xs ys : List A) → Each Same xs ys → ys ≡ xs
+pub each_same : {A : Type 0} (xs ys : List A) → Each Same xs ys → ys ≡ xs
 each_same [] [] e = refl
 each_same [] (y ∷ ys) e = absurd e
 each_same (x ∷ xs) [] e = absurd e
@@ -76,7 +76,7 @@ each_same (x ∷ xs) (y ∷ ys) e = ap (λ (z : _). z ∷ ys) e.0 ∙ ap (λ (l 
 
 -- ---- steps give no fuel back
 
-ticks_spend : Spends tick
+pub ticks_spend : Spends tick
 ticks_spend s = go s.fuel refl
   where
     go : (n : ℕ) → s.fuel ≡ n → (tick_at n s).after.fuel ≤ s.fuel
@@ -87,27 +87,27 @@ given_spends : {A : Type 0} (x : Option A) → Spends (given x)
 given_spends None s = omega arith
 given_spends (Some a) s = omega arith
 
-result_spends : Spends get_result
+pub result_spends : Spends get_result
 result_spends s = given_spends s.result s
 
-old_spends : (p : Place) → Spends (get_old p)
+pub old_spends : (p : Place) → Spends (get_old p)
 old_spends p s = given_spends (old_at s.olds p) s
 
-local_spends : (k : ℕ) → Spends (read_local k)
+pub local_spends : (k : ℕ) → Spends (read_local k)
 local_spends k s = go (local_at s.locals k)
   where
     go : (x : Option Local) → (local_given x s).after.fuel ≤ s.fuel
     go None = omega arith
     go (Some l) = omega arith
 
-assign_spends : (k : ℕ) (v : Value) → Spends (assign k v)
+pub assign_spends : (k : ℕ) (v : Value) → Spends (assign k v)
 assign_spends k v s = go (nat_lt k (length s.locals))
   where
     go : (b : Bool) → (assign_if b k v s).after.fuel ≤ s.fuel
     go true = omega arith
     go false = omega arith
 
-load_spends : (o : Value) (spot : Spot) → Spends (load o spot)
+pub load_spends : (o : Value) (spot : Spot) → Spends (load o spot)
 load_spends (Reference o) spot s = go (has_spot (object_in s.heap o) spot)
   where
     go : (b : Bool) → (load_if b o spot s).after.fuel ≤ s.fuel
@@ -117,7 +117,7 @@ load_spends (Int n) spot s = omega arith
 load_spends (Truth b) spot s = omega arith
 load_spends Null spot s = omega arith
 
-element_spends : (o i : Value) → Spends (element o i)
+pub element_spends : (o i : Value) → Spends (element o i)
 element_spends (Reference o) (Int z) s = go (has_spot (object_in s.heap o) Length)
   where
     read : (x : Option ℕ) → (element_read x o s).after.fuel ≤ s.fuel
@@ -137,13 +137,13 @@ element_spends Null (Truth b) s = omega arith
 element_spends Null Null s = omega arith
 element_spends Null (Reference p) s = omega arith
 
-class_spends : (o : Value) → Spends (class_or_null o)
+pub class_spends : (o : Value) → Spends (class_or_null o)
 class_spends (Reference o) s = omega arith
 class_spends (Int n) s = omega arith
 class_spends (Truth b) s = omega arith
 class_spends Null s = omega arith
 
-store_spends : (program : Program) (f : Field) (o v : Value) → Spends (store program f o v)
+pub store_spends : (program : Program) (f : Field) (o v : Value) → Spends (store program f o v)
 store_spends program f (Reference o) v s = go (spot_of_field program f (object_in s.heap o).class)
   where
     go : (k : Option ℕ) → (store_at o k v s).after.fuel ≤ s.fuel
@@ -153,7 +153,7 @@ store_spends program f (Int i) v s = omega arith
 store_spends program f (Truth b) v s = omega arith
 store_spends program f Null v s = omega arith
 
-store_new_spends : (program : Program) (f : Field) (o v : Value) → Spends (store_new program f o v)
+pub store_new_spends : (program : Program) (f : Field) (o v : Value) → Spends (store_new program f o v)
 store_new_spends program f (Reference o) v s = go (nat_lt o s.candidates)
   where
     go : (b : Bool) → (store_new_if b program f o v s).after.fuel ≤ s.fuel
@@ -163,7 +163,7 @@ store_new_spends program f (Int i) v s = omega arith
 store_new_spends program f (Truth b) v s = omega arith
 store_new_spends program f Null v s = omega arith
 
-store_element_spends : (program : Program) (t : JavaType) (o i v : Value) → Spends (store_element program t o i v)
+pub store_element_spends : (program : Program) (t : JavaType) (o i v : Value) → Spends (store_element program t o i v)
 store_element_spends program t (Reference o) (Int i) v s = go (is_array_of program t (object_in s.heap o).class)
   where
     put_at : (k : Option ℕ) → (store_index o k v s).after.fuel ≤ s.fuel
@@ -183,7 +183,7 @@ store_element_spends program t Null (Truth b) v s = omega arith
 store_element_spends program t Null Null v s = omega arith
 store_element_spends program t Null (Reference p) v s = omega arith
 
-array_spends : (program : Program) (t : JavaType) (v : Value) → Spends (create_array program t v)
+pub array_spends : (program : Program) (t : JavaType) (v : Value) → Spends (create_array program t v)
 array_spends program t (Int (pos n)) s = go (nat_lt 64 n)
   where
     made : (k : Option ℕ) → (make_array t n k s).after.fuel ≤ s.fuel
@@ -198,7 +198,7 @@ array_spends program t (Truth b) s = omega arith
 array_spends program t Null s = omega arith
 array_spends program t (Reference o) s = omega arith
 
-collect_spends : (n : List ℕ) (o : Value) (vs : List Value) → Spends (collect n o vs)
+pub collect_spends : (n : List ℕ) (o : Value) (vs : List Value) → Spends (collect n o vs)
 collect_spends n (Reference o) vs s = go (collected (object_in s.heap o).class n vs (object_in s.heap o).values)
   where
     go : (c : Option Collected) → (collect_as c o s).after.fuel ≤ s.fuel
@@ -220,20 +220,20 @@ abbrev pub AnyNode : Node → Type 0
 AnyNode n = Unit {0}
 
 module _ (program : Program) (j : ℕ) where
-  one : (v : Value) → Same v v
+  pub one : (v : Value) → Same v v
   one v = refl
 
-  stopped : {A : Type 0} (S : A → A → Type 0) (e : Stop) → Under j S (stop e) (stop e)
+  pub stopped : {A : Type 0} (S : A → A → Type 0) (e : Stop) → Under j S (stop e) (stop e)
   stopped S e = record { by = λ s le. record { said = refl; after = refl; reads = refl; less = omega arith } }
 
-  chooses : {A : Type 0} (S : A → A → Type 0) (v v' : Value) (m m' n n' : Run A) → Same v v' → Under j S m m' → Under j S n n' → Under j S (choose v m n) (choose v' m' n')
+  pub chooses : {A : Type 0} (S : A → A → Type 0) (v v' : Value) (m m' n n' : Run A) → Same v v' → Under j S m m' → Under j S n n' → Under j S (choose v m n) (choose v' m' n')
   chooses S (Int i) v' m m' n n' r p q = rw r (stopped S Stuck)
   chooses S (Truth true) v' m m' n n' r p q = rw r p
   chooses S (Truth false) v' m m' n n' r p q = rw r q
   chooses S Null v' m m' n n' r p q = rw r (stopped S Stuck)
   chooses S (Reference o) v' m m' n n' r p q = rw r (stopped S Stuck)
 
-  withins : {A : Type 0} (S : A → A → Type 0) (o o' : Value) (n : ℕ) (vs ws : List Value) (m m' : Run A) → Same o o' → Each Same vs ws → Under j S m m' → Under j S (within o n vs m) (within o' n ws m')
+  pub withins : {A : Type 0} (S : A → A → Type 0) (o o' : Value) (n : ℕ) (vs ws : List Value) (m m' : Run A) → Same o o' → Each Same vs ws → Under j S m m' → Under j S (within o n vs m) (within o' n ws m')
   withins S o o' n vs ws m m' r e p = rw (r, each_same vs ws e) (record { by = λ s le. go s le (nat_eq (length vs) n) })
     where
       go : (s : State) → s.fuel ≤ j → (b : Bool) → OneOutcome s.fuel S (entered b o vs m s) (entered b o vs m' s)
@@ -242,10 +242,10 @@ module _ (program : Program) (j : ℕ) where
           let x = p.by (record s { this_value = o; locals = map Rattle.kr_mean.specs.Steps.plain_local vs }) le in
           record { said = x.said; after = ap (λ (t : State). record t { this_value = s.this_value; locals = s.locals }) x.after; reads = x.reads; less = x.less }
 
-  scopes : {A : Type 0} (S : A → A → Type 0) (m m' : Run A) → Under j S m m' → Under j S (scoped m) (scoped m')
+  pub scopes : {A : Type 0} (S : A → A → Type 0) (m m' : Run A) → Under j S m m' → Under j S (scoped m) (scoped m')
   scopes S m m' p = record { by = λ s le. let x = p.by s le in record { said = x.said; after = ap (λ (t : State). record t { locals = take (length s.locals) t.locals }) x.after; reads = x.reads; less = x.less } }
 
-  abbrev under_logic : Logic program AnyField AnyType
+  abbrev pub under_logic : Logic program AnyField AnyType
   under_logic = record {
     R = Same;
     Rel = λ S m m'. Under j S m m';
@@ -350,7 +350,7 @@ module _ (program : Program) where
     where
       one_agrees : (s : Scope) (t : Tree) → Under j Any (declared p s t) (declared p' s t)
       one_agrees s (trees.Declarator r n e) =
-          unit_first j Any _ _ (λ i lt. (under_logic program i).binds Any Any _ _ _ _ ((under_logic program i).declares (default_of s.declared) (default_of s.declared) refl) (λ x y u. Rattle.kr_laws_runs.proofs.Respects.initial_values program AnyField AnyType AnyNode any_code (under_logic program i) p p' (q i lt) (Rattle.kr_types_meaning.specs.Scopes.bind n s.declared s) (length s.locals) e (all_any (code (Rattle.kr_types_meaning.specs.Scopes.bind n s.declared s) e))))
+          unit_first j Any _ _ (λ i lt. (under_logic program i).binds Any Any _ _ _ _ ((under_logic program i).declares (default_of s.declared) (default_of s.declared) refl) (λ x y u. Rattle.kr_laws_runs.proofs.Respects.initial_values program AnyField AnyType AnyNode any_code (under_logic program i) p p' (q i lt) (Rattle.kr_types_meaning.specs.Scopes.bind_local n s.declared s) (length s.locals) e (all_any (code (Rattle.kr_types_meaning.specs.Scopes.bind_local n s.declared s) e))))
       one_agrees s _ = stopped program j Any Stuck
 
   -- a statement begins with a unit, or each of its declarators does

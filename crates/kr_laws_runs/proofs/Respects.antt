@@ -15,8 +15,8 @@ use Rattle.kr_value.specs.declared.object.Class.TheVariants.{Object, Array, Set,
 use Rattle.kr_value.specs.declared.object.Spot.TheVariants.{Field as FieldSpot, Length}
 use Rattle.kr_classes_table.specs.Types.{JavaType, IntType, BooleanType, NullType, VoidType, ClassType, ArrayType, SetType, ListType, InferredType, UnknownType, AppliedType, is_void}
 use Rattle.kr_classes_table.specs.Table.{Field, Method, Constructor, items, fields_of, line_of, method_named}
-use Rattle.kr_classes_table.specs.Constants.{ConstantValue, Whole, Truth as TruthConstant, Absent, constant_of, wrap, value_of as constant_value}
-use Rattle.kr_types_meaning.specs.Scopes.{Scope, Meant, LocalName, FieldName, NoName, written, after, meant, class_before, static_only, method_meant, bind as with_local}
+use Rattle.kr_classes_table.specs.Constants.{ConstantValue, Whole, Truth as TruthConstant, Absent, constant_of, wrap, known_value as constant_value}
+use Rattle.kr_types_meaning.specs.Scopes.{Scope, Meant, LocalName, FieldName, NoName, written, after, meant, class_before, static_only, method_meant, bind_local as with_local}
 use Rattle.kr_mean.specs.declared.kind.Kind.TheVariants.{NullPointerException, ClassCastException, NoReturn}
 use Rattle.kr_mean.specs.Program.{Program, default_of, is_of_type, field_position, overriding, class_scope, method_scope, constructor_scope, constructor_of, declared_fields}
 use Rattle.kr_mean.specs.Steps.{Stop, Trapped, OutOfFuel, Stuck, Run, say, give, stop, given, not_null, ◌>>=◌, tick, get_this, read_local, declare, assign, get_result, get_old, within, scoped, load, load_at, load_in, load_field, element, class_or_null, class_of, store, store_new, store_element, make, collect}

@@ -11,7 +11,7 @@ use Rattle.kr_classes_table.specs.Types.{JavaType, ClassType, is_void, is_known}
 use Rattle.kr_classes_table.specs.Table.{Table, Parameter, Method, items, method_named, is_assignable}
 use Rattle.kr_types_meaning.specs.Scopes.{Scope, Local, after}
 use Rattle.kr_types_meaning.specs.Rules as rules
-use Rattle.kr_types_meaning.specs.Rules.{Typed, Values, Untyped, Verdict, Fits, ask, takes, arguments_fit, is_statement}
+use Rattle.kr_types_meaning.specs.Rules.{Typed, Values, Untyped, Judgement, Fits, ask, takes, arguments_fit, is_statement}
 use Rattle.kr_types_meaning.specs.Typing.{on_list, joined, judged, type_in}
 use Rattle.kr_mean.specs.declared.kind.Kind.TheVariants.{NoReturn}
 use Rattle.kr_mean.specs.Program.{Program, overriding, method_scope, parameter_local}
@@ -36,7 +36,7 @@ use Rattle.kr_laws_safety.proofs.Sequences.{after_all, sequence}
 -- ---- the types of arguments
 
 -- a rule of a list of arguments
-pub ruled_list : (f : List JavaType → Verdict) (x : Typed) (t : JavaType) → Ruled (on_list f x) t → (ts : List JavaType) × (x ≡ Values ts) × Ruled (f ts) t
+pub ruled_list : (f : List JavaType → Judgement) (x : Typed) (t : JavaType) → Ruled (on_list f x) t → (ts : List JavaType) × (x ≡ Values ts) × Ruled (f ts) t
 ruled_list f (Values ts) t r = (ts, refl, r)
 ruled_list f (rules.Value u) t r = absurd (cc (r.2, ap type_in (fits_inside Untyped r.0 r.1)))
 ruled_list f (rules.Variable u) t r = absurd (cc (r.2, ap type_in (fits_inside Untyped r.0 r.1)))

@@ -12,7 +12,7 @@ use Rattle.kr_classes_table.specs.Types.{JavaType, VoidType, ClassType}
 use Rattle.kr_classes_table.specs.Table.{Table, Field, Parameter, Constructor, items, super_of, line_of, ancestors, is_among, fields_of, constructor_parameters, is_below, is_assignable}
 use Rattle.kr_types_meaning.specs.Scopes.{Scope, after, super_parameters}
 use Rattle.kr_types_meaning.specs.Rules as rules
-use Rattle.kr_types_meaning.specs.Rules.{Typed, Values, Untyped, Verdict, Fits, ask, arguments_fit, super_constructor_rule}
+use Rattle.kr_types_meaning.specs.Rules.{Typed, Values, Untyped, Judgement, Fits, ask, arguments_fit, super_constructor_rule}
 use Rattle.kr_types_meaning.specs.Typing.{judge, on_list, judged, type_in}
 use Rattle.kr_mean.specs.Program.{Program, default_of, class_scope, constructor_scope, constructor_of, declared_fields}
 use Rattle.kr_mean.specs.Steps.{Run, give, ◌>>=◌, ◌>>◌, tick, within, make, store_new}

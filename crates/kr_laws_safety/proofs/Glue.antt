@@ -9,7 +9,7 @@ use Rattle.kr_classes_table.specs.Rules.{Fault}
 use Rattle.kr_classes_table.specs.Table.{Table, is_assignable}
 use Rattle.kr_types_meaning.specs.Scopes.{Scope}
 use Rattle.kr_types_meaning.specs.Rules as rules
-use Rattle.kr_types_meaning.specs.Rules.{Typed, Values, Untyped, Verdict, Fits, Breaks, ask, is_int, is_boolean, is_statement}
+use Rattle.kr_types_meaning.specs.Rules.{Typed, Values, Untyped, Judgement, Fits, Breaks, ask, is_int, is_boolean, is_statement}
 use Rattle.kr_types_meaning.specs.Typing.{Judged, judge, on_one, on_two, judged, type_in}
 use Rattle.kr_mean.specs.Program.{Program}
 use Rattle.kr_mean.specs.Steps.{Run, ◌>>=◌}
@@ -28,7 +28,7 @@ use Rattle.kr_laws_safety.proofs.Targets.{IsOnward, widened, void_kept}
 -- ---- rules
 
 -- a rule that is kept, of a node of a type
-abbrev pub Ruled : Verdict → JavaType → Type 0
+abbrev pub Ruled : Judgement → JavaType → Type 0
 Ruled v t = (x : Typed) × (v ≡ Fits x) × (type_in x ≡ Some t)
 
 none_behind : {A : Type 0} (xs : List A) (y : A) → xs ++ y ∷ [] ≡ [] → ⊥
@@ -44,51 +44,51 @@ back_none [] ys e = e
 back_none (x ∷ xs) ys e = absurd (cc (e))
 
 -- a node without broken nodes: neither its parts nor itself
-pub below_none : (p : Place) (v : Verdict) (below : List Fault) → (judge p v below).faults ≡ [] → below ≡ []
+pub below_none : (p : Place) (v : Judgement) (below : List Fault) → (judge p v below).faults ≡ [] → below ≡ []
 below_none p (Fits x) below e = e
 below_none p (Breaks r) below e = absurd (none_behind below (record { place = p; rule = r }) e)
 
-pub ruled : (p : Place) (v : Verdict) (below : List Fault) (t : JavaType) → (judge p v below).faults ≡ [] → type_in (judge p v below).typed ≡ Some t → Ruled v t
+pub ruled : (p : Place) (v : Judgement) (below : List Fault) (t : JavaType) → (judge p v below).faults ≡ [] → type_in (judge p v below).typed ≡ Some t → Ruled v t
 ruled p (Fits x) below t e f = (x, refl, f)
 ruled p (Breaks r) below t e f = absurd (cc (f))
 
 -- a rule that gives no type is kept
-pub kept : (p : Place) (v : Verdict) (below : List Fault) → (judge p v below).faults ≡ [] → (x : Typed) × (v ≡ Fits x)
+pub kept : (p : Place) (v : Judgement) (below : List Fault) → (judge p v below).faults ≡ [] → (x : Typed) × (v ≡ Fits x)
 kept p (Fits x) below e = (x, refl)
 kept p (Breaks r) below e = absurd (none_behind below (record { place = p; rule = r }) e)
 
-pub on_type : (f : JavaType → Verdict) (x : Typed) (t : JavaType) → type_in x ≡ Some t → on_one f x ≡ f t
+pub on_type : (f : JavaType → Judgement) (x : Typed) (t : JavaType) → type_in x ≡ Some t → on_one f x ≡ f t
 on_type f (rules.Value u) t e = ap (λ (z : Option JavaType). by z) e
   where
-    by : Option JavaType → Verdict
+    by : Option JavaType → Judgement
     by None = f u
     by (Some z) = f z
 on_type f (rules.Variable u) t e = ap (λ (z : Option JavaType). by z) e
   where
-    by : Option JavaType → Verdict
+    by : Option JavaType → Judgement
     by None = f u
     by (Some z) = f z
 on_type f (Values ts) t e = absurd (cc (e))
 on_type f Untyped t e = absurd (cc (e))
 
-pub ruled_as : (v w : Verdict) (t : JavaType) → v ≡ w → Ruled v t → Ruled w t
+pub ruled_as : (v w : Judgement) (t : JavaType) → v ≡ w → Ruled v t → Ruled w t
 ruled_as v w t e r = (r.0, sym e ∙ r.1, r.2)
 
-pub ruled_one : (p : Place) (f : JavaType → Verdict) (x : Judged) (a t : JavaType) → type_in x.typed ≡ Some a → (judge p (on_one f x.typed) x.faults).faults ≡ [] → type_in (judge p (on_one f x.typed) x.faults).typed ≡ Some t → Ruled (f a) t
+pub ruled_one : (p : Place) (f : JavaType → Judgement) (x : Judged) (a t : JavaType) → type_in x.typed ≡ Some a → (judge p (on_one f x.typed) x.faults).faults ≡ [] → type_in (judge p (on_one f x.typed) x.faults).typed ≡ Some t → Ruled (f a) t
 ruled_one p f x a t k e g = ruled_as (on_one f x.typed) (f a) t (on_type f x.typed a k) (ruled p (on_one f x.typed) x.faults t e g)
 
-pub ruled_two : (p : Place) (f : JavaType → JavaType → Verdict) (x y : Judged) (a b t : JavaType) → type_in x.typed ≡ Some a → type_in y.typed ≡ Some b → (judge p (on_two f x.typed y.typed) (x.faults ++ y.faults)).faults ≡ []
+pub ruled_two : (p : Place) (f : JavaType → JavaType → Judgement) (x y : Judged) (a b t : JavaType) → type_in x.typed ≡ Some a → type_in y.typed ≡ Some b → (judge p (on_two f x.typed y.typed) (x.faults ++ y.faults)).faults ≡ []
     → type_in (judge p (on_two f x.typed y.typed) (x.faults ++ y.faults)).typed ≡ Some t → Ruled (f a b) t
 ruled_two p f x y a b t k l e g = ruled_as (on_two f x.typed y.typed) (f a b) t (on_type (λ a. on_one (f a) y.typed) x.typed a k ∙ on_type (f a) y.typed b l) (ruled p (on_two f x.typed y.typed) (x.faults ++ y.faults) t e g)
 
-pub ruled_ask : (b : Bool) (r : ℕ) (v : Verdict) (t : JavaType) → Ruled (ask b r v) t → (b ≡ true) × Ruled v t
+pub ruled_ask : (b : Bool) (r : ℕ) (v : Judgement) (t : JavaType) → Ruled (ask b r v) t → (b ≡ true) × Ruled v t
 ruled_ask true r v t h = (refl, h)
 ruled_ask false r v t h = absurd (cc (h.1))
 
 pub fits_inside : (x y : Typed) → Fits x ≡ Fits y → x ≡ y
 fits_inside x y e = ap inside e
   where
-    inside : Verdict → Typed
+    inside : Judgement → Typed
     inside (Fits z) = z
     inside (Breaks r) = x
 
@@ -123,7 +123,7 @@ ruled_varies u t r = go (Rattle.kr_classes_table.specs.Types.is_known u) r
     go false r = absurd (cc (r.2, ap type_in (fits_inside Untyped r.0 r.1)))
 
 -- a rule that gives no variable gives a value
-pub ruled_plainly : (b : Bool) (v : Verdict) (t : JavaType) → Fine false b v → Ruled v t → v ≡ Fits (rules.Value t)
+pub ruled_plainly : (b : Bool) (v : Judgement) (t : JavaType) → Fine false b v → Ruled v t → v ≡ Fits (rules.Value t)
 ruled_plainly b (Fits (rules.Value u)) t h r = ap (λ (z : JavaType). Fits (rules.Value z)) (ruled_value u t r)
 ruled_plainly b (Fits (rules.Variable u)) t h r = absurd (cc (h.0))
 ruled_plainly b (Fits (Values ts)) t h r = absurd h

@@ -49,6 +49,7 @@ object_more program types more (ClassType c) o x h = (h.0, values_more program.t
 object_more program types more (ArrayType t) o x h = (h.0, all_more program.table types more t o.values x h.1, h.2)
 object_more program types more (SetType t) o x h = (h.0, h.1, all_more program.table types more t o.values x h.2)
 object_more program types more (ListType t) o x h = (h.0, h.1, all_more program.table types more t o.values x h.2)
+object_more program types more VoidType o x h = h
 object_more program types more _ o x h = absurd h
 
 pub objects_more : (program : Program) (types more ts : List JavaType) (os : List HeapObject) → Extends types more → AreObjects program types ts os → AreObjects program more ts os

@@ -7,7 +7,7 @@ use Rattle.kr_classes_table.specs.Types.{JavaType, IntType, BooleanType, NullTyp
 use Rattle.kr_classes_table.specs.Table.{is_assignable}
 use Rattle.kr_types_meaning.specs.Scopes.{Scope}
 use Rattle.kr_types_meaning.specs.Rules as rules
-use Rattle.kr_types_meaning.specs.Rules.{Verdict, Fits, ask, plain_call_rule, member_call_rule, collection_rule}
+use Rattle.kr_types_meaning.specs.Rules.{Judgement, Fits, ask, plain_call_rule, member_call_rule, collection_rule}
 use Rattle.kr_mean.specs.Program.{Program}
 use Rattle.kr_mean.specs.Steps.{collect}
 use Rattle.kr_laws_safety.specs.Fits.{IsOf, AreOf}

@@ -13,10 +13,10 @@ use Rattle.kr_value.specs.declared.value.Value.{Value}
 use Rattle.kr_value.specs.declared.value.Value.TheVariants.{Int, Bool as Truth, Null}
 use Rattle.kr_classes_table.specs.Types.{JavaType, IntType, BooleanType, NullType, ClassType, ArrayType, SetType, ListType, UnknownType, AppliedType, is_void, is_known, is_reference}
 use Rattle.kr_classes_table.specs.Table.{Field, class_or, class_named, applied, field_named, is_assignable}
-use Rattle.kr_classes_table.specs.Constants.{ConstantValue, wrap, constant_only, constant_of, field_meant, value_of as constant_value}
+use Rattle.kr_classes_table.specs.Constants.{ConstantValue, wrap, constant_only, constant_of, field_meant, known_value as constant_value}
 use Rattle.kr_types_meaning.specs.Scopes.{Scope, Meant, LocalName, FieldName, NoName, value, under_minus, in_old, written, meant, class_before}
 use Rattle.kr_types_meaning.specs.Rules as rules
-use Rattle.kr_types_meaning.specs.Rules.{Typed, Untyped, Verdict, Fits, Breaks, ask, gives, both_int, both_boolean, related_references, number_rule, this_rule, name_rule, unary_rule, operator_rule, choice_rule, cast_rule, instance_rule, field_rule, access_rule, constant_rule, element_rule, result_value_rule, old_rule}
+use Rattle.kr_types_meaning.specs.Rules.{Typed, Untyped, Judgement, Fits, Breaks, ask, gives, both_int, both_boolean, related_references, number_rule, this_rule, name_rule, unary_rule, operator_rule, choice_rule, cast_rule, instance_rule, field_rule, access_rule, constant_rule, element_rule, result_value_rule, old_rule}
 use Rattle.kr_types_meaning.specs.Typing.{judge, on_one, on_two, field_of, judged, type_in}
 use Rattle.kr_types_meaning.proofs.Types.{types_law}
 use Rattle.kr_mean.specs.Program.{Program}

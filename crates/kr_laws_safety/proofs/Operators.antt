@@ -17,7 +17,7 @@ use Rattle.kr_classes_table.specs.Constants.{Whole, int_of, is_zero}
 use Rattle.kr_classes_table.specs.Arrays.{array_number_from, array_number}
 use Rattle.kr_types_meaning.specs.Scopes.{Scope}
 use Rattle.kr_types_meaning.specs.Rules as rules
-use Rattle.kr_types_meaning.specs.Rules.{Typed, Verdict, Fits, Breaks, ask, is_int, is_boolean, both_int, both_boolean, related_references, operator_rule, unary_rule}
+use Rattle.kr_types_meaning.specs.Rules.{Typed, Judgement, Fits, Breaks, ask, is_int, is_boolean, both_int, both_boolean, related_references, operator_rule, unary_rule}
 use Rattle.kr_mean.specs.Program.{Program, default_of, is_array_of}
 use Rattle.kr_mean.specs.Steps.{Stop, Trapped, OutOfFuel, Stuck, State, Run, say, stop}
 use Rattle.kr_mean.specs.Operators.{is_division, operated, operated_alone}
@@ -128,7 +128,7 @@ booleans_good Or x y = tt
 
 -- ---- what the rules ask
 
-pub ask_holds : (b : Bool) (r : ℕ) (v : Verdict) (t : Typed) → ask b r v ≡ Fits t → (b ≡ true) × (v ≡ Fits t)
+pub ask_holds : (b : Bool) (r : ℕ) (v : Judgement) (t : Typed) → ask b r v ≡ Fits t → (b ≡ true) × (v ≡ Fits t)
 ask_holds true r v t e = (refl, e)
 ask_holds false r v t e = absurd (cc (e))
 
@@ -143,7 +143,7 @@ and_holds false b e = absurd (cc (e))
 same_fits : (t u : JavaType) → Fits (rules.Value t) ≡ Fits (rules.Value u) → t ≡ u
 same_fits t u e = ap type_in e
   where
-    type_in : Verdict → JavaType
+    type_in : Judgement → JavaType
     type_in (Fits (rules.Value x)) = x
     type_in v = t
 

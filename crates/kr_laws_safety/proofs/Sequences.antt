@@ -5,7 +5,7 @@ use Rattle.kr_ast.specs.Tree as trees
 use Rattle.kr_ast.specs.Tree.{Tree}
 use Rattle.kr_classes_table.specs.Types.{JavaType}
 use Rattle.kr_classes_table.specs.Table.{Table, items}
-use Rattle.kr_types_meaning.specs.Scopes.{Scope, Local, Locals, after, written, declaring, bind}
+use Rattle.kr_types_meaning.specs.Scopes.{Scope, Local, Locals, after, written, declaring, bind_local}
 use Rattle.kr_types_meaning.specs.Rules.{is_statement}
 use Rattle.kr_types_meaning.specs.Typing.{judged}
 use Rattle.kr_mean.specs.Program.{Program}
@@ -39,13 +39,13 @@ shifted s u = record s { locals = u.locals; declaring = u.declaring; declared = 
 module _ (arrays : List JavaType) (olds : Place → Option JavaType) where
   pub after_declared : (s u : Scope) (w : JavaType) (ds : Tree) → IsCode arrays olds Declarators u ds → after (declares w s) ds ≡ declares w (with_locals (after (declares w s) ds).locals s)
   after_declared s u w trees.Nil h = refl
-  after_declared s u w (trees.Cons (trees.Declarator p n e) b) h = after_declared (bind n w s) (after u (trees.Declarator p n e)) w b h.1
+  after_declared s u w (trees.Cons (trees.Declarator p n e) b) h = after_declared (bind_local n w s) (after u (trees.Declarator p n e)) w b h.1
   after_declared s u w (trees.Cons _ b) h = absurd h.0
   after_declared s u w _ h = absurd h
 
   pub declared_variables : (s u : Scope) (w : JavaType) (ds : Tree) → IsCode arrays olds Declarators u ds → is_variable_type w ≡ true → AreVariables s.locals → AreVariables (after (declares w s) ds).locals
   declared_variables s u w trees.Nil h v k = k
-  declared_variables s u w (trees.Cons (trees.Declarator p n e) b) h v k = declared_variables (bind n w s) (after u (trees.Declarator p n e)) w b h.1 v (v, k)
+  declared_variables s u w (trees.Cons (trees.Declarator p n e) b) h v k = declared_variables (bind_local n w s) (after u (trees.Declarator p n e)) w b h.1 v (v, k)
   declared_variables s u w (trees.Cons _ b) h v k = absurd h.0
   declared_variables s u w _ h v k = absurd h
 

@@ -9,9 +9,9 @@ use Rattle.kr_value.specs.declared.value.Value.TheVariants.{Bool as Truth}
 use Rattle.kr_classes_table.specs.Types.{JavaType, BooleanType, VoidType, is_void, is_known}
 use Rattle.kr_classes_table.specs.Table.{Table, items, is_assignable}
 use Rattle.kr_classes_table.specs.Rules.{Fault}
-use Rattle.kr_types_meaning.specs.Scopes.{Scope, Locals, after, written, value, statement, in_loop, declaring, bind}
+use Rattle.kr_types_meaning.specs.Scopes.{Scope, Locals, after, written, value, statement, in_loop, declaring, bind_local}
 use Rattle.kr_types_meaning.specs.Rules as rules
-use Rattle.kr_types_meaning.specs.Rules.{Typed, Values, Untyped, Verdict, Fits, Breaks, ask, fine, takes, initial_fits, is_statement, condition_rule, return_rule, jump_rule, declaration_rule}
+use Rattle.kr_types_meaning.specs.Rules.{Typed, Values, Untyped, Judgement, Fits, Breaks, ask, fine, takes, initial_fits, is_statement, condition_rule, return_rule, jump_rule, declaration_rule}
 use Rattle.kr_types_meaning.specs.Typing.{judge, on_one, on_maybe, judged, type_in}
 use Rattle.kr_mean.specs.Program.{Program, default_of}
 use Rattle.kr_mean.specs.Steps.{Run, give, ◌>>=◌, ◌>>◌, tick, declare, assign, scoped}
@@ -48,14 +48,14 @@ return_present : (program : Program) (p : Parts) (s : Scope) (pl : Place) (e : T
 return_present program p s pl trees.Nil q = absurd (cc (q))
 return_present program p s pl _ q = refl
 
-on_present : (f : Option JavaType → Verdict) (x : Typed) (t : JavaType) → type_in x ≡ Some t → on_maybe f x ≡ f (Some t)
+on_present : (f : Option JavaType → Judgement) (x : Typed) (t : JavaType) → type_in x ≡ Some t → on_maybe f x ≡ f (Some t)
 on_present f (rules.Value u) t e = ap f e
 on_present f (rules.Variable u) t e = ap f e
 on_present f (Values ts) t e = absurd (cc (e))
 on_present f Untyped t e = absurd (cc (e))
 
 -- a rule that is kept
-asked : (b : Bool) (r : ℕ) (v : Verdict) (x : Typed) → ask b r v ≡ Fits x → (b ≡ true) × (v ≡ Fits x)
+asked : (b : Bool) (r : ℕ) (v : Judgement) (x : Typed) → ask b r v ≡ Fits x → (b ≡ true) × (v ≡ Fits x)
 asked true r v x e = (refl, e)
 asked false r v x e = absurd (cc (e))
 
@@ -151,16 +151,16 @@ module _ (program : Program) (fixed : Fixed) (facts : IsTypedProgram program) (p
 
   -- ---- declarations
 
-  initial : (s : Scope) (n : List ℕ) (w : JavaType) (pl : Place) (e : Tree) → IsScope program fixed s → is_variable_type w ≡ true → IsCode program.arrays (type_of_old fixed.olds) (Expression true) (plain (declares w (bind n w s))) e
-      → (judge pl (on_maybe (declaration_rule (declares w s) Locals pl n) (judged (declares w (bind n w s)) e).typed) (judged (declares w (bind n w s)) e).faults).faults ≡ [] → is_statement s.role ≡ false → (types : List JavaType)
-      → Safe program fixed types (this_of s) (types_of s.locals ++ w ∷ []) (initial_value p (plain (declares w (bind n w s))) (length s.locals) e) (Keeps (types_of s.locals ++ w ∷ []))
+  initial : (s : Scope) (n : List ℕ) (w : JavaType) (pl : Place) (e : Tree) → IsScope program fixed s → is_variable_type w ≡ true → IsCode program.arrays (type_of_old fixed.olds) (Expression true) (plain (declares w (bind_local n w s))) e
+      → (judge pl (on_maybe (declaration_rule (declares w s) Locals pl n) (judged (declares w (bind_local n w s)) e).typed) (judged (declares w (bind_local n w s)) e).faults).faults ≡ [] → is_statement s.role ≡ false → (types : List JavaType)
+      → Safe program fixed types (this_of s) (types_of s.locals ++ w ∷ []) (initial_value p (plain (declares w (bind_local n w s))) (length s.locals) e) (Keeps (types_of s.locals ++ w ∷ []))
   initial s n w pl e k v h f role types = go (is_nil e) refl
     where
-      go : (b : Bool) → is_nil e ≡ b → Safe program fixed types (this_of s) (types_of s.locals ++ w ∷ []) (initial_value p (plain (declares w (bind n w s))) (length s.locals) e) (Keeps (types_of s.locals ++ w ∷ []))
-      go true b = subst (λ (z : Tree). Safe program fixed types (this_of s) (types_of s.locals ++ w ∷ []) (initial_value p (plain (declares w (bind n w s))) (length s.locals) z) (Keeps (types_of s.locals ++ w ∷ []))) (sym (nil_is e b)) (safe_give program fixed types (this_of s) (types_of s.locals ++ w ∷ []) tt _ refl)
+      go : (b : Bool) → is_nil e ≡ b → Safe program fixed types (this_of s) (types_of s.locals ++ w ∷ []) (initial_value p (plain (declares w (bind_local n w s))) (length s.locals) e) (Keeps (types_of s.locals ++ w ∷ []))
+      go true b = subst (λ (z : Tree). Safe program fixed types (this_of s) (types_of s.locals ++ w ∷ []) (initial_value p (plain (declares w (bind_local n w s))) (length s.locals) z) (Keeps (types_of s.locals ++ w ∷ []))) (sym (nil_is e b)) (safe_give program fixed types (this_of s) (types_of s.locals ++ w ∷ []) tt _ refl)
       go false b =
-          let inside = declares w (bind n w s) in
-          let scope : IsScope program fixed (declares w (bind n w s)) = (k.0, k.1, (v, k.2), k.3, k.4) in
+          let inside = declares w (bind_local n w s) in
+          let scope : IsScope program fixed (declares w (bind_local n w s)) = (k.0, k.1, (v, k.2), k.3, k.4) in
           let coded = present program.arrays (type_of_old fixed.olds) (plain inside) e h b in
           let verdict = on_maybe (declaration_rule (declares w s) Locals pl n) (judged inside e).typed in
           let fe = below_none pl verdict (judged inside e).faults f in
@@ -180,14 +180,14 @@ module _ (program : Program) (fixed : Fixed) (facts : IsTypedProgram program) (p
   declare_all s w trees.Nil k r v h f types = safe_give program fixed types (this_of s) (types_of s.locals) Next _ (refl, refl)
   declare_all s w (trees.Cons (trees.Declarator pl n e) b) k r v h f types =
       let D = declares w s in
-      let head = judge pl (on_maybe (declaration_rule D Locals pl n) (judged (declares w (bind n w s)) e).typed) (judged (declares w (bind n w s)) e).faults in
-      let tail = judged (declares w (bind n w s)) b in
+      let head = judge pl (on_maybe (declaration_rule D Locals pl n) (judged (declares w (bind_local n w s)) e).typed) (judged (declares w (bind_local n w s)) e).faults in
+      let tail = judged (declares w (bind_local n w s)) b in
       safe_then program fixed types (this_of s) (types_of s.locals) _ _ (λ more ms u. ms ≡ types_of s.locals ++ w ∷ []) _
       (safe_keep program fixed types (this_of s) (types_of s.locals) tick _ _ (safe_tick program fixed types (this_of s) (types_of s.locals))
       (λ more u x. safe_then program fixed more (this_of s) (types_of s.locals) (declare (default_of w)) _ _ _ (safe_declare program fixed more (this_of s) (types_of s.locals) w (default_of w) (Rattle.kr_laws_safety.proofs.Targets.default_is program.table more w v))
-      (λ others ms u y l. subst (λ (z : List JavaType). Safe program fixed others (this_of s) z (initial_value p (plain (declares w (bind n w s))) (length s.locals) e) (Keeps (types_of s.locals ++ w ∷ []))) (sym l) (initial s n w pl e k v h.0 (front_none head.faults tail.faults f) r others))))
-      (λ more ms u x l. subst (λ (z : List JavaType). Safe program fixed more (this_of s) z (all_declared p (declares w (plain (bind n w s))) (items b)) (λ others ns flow. (ns ≡ types_of (after (declares w (bind n w s)) b).locals) × (flow ≡ Next))) (sym l)
-      (declare_all (bind n w s) w b (k.0, k.1, (v, k.2), k.3, k.4) r v h.1 (back_none head.faults tail.faults f) more))
+      (λ others ms u y l. subst (λ (z : List JavaType). Safe program fixed others (this_of s) z (initial_value p (plain (declares w (bind_local n w s))) (length s.locals) e) (Keeps (types_of s.locals ++ w ∷ []))) (sym l) (initial s n w pl e k v h.0 (front_none head.faults tail.faults f) r others))))
+      (λ more ms u x l. subst (λ (z : List JavaType). Safe program fixed more (this_of s) z (all_declared p (declares w (plain (bind_local n w s))) (items b)) (λ others ns flow. (ns ≡ types_of (after (declares w (bind_local n w s)) b).locals) × (flow ≡ Next))) (sym l)
+      (declare_all (bind_local n w s) w b (k.0, k.1, (v, k.2), k.3, k.4) r v h.1 (back_none head.faults tail.faults f) more))
   declare_all s w (trees.Cons _ b) k r v h f types = absurd h.0
   declare_all s w _ k r v h f types = absurd h
 

@@ -11,9 +11,9 @@ use Rattle.kr_value.specs.declared.object.Class.{Class}
 use Rattle.kr_value.specs.declared.object.Class.TheVariants.{Object, Array, Set, List as ListClass}
 use Rattle.kr_value.specs.declared.object.Spot.TheVariants.{Field as FieldSpot, Length}
 use Rattle.kr_value.specs.Heaps.{HeapObject, object_in, has_spot, has_spot_of}
-use Rattle.kr_classes_table.specs.Types.{JavaType, IntType, BooleanType, ClassType, ArrayType, SetType, ListType, is_element, is_reference}
+use Rattle.kr_classes_table.specs.Types.{JavaType, IntType, BooleanType, VoidType, ClassType, ArrayType, SetType, ListType, is_element, is_reference}
 use Rattle.kr_classes_table.specs.Table.{Table, Field, ancestors, is_among, is_below, is_assignable}
-use Rattle.kr_classes_table.specs.Constants.{is_same_place}
+use Rattle.kr_classes_table.specs.Constants.{is_at_place}
 use Rattle.kr_mean.specs.declared.kind.Kind.{Kind}
 use Rattle.kr_mean.specs.Program.{Program, is_array_of, field_position, spot_of_field}
 use Rattle.kr_mean.specs.Places.{SlotPlace}
@@ -31,6 +31,7 @@ IsObjectType (ClassType c) = Unit {0}
 IsObjectType (ArrayType t) = Unit {0}
 IsObjectType (SetType t) = is_element t ≡ true
 IsObjectType (ListType t) = is_element t ≡ true
+IsObjectType VoidType = Unit {0}
 IsObjectType t = ⊥
 
 pub object_type : (program : Program) (types : List JavaType) (t : JavaType) (o : HeapObject) → IsObjectOf program types t o → IsObjectType t
@@ -38,6 +39,7 @@ object_type program types (ClassType c) o h = tt
 object_type program types (ArrayType t) o h = tt
 object_type program types (SetType t) o h = h.1
 object_type program types (ListType t) o h = h.1
+object_type program types VoidType o h = tt
 object_type program types _ o h = absurd h
 
 abbrev pub Assigned : Table → JavaType → JavaType → Type 0
@@ -53,6 +55,7 @@ assigned table (SetType _) t h e = absurd (cc (h))
 assigned table (ListType (ClassType c)) t h e = inl (same_type (ListType (ClassType c)) t e)
 assigned table (ListType (ArrayType s)) t h e = inl (same_type (ListType (ArrayType s)) t e)
 assigned table (ListType _) t h e = absurd (cc (h))
+assigned table VoidType t h e = inl (same_type VoidType t e)
 assigned table _ t h e = absurd h
 
 pub below_itself : (table : Table) (c : ℕ) → is_below table c c ≡ true
@@ -264,18 +267,19 @@ module _ (program : Program) (fixed : Fixed) where
 
   -- ---- what is seen of a reference
 
-  class_is : (types : List JavaType) (u : JavaType) (x : HeapObject) → IsObjectOf program types u x → IsClassOf program u x.class
-  class_is types (ClassType c) x h = h.0
-  class_is types (ArrayType t) x h = h.0
-  class_is types (SetType t) x h = h.0
-  class_is types (ListType t) x h = h.0
-  class_is types _ x h = absurd h
+  class_is : (types : List JavaType) (t u : JavaType) (x : HeapObject) → is_reference t ≡ true → is_assignable program.table u t ≡ true → IsObjectOf program types u x → IsClassOf program u x.class
+  class_is types t (ClassType c) x r a h = h.0
+  class_is types t (ArrayType e) x r a h = h.0
+  class_is types t (SetType e) x r a h = h.0
+  class_is types t (ListType e) x r a h = h.0
+  class_is types t VoidType x r a h = absurd (cc (r, ap is_reference (same_type VoidType t a)))
+  class_is types t _ x r a h = absurd h
 
   pub safe_see : (types : List JavaType) (this : Option ℕ) (ls : List JavaType) (t : JavaType) (v : Value) → is_reference t ≡ true → IsOf program.table types t v → Safe program fixed types this ls (class_or_null v) (λ more after seen. (after ≡ ls) × (more ≡ types) × IsSeen program types v seen)
   safe_see types this ls t (Int z) r i = absurd (cc (r, ap is_reference i.0))
   safe_see types this ls t (Truth b) r i = absurd (cc (r, ap is_reference i))
   safe_see types this ls t Null r i = record { by = λ s h. (types, ls, extends_self types, h, (refl, refl, refl)) }
-  safe_see types this ls t (Reference o) r i = record { by = λ s h. (types, ls, extends_self types, h, (refl, refl, ((object_in s.heap o).class, refl, class_is types (type_at types o) (object_in s.heap o) (object_found program types types s.heap o h.heap i.0)))) }
+  safe_see types this ls t (Reference o) r i = record { by = λ s h. (types, ls, extends_self types, h, (refl, refl, ((object_in s.heap o).class, refl, class_is types t (type_at types o) (object_in s.heap o) r i.1 (object_found program types types s.heap o h.heap i.0)))) }
 
   -- the type of an object is the one that is asked for, or below it
   pub type_known : (types : List JavaType) (s : State) (o : ℕ) (t : JavaType) → IsHeapOf program types s.heap → IsOf program.table types t (Reference o) → Assigned program.table (type_at types o) t
@@ -470,11 +474,11 @@ module _ (program : Program) (fixed : Fixed) where
   old_found : (types : List JavaType) (ps : List (Place × JavaType)) (os : List Old) (p : Place) (t : JavaType) → AreOlds program.table types ps os → type_of_old ps p ≡ Some t → (v : Value) × (old_at os p ≡ Some v) × IsOf program.table types t v
   old_found types [] os p t h e = absurd (cc (e))
   old_found types (x ∷ ps) [] p t h e = absurd h
-  old_found types (x ∷ ps) (o ∷ os) p t h e = go (is_same_place x.0 p) refl (old_found types ps os p t h.2) e
+  old_found types (x ∷ ps) (o ∷ os) p t h e = go (is_at_place x.0 p) refl (old_found types ps os p t h.2) e
     where
-      go : (b : Bool) → is_same_place x.0 p ≡ b → (type_of_old ps p ≡ Some t → (v : Value) × (old_at os p ≡ Some v) × IsOf program.table types t v) → (if b then Some x.1 else type_of_old ps p) ≡ Some t → (v : Value) × (old_at (o ∷ os) p ≡ Some v) × IsOf program.table types t v
-      go true q f g = (o.value, ap (λ (z : Place). if is_same_place z p then Some o.value else old_at os p) h.0 ∙ ap (λ (b : Bool). if b then Some o.value else old_at os p) q, subst (λ (u : JavaType). IsOf program.table types u o.value) (some_is x.1 t g) h.1)
-      go false q f g = let r = f g in (r.0, ap (λ (z : Place). if is_same_place z p then Some o.value else old_at os p) h.0 ∙ (ap (λ (b : Bool). if b then Some o.value else old_at os p) q ∙ r.1), r.2)
+      go : (b : Bool) → is_at_place x.0 p ≡ b → (type_of_old ps p ≡ Some t → (v : Value) × (old_at os p ≡ Some v) × IsOf program.table types t v) → (if b then Some x.1 else type_of_old ps p) ≡ Some t → (v : Value) × (old_at (o ∷ os) p ≡ Some v) × IsOf program.table types t v
+      go true q f g = (o.value, ap (λ (z : Place). if is_at_place z p then Some o.value else old_at os p) h.0 ∙ ap (λ (b : Bool). if b then Some o.value else old_at os p) q, subst (λ (u : JavaType). IsOf program.table types u o.value) (some_is x.1 t g) h.1)
+      go false q f g = let r = f g in (r.0, ap (λ (z : Place). if is_at_place z p then Some o.value else old_at os p) h.0 ∙ (ap (λ (b : Bool). if b then Some o.value else old_at os p) q ∙ r.1), r.2)
 
   pub safe_old : (types : List JavaType) (this : Option ℕ) (ls : List JavaType) (p : Place) (t : JavaType) → type_of_old fixed.olds p ≡ Some t → Safe program fixed types this ls (get_old p) (Gives program ls t)
   safe_old types this ls p t e = record { by = λ s h. go s h (old_found types fixed.olds s.olds p t h.olds e) }

@@ -8,7 +8,7 @@ use Rattle.kr_classes_table.specs.Types.{JavaType, IntType, BooleanType, ArrayTy
 use Rattle.kr_classes_table.specs.Table.{is_assignable, are_related}
 use Rattle.kr_types_meaning.specs.Scopes.{Scope, value, in_old, written}
 use Rattle.kr_types_meaning.specs.Rules as rules
-use Rattle.kr_types_meaning.specs.Rules.{Typed, Untyped, Verdict, Fits, Breaks, ask, gives, both_int, both_boolean, related_references, is_ensuring, choice_rule, cast_rule, instance_rule, array_creation_rule, result_value_rule, old_rule}
+use Rattle.kr_types_meaning.specs.Rules.{Typed, Untyped, Judgement, Fits, Breaks, ask, gives, both_int, both_boolean, related_references, is_ensuring, choice_rule, cast_rule, instance_rule, array_creation_rule, result_value_rule, old_rule}
 use Rattle.kr_types_meaning.specs.Typing.{on_one, on_two, judged, type_in}
 use Rattle.kr_mean.specs.Program.{Program}
 use Rattle.kr_mean.specs.Steps.{give, ◌>>=◌, class_or_null}

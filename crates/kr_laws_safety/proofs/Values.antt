@@ -11,7 +11,7 @@ use Rattle.kr_classes_table.specs.Types.{JavaType, ClassType, ArrayType, SetType
 use Rattle.kr_classes_table.specs.Table.{Table, Method, applied, items, line_of, ancestors, super_of, constructor_parameters, method_named, is_below, is_assignable}
 use Rattle.kr_types_meaning.specs.Scopes.{Scope, value, written, class_before, static_only, method_meant, super_class}
 use Rattle.kr_types_meaning.specs.Rules as rules
-use Rattle.kr_types_meaning.specs.Rules.{Typed, Values, Untyped, Verdict, Fits, Breaks, ask, gives, arguments_fit, is_none_of, is_statement, result_rule, arguments_rule, call_rule, static_rule, above_rule, super_rule, method_rule, object_call_rule, collection_rule, creation_fits, creation_rule, diamond_rule}
+use Rattle.kr_types_meaning.specs.Rules.{Typed, Values, Untyped, Judgement, Fits, Breaks, ask, gives, arguments_fit, is_none_of, is_statement, result_rule, arguments_rule, call_rule, static_rule, above_rule, super_rule, method_rule, object_call_rule, collection_rule, creation_fits, creation_rule, diamond_rule}
 use Rattle.kr_types_meaning.specs.Typing.{judge, on_one, on_list, method_of, judged, type_in}
 use Rattle.kr_mean.specs.Program.{Program, overriding}
 use Rattle.kr_mean.specs.Steps.{Run, ◌>>=◌, get_this, class_of, make}
@@ -42,7 +42,7 @@ use Rattle.kr_laws_safety.proofs.Creations.{taken_variables, object_created}
 use Rattle.kr_laws_safety.proofs.Members.{is_list, members, collection_call}
 
 -- a part whose type the rule needs has one
-pub ruled_part : (f : JavaType → Verdict) (x : Typed) (t : JavaType) → Ruled (on_one f x) t → (a : JavaType) × (type_in x ≡ Some a) × Ruled (f a) t
+pub ruled_part : (f : JavaType → Judgement) (x : Typed) (t : JavaType) → Ruled (on_one f x) t → (a : JavaType) × (type_in x ≡ Some a) × Ruled (f a) t
 ruled_part f (rules.Value a) t r = (a, refl, r)
 ruled_part f (rules.Variable a) t r = (a, refl, r)
 ruled_part f (Values ts) t r = absurd (cc (r.2, ap type_in (fits_inside Untyped r.0 r.1)))

@@ -13,7 +13,7 @@ use Rattle.kr_value.specs.declared.object.Class.TheVariants.{Object, Array, Set,
 use Rattle.kr_classes_table.specs.Types.{JavaType, IntType, BooleanType, NullType, VoidType, ClassType, ArrayType, SetType, ListType, InferredType, UnknownType, AppliedType, is_same}
 use Rattle.kr_classes_table.specs.Table.{ancestors, is_among, is_below, is_assignable, fields_of}
 use Rattle.kr_mean.specs.Program.{is_array_of}
-use Rattle.kr_mean.specs.Problem.{Problem, Item, Plain, Objects, Domain, Spotted, Slot, DomainObject, Choice, all_objects, heap_number, objects_of_domain, item_choices, choices_in, object_choice, domain_at, slots, slot_at}
+use Rattle.kr_mean.specs.Problem.{Problem, DomainItem, Plain, Objects, Domain, Spotted, Slot, DomainObject, Choice, all_objects, heap_number, objects_of_domain, item_choices, choices_in, object_choice, domain_at, slots, slot_at}
 use Rattle.kr_mean.specs.Space.{space_of, no_choice, IsVector}
 use Rattle.kr_mean.specs.Heaps.{heap_of, heap_object, value_at, length_in, values_there}
 use Rattle.kr_mean.specs.Runs.{root_class}
@@ -91,7 +91,7 @@ module _ (problem : Problem) (w : IsWellFormed problem) (h : HaveDomainsTypes pr
   plain_typed t Null i = i
   plain_typed t (Reference o) i = absurd (omega (arith, i.0))
 
-  item_typed : (t : JavaType) (i : Item) → IsItemOf problem t i → AllOf (λ (c : Choice). Of t c.value) (item_choices problem i)
+  item_typed : (t : JavaType) (i : DomainItem) → IsItemOf problem t i → AllOf (λ (c : Choice). Of t c.value) (item_choices problem i)
   item_typed t (Plain x) i = (plain_typed t x i, tt)
   item_typed t (Objects d) i =
       all_map (λ (c : Choice). Of t c.value) (object_choice problem) (objects_of_domain d (domain_at problem d))

@@ -184,7 +184,7 @@ values_plain : (vs : List Value) → values_in (map plain_local vs) ≡ vs
 values_plain [] = refl
 values_plain (v ∷ vs) = ap (λ (ws : List Value). v ∷ ws) (values_plain vs)
 
-module _ (problem : Problem) (facts : IsTypedProgram problem.program) (contracts : HasContracts problem) (formed : IsWellFormed problem) (domains : HaveDomainsTypes problem) (vector : List ℕ) (is : IsVector (space_of problem) vector) (m : Method) (tested : tested_method problem problem.mode ≡ Some m) where
+module _ (problem : Problem) (facts : IsTypedProgram problem.program) (contracts : HasContracts problem) (formed : IsWellFormed problem) (domains : HaveDomainsTypes problem) (vector : List ℕ) (is : IsVector (space_of problem) vector) (m : Method) (tested : tested_method problem problem.mode ≡ Some m) (fuel : ℕ) where
   abbrev root : ℕ
   root = root_class problem
 
@@ -210,7 +210,7 @@ module _ (problem : Problem) (facts : IsTypedProgram problem.program) (contracts
   this_own : (more : List JavaType) (v : Value) → IsThis problem.program.table more (Some root) v → IsThis problem.program.table more own v
   this_own more v h = this_seen problem facts contracts formed domains vector is m named.0 named.1 more v h
 
-  started : IsStateOf problem.program before_body types own ls (test_start problem vector)
+  started : IsStateOf problem.program before_body types own ls (test_start problem vector fuel)
   started = record {
     heap = (candidate problem facts contracts formed domains vector is).heap;
     this_is = this_own types (value_at problem vector 0) (this_is problem facts contracts formed domains vector is);
@@ -230,7 +230,7 @@ module _ (problem : Problem) (facts : IsTypedProgram problem.program) (contracts
 
   -- the state behind them, and behind the body
   abbrev first : State
-  first = test_start problem vector
+  first = test_start problem vector fuel
 
   abbrev valued_on : Outcome (List Old)
   valued_on = olds_valued problem.program (olds_of problem.program m) first
@@ -306,7 +306,7 @@ module _ (problem : Problem) (facts : IsTypedProgram problem.program) (contracts
   result_known : is_ensuring Ensuring ≡ true → is_void m.result ≡ false → (behind_body problem.program m).result ≡ Some m.result
   result_known e n = ap (λ (b : Bool). if b then None else Some m.result) n
 
-  pub testable : IsTestable problem m (test_start problem vector)
+  pub testable : IsTestable problem m (test_start problem vector fuel)
   testable = record {
     olds = fine_said problem.program before_body types own _ valued_on.said valued_on.after (olds_run.by first started);
     body = λ os e. let f = valued_as os e in fine_said problem.program before_body f.0 own _ body_then.said body_then.after (body_fine os f);

@@ -15,7 +15,7 @@ use Rattle.kr_classes_table.specs.Table.{Field, field_named, is_below, is_assign
 use Rattle.kr_classes_table.specs.Constants.{field_meant}
 use Rattle.kr_types_meaning.specs.Scopes.{Scope, Meant, LocalName, FieldName, NoName, value, meant, class_before}
 use Rattle.kr_types_meaning.specs.Rules as rules
-use Rattle.kr_types_meaning.specs.Rules.{Typed, Untyped, Verdict, Fits, Breaks, ask, gives, both_int, both_boolean, is_variable, is_broken, name_rule, operator_rule, assignment_rule, compound_rule, step_rule, written_rule, field_rule, access_rule, constant_rule, element_rule}
+use Rattle.kr_types_meaning.specs.Rules.{Typed, Untyped, Judgement, Fits, Breaks, ask, gives, both_int, both_boolean, is_variable, is_broken, name_rule, operator_rule, assignment_rule, compound_rule, step_rule, written_rule, field_rule, access_rule, constant_rule, element_rule}
 use Rattle.kr_types_meaning.specs.Typing.{judge, on_one, on_two, field_of, judged, type_in, type_of}
 use Rattle.kr_mean.specs.Program.{Program}
 use Rattle.kr_mean.specs.Steps.{Run, say, get_this, read_local, assign, load_field, element, store, store_element}
@@ -142,7 +142,7 @@ module _ (program : Program) (fixed : Fixed) (facts : IsTypedProgram program) (p
       let below = below_none pl (on_one (access_rule S n) (judged (value S) e).typed) (judged (value S) e).faults f in
       let x = typed_at program fixed facts (value S) e k h below in
       let rule = ruled_one pl (access_rule S n) (judged (value S) e) x.type t x.known f r in
-      go x.type x.known (type_plain S e ∙ x.known) below rule (subst (λ (y : Verdict). is_variable (judge pl y (judged (value S) e).faults).typed ≡ true) (on_type (access_rule S n) (judged (value S) e).typed x.type x.known) v)
+      go x.type x.known (type_plain S e ∙ x.known) below rule (subst (λ (y : Judgement). is_variable (judge pl y (judged (value S) e).faults).typed ≡ true) (on_type (access_rule S n) (judged (value S) e).typed x.type x.known) v)
     where
       instance : (c : ℕ) (g : Field) → field_named program.table c n ≡ Some g → g.is_static ≡ false → field_of_type program.table n (Some (ClassType c)) ≡ Some g
       instance c g e b = ap (λ (y : Option Field). option_and_then (λ f. if f.is_static then None else Some f) y) e ∙ ap (λ (z : Bool). if z then None else Some g) b

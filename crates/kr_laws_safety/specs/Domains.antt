@@ -6,7 +6,7 @@ use Rattle.kr_value.specs.declared.object.Class.TheVariants.{Object, Array}
 use Rattle.kr_classes_table.specs.Types.{JavaType, VoidType, ClassType, ArrayType}
 use Rattle.kr_classes_table.specs.Table.{Method, fields_of, is_assignable}
 use Rattle.kr_mean.specs.Program.{Program}
-use Rattle.kr_mean.specs.Problem.{Problem, Item, Plain, Objects, Domain, Spotted, DomainObject, all_objects, domain_at}
+use Rattle.kr_mean.specs.Problem.{Problem, DomainItem, Plain, Objects, Domain, Spotted, DomainObject, all_objects, domain_at}
 use Rattle.kr_mean.specs.Runs.{root_class, tested_method}
 use Rattle.kr_laws_safety.specs.Fits.{IsOf, IsLength}
 
@@ -21,7 +21,7 @@ abbrev pub object_types : Problem → List JavaType
 object_types problem = map (λ (o : DomainObject). class_type problem.program (domain_at problem o.domain).class) (all_objects problem)
 
 -- values of a type: a plain one, or all objects of a class domain
-abbrev pub IsItemOf : Problem → JavaType → Item → Type 0
+abbrev pub IsItemOf : Problem → JavaType → DomainItem → Type 0
 IsItemOf problem t (Plain v) = IsOf problem.program.table [] t v
 IsItemOf problem t (Objects d) = (d < length problem.domains) × (is_assignable problem.program.table (class_type problem.program (domain_at problem d).class) t ≡ true)
 

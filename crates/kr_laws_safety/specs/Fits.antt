@@ -1,10 +1,11 @@
 -- Between crates: when values, objects and heaps are of their types (the Java Language Specification, 4.3, 4.10, 4.12.2). Each
 -- object of a heap has a type that it keeps. A collection's type has that of its members, which its class doesn't tell.
-use Rattle.std.specs.Prelude.{◌≡◌, ℕ, ◌<◌, ℤ, pos, negsuc, true, List, [], ◌∷◌, length, map}
+use Rattle.std.specs.Prelude.{◌≡◌, ℕ, ◌<◌, ◌≤◌, ℤ, pos, negsuc, true, List, [], ◌∷◌, length, map}
 use Rattle.std.proofs.Common.{get_or}
 use Rattle.kr_value.specs.declared.value.Value.{Value}
 use Rattle.kr_value.specs.declared.value.Value.TheVariants.{Int, Bool as Truth, Null, Ref as Reference}
-use Rattle.kr_value.specs.declared.object.Class.TheVariants.{Object, Set, List as ListClass}
+use Rattle.kr_value.specs.declared.object.Class.{Class}
+use Rattle.kr_value.specs.declared.object.Class.TheVariants.{Object, Array, Set, List as ListClass}
 use Rattle.kr_value.specs.Heaps.{HeapObject}
 use Rattle.kr_classes_table.specs.Types.{JavaType, IntType, BooleanType, VoidType, ClassType, ArrayType, SetType, ListType, is_element, is_reference}
 use Rattle.kr_classes_table.specs.Table.{Table, fields_of, is_assignable}
@@ -45,12 +46,19 @@ AreAll table types t (v ∷ vs) = IsOf table types t v × AreAll table types t v
 abbrev pub IsLength : ℕ → Type 0
 IsLength n = n < 2147483648
 
--- an object's fields, inherited ones first; an array's elements; a collection's members
+-- an array of a type that the program doesn't number
+abbrev pub IsUnnumbered : Program → Class → Type 0
+IsUnnumbered program (Array k) = length program.arrays ≤ k
+IsUnnumbered program class = ⊥
+
+-- An object's fields, inherited ones first; an array's elements; a collection's members. An array whose type the program
+-- doesn't number stands with `void`, so that no variable holds it; nothing more is asked of it.
 abbrev pub IsObjectOf : Program → List JavaType → JavaType → HeapObject → Type 0
 IsObjectOf program types (ClassType c) o = (o.class ≡ Object c) × AreOf program.table types (map (λ f. f.type) (fields_of program.table c)) o.values
 IsObjectOf program types (ArrayType t) o = (is_array_of program t o.class ≡ true) × AreAll program.table types t o.values × IsLength (length o.values)
 IsObjectOf program types (SetType t) o = (o.class ≡ Set) × (is_element t ≡ true) × AreAll program.table types t o.values
 IsObjectOf program types (ListType t) o = (o.class ≡ ListClass) × (is_element t ≡ true) × AreAll program.table types t o.values
+IsObjectOf program types VoidType o = IsUnnumbered program o.class
 IsObjectOf program types t o = ⊥
 
 -- objects in order, each of its type, where the types of all objects are known

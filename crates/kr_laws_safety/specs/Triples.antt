@@ -6,7 +6,7 @@ use Rattle.kr_value.specs.declared.value.Value.{Value}
 use Rattle.kr_value.specs.declared.value.Value.TheVariants.{Ref as Reference}
 use Rattle.kr_classes_table.specs.Types.{JavaType, ClassType}
 use Rattle.kr_classes_table.specs.Table.{Table}
-use Rattle.kr_classes_table.specs.Constants.{is_same_place}
+use Rattle.kr_classes_table.specs.Constants.{is_at_place}
 use Rattle.kr_mean.specs.Program.{Program}
 use Rattle.kr_mean.specs.Steps.{Stop, Trapped, OutOfFuel, Stuck, Local, Old, State, Run}
 use Rattle.kr_laws_safety.specs.Fits.{IsOf, AreOf, IsHeapOf}
@@ -78,4 +78,4 @@ type_of_local (t ∷ ts) (suc k) = type_of_local ts k
 -- the type of the `\old` at a place
 abbrev pub type_of_old : List (Place × JavaType) → Place → Option JavaType
 type_of_old [] p = None
-type_of_old (x ∷ xs) p = if is_same_place x.0 p then Some x.1 else type_of_old xs p
+type_of_old (x ∷ xs) p = if is_at_place x.0 p then Some x.1 else type_of_old xs p

@@ -7,7 +7,7 @@ use Rattle.kr_ast.specs.Tree.{Tree}
 use Rattle.kr_value.specs.declared.object.Class.TheVariants.{Object}
 use Rattle.kr_classes_table.specs.Types.{JavaType}
 use Rattle.kr_classes_table.specs.Table.{Table, Field, Parameter, Method, Constructor, super_of, line_of, is_below, is_assignable, field_named, method_named, constructor_parameters}
-use Rattle.kr_classes_table.specs.Constants.{ConstantValue, value_of}
+use Rattle.kr_classes_table.specs.Constants.{ConstantValue, known_value}
 use Rattle.kr_types_meaning.specs.Scopes.{Scope, after, super_parameters}
 use Rattle.kr_types_meaning.specs.Typing.{judged, type_in}
 use Rattle.kr_laws_types.specs.Types.{is_variable_type, is_result_type}
@@ -40,7 +40,7 @@ pub record IsField (program : Program) (c : ℕ) (n : List ℕ) (f : Field) : Ty
   pub type : is_variable_type f.type ≡ true
   pub below : is_below program.table c f.class ≡ true
   pub instance : f.is_static ≡ false → HasField program c f.name f.type
-  pub constant : f.is_static ≡ true → (v : ConstantValue) × (value_of program.values (Some f) ≡ Some v) × IsOf program.table [] f.type (value_of_constant v)
+  pub constant : f.is_static ≡ true → (v : ConstantValue) × (known_value program.values (Some f) ≡ Some v) × IsOf program.table [] f.type (value_of_constant v)
 
 pub record IsMethod (program : Program) (m : Method) : Type 0 where
   pub parameters : AreAllVariables (types_in m.parameters)

@@ -19,7 +19,7 @@ use Rattle.kr_value.specs.Heaps.{HeapObject, no_object, object_in, has_spot_of, 
 use Rattle.kr_classes_table.specs.Types.{JavaType, IntType, BooleanType, NullType, VoidType, ClassType, ArrayType, SetType, ListType, InferredType, UnknownType, AppliedType}
 use Rattle.kr_classes_table.specs.Table.{Field as FieldOf, Method}
 use Rattle.kr_classes_table.specs.Arrays.{array_number}
-use Rattle.kr_classes_table.specs.Constants.{ConstantValue, Whole, Truth as TruthConstant, Absent, of_ints, of_booleans, unary_value, is_same_place}
+use Rattle.kr_classes_table.specs.Constants.{ConstantValue, Whole, Truth as TruthConstant, Absent, of_ints, of_booleans, unary_value, is_at_place}
 use Rattle.kr_types_meaning.specs.Scopes.{Scope}
 use Rattle.kr_mean.specs.declared.kind.Kind.{Kind}
 use Rattle.kr_mean.specs.declared.kind.Kind.TheVariants.{NegativeArraySizeException, ArrayTooLong}
@@ -453,7 +453,7 @@ module _ (program : Program) (st : Setting) where
   old_like p [] [] e = tt
   old_like p [] (q ∷ qs) e = absurd e
   old_like p (o ∷ os) [] e = absurd e
-  old_like p (o ∷ os) (q ∷ qs) e = subst (λ (x : Place). OnOption Related (old_at (o ∷ os) p) (if is_same_place x p then Some q.value else old_at qs p)) (sym e.0.0) (go (is_same_place o.place p) (old_like p os qs e.1))
+  old_like p (o ∷ os) (q ∷ qs) e = subst (λ (x : Place). OnOption Related (old_at (o ∷ os) p) (if is_at_place x p then Some q.value else old_at qs p)) (sym e.0.0) (go (is_at_place o.place p) (old_like p os qs e.1))
     where
       go : (b : Bool) → OnOption Related (old_at os p) (old_at qs p) → OnOption Related (if b then Some o.value else old_at os p) (if b then Some q.value else old_at qs p)
       go true r = e.0.1

@@ -2,7 +2,7 @@
 use Rattle.std.proofs.Common.{◌≡◌, ℕ, zero, suc, ◌+◌, ◌-◌, ◌*◌, ◌<◌, ◌≤◌, ◌⊎◌, inl, inr, [], ◌∷◌, length, get_or, Some, None, refl, sym, ap, ◌∙◌, arith, subst}
 use Rattle.std.proofs.lemmas.List.{get_or_append_left, get_or-append_right, length-append, length-map, get_or_past}
 use Rattle.std.proofs.lemmas.Bool.{cases_lt}
-use Rattle.kr_mean.specs.Problem.{Problem, ClassDomain, Domain, Item, Plain, Objects, DomainObject, Choice, Slot, no_objects, domain_at, objects_of_domain, object_choice, item_choices, choices_in, choices_at, slots, slot_at}
+use Rattle.kr_mean.specs.Problem.{Problem, ClassDomain, Domain, DomainItem, Plain, Objects, DomainObject, Choice, Slot, no_objects, domain_at, objects_of_domain, object_choice, item_choices, choices_in, choices_at, slots, slot_at}
 use Rattle.kr_mean.specs.Space.{space_of, no_choice, IsBlock, IsPart, IsSpace}
 use Rattle.kr_mean.specs.WellFormed.{IsPlain, ArePlain, IsWellFormed}
 use Rattle.kr_laws_slots.proofs.Numbering.{object, count_at, width_at, domain_get, domain_length, nobody, get_map, first_slot, parameter_slot, object_slot, SlotCase, is_this, is_parameter, is_spot, slot_case}
@@ -34,7 +34,7 @@ counted_in problem d k h = go (cases_lt d (length problem.domains))
     go (inr le) = absurd (omega (arith, h, ap (λ (x : ClassDomain). x.count) (get_or_past problem.domains d no_objects le)))
 
 -- a block past the first item
-shifted : (problem : Problem) (item : Item) (items : Domain) (n i : ℕ) (o : DomainObject) → length (item_choices problem item) ≡ n → n ≤ i → InBlock problem items (i - n) o → InBlock problem (item ∷ items) i o
+shifted : (problem : Problem) (item : DomainItem) (items : Domain) (n i : ℕ) (o : DomainObject) → length (item_choices problem item) ≡ n → n ≤ i → InBlock problem items (i - n) o → InBlock problem (item ∷ items) i o
 shifted problem item items n i o long le b = record {
   in_domain = b.in_domain;
   in_number = b.in_number;

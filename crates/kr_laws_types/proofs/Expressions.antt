@@ -11,7 +11,7 @@ use Rattle.kr_classes_table.specs.Types.{JavaType, BooleanType, NullType, ClassT
 use Rattle.kr_classes_table.specs.Rules.{Fault}
 use Rattle.kr_classes_table.specs.Table.{class_or, class_named, applied}
 use Rattle.kr_types_meaning.specs.Scopes.{Scope, Local, value, in_old, written, class_before, after}
-use Rattle.kr_types_meaning.specs.Rules.{Typed, Value, Variable, Values, Untyped, Verdict, Fits, Breaks, ask, type_rule, diamond_rule, array_rule, unary_rule, operator_rule, choice_rule, cast_rule, instance_rule, access_rule, element_rule, object_call_rule, creation_fits, creation_rule, array_creation_rule, old_rule, is_statement, is_variable}
+use Rattle.kr_types_meaning.specs.Rules.{Typed, Value, Variable, Values, Untyped, Judgement, Fits, Breaks, ask, type_rule, diamond_rule, array_rule, unary_rule, operator_rule, choice_rule, cast_rule, instance_rule, access_rule, element_rule, object_call_rule, creation_fits, creation_rule, array_creation_rule, old_rule, is_statement, is_variable}
 use Rattle.kr_types_meaning.specs.Typing.{Judged, judge, on_one, on_list, joined, field_of, method_of, operand, judged, type_in}
 use Rattle.kr_types_meaning.specs.Laws.{IsType}
 use Rattle.kr_laws_shapes.specs.Expressions.{IsWritten, IsCreated, Shaped}
@@ -24,12 +24,12 @@ use Rattle.kr_laws_types.proofs.Given.{AreValues, Good, Fine, variable_value, va
 
 -- ---- parts
 
-judge_good : (place b : Bool) (p : Place) (v : Verdict) (below : List Fault) → Fine place b v → Good place b (judge p v below).typed
+judge_good : (place b : Bool) (p : Place) (v : Judgement) (below : List Fault) → Fine place b v → Good place b (judge p v below).typed
 judge_good place b p (Fits x) below h = h
 judge_good place b p (Breaks r) below h = tt
 
 -- an operand
-one_fine : (place b here : Bool) (f : JavaType → Verdict) (x : Typed) → Good here false x → ((t : JavaType) → is_value_type t ≡ true → Fine place b (f t)) → Fine place b (on_one f x)
+one_fine : (place b here : Bool) (f : JavaType → Judgement) (x : Typed) → Good here false x → ((t : JavaType) → is_value_type t ≡ true → Fine place b (f t)) → Fine place b (on_one f x)
 one_fine place b here f (Value t) h g = g t h
 one_fine place b here f (Variable t) h g = g t (variable_value t h.1)
 one_fine place b here f (Values ts) h g = absurd h
@@ -39,7 +39,7 @@ abbrev pub AllGood : Typed → Type 0
 AllGood (Values ts) = AreValues ts
 AllGood x = x ≡ Untyped
 
-list_fine : (place b : Bool) (f : List JavaType → Verdict) (x : Typed) → ((ts : List JavaType) → Fine place b (f ts)) → Fine place b (on_list f x)
+list_fine : (place b : Bool) (f : List JavaType → Judgement) (x : Typed) → ((ts : List JavaType) → Fine place b (f ts)) → Fine place b (on_list f x)
 list_fine place b f (Values ts) g = g ts
 list_fine place b f (Value t) g = tt
 list_fine place b f (Variable t) g = tt
@@ -92,7 +92,7 @@ applied_variables (UnknownType [] n) t v e = collection_variables (bytes_eq n (c
 applied_variables (UnknownType (o ∷ os) n) t v e = absurd (cc (e))
 applied_variables _ t v e = absurd (cc (e))
 
-one_variables : (p : Place) (f : JavaType → Verdict) (x : Typed) (below : List Fault) → IsVariables x → ((t : JavaType) → is_variable_type t ≡ true → IsVariables (judge p (f t) below).typed) → IsVariables (judge p (on_one f x) below).typed
+one_variables : (p : Place) (f : JavaType → Judgement) (x : Typed) (below : List Fault) → IsVariables x → ((t : JavaType) → is_variable_type t ≡ true → IsVariables (judge p (f t) below).typed) → IsVariables (judge p (on_one f x) below).typed
 one_variables p f (Value t) below h g = g t h
 one_variables p f (Variable t) below h g = absurd h
 one_variables p f (Values ts) below h g = absurd h
@@ -174,7 +174,7 @@ created_fine s b (Values ts) y h e has = absurd h
 created_fine s b Untyped y h e has = tt
 
 -- a written type beside an operand
-type_fine : (place b : Bool) (f : JavaType → Verdict) (x : Typed) → IsVariables x → ((t : JavaType) → is_variable_type t ≡ true → Fine place b (f t)) → Fine place b (on_one f x)
+type_fine : (place b : Bool) (f : JavaType → Judgement) (x : Typed) → IsVariables x → ((t : JavaType) → is_variable_type t ≡ true → Fine place b (f t)) → Fine place b (on_one f x)
 type_fine place b f (Value t) h g = g t h
 type_fine place b f (Variable t) h g = absurd h
 type_fine place b f (Values ts) h g = absurd h

@@ -10,7 +10,7 @@ use Rattle.kr_classes_table.specs.Table.{Field, Method, field_named, method_name
 use Rattle.kr_classes_table.specs.Constants.{constant_only, or_else, outer_class, field_meant}
 use Rattle.kr_types_meaning.specs.Scopes.{Scope, Local, LocalName, meant_by, meant, static_only, method_meant, super_class}
 use Rattle.kr_types_meaning.specs.Rules as rules
-use Rattle.kr_types_meaning.specs.Rules.{Typed, Value, Variable, Values, Untyped, Verdict, Fits, Breaks, ask, gives, value_of, variable_of, number_rule, this_rule, name_rule, unary_rule, operator_rule, choice_rule, cast_rule, instance_rule, written_rule, is_broken, assignment_rule, compound_rule, step_rule, field_rule, access_rule, constant_rule, element_rule, result_rule, arguments_rule, call_rule, static_rule, above_rule, super_rule, plain_call_rule, member_call_rule, collection_rule, method_rule, object_call_rule, creation_fits, creation_rule, array_creation_rule, result_value_rule, old_rule, is_statement}
+use Rattle.kr_types_meaning.specs.Rules.{Typed, Value, Variable, Values, Untyped, Judgement, Fits, Breaks, ask, gives, typed_as, variable_of, number_rule, this_rule, name_rule, unary_rule, operator_rule, choice_rule, cast_rule, instance_rule, written_rule, is_broken, assignment_rule, compound_rule, step_rule, field_rule, access_rule, constant_rule, element_rule, result_rule, arguments_rule, call_rule, static_rule, above_rule, super_rule, plain_call_rule, member_call_rule, collection_rule, method_rule, object_call_rule, creation_fits, creation_rule, array_creation_rule, result_value_rule, old_rule, is_statement}
 use Rattle.kr_laws_types.specs.Types.{is_variable_type, is_result_type, is_inferred, is_value_type, is_expression_type, AreVariables, HasVariables}
 
 -- ---- what is known of a node
@@ -26,15 +26,15 @@ Good place statement (Value t) = is_expression_type statement t ≡ true
 Good place statement (Variable t) = (place ≡ true) × (is_variable_type t ≡ true)
 Good place statement (Values ts) = ⊥
 
-abbrev pub Fine : Bool → Bool → Verdict → Type 0
+abbrev pub Fine : Bool → Bool → Judgement → Type 0
 Fine place statement (Fits x) = Good place statement x
 Fine place statement (Breaks r) = Unit {0}
 
-pub fine_ask : (place statement : Bool) (b : Bool) (r : ℕ) (v : Verdict) → (b ≡ true → Fine place statement v) → Fine place statement (ask b r v)
+pub fine_ask : (place statement : Bool) (b : Bool) (r : ℕ) (v : Judgement) → (b ≡ true → Fine place statement v) → Fine place statement (ask b r v)
 fine_ask place statement true r v h = h refl
 fine_ask place statement false r v h = tt
 
-fine_if : (place statement : Bool) (b : Bool) (v w : Verdict) → Fine place statement v → Fine place statement w → Fine place statement (if b then v else w)
+fine_if : (place statement : Bool) (b : Bool) (v w : Judgement) → Fine place statement v → Fine place statement w → Fine place statement (if b then v else w)
 fine_if place statement true v w h k = h
 fine_if place statement false v w h k = k
 
@@ -179,7 +179,7 @@ module _ (s : Scope) (has : HasVariables s.table) where
       outer None = tt
       outer (Some c) = only_static (method_named s.table c n) (method_good c n)
 
-  abbrev FineHere : Bool → Verdict → Type 0
+  abbrev FineHere : Bool → Judgement → Type 0
   FineHere place v = Fine place (is_statement s.role) v
 
   -- ---- rules

@@ -12,49 +12,49 @@ use Rattle.kr_classes_table.specs.Types.{JavaType, IntType, BooleanType, NullTyp
 use Rattle.kr_classes_table.specs.Rules.{Fault}
 use Rattle.kr_classes_table.specs.Table.{Parameter, Method, applied, method_named, constructor_parameters}
 use Rattle.kr_classes_table.specs.Constants.{value_at}
-use Rattle.kr_types_meaning.specs.Scopes.{Scope, Declaring, Locals, Fields, Constants, Role, AsValue, in_class, in_old, in_contract, Requiring, Ensuring, bind, bind_as, declaring, static_if, field_kind, after, value, statement, under_minus, in_loop, written, class_before, meant, method_meant, super_class}
-use Rattle.kr_types_meaning.specs.Rules.{Typed, Value, Variable, Values, Untyped, Verdict, Fits, Breaks, fine, ask, takes, arguments_fit, type_rule, array_rule, element_rule, result_rule, arguments_rule, call_rule, static_rule, above_rule, super_rule, method_rule, object_call_rule, creation_fits, creation_rule, array_creation_rule, unary_rule, operator_rule, choice_rule, cast_rule, instance_rule, is_broken, written_rule, assignment_rule, compound_rule, step_rule, access_rule, constant_rule, old_rule, contract_rule, condition_rule, return_rule, jump_rule, declaration_rule, initial_fits, is_new, is_simple, parameter_rule, super_constructor_rule, implied_rule}
+use Rattle.kr_types_meaning.specs.Scopes.{Scope, Declaring, Locals, Fields, Constants, Role, AsValue, in_class, in_old, in_contract, Requiring, Ensuring, bind_local, bind_as, declaring, static_if, field_kind, after, value, statement, under_minus, in_loop, written, class_before, meant, method_meant, super_class}
+use Rattle.kr_types_meaning.specs.Rules.{Typed, Value, Variable, Values, Untyped, Judgement, Fits, Breaks, fine, ask, takes, arguments_fit, type_rule, array_rule, element_rule, result_rule, arguments_rule, call_rule, static_rule, above_rule, super_rule, method_rule, object_call_rule, creation_fits, creation_rule, array_creation_rule, unary_rule, operator_rule, choice_rule, cast_rule, instance_rule, is_broken, written_rule, assignment_rule, compound_rule, step_rule, access_rule, constant_rule, old_rule, contract_rule, condition_rule, return_rule, jump_rule, declaration_rule, initial_fits, is_new, is_simple, parameter_rule, super_constructor_rule, implied_rule}
 use Rattle.kr_types_meaning.specs.Typing.{Judged, judge, on_one, on_two, on_list, on_maybe, leaf, joined, field_of, method_of, operand, judged, type_in}
 use Rattle.kr_types_meaning.specs.Running.{locals_only, local_type, elsewhere, running}
 use Rattle.kr_laws_types.specs.Running.{AreSame, IsSameRunning}
 
-abbrev typed_by : Verdict → Typed
+abbrev typed_by : Judgement → Typed
 typed_by (Fits t) = t
 typed_by (Breaks r) = Untyped
 
-judge_typed : (p : Place) (v : Verdict) (below : List Fault) → (judge p v below).typed ≡ typed_by v
+judge_typed : (p : Place) (v : Judgement) (below : List Fault) → (judge p v below).typed ≡ typed_by v
 judge_typed p (Fits t) below = refl
 judge_typed p (Breaks r) below = refl
 
-same_judge : (p : Place) (v w : Verdict) (x y : List Fault) → v ≡ w → (judge p v x).typed ≡ (judge p w y).typed
+same_judge : (p : Place) (v w : Judgement) (x y : List Fault) → v ≡ w → (judge p v x).typed ≡ (judge p w y).typed
 same_judge p v w x y e = judge_typed p v x ∙ (ap typed_by e ∙ sym (judge_typed p w y))
 
 -- ---- rules that give no type
 
-abbrev Bare : Verdict → Type 0
+abbrev Bare : Judgement → Type 0
 Bare v = typed_by v ≡ Untyped
 
-ask_bare : (b : Bool) (r : ℕ) (v : Verdict) → Bare v → Bare (ask b r v)
+ask_bare : (b : Bool) (r : ℕ) (v : Judgement) → Bare v → Bare (ask b r v)
 ask_bare true r v h = h
 ask_bare false r v h = refl
 
-if_bare : (b : Bool) (v w : Verdict) → Bare v → Bare w → Bare (if b then v else w)
+if_bare : (b : Bool) (v w : Judgement) → Bare v → Bare w → Bare (if b then v else w)
 if_bare true v w h k = h
 if_bare false v w h k = k
 
-one_bare : (f : JavaType → Verdict) (x : Typed) → ((t : JavaType) → Bare (f t)) → Bare (on_one f x)
+one_bare : (f : JavaType → Judgement) (x : Typed) → ((t : JavaType) → Bare (f t)) → Bare (on_one f x)
 one_bare f (Value t) h = h t
 one_bare f (Variable t) h = h t
 one_bare f (Values ts) h = refl
 one_bare f Untyped h = refl
 
-list_bare : (f : List JavaType → Verdict) (x : Typed) → ((ts : List JavaType) → Bare (f ts)) → Bare (on_list f x)
+list_bare : (f : List JavaType → Judgement) (x : Typed) → ((ts : List JavaType) → Bare (f ts)) → Bare (on_list f x)
 list_bare f (Values ts) h = h ts
 list_bare f (Value t) h = refl
 list_bare f (Variable t) h = refl
 list_bare f Untyped h = refl
 
-maybe_bare : (f : Option JavaType → Verdict) (x : Typed) → ((t : Option JavaType) → Bare (f t)) → Bare (on_maybe f x)
+maybe_bare : (f : Option JavaType → Judgement) (x : Typed) → ((t : Option JavaType) → Bare (f t)) → Bare (on_maybe f x)
 maybe_bare f (Value t) h = h (Some t)
 maybe_bare f (Variable t) h = h (Some t)
 maybe_bare f (Values ts) h = h None
@@ -88,16 +88,16 @@ parameter_bare : (s : Scope) (n : List ℕ) → Bare (parameter_rule s n)
 parameter_bare s n = ask_bare (is_new s n (meant s n)) 4 fine refl
 
 -- two judgements of rules that give no type
-both_bare : (p q : Place) (v w : Verdict) (x y : List Fault) → Bare v → Bare w → (judge p v x).typed ≡ (judge q w y).typed
+both_bare : (p q : Place) (v w : Judgement) (x y : List Fault) → Bare v → Bare w → (judge p v x).typed ≡ (judge q w y).typed
 both_bare p q v w x y h k = judge_typed p v x ∙ (h ∙ (sym k ∙ sym (judge_typed q w y)))
 
-one_pair : (p : Place) (f g : JavaType → Verdict) (x y : Typed) (xs ys : List Fault) → ((t : JavaType) → Bare (f t)) → ((t : JavaType) → Bare (g t)) → (judge p (on_one f x) xs).typed ≡ (judge p (on_one g y) ys).typed
+one_pair : (p : Place) (f g : JavaType → Judgement) (x y : Typed) (xs ys : List Fault) → ((t : JavaType) → Bare (f t)) → ((t : JavaType) → Bare (g t)) → (judge p (on_one f x) xs).typed ≡ (judge p (on_one g y) ys).typed
 one_pair p f g x y xs ys h k = both_bare p p (on_one f x) (on_one g y) xs ys (one_bare f x h) (one_bare g y k)
 
-maybe_pair : (p : Place) (f g : Option JavaType → Verdict) (x y : Typed) (xs ys : List Fault) → ((t : Option JavaType) → Bare (f t)) → ((t : Option JavaType) → Bare (g t)) → (judge p (on_maybe f x) xs).typed ≡ (judge p (on_maybe g y) ys).typed
+maybe_pair : (p : Place) (f g : Option JavaType → Judgement) (x y : Typed) (xs ys : List Fault) → ((t : Option JavaType) → Bare (f t)) → ((t : Option JavaType) → Bare (g t)) → (judge p (on_maybe f x) xs).typed ≡ (judge p (on_maybe g y) ys).typed
 maybe_pair p f g x y xs ys h k = both_bare p p (on_maybe f x) (on_maybe g y) xs ys (maybe_bare f x h) (maybe_bare g y k)
 
-list_pair : (p : Place) (f g : List JavaType → Verdict) (x y : Typed) (xs ys : List Fault) → ((ts : List JavaType) → Bare (f ts)) → ((ts : List JavaType) → Bare (g ts)) → (judge p (on_list f x) xs).typed ≡ (judge p (on_list g y) ys).typed
+list_pair : (p : Place) (f g : List JavaType → Judgement) (x y : Typed) (xs ys : List Fault) → ((ts : List JavaType) → Bare (f ts)) → ((ts : List JavaType) → Bare (g ts)) → (judge p (on_list f x) xs).typed ≡ (judge p (on_list g y) ys).typed
 list_pair p f g x y xs ys h k = both_bare p p (on_list f x) (on_list g y) xs ys (list_bare f x h) (list_bare g y k)
 
 -- ---- scopes
@@ -106,7 +106,7 @@ bind_elsewhere : (b : Bool) (s : Scope) (n : List ℕ) → bind_as (locals_only 
 bind_elsewhere b s n = go s.declaring refl
   where
     go : (d : Declaring) → s.declaring ≡ d → bind_as (locals_only d) n (elsewhere b s) ≡ elsewhere b (bind_as d n s)
-    go Locals e = ap (λ (x : JavaType). bind n x (elsewhere b s)) (ap (λ (x : Declaring). local_type x s.declared) e)
+    go Locals e = ap (λ (x : JavaType). bind_local n x (elsewhere b s)) (ap (λ (x : Declaring). local_type x s.declared) e)
     go Fields e = refl
     go (Constants f) e = refl
 
@@ -132,18 +132,18 @@ module _ (b : Bool) (s : Scope) where
 
   call_same : (m : Option Method) (ts : List JavaType) → call_rule (elsewhere b s) m ts ≡ call_rule s m ts
   call_same None ts = refl
-  call_same (Some m) ts = ap (λ (x : Verdict). ask (m.is_static || not s.is_static) 5 x) (arguments_rule_same ts m)
+  call_same (Some m) ts = ap (λ (x : Judgement). ask (m.is_static || not s.is_static) 5 x) (arguments_rule_same ts m)
 
   static_same : (m : Option Method) (ts : List JavaType) → static_rule (elsewhere b s) m ts ≡ static_rule s m ts
   static_same None ts = refl
-  static_same (Some m) ts = ap (λ (x : Verdict). ask m.is_static 24 x) (arguments_rule_same ts m)
+  static_same (Some m) ts = ap (λ (x : Judgement). ask m.is_static 24 x) (arguments_rule_same ts m)
 
   above_same : (m : Option Method) (ts : List JavaType) → above_rule (elsewhere b s) m ts ≡ above_rule s m ts
   above_same None ts = refl
-  above_same (Some m) ts = ap (λ (x : Verdict). if m.is_static then Breaks 33 else x) (arguments_rule_same ts m)
+  above_same (Some m) ts = ap (λ (x : Judgement). if m.is_static then Breaks 33 else x) (arguments_rule_same ts m)
 
   super_same : (n : List ℕ) (ts : List JavaType) → super_rule (elsewhere b s) n ts ≡ super_rule s n ts
-  super_same n ts = ap (λ (x : Verdict). ask (not s.is_static) 5 x) (above_same (option_and_then (λ c. method_named s.table c n) (super_class s)) ts)
+  super_same n ts = ap (λ (x : Judgement). ask (not s.is_static) 5 x) (above_same (option_and_then (λ c. method_named s.table c n) (super_class s)) ts)
 
   method_same : (m : Option Method) (ts : List JavaType) → method_rule (elsewhere b s) m ts ≡ method_rule s m ts
   method_same None ts = refl
@@ -196,11 +196,11 @@ module _ (b : Bool) (s : Scope) where
   operator_same operators.Or t u = refl
 
   compound_same : (o : BinaryOperator) (x : Typed) (t u : JavaType) → compound_rule (elsewhere b s) o x t u ≡ compound_rule s o x t u
-  compound_same o x t u = ap (λ (v : Verdict). ask (not (is_broken v)) 17 (written_rule s x t)) (operator_same o t u)
+  compound_same o x t u = ap (λ (v : Judgement). ask (not (is_broken v)) 17 (written_rule s x t)) (operator_same o t u)
 
   -- ---- rules on the types of parts
 
-  one_same : (p : Place) (f g : JavaType → Verdict) (x y : Judged) → ((t : JavaType) → f t ≡ g t) → x.typed ≡ y.typed → (judge p (on_one f x.typed) x.faults).typed ≡ (judge p (on_one g y.typed) y.faults).typed
+  one_same : (p : Place) (f g : JavaType → Judgement) (x y : Judged) → ((t : JavaType) → f t ≡ g t) → x.typed ≡ y.typed → (judge p (on_one f x.typed) x.faults).typed ≡ (judge p (on_one g y.typed) y.faults).typed
   one_same p f g x y h e = same_judge p (on_one f x.typed) (on_one g y.typed) x.faults y.faults (go x.typed ∙ ap (λ (z : Typed). on_one g z) e)
     where
       go : (z : Typed) → on_one f z ≡ on_one g z
@@ -209,7 +209,7 @@ module _ (b : Bool) (s : Scope) where
       go (Values ts) = refl
       go Untyped = refl
 
-  list_same : (p : Place) (f g : List JavaType → Verdict) (x y : Judged) → ((ts : List JavaType) → f ts ≡ g ts) → x.typed ≡ y.typed → (judge p (on_list f x.typed) x.faults).typed ≡ (judge p (on_list g y.typed) y.faults).typed
+  list_same : (p : Place) (f g : List JavaType → Judgement) (x y : Judged) → ((ts : List JavaType) → f ts ≡ g ts) → x.typed ≡ y.typed → (judge p (on_list f x.typed) x.faults).typed ≡ (judge p (on_list g y.typed) y.faults).typed
   list_same p f g x y h e = same_judge p (on_list f x.typed) (on_list g y.typed) x.faults y.faults (go x.typed ∙ ap (λ (z : Typed). on_list g z) e)
     where
       go : (z : Typed) → on_list f z ≡ on_list g z
@@ -218,24 +218,24 @@ module _ (b : Bool) (s : Scope) where
       go (Variable t) = refl
       go Untyped = refl
 
-  on_one_same : (f g : JavaType → Verdict) (x : Typed) → ((t : JavaType) → f t ≡ g t) → on_one f x ≡ on_one g x
+  on_one_same : (f g : JavaType → Judgement) (x : Typed) → ((t : JavaType) → f t ≡ g t) → on_one f x ≡ on_one g x
   on_one_same f g (Value t) h = h t
   on_one_same f g (Variable t) h = h t
   on_one_same f g (Values ts) h = refl
   on_one_same f g Untyped h = refl
 
-  on_list_same : (f g : List JavaType → Verdict) (x : Typed) → ((ts : List JavaType) → f ts ≡ g ts) → on_list f x ≡ on_list g x
+  on_list_same : (f g : List JavaType → Judgement) (x : Typed) → ((ts : List JavaType) → f ts ≡ g ts) → on_list f x ≡ on_list g x
   on_list_same f g (Values ts) h = h ts
   on_list_same f g (Value t) h = refl
   on_list_same f g (Variable t) h = refl
   on_list_same f g Untyped h = refl
 
-  two_same : (p : Place) (f g : JavaType → JavaType → Verdict) (x y u v : Judged) (xs ys : List Fault) → ((t r : JavaType) → f t r ≡ g t r) → x.typed ≡ y.typed → u.typed ≡ v.typed → (judge p (on_two f x.typed u.typed) xs).typed ≡ (judge p (on_two g y.typed v.typed) ys).typed
+  two_same : (p : Place) (f g : JavaType → JavaType → Judgement) (x y u v : Judged) (xs ys : List Fault) → ((t r : JavaType) → f t r ≡ g t r) → x.typed ≡ y.typed → u.typed ≡ v.typed → (judge p (on_two f x.typed u.typed) xs).typed ≡ (judge p (on_two g y.typed v.typed) ys).typed
   two_same p f g x y u v xs ys h e k =
       same_judge p (on_two f x.typed u.typed) (on_two g y.typed v.typed) xs ys
       (on_one_same (λ a. on_one (f a) u.typed) (λ a. on_one (g a) u.typed) x.typed (λ a. on_one_same (f a) (g a) u.typed (λ r. h a r)) ∙ (ap (λ (z : Typed). on_two g z u.typed) e ∙ ap (λ (z : Typed). on_two g y.typed z) k))
 
-  one_and_list_same : (p : Place) (f g : JavaType → List JavaType → Verdict) (x y u v : Judged) (xs ys : List Fault) → ((t : JavaType) (ts : List JavaType) → f t ts ≡ g t ts) → x.typed ≡ y.typed → u.typed ≡ v.typed → (judge p (on_one (λ a. on_list (f a) u.typed) x.typed) xs).typed ≡ (judge p (on_one (λ a. on_list (g a) v.typed) y.typed) ys).typed
+  one_and_list_same : (p : Place) (f g : JavaType → List JavaType → Judgement) (x y u v : Judged) (xs ys : List Fault) → ((t : JavaType) (ts : List JavaType) → f t ts ≡ g t ts) → x.typed ≡ y.typed → u.typed ≡ v.typed → (judge p (on_one (λ a. on_list (f a) u.typed) x.typed) xs).typed ≡ (judge p (on_one (λ a. on_list (g a) v.typed) y.typed) ys).typed
   one_and_list_same p f g x y u v xs ys h e k =
       same_judge p (on_one (λ a. on_list (f a) u.typed) x.typed) (on_one (λ a. on_list (g a) v.typed) y.typed) xs ys
       (on_one_same (λ a. on_list (f a) u.typed) (λ a. on_list (g a) u.typed) x.typed (λ a. on_list_same (f a) (g a) u.typed (λ ts. h a ts)) ∙ (ap (λ (z : Typed). on_one (λ a. on_list (g a) z) x.typed) k ∙ ap (λ (z : Typed). on_one (λ a. on_list (g a) v.typed) z) e))
@@ -350,7 +350,7 @@ bind_running : (s : Scope) (n : List ℕ) → bind_as (locals_only s.declaring) 
 bind_running s n = go s.declaring refl
   where
     go : (d : Declaring) → s.declaring ≡ d → bind_as (locals_only d) n (running s) ≡ running (bind_as d n s)
-    go Locals e = ap (λ (x : JavaType). bind n x (running s)) (ap (λ (x : Declaring). local_type x s.declared) e)
+    go Locals e = ap (λ (x : JavaType). bind_local n x (running s)) (ap (λ (x : Declaring). local_type x s.declared) e)
     go Fields e = refl
     go (Constants f) e = refl
 

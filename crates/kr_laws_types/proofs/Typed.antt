@@ -13,7 +13,7 @@ use Rattle.kr_classes_table.specs.Rules.{Fault}
 use Rattle.kr_classes_table.specs.Table.{Table, Field, Method, applied, field_named, method_named, is_assignable}
 use Rattle.kr_classes_table.specs.Constants.{constant_only, or_else, outer_class, field_meant}
 use Rattle.kr_types_meaning.specs.Scopes.{Scope, Local, Meant, LocalName, FieldName, NoName, written, value, in_old, under_minus, meant_by, field_or_none, meant, class_before, static_only, method_meant, super_class}
-use Rattle.kr_types_meaning.specs.Rules.{Typed, Value, Variable, Values, Untyped, Verdict, Fits, Breaks, ask, gives, value_of, variable_of, type_rule, diamond_rule, array_rule, number_rule, this_rule, name_rule, unary_rule, operator_rule, choice_rule, cast_rule, instance_rule, written_rule, is_broken, assignment_rule, compound_rule, step_rule, field_rule, access_rule, constant_rule, element_rule, result_rule, arguments_rule, call_rule, static_rule, above_rule, super_rule, plain_call_rule, member_call_rule, collection_rule, method_rule, object_call_rule, creation_rule, array_creation_rule, result_value_rule, old_rule}
+use Rattle.kr_types_meaning.specs.Rules.{Typed, Value, Variable, Values, Untyped, Judgement, Fits, Breaks, ask, gives, typed_as, variable_of, type_rule, diamond_rule, array_rule, number_rule, this_rule, name_rule, unary_rule, operator_rule, choice_rule, cast_rule, instance_rule, written_rule, is_broken, assignment_rule, compound_rule, step_rule, field_rule, access_rule, constant_rule, element_rule, result_rule, arguments_rule, call_rule, static_rule, above_rule, super_rule, plain_call_rule, member_call_rule, collection_rule, method_rule, object_call_rule, creation_rule, array_creation_rule, result_value_rule, old_rule}
 use Rattle.kr_types_meaning.specs.Typing.{Judged, judge, on_one, on_two, on_list, joined, field_of, method_of, operand, judged, type_in}
 use Rattle.kr_laws_shapes.specs.Expressions.{IsWritten, IsCreated, Shaped}
 use Rattle.kr_laws_types.specs.Typed.{AreKnown, AreTypesKnown}
@@ -22,13 +22,13 @@ abbrev pub HasType : Typed → Type 0
 HasType x = (t : JavaType) × (type_in x ≡ Some t)
 
 -- a rule that gives a type where it isn't broken
-record Gives (v : Verdict) : Type 0 where
+record Gives (v : Judgement) : Type 0 where
   type : (x : Typed) → v ≡ Fits x → HasType x
 
 fits_same : (x y : Typed) → Fits x ≡ Fits y → x ≡ y
 fits_same x y e = ap inside e
   where
-    inside : Verdict → Typed
+    inside : Judgement → Typed
     inside (Fits z) = z
     inside (Breaks r) = x
 
@@ -41,15 +41,15 @@ gives_variable t = record { type = λ x e. (t, ap type_in (sym (fits_same (Varia
 gives_none : (r : ℕ) → Gives (Breaks r)
 gives_none r = record { type = λ x e. absurd (cc (e)) }
 
-gives_ask : (b : Bool) (r : ℕ) (v : Verdict) → Gives v → Gives (ask b r v)
+gives_ask : (b : Bool) (r : ℕ) (v : Judgement) → Gives v → Gives (ask b r v)
 gives_ask true r v h = h
 gives_ask false r v h = gives_none r
 
-gives_if : (b : Bool) (v w : Verdict) → Gives v → Gives w → Gives (if b then v else w)
+gives_if : (b : Bool) (v w : Judgement) → Gives v → Gives w → Gives (if b then v else w)
 gives_if true v w h k = h
 gives_if false v w h k = k
 
-gives_known : (t : JavaType) → is_known t ≡ true → Gives (Fits (value_of t))
+gives_known : (t : JavaType) → is_known t ≡ true → Gives (Fits (typed_as t))
 gives_known t e = subst (λ (b : Bool). Gives (Fits (if b then Value t else Untyped))) (sym e) (gives_value t)
 
 varies_known : (t : JavaType) → is_known t ≡ true → Gives (Fits (variable_of t))
@@ -61,11 +61,11 @@ none_behind : {A : Type 0} (xs : List A) (y : A) → xs ++ y ∷ [] ≡ [] → �
 none_behind [] y e = cc (e)
 none_behind (x ∷ xs) y e = cc (e)
 
-below_none : (p : Place) (v : Verdict) (below : List Fault) → (judge p v below).faults ≡ [] → below ≡ []
+below_none : (p : Place) (v : Judgement) (below : List Fault) → (judge p v below).faults ≡ [] → below ≡ []
 below_none p (Fits x) below e = e
 below_none p (Breaks r) below e = absurd (none_behind below (record { place = p; rule = r }) e)
 
-judge_type : (p : Place) (v : Verdict) (below : List Fault) → Gives v → (judge p v below).faults ≡ [] → HasType (judge p v below).typed
+judge_type : (p : Place) (v : Judgement) (below : List Fault) → Gives v → (judge p v below).faults ≡ [] → HasType (judge p v below).typed
 judge_type p (Fits x) below h e = h.type x refl
 judge_type p (Breaks r) below h e = absurd (none_behind below (record { place = p; rule = r }) e)
 
@@ -77,7 +77,7 @@ back_none : {A : Type 0} (xs ys : List A) → xs ++ ys ≡ [] → ys ≡ []
 back_none [] ys e = e
 back_none (x ∷ xs) ys e = absurd (cc (e))
 
-one_gives : (f : JavaType → Verdict) (x : Typed) → HasType x → ((t : JavaType) → Gives (f t)) → Gives (on_one f x)
+one_gives : (f : JavaType → Judgement) (x : Typed) → HasType x → ((t : JavaType) → Gives (f t)) → Gives (on_one f x)
 one_gives f (Value t) h g = g t
 one_gives f (Variable t) h g = g t
 one_gives f (Values ts) h g = absurd (cc (h.1))
@@ -86,7 +86,7 @@ one_gives f Untyped h g = absurd (cc (h.1))
 abbrev HasTypes : Typed → Type 0
 HasTypes x = (ts : List JavaType) × (x ≡ Values ts)
 
-list_gives : (f : List JavaType → Verdict) (x : Typed) → HasTypes x → ((ts : List JavaType) → Gives (f ts)) → Gives (on_list f x)
+list_gives : (f : List JavaType → Judgement) (x : Typed) → HasTypes x → ((ts : List JavaType) → Gives (f ts)) → Gives (on_list f x)
 list_gives f x h g = subst (λ (y : Typed). Gives (on_list f y)) (sym h.1) (g h.0)
 
 joined_types : (x y : Typed) → HasType x → HasTypes y → HasTypes (joined x y)
@@ -289,25 +289,25 @@ element_gives (ArrayType t) i = gives_ask (Rattle.kr_types_meaning.specs.Rules.i
 element_gives _ i = gives_none 23
 
 -- two parts and their faults
-two_type : (p : Place) (f : JavaType → JavaType → Verdict) (x y : Judged) → ((t u : JavaType) → Gives (f t u)) → (x.faults ≡ [] → HasType x.typed) → (y.faults ≡ [] → HasType y.typed) → (judge p (on_two f x.typed y.typed) (x.faults ++ y.faults)).faults ≡ [] → HasType (judge p (on_two f x.typed y.typed) (x.faults ++ y.faults)).typed
+two_type : (p : Place) (f : JavaType → JavaType → Judgement) (x y : Judged) → ((t u : JavaType) → Gives (f t u)) → (x.faults ≡ [] → HasType x.typed) → (y.faults ≡ [] → HasType y.typed) → (judge p (on_two f x.typed y.typed) (x.faults ++ y.faults)).faults ≡ [] → HasType (judge p (on_two f x.typed y.typed) (x.faults ++ y.faults)).typed
 two_type p f x y g h k e =
     let below = below_none p (on_two f x.typed y.typed) (x.faults ++ y.faults) e in
     judge_type p (on_two f x.typed y.typed) (x.faults ++ y.faults) (one_gives (λ a. on_one (f a) y.typed) x.typed (h (front_none x.faults y.faults below)) (λ t. one_gives (f t) y.typed (k (back_none x.faults y.faults below)) (λ u. g t u))) e
 
-one_type : (p : Place) (f : JavaType → Verdict) (x : Judged) → ((t : JavaType) → Gives (f t)) → (x.faults ≡ [] → HasType x.typed) → (judge p (on_one f x.typed) x.faults).faults ≡ [] → HasType (judge p (on_one f x.typed) x.faults).typed
+one_type : (p : Place) (f : JavaType → Judgement) (x : Judged) → ((t : JavaType) → Gives (f t)) → (x.faults ≡ [] → HasType x.typed) → (judge p (on_one f x.typed) x.faults).faults ≡ [] → HasType (judge p (on_one f x.typed) x.faults).typed
 one_type p f x g h e = judge_type p (on_one f x.typed) x.faults (one_gives f x.typed (h (below_none p (on_one f x.typed) x.faults e)) g) e
 
-list_type : (p : Place) (f : List JavaType → Verdict) (x : Judged) → ((ts : List JavaType) → Gives (f ts)) → (x.faults ≡ [] → HasTypes x.typed) → (judge p (on_list f x.typed) x.faults).faults ≡ [] → HasType (judge p (on_list f x.typed) x.faults).typed
+list_type : (p : Place) (f : List JavaType → Judgement) (x : Judged) → ((ts : List JavaType) → Gives (f ts)) → (x.faults ≡ [] → HasTypes x.typed) → (judge p (on_list f x.typed) x.faults).faults ≡ [] → HasType (judge p (on_list f x.typed) x.faults).typed
 list_type p f x g h e = judge_type p (on_list f x.typed) x.faults (list_gives f x.typed (h (below_none p (on_list f x.typed) x.faults e)) g) e
 
-one_and_list_type : (p : Place) (f : JavaType → List JavaType → Verdict) (x y : Judged) → ((t : JavaType) (ts : List JavaType) → Gives (f t ts)) → (x.faults ≡ [] → HasType x.typed) → (y.faults ≡ [] → HasTypes y.typed)
+one_and_list_type : (p : Place) (f : JavaType → List JavaType → Judgement) (x y : Judged) → ((t : JavaType) (ts : List JavaType) → Gives (f t ts)) → (x.faults ≡ [] → HasType x.typed) → (y.faults ≡ [] → HasTypes y.typed)
     → (judge p (on_one (λ a. on_list (f a) y.typed) x.typed) (x.faults ++ y.faults)).faults ≡ [] → HasType (judge p (on_one (λ a. on_list (f a) y.typed) x.typed) (x.faults ++ y.faults)).typed
 one_and_list_type p f x y g h k e =
     let v = on_one (λ a. on_list (f a) y.typed) x.typed in
     let below = below_none p v (x.faults ++ y.faults) e in
     judge_type p v (x.faults ++ y.faults) (one_gives (λ a. on_list (f a) y.typed) x.typed (h (front_none x.faults y.faults below)) (λ t. list_gives (f t) y.typed (k (back_none x.faults y.faults below)) (λ ts. g t ts))) e
 
-three_type : (p : Place) (f : JavaType → JavaType → JavaType → Verdict) (x y z : Judged) → ((t u r : JavaType) → Gives (f t u r)) → (x.faults ≡ [] → HasType x.typed) → (y.faults ≡ [] → HasType y.typed) → (z.faults ≡ [] → HasType z.typed)
+three_type : (p : Place) (f : JavaType → JavaType → JavaType → Judgement) (x y z : Judged) → ((t u r : JavaType) → Gives (f t u r)) → (x.faults ≡ [] → HasType x.typed) → (y.faults ≡ [] → HasType y.typed) → (z.faults ≡ [] → HasType z.typed)
     → (judge p (on_one (λ a. on_two (f a) y.typed z.typed) x.typed) (x.faults ++ y.faults ++ z.faults)).faults ≡ [] → HasType (judge p (on_one (λ a. on_two (f a) y.typed z.typed) x.typed) (x.faults ++ y.faults ++ z.faults)).typed
 three_type p f x y z g h k l e =
     let v = on_one (λ a. on_two (f a) y.typed z.typed) x.typed in

@@ -5,7 +5,7 @@ use Rattle.kr_ast.specs.Tree as trees
 use Rattle.kr_ast.specs.Tree.{Tree}
 use Rattle.kr_classes_table.specs.Types.{JavaType, ArrayType}
 use Rattle.kr_classes_table.specs.Arrays.{array_number}
-use Rattle.kr_types_meaning.specs.Scopes.{Scope, Locals, written, in_old, bind, declaring, after}
+use Rattle.kr_types_meaning.specs.Scopes.{Scope, Locals, written, in_old, bind_local, declaring, after}
 use Rattle.kr_types_meaning.specs.Rules.{is_ensuring}
 use Rattle.kr_types_meaning.specs.Typing.{judged, type_in}
 use Rattle.kr_laws_shapes.specs.Expressions.{IsWritten, IsCreated, is_compound}
@@ -74,5 +74,5 @@ IsCode arrays olds Statements s _ = ⊥
 IsCode arrays olds Declarators s trees.Nil = Unit {0}
 IsCode arrays olds Declarators s (trees.Cons a b) = IsCode arrays olds Declarator s a × IsCode arrays olds Declarators (after s a) b
 IsCode arrays olds Declarators s _ = ⊥
-IsCode arrays olds Declarator s (trees.Declarator p n e) = IsCode arrays olds (Expression true) (bind n s.declared s) e
+IsCode arrays olds Declarator s (trees.Declarator p n e) = IsCode arrays olds (Expression true) (bind_local n s.declared s) e
 IsCode arrays olds Declarator s _ = ⊥

@@ -7,6 +7,7 @@ use Rattle.std.proofs.lemmas.List.Elements.{All-push}
 use Rattle.std.proofs.lemmas.Str.{IsUtf8-nil}
 use Rattle.std.proofs.Math.Seq.{take-add}
 use Rattle.kr_base.specs.declared.place.Place.{Place}
+use Rattle.kr_base.specs.declared.refusal.RefusalAt.{RefusalAt}
 use Rattle.kr_lex.specs.declared.kind.Kind.{Kind}
 use Rattle.kr_lex.specs.declared.kind.Kind.TheVariants as kinds
 use Rattle.kr_lex.specs.declared.token.Token.{Token}
@@ -15,7 +16,6 @@ use Rattle.kr_lex.specs.declared.cursor.Cursor.{Cursor}
 use Rattle.kr_lex.specs.declared.progress.Progress.{Progress}
 use Rattle.kr_lex.specs.declared.refusal.LexRule.{LexRule}
 use Rattle.kr_lex.specs.declared.refusal.LexRule.TheVariants as rules
-use Rattle.kr_lex.specs.declared.refusal.LexRefusal.{LexRefusal}
 use Rattle.kr_lex.specs.Characters.{is_line_end}
 use Rattle.kr_lex.specs.Spelling.{spelling}
 use Rattle.kr_lex.specs.Lexemes.{Lexeme}
@@ -288,7 +288,7 @@ encoding_at_end file bytes valid items progress place v h l short p =
     encoding_first file bytes valid (map (lexeme_of file bytes) items) progress.inside (take at bytes) (drop at bytes) place v h.reached (omega (arith, long, l)) short
     (place_is file bytes progress.cursor place h.stands p ∙ ap (λ k. place_after file (take k bytes)) same)
 
-past : (file : ℕ) (bytes : List ℕ) (valid at n : ℕ) (list : List Lexeme) (inside : Bool) (left : List ℕ) (refusal : LexRefusal) → IsValidLength bytes valid → at ≤ length bytes
+past : (file : ℕ) (bytes : List ℕ) (valid at n : ℕ) (list : List Lexeme) (inside : Bool) (left : List ℕ) (refusal : RefusalAt LexRule) → IsValidLength bytes valid → at ≤ length bytes
     → n ≤ length (drop at bytes) → Reaches file false [] bytes list inside (take at bytes ++ take n (drop at bytes)) left → IsPast file bytes valid (at + n) refusal → IsCause file bytes refusal
 past file bytes valid at n list inside left refusal v w l d p =
     let long : length (take at bytes ++ take n (drop at bytes)) ≡ at + n =
@@ -296,7 +296,7 @@ past file bytes valid at n list inside left refusal v w l d p =
     rw p.at (encoding_first file bytes valid list inside (take at bytes ++ take n (drop at bytes)) left (place_after file (take valid bytes)) v d (omega (arith, long, p.before))
     (omega (arith, length-drop at bytes, l, p.before, w)) refl)
 
-pub past_gap : (file : ℕ) (bytes : List ℕ) (valid : ℕ) (items : List Token) (progress behind : Progress) (n : ℕ) (refusal : LexRefusal) → IsValidLength bytes valid
+pub past_gap : (file : ℕ) (bytes : List ℕ) (valid : ℕ) (items : List Token) (progress behind : Progress) (n : ℕ) (refusal : RefusalAt LexRule) → IsValidLength bytes valid
     → IsReading file bytes valid items progress → IsBehind bytes progress behind → n ≤ length (drop progress.cursor.at bytes)
     → IsGap (take n (drop progress.cursor.at bytes)) (drop n (drop progress.cursor.at bytes)) → IsPast file bytes valid (behind.cursor.at + n) refusal → IsCause file bytes refusal
 past_gap file bytes valid items progress behind n refusal v h b l g p =
@@ -305,7 +305,7 @@ past_gap file bytes valid items progress behind n refusal v h b l g p =
     past file bytes valid progress.cursor.at n (map (lexeme_of file bytes) items) (stays progress.inside text) (drop n text) refusal v h.stands.within l
     (then_gap (take n text) (drop n text) h.reached (sym (take-append-drop n text)) g) here
 
-pub past_token : (file : ℕ) (bytes : List ℕ) (valid : ℕ) (items : List Token) (progress : Progress) (kind : Kind) (n : ℕ) (refusal : LexRefusal) → IsValidLength bytes valid
+pub past_token : (file : ℕ) (bytes : List ℕ) (valid : ℕ) (items : List Token) (progress : Progress) (kind : Kind) (n : ℕ) (refusal : RefusalAt LexRule) → IsValidLength bytes valid
     → IsReading file bytes valid items progress → n ≤ length (drop progress.cursor.at bytes)
     → IsTokenHere progress.inside kind (take n (drop progress.cursor.at bytes)) (drop n (drop progress.cursor.at bytes))
     → IsPast file bytes valid (progress.cursor.at + n) refusal → IsCause file bytes refusal
@@ -314,7 +314,7 @@ past_token file bytes valid items progress kind n refusal v h l g p =
     past file bytes valid progress.cursor.at n (map (lexeme_of file bytes) items ++ token_behind file (take progress.cursor.at bytes) kind (take n text) ∷ []) progress.inside (drop n text)
     refusal v h.stands.within l (then_token kind (take n text) (drop n text) h.reached (sym (take-append-drop n text)) g) p
 
-pub past_head : (file : ℕ) (bytes : List ℕ) (valid : ℕ) (items after : List Token) (progress : Progress) (head : Head) (refusal : LexRefusal) → IsValidLength bytes valid
+pub past_head : (file : ℕ) (bytes : List ℕ) (valid : ℕ) (items after : List Token) (progress : Progress) (head : Head) (refusal : RefusalAt LexRule) → IsValidLength bytes valid
     → IsReading file bytes valid items progress → IsHead (drop progress.cursor.at bytes) head → ArePushed bytes progress.cursor head items after
     → IsPast file bytes valid (progress.cursor.at + head.end) refusal → IsCause file bytes refusal
 past_head file bytes valid items after progress head refusal v r h p q =

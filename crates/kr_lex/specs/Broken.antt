@@ -3,11 +3,11 @@ use Rattle.std.specs.Prelude.{◌≡◌, ℕ, ◌<◌, ◌≤◌, ◌⊎◌, Boo
 use Rattle.std.specs.Char.{IsScalar, is_ascii_digit, encode_utf8}
 use Rattle.std.specs.Str.{encode_utf8_all, IsValidUpTo}
 use Rattle.kr_base.specs.declared.place.Place.{Place}
+use Rattle.kr_base.specs.declared.refusal.RefusalAt.{RefusalAt}
+use Rattle.kr_base.specs.declared.refusal.RefusalAt.TheVariants as refusals
 use Rattle.kr_lex.specs.declared.kind.Kind.{Kind}
 use Rattle.kr_lex.specs.declared.refusal.LexRule.{LexRule}
 use Rattle.kr_lex.specs.declared.refusal.LexRule.TheVariants as rules
-use Rattle.kr_lex.specs.declared.refusal.LexRefusal.{LexRefusal}
-use Rattle.kr_lex.specs.declared.refusal.LexRefusal.TheVariants as refusals
 use Rattle.kr_lex.specs.Characters.{is_white, AllParts, EndsWord}
 use Rattle.kr_lex.specs.Words.{IsNumber, IsToken}
 use Rattle.kr_lex.specs.Lexemes.{Lexeme, Lexemes}
@@ -88,9 +88,9 @@ pub record IsFirstBroken (file : ℕ) (bytes : List ℕ) (place : Place) (rule :
   pub least : (other : List ℕ) (r : LexRule) → Breaks file bytes other r → (length front < length other) ⊎ ((front ≡ other) × (rank rule ≤ rank r))
 
 -- Why a source was refused. Want of memory may come at any time.
-abbrev pub IsCause : ℕ → List ℕ → LexRefusal → Type 0
+abbrev pub IsCause : ℕ → List ℕ → RefusalAt LexRule → Type 0
 IsCause file bytes (refusals.Broken place rule) = IsFirstBroken file bytes place rule
-IsCause file bytes refusals.NoMemory = Unit {0}
+IsCause file bytes (refusals.NoMemory _) = Unit {0}
 
 -- a source that tokens spell breaks no rule
 abbrev pub UnbrokenLaw : Type 0

@@ -1,15 +1,16 @@
 -- Between crates: how far a source has been read.
 use Rattle.std.specs.Prelude.{◌≡◌, ℕ, ◌+◌, ◌-◌, ◌<◌, ◌≤◌, ◌⊎◌, false, List, [], ◌∷◌, ◌++◌, length, take, drop, map}
 use Rattle.std.specs.Str.{IsUtf8, IsValidUpTo}
+use Rattle.kr_base.specs.declared.refusal.RefusalAt.{RefusalAt}
+use Rattle.kr_base.specs.declared.refusal.RefusalAt.TheVariants as refusals
 use Rattle.kr_lex.specs.declared.contract.Head.{Head}
 use Rattle.kr_lex.specs.declared.cursor.Cursor.{Cursor}
 use Rattle.kr_lex.specs.declared.kind.Kind.{Kind}
 use Rattle.kr_lex.specs.declared.kind.Kind.TheVariants as kinds
 use Rattle.kr_lex.specs.declared.progress.Progress.{Progress}
 use Rattle.kr_lex.specs.declared.token.Token.{Token}
+use Rattle.kr_lex.specs.declared.refusal.LexRule.{LexRule}
 use Rattle.kr_lex.specs.declared.refusal.LexRule.TheVariants as rules
-use Rattle.kr_lex.specs.declared.refusal.LexRefusal.{LexRefusal}
-use Rattle.kr_lex.specs.declared.refusal.LexRefusal.TheVariants as refusals
 use Rattle.kr_lex.specs.ContractLines.{has_block}
 use Rattle.kr_lex.specs.Cursors.{Stands}
 use Rattle.kr_lex.specs.Entries.{AreEntries, lexeme_of}
@@ -41,7 +42,7 @@ pub record IsPassed (bytes : List ℕ) (valid : ℕ) (progress : Progress) (n : 
   pub clear : next.clear ≡ progress.clear
 
 -- the bytes stop being UTF-8 before an index
-pub record IsPast (file : ℕ) (bytes : List ℕ) (valid end : ℕ) (refusal : LexRefusal) : Type 0 where
+pub record IsPast (file : ℕ) (bytes : List ℕ) (valid end : ℕ) (refusal : RefusalAt LexRule) : Type 0 where
   pub at : refusal ≡ refusals.Broken (place_after file (take valid bytes)) rules.NotUtf8
   pub before : valid < end
 

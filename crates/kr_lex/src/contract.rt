@@ -9,7 +9,7 @@ use crate::characters::{is_line_end, is_white};
 use crate::words::part_len;
 
 /// How a contract line begins: its word, where that begins, and where it ends.
-#[derive(Clone, Copy, Debug)]
+#[derive(Clone, Copy)]
 pub(crate) struct Head {
     pub(crate) kind: Kind,
     pub(crate) word: usize,
@@ -18,7 +18,7 @@ pub(crate) struct Head {
 
 /// A contract line that is well formed: how it begins, and up to which byte of the source no slash and star stand side
 /// by side in a line from there.
-#[derive(Clone, Copy, Debug)]
+#[derive(Clone, Copy)]
 pub(crate) struct Line {
     pub(crate) head: Head,
     pub(crate) clear: usize,

@@ -8,7 +8,7 @@ use kr_base::Place;
 
 /// How many bytes were read, the line there, and what makes the column when it is taken from the next byte's number:
 /// the bytes before the line, and those in it that go on with a character.
-#[derive(Clone, Copy, Debug)]
+#[derive(Clone, Copy)]
 pub struct Cursor {
     pub at: usize,
     pub line: u32,

@@ -3,7 +3,7 @@ ghost use Rattle.std.specs.Prelude.{◌≡◌};
 ghost use Rattle.kr_lex.specs.Spelling.{is_outside_profile};
 
 /// What kind of token it is (Java Language Specification 3.8 to 3.12).
-#[derive(Clone, Copy, Debug, PartialEq, Eq)]
+#[derive(Clone, Copy, PartialEq, Eq)]
 pub enum Kind {
     // names and literals
     Identifier,

@@ -1,6 +1,5 @@
 // The lexer: reads a source once, piece by piece.
-ghost use Rattle.std.specs.Prelude.{◌≡◌, ◌+◌, ◌<◌, ◌≤◌, ◌^◌, true, [], length, drop, IfErr, IfOk, IfNone, IfSome};
-ghost use Rattle.kr_lex.specs.declared.refusal.LexRefusal.TheVariants.{NoMemory};
+ghost use Rattle.std.specs.Prelude.{◌≡◌, ◌+◌, ◌<◌, ◌≤◌, ◌^◌, ◌∷◌, ◌++◌, true, [], length, drop, IfErr, IfOk, IfNone, IfSome};
 ghost use Rattle.kr_lex.specs.Spells.{AreTokens};
 ghost use Rattle.kr_lex.specs.Broken.{IsCause};
 ghost use Rattle.kr_lex.specs.ContractLines.{has_block, BeginsContract};
@@ -14,6 +13,7 @@ use crate::piece::{Piece, begins_contract, first_piece};
 use crate::progress::Progress;
 use crate::token::{Token, Tokens};
 use crate::{Kind, LexRefusal, LexRule};
+use kr_base::NoMemory;
 use std::alloc::Global;
 use std::str;
 
@@ -27,11 +27,32 @@ pub fn lex(alloc: Global, file: u32, bytes: &[u8]) -> Result<Tokens, LexRefusal>
     ensures refused { IfErr result (IsCause file bytes.now) }
 {
     let valid = valid_len(bytes);
-    let mut items = Vec::with_capacity(alloc, bytes.len())?;
+    let mut items = room_for(alloc, bytes)?;
     let progress = read_all(&mut items, file, bytes, valid)?;
-    let mut source = Vec::with_capacity(alloc, bytes.len())?;
-    source.extend_from_slice(bytes)?;
+    let source = copy_of(alloc, bytes)?;
     Ok(Tokens::new(source, items, progress.cursor.place(file)))
+}
+
+/// No entries yet, and room for as many as the bytes may have.
+fn room_for(alloc: Global, bytes: &[u8]) -> Result<Vec<Token>, NoMemory>
+    ensures { IfOk result (λ items. items.items ≡ []) }
+{
+    Ok(Vec::with_capacity(alloc, bytes.len())?)
+}
+
+/// A copy of the bytes.
+fn copy_of(alloc: Global, bytes: &[u8]) -> Result<Vec<u8>, NoMemory>
+    ensures { IfOk result (λ source. source.items ≡ bytes.now) }
+{
+    Ok(Vec::from_slice(alloc, bytes)?)
+}
+
+/// Adds an entry.
+fn add(items: &mut Vec<Token>, token: Token) -> Result<(), NoMemory>
+    ensures { IfOk result (λ _. items.new.items ≡ items.old.items ++ token ∷ []) }
+{
+    items.push(token)?;
+    Ok(())
 }
 
 /// The length of the longest front that is UTF-8.
@@ -122,7 +143,7 @@ fn read_plain(
             pass(file, bytes, valid, behind, len)
         }
         Piece::Token(kind, len) => {
-            items.push(Token::new(cursor, kind, len))?;
+            add(items, Token::new(cursor, kind, len))?;
             pass(file, bytes, valid, progress, len)
         }
     }
@@ -209,12 +230,11 @@ fn push_head(
     bytes: &[u8],
     cursor: Cursor,
     head: Head,
-) -> Result<(), LexRefusal>
+) -> Result<(), NoMemory>
     requires room { length bytes.now < 2 ^ 30 }
     requires stands { Stands bytes.now cursor }
     requires head { IsHead (drop cursor.at bytes.now) head }
     ensures pushed { IfOk result (λ _. ArePushed bytes.now cursor head items.old.items items.new.items) }
-    ensures refused { IfErr result (λ refusal. refusal ≡ NoMemory) }
 {
     items.push(Token::new(cursor, Kind::Contract, 3))?;
     let word = cursor.advance(bytes, cursor.at + head.word);

@@ -14,7 +14,7 @@ use crate::words::{is_number, word_len};
 use crate::{Kind, LexRule};
 
 /// What stands at the front of a text.
-#[derive(Clone, Copy, Debug)]
+#[derive(Clone, Copy)]
 pub(crate) enum Piece {
     /// White space or a comment of this length.
     Gap(usize),

@@ -7,7 +7,7 @@ use crate::cursor::Cursor;
 
 /// The cursor, whether it stands in a contract line, and up to which byte no slash and star stand side by side in a line
 /// from there.
-#[derive(Clone, Copy, Debug)]
+#[derive(Clone, Copy)]
 pub(crate) struct Progress {
     pub(crate) cursor: Cursor,
     pub(crate) inside: bool,

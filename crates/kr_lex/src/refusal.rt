@@ -1,13 +1,11 @@
 // Why a source is no list of tokens.
 ghost use Rattle.std.specs.Prelude.{◌≡◌};
-ghost use Rattle.kr_lex.specs.declared.refusal.LexRefusal.TheVariants.{NoMemory};
 ghost use Rattle.kr_lex.specs.Rules.{rule_code};
 
-use kr_base::Place;
-use std::alloc::{AllocError, AllocFailed};
+use kr_base::RefusalAt;
 
 /// A lexical rule, by what breaks it.
-#[derive(Clone, Copy, Debug, PartialEq, Eq)]
+#[derive(Clone, Copy, PartialEq, Eq)]
 pub enum LexRule {
     /// L1: bytes that are no UTF-8.
     NotUtf8,
@@ -39,25 +37,5 @@ impl LexRule {
     }
 }
 
-/// A source was refused: it breaks a rule at a place, or memory was refused.
-#[derive(Clone, Copy, Debug, PartialEq, Eq)]
-pub enum LexRefusal {
-    Broken { place: Place, rule: LexRule },
-    NoMemory,
-}
-
-impl From<AllocError> for LexRefusal {
-    ghost from_gives = { λ _ refusal. refusal ≡ NoMemory };
-
-    fn from(_: AllocError) -> LexRefusal {
-        LexRefusal::NoMemory
-    }
-}
-
-impl<T: Drop> From<AllocFailed<T>> for LexRefusal {
-    ghost from_gives = { λ _ refusal. refusal ≡ NoMemory };
-
-    fn from(_: AllocFailed<T>) -> LexRefusal {
-        LexRefusal::NoMemory
-    }
-}
+/// A source was refused: it breaks a lexical rule at a place, or memory was refused.
+pub type LexRefusal = RefusalAt<LexRule>;

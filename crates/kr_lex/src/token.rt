@@ -10,7 +10,7 @@ use kr_base::Place;
 use std::marker::Model;
 
 /// A token: its kind, the line and the column where it begins, and the bytes of the source that spell it.
-#[derive(Clone, Copy, Debug)]
+#[derive(Clone, Copy)]
 pub struct Token {
     pub kind: Kind,
     pub line: u32,

@@ -7,7 +7,7 @@ use Rattle.kr_ast.specs.Tree.{Tree}
 use Rattle.kr_value.specs.declared.object.Class.TheVariants.{Object}
 use Rattle.kr_classes_table.specs.Types.{JavaType, ClassType}
 use Rattle.kr_classes_table.specs.Table.{Method, Constructor, line_of, method_named}
-use Rattle.kr_types_meaning.specs.Scopes.{Scope, written, bind, in_old, after, class_before, static_only, method_meant}
+use Rattle.kr_types_meaning.specs.Scopes.{Scope, written, bind_local, in_old, after, class_before, static_only, method_meant}
 use Rattle.kr_mean.specs.Program.{Program, overriding, class_scope, method_scope, constructor_scope, constructor_of, declared_fields}
 use Rattle.kr_mean.specs.Meaning.{typed_method, super_method, declaring_locals}
 
@@ -45,7 +45,7 @@ code s (trees.Old p e) = here s (trees.Old p e) (code (in_old s) e)
 code s (trees.Empty p) = here s (trees.Empty p) []
 code s (trees.Block p ts) = here s (trees.Block p ts) (code s ts)
 code s (trees.Local p t ds) = here s (trees.Local p t ds) (code (declaring_locals s t) ds)
-code s (trees.Declarator p n e) = here s (trees.Declarator p n e) (code (bind n s.declared s) e)
+code s (trees.Declarator p n e) = here s (trees.Declarator p n e) (code (bind_local n s.declared s) e)
 code s (trees.ExpressionStatement p e) = here s (trees.ExpressionStatement p e) (code s e)
 code s (trees.Return p e) = here s (trees.Return p e) (code s e)
 code s (trees.Break p) = here s (trees.Break p) []

@@ -14,8 +14,8 @@ use Rattle.kr_value.specs.declared.object.Class.TheVariants.{Object, Array, Set,
 use Rattle.kr_classes_table.specs.Types.{JavaType, ClassType, ArrayType, SetType, ListType, is_void}
 use Rattle.kr_classes_table.specs.Table.{Table, Field, Method, Constructor, items, fields_of, line_of, field_named, method_named}
 use Rattle.kr_classes_table.specs.Arrays.{array_number}
-use Rattle.kr_classes_table.specs.Constants.{constant_of, wrap, value_of as constant_value}
-use Rattle.kr_types_meaning.specs.Scopes.{Scope, Locals, Meant, LocalName, FieldName, NoName, written, declaring, bind as with_local, after, meant, class_before, static_only, method_meant, super_class}
+use Rattle.kr_classes_table.specs.Constants.{constant_of, wrap, known_value as constant_value}
+use Rattle.kr_types_meaning.specs.Scopes.{Scope, Locals, Meant, LocalName, FieldName, NoName, written, declaring, bind_local as with_local, after, meant, class_before, static_only, method_meant, super_class}
 use Rattle.kr_types_meaning.specs.Typing.{type_of}
 use Rattle.kr_mean.specs.declared.kind.Kind.TheVariants.{NegativeArraySizeException, ClassCastException, NoReturn, ArrayTooLong}
 use Rattle.kr_mean.specs.Program.{Program, default_of, is_of_type, overriding, class_scope, method_scope, constructor_scope, constructor_of, declared_fields}

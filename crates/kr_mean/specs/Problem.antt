@@ -13,12 +13,12 @@ use Rattle.kr_mean.specs.Program.{Program}
 use Rattle.kr_mean.specs.Places.{SlotPlace, This, Parameter, At}
 
 -- one entry of a domain: a plain value, or all objects of a class domain, in order
-pub data Item : Type 0 where
-  Plain : Value → Item
-  Objects : ℕ → Item
+pub data DomainItem : Type 0 where
+  Plain : Value → DomainItem
+  Objects : ℕ → DomainItem
 
 abbrev pub Domain : Type 0
-Domain = List Item
+Domain = List DomainItem
 
 pub record Spotted : Type 0 where
   pub spot : Spot
@@ -115,7 +115,7 @@ pub record Choice : Type 0 where
 abbrev pub object_choice : Problem → DomainObject → Choice
 object_choice problem o = record { value = Reference (heap_number problem o); object = Some o }
 
-abbrev pub item_choices : Problem → Item → List Choice
+abbrev pub item_choices : Problem → DomainItem → List Choice
 item_choices problem (Plain v) = record { value = v; object = None } ∷ []
 item_choices problem (Objects d) = map (object_choice problem) (objects_of_domain d (domain_at problem d))
 

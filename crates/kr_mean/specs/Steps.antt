@@ -11,7 +11,7 @@ use Rattle.kr_value.specs.declared.object.Spot.TheVariants.{Field as FieldSpot, 
 use Rattle.kr_value.specs.Heaps.{HeapObject, object_in, has_spot, value_of_spot}
 use Rattle.kr_classes_table.specs.Types.{JavaType}
 use Rattle.kr_classes_table.specs.Table.{Field}
-use Rattle.kr_classes_table.specs.Constants.{is_same_place}
+use Rattle.kr_classes_table.specs.Constants.{is_at_place}
 use Rattle.kr_mean.specs.declared.kind.Kind.{Kind}
 use Rattle.kr_mean.specs.declared.kind.Kind.TheVariants.{NullPointerException, ArrayIndexOutOfBoundsException}
 use Rattle.kr_mean.specs.Program.{Program, field_position, spot_of_field, is_array_of}
@@ -140,7 +140,7 @@ get_result s = given s.result s
 
 abbrev pub old_at : List Old → Place → Option Value
 old_at [] p = None
-old_at (o ∷ os) p = if is_same_place o.place p then Some o.value else old_at os p
+old_at (o ∷ os) p = if is_at_place o.place p then Some o.value else old_at os p
 
 abbrev pub get_old : Place → Run Value
 get_old p s = given (old_at s.olds p) s

@@ -49,8 +49,8 @@ judged_as trap (Err (Trapped kind)) s next = trap kind
 judged_as trap (Err OutOfFuel) s next = Spent
 judged_as trap (Err Stuck) s next = Spent
 
-abbrev pub judged : {A : Type 0} → (Kind → Verdict) → Outcome A → (A → State → Verdict) → Verdict
-judged trap o next = judged_as trap o.said o.after next
+abbrev pub then_judged : {A : Type 0} → (Kind → Verdict) → Outcome A → (A → State → Verdict) → Verdict
+then_judged trap o next = judged_as trap o.said o.after next
 
 abbrev pub where_holds : Value → Verdict → Verdict → Verdict
 where_holds (Truth true) fails next = next
@@ -60,36 +60,40 @@ where_holds v fails next = Spent
 -- the number of the first postcondition that is false
 abbrev pub ensured : Program → ℕ → List Node → State → Verdict
 ensured program n [] s = Pass
-ensured program n (e ∷ es) s = judged CheckTrap (value program e.scope e.tree s) (λ v t. where_holds v (Ensures n) (ensured program (n + 1) es t))
+ensured program n (e ∷ es) s = then_judged CheckTrap (value program e.scope e.tree s) (λ v t. where_holds v (Ensures n) (ensured program (n + 1) es t))
 
 -- `this.repOk()`, and then the postconditions, which see the result and the `\old`s
 abbrev pub checked : Problem → Method → List Old → Value → State → Verdict
 checked problem m olds result s =
-    judged CheckTrap (value problem.program (rep_ok_node problem).scope (rep_ok_node problem).tree s)
+    then_judged CheckTrap (value problem.program (rep_ok_node problem).scope (rep_ok_node problem).tree s)
     (λ v t. where_holds v RepOk (ensured problem.program 1 (ensures_of problem.program m) (record t { result = Some result; olds = olds })))
 
 abbrev pub verdict_from : Problem → Method → State → Verdict
 verdict_from problem m s =
-    judged CheckTrap (olds_valued problem.program (olds_of problem.program m) s)
-    (λ olds t. judged Trap (body_of problem.program t.this_value (map (λ l. l.value) t.locals) m t)
+    then_judged CheckTrap (olds_valued problem.program (olds_of problem.program m) s)
+    (λ olds t. then_judged Trap (body_of problem.program t.this_value (map (λ l. l.value) t.locals) m t)
     (λ result u. checked problem m olds result u))
 
 -- a test writes what it likes, so its heap has no candidates whose reads are noted
-abbrev pub test_start : Problem → List ℕ → State
-test_start problem vector = record {
+abbrev pub test_start : Problem → List ℕ → ℕ → State
+test_start problem vector fuel = record {
   this_value = value_at problem vector 0;
   locals = map plain_local (parameter_values problem vector);
   result = None;
   olds = [];
   heap = heap_of problem vector;
   candidates = 0;
-  fuel = problem.fuel;
+  fuel = fuel;
 }
 
-abbrev pub verdict_by : Problem → List ℕ → Option Method → Option Verdict
-verdict_by problem vector None = None
-verdict_by problem vector (Some m) = Some (verdict_from problem m (test_start problem vector))
+abbrev pub verdict_by : Problem → List ℕ → ℕ → Option Method → Option Verdict
+verdict_by problem vector fuel None = None
+verdict_by problem vector fuel (Some m) = Some (verdict_from problem m (test_start problem vector fuel))
 
--- of a test's vector; a listing has no verdicts
+-- of a test's vector, with so much fuel; a listing has no verdicts
+abbrev pub verdict_with : Problem → List ℕ → ℕ → Option Verdict
+verdict_with problem vector fuel = verdict_by problem vector fuel (tested_method problem problem.mode)
+
+-- with the problem's fuel
 unfoldable pub verdict_of : Problem → List ℕ → Option Verdict
-verdict_of problem vector = verdict_by problem vector (tested_method problem problem.mode)
+verdict_of problem vector = verdict_with problem vector problem.fuel

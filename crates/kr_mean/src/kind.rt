@@ -2,7 +2,7 @@
 
 /// Why a run traps: the exceptions of the Java Language Specification that the subset can meet, and two ends of this
 /// tool's own.
-#[derive(Clone, Copy, Debug, PartialEq, Eq)]
+#[derive(Clone, Copy, PartialEq, Eq)]
 pub enum Kind {
     NullPointerException,
     ArithmeticException,
@@ -17,7 +17,7 @@ pub enum Kind {
 }
 
 /// What a test says of the method under test on a structure.
-#[derive(Clone, Copy, Debug, PartialEq, Eq)]
+#[derive(Clone, Copy, PartialEq, Eq)]
 pub enum Verdict {
     Pass,
     /// The postcondition of this number, counted from 1, is the first that is false.

@@ -4,7 +4,7 @@ ghost use Rattle.std.specs.Prelude.{◌≡◌, string_bytes};
 use std::marker::Model;
 
 /// The name of a method. Contracts see its bytes.
-#[derive(Debug, Drop)]
+#[derive(Drop)]
 pub struct MethodName {
     text: String,
 }
@@ -32,7 +32,7 @@ impl MethodName {
 }
 
 /// To list the valid structures, or to test the root's method of a name on each of them.
-#[derive(Debug, Drop)]
+#[derive(Drop)]
 pub enum Mode {
     List,
     Method(MethodName),

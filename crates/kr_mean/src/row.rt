@@ -7,7 +7,7 @@ use kr_value::Value;
 use std::marker::Model;
 
 /// The reachable slots, by their numbers, with their values, in the order of the walk. Contracts see the list.
-#[derive(Debug, Drop)]
+#[derive(Drop)]
 pub struct Structure {
     slots: Vec<(u32, Value)>,
 }
@@ -37,7 +37,7 @@ impl Structure {
 }
 
 /// A valid candidate's key, its structure and, where a method is tested, the verdict.
-#[derive(Debug, Drop)]
+#[derive(Drop)]
 pub struct Row {
     pub key: Cut,
     pub structure: Structure,

@@ -1,4 +1,4 @@
-pub mod Examples
 pub mod Constructs
 pub mod Listings
+pub mod Examples
 pub mod Tests

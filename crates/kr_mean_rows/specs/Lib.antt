@@ -1,4 +1,5 @@
-pub mod Examples
+pub mod Words
 pub mod Constructs
 pub mod Listings
+pub mod Examples
 pub mod Tests

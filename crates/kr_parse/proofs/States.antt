@@ -13,7 +13,7 @@ use Rattle.kr_parse_grammar.specs.declared.goal.Goal.TheVariants as goals
 use Rattle.kr_parse_grammar.specs.declared.goal.Make.{Make}
 use Rattle.kr_parse_grammar.specs.declared.goal.Symbol.{Symbol}
 use Rattle.kr_parse_grammar.specs.declared.goal.Symbol.TheVariants.{Take, Keep, Word, Literal as Leaf, Spell, Want, Build}
-use Rattle.kr_parse_grammar.specs.Values.{Item, part, tag}
+use Rattle.kr_parse_grammar.specs.Values.{StackItem, part, tag}
 use Rattle.kr_parse_grammar.specs.Made.{made}
 use Rattle.kr_parse_grammar.specs.Grammar.{Derives}
 use Rattle.kr_parse_grammar.specs.Machine.{ahead, rule, start, Runs, done, take as takes, keep, name, leaf, spell, want, build}
@@ -28,7 +28,7 @@ same_ahead [] (b ∷ j) e = cc
 same_ahead (a ∷ i) [] e = cc
 same_ahead (a ∷ i) (b ∷ j) e = cc
 
-token_runs : (s : Symbol) (a : Lexeme) {ss : List Symbol} {vs ws : List Item} {i : List Lexeme} → IsAsked s a → Runs ss (kept_of s a vs) i ws → Runs (s ∷ ss) vs (a ∷ i) ws
+token_runs : (s : Symbol) (a : Lexeme) {ss : List Symbol} {vs ws : List StackItem} {i : List Lexeme} → IsAsked s a → Runs ss (kept_of s a vs) i ws → Runs (s ∷ ss) vs (a ∷ i) ws
 token_runs (Take k) a p d = takes a p d
 token_runs (Keep k) a p d = keep a p d
 token_runs Word a p d = name a p d
@@ -37,7 +37,7 @@ token_runs (Spell s) a p d = spell a p.0 p.1 d
 token_runs (Want g) a p d = absurd p
 token_runs (Build m) a p d = absurd p
 
-token_inv : (s : Symbol) {ss : List Symbol} {vs ws : List Item} {i : List Lexeme} → AsksToken s → Runs (s ∷ ss) vs i ws
+token_inv : (s : Symbol) {ss : List Symbol} {vs ws : List StackItem} {i : List Lexeme} → AsksToken s → Runs (s ∷ ss) vs i ws
     → (a : Lexeme) × (j : List Lexeme) × (i ≡ a ∷ j) × IsAsked s a × Runs ss (kept_of s a vs) j ws
 token_inv (Take k) u (takes {i = i} a p d) = (a, i, refl, p, d)
 token_inv (Keep k) u (keep {i = i} a p d) = (a, i, refl, p, d)
@@ -47,7 +47,7 @@ token_inv (Spell s) u (spell {i = i} a p q d) = (a, i, refl, (p, q), d)
 token_inv (Want g) u d = absurd u
 token_inv (Build m) u d = absurd u
 
-token_next : (s : Symbol) {ss : List Symbol} {vs ws : List Item} {a : Lexeme} {i : List Lexeme} → AsksToken s → Runs (s ∷ ss) vs (a ∷ i) ws → Runs ss (kept_of s a vs) i ws
+token_next : (s : Symbol) {ss : List Symbol} {vs ws : List StackItem} {a : Lexeme} {i : List Lexeme} → AsksToken s → Runs (s ∷ ss) vs (a ∷ i) ws → Runs ss (kept_of s a vs) i ws
 token_next (Take k) u (takes a p d) = d
 token_next (Keep k) u (keep a p d) = d
 token_next Word u (name a p d) = d
@@ -56,18 +56,18 @@ token_next (Spell s) u (spell a p q d) = d
 token_next (Want g) u d = absurd u
 token_next (Build m) u d = absurd u
 
-build_inv : {ss : List Symbol} {vs ws : List Item} {i : List Lexeme} {m : Make} → Runs (Build m ∷ ss) vs i ws → Runs ss (made m vs) i ws
+build_inv : {ss : List Symbol} {vs ws : List StackItem} {i : List Lexeme} {m : Make} → Runs (Build m ∷ ss) vs i ws → Runs ss (made m vs) i ws
 build_inv (build d) = d
 
-done_empty : {vs us : List Item} {i : List Lexeme} → Runs [] vs i us → i ≡ []
+done_empty : {vs us : List StackItem} {i : List Lexeme} → Runs [] vs i us → i ≡ []
 done_empty done = refl
 
-abbrev RunsOf : Option (List Symbol) → List Symbol → List Item → List Lexeme → List Item → Type 0
+abbrev RunsOf : Option (List Symbol) → List Symbol → List StackItem → List Lexeme → List StackItem → Type 0
 RunsOf None ss vs i ws = ⊥
 RunsOf (Some body) ss vs i ws = Runs (body ++ ss) vs i ws
 
 -- the machine goes on from a goal exactly as its rule says
-opens : {g : Goal} {ss : List Symbol} {vs ws : List Item} {i : List Lexeme} → Runs (Want g ∷ ss) vs i ws → RunsOf (rule g (ahead i) (tag vs)) ss vs i ws
+opens : {g : Goal} {ss : List Symbol} {vs ws : List StackItem} {i : List Lexeme} → Runs (Want g ∷ ss) vs i ws → RunsOf (rule g (ahead i) (tag vs)) ss vs i ws
 opens (want body e d) = rw e d
 
 pub fits_asks : (s : Symbol) (a : Lexeme) → IsAsked s a → AsksToken s
@@ -124,7 +124,7 @@ state_start laws ts = record {
   good = (refl, tt);
 }
 
-module _ (laws : AreLaws) (ts : Lexemes) (at : ℕ) (ss : List Symbol) (vs : List Item) where
+module _ (laws : AreLaws) (ts : Lexemes) (at : ℕ) (ss : List Symbol) (vs : List StackItem) where
   pub state_token : (s : Symbol) → at < length ts.list → IsAsked s (token_at ts at) → State ts.list at (s ∷ ss) vs
       → State ts.list (at + 1) ss (kept_of s (token_at ts at) vs)
   state_token s l p h = record {
@@ -141,10 +141,10 @@ module _ (laws : AreLaws) (ts : Lexemes) (at : ℕ) (ss : List Symbol) (vs : Lis
       good : Good ss
       good = good_behind s ss asks h.good
 
-      go : (j : List Lexeme) (ws : List Item) → Runs ss (kept_of s (token_at ts at) vs) j ws → Runs start [] (take (at + 1) ts.list ++ j) ws
+      go : (j : List Lexeme) (ws : List StackItem) → Runs ss (kept_of s (token_at ts at) vs) j ws → Runs start [] (take (at + 1) ts.list ++ j) ws
       go j ws d = rw (through ts at l j) (h.back (token_at ts at ∷ j) ws (front_ahead ts at l j) (token_runs s (token_at ts at) p d))
 
-      on : (j : List Lexeme) (ws : List Item) → Runs start [] (take (at + 1) ts.list ++ j) ws → Runs ss (kept_of s (token_at ts at) vs) j ws
+      on : (j : List Lexeme) (ws : List StackItem) → Runs start [] (take (at + 1) ts.list ++ j) ws → Runs ss (kept_of s (token_at ts at) vs) j ws
       on j ws d = token_next s asks (h.onward (token_at ts at ∷ j) ws (front_ahead ts at l j) (rw (through ts at l j) at d))
 
   pub state_build : (m : Make) → State ts.list at (Build m ∷ ss) vs → State ts.list at ss (made m vs)
@@ -168,11 +168,11 @@ module _ (laws : AreLaws) (ts : Lexemes) (at : ℕ) (ss : List Symbol) (vs : Lis
       same : (j : List Lexeme) → front j ≡ front (drop at ts.list) → rule g (ahead j) (tag vs) ≡ Some body
       same j e = ap (λ k. rule g k (tag vs)) (same_ahead j (drop at ts.list) e) ∙ q
 
-      on : (j : List Lexeme) (ws : List Item) → front j ≡ front (drop at ts.list) → Runs start [] (take at ts.list ++ j) ws → Runs (body ++ ss) vs j ws
+      on : (j : List Lexeme) (ws : List StackItem) → front j ≡ front (drop at ts.list) → Runs start [] (take at ts.list ++ j) ws → Runs (body ++ ss) vs j ws
       on j ws e d = let x : RunsOf (Some body) ss vs j ws = rw (same j e) at (opens (h.onward j ws e d)) in x
 
   -- Where nothing that begins as the tokens ahead do is taken, the token ahead is dead.
-  dead : State ts.list at ss vs → ((j : List Lexeme) (ws : List Item) → front j ≡ front (drop at ts.list) → Runs ss vs j ws → ⊥) → IsDead ts.list at
+  dead : State ts.list at ss vs → ((j : List Lexeme) (ws : List StackItem) → front j ≡ front (drop at ts.list) → Runs ss vs j ws → ⊥) → IsDead ts.list at
   dead h none = record { within = λ l more t d. within l more t d; end = λ l t d. end l t d }
     where
       run : (j i : List Lexeme) (p : Place) (f : Form) (t : Tree) → front j ≡ front (drop at ts.list) → i ≡ take at ts.list ++ j → Runs start [] i (part p f t ∷ []) → ⊥
@@ -195,27 +195,27 @@ module _ (laws : AreLaws) (ts : Lexemes) (at : ℕ) (ss : List Symbol) (vs : Lis
   pub viable : State ts.list at ss vs → IsViable ts.list at
   viable h = (h.within, go h.viable)
     where
-      go : (j : List Lexeme) × (ws : List Item) × Runs start [] (take at ts.list ++ j) ws → (more : List Lexeme) × (t : Tree) × Derives (take at ts.list ++ more) t
+      go : (j : List Lexeme) × (ws : List StackItem) × Runs start [] (take at ts.list ++ j) ws → (more : List Lexeme) × (t : Tree) × Derives (take at ts.list ++ more) t
       go (j, ws, d) = let r = laws.sound (take at ts.list ++ j) ws d in (j, r.2, r.4)
 
-  least : State ts.list at ss vs → IsShallow ts at → ((j : List Lexeme) (ws : List Item) → front j ≡ front (drop at ts.list) → Runs ss vs j ws → ⊥) → IsLeast ts at
+  least : State ts.list at ss vs → IsShallow ts at → ((j : List Lexeme) (ws : List StackItem) → front j ≡ front (drop at ts.list) → Runs ss vs j ws → ⊥) → IsLeast ts at
   least h b none = record { dead = dead h none; viable = viable h; shallow = b }
 
 -- no rule stands for the goal
-pub least_want : AreLaws → (ts : Lexemes) (at : ℕ) (g : Goal) (ss : List Symbol) (vs : List Item) → State ts.list at (Want g ∷ ss) vs → IsShallow ts at
+pub least_want : AreLaws → (ts : Lexemes) (at : ℕ) (g : Goal) (ss : List Symbol) (vs : List StackItem) → State ts.list at (Want g ∷ ss) vs → IsShallow ts at
     → rule g (ahead (drop at ts.list)) (tag vs) ≡ None → IsLeast ts at
 least_want laws ts at g ss vs h b q = least laws ts at (Want g ∷ ss) vs h b none
   where
-    none : (j : List Lexeme) (ws : List Item) → front j ≡ front (drop at ts.list) → Runs (Want g ∷ ss) vs j ws → ⊥
+    none : (j : List Lexeme) (ws : List StackItem) → front j ≡ front (drop at ts.list) → Runs (Want g ∷ ss) vs j ws → ⊥
     none j ws e d =
         let x : RunsOf None ss vs j ws = rw (ap (λ k. rule g k (tag vs)) (same_ahead j (drop at ts.list) e) ∙ q) at (opens d) in x
 
 -- the token ahead is none that the symbol asks for
-pub least_token : AreLaws → (ts : Lexemes) (at : ℕ) (s : Symbol) (ss : List Symbol) (vs : List Item) → AsksToken s → State ts.list at (s ∷ ss) vs → IsShallow ts at
+pub least_token : AreLaws → (ts : Lexemes) (at : ℕ) (s : Symbol) (ss : List Symbol) (vs : List StackItem) → AsksToken s → State ts.list at (s ∷ ss) vs → IsShallow ts at
     → (at < length ts.list → IsAsked s (token_at ts at) → ⊥) → IsLeast ts at
 least_token laws ts at s ss vs u h b q = least laws ts at (s ∷ ss) vs h b none
   where
-    none : (j : List Lexeme) (ws : List Item) → front j ≡ front (drop at ts.list) → Runs (s ∷ ss) vs j ws → ⊥
+    none : (j : List Lexeme) (ws : List StackItem) → front j ≡ front (drop at ts.list) → Runs (s ∷ ss) vs j ws → ⊥
     none j ws e d = go (token_inv s u d)
       where
         go : (a : Lexeme) × (i : List Lexeme) × (j ≡ a ∷ i) × IsAsked s a × Runs ss (kept_of s a vs) i ws → ⊥
@@ -224,15 +224,15 @@ least_token laws ts at s ss vs u h b q = least laws ts at (s ∷ ss) vs h b none
             q t.0 (subst (λ (x : Lexeme). IsAsked s x) (sym t.1) p)
 
 -- nothing is wanted, and tokens are left
-pub least_left : AreLaws → (ts : Lexemes) (at : ℕ) (vs : List Item) → State ts.list at [] vs → IsShallow ts at → at < length ts.list → IsLeast ts at
+pub least_left : AreLaws → (ts : Lexemes) (at : ℕ) (vs : List StackItem) → State ts.list at [] vs → IsShallow ts at → at < length ts.list → IsLeast ts at
 least_left laws ts at vs h b l = least laws ts at [] vs h b none
   where
-    none : (j : List Lexeme) (ws : List Item) → front j ≡ front (drop at ts.list) → Runs [] vs j ws → ⊥
+    none : (j : List Lexeme) (ws : List StackItem) → front j ≡ front (drop at ts.list) → Runs [] vs j ws → ⊥
     none j ws e d =
         let x : front (token_at ts at ∷ []) ≡ front [] = front_ahead ts at l [] ∙ sym e ∙ ap front (done_empty d) in cc
 
 -- nothing is wanted, and none is left
-pub derived : AreLaws → (ts : Lexemes) (at : ℕ) (vs : List Item) → State ts.list at [] vs → length ts.list ≤ at
+pub derived : AreLaws → (ts : Lexemes) (at : ℕ) (vs : List StackItem) → State ts.list at [] vs → length ts.list ≤ at
     → (p : Place) × (f : Form) × (t : Tree) × (vs ≡ part p f t ∷ []) × Derives ts.list t
 derived laws ts at vs h l = laws.sound ts.list vs whole
   where
@@ -248,7 +248,7 @@ pub same_rule : (g h : Goal) (k l : Terminal) (q r : Tag) (o : Option (List Symb
 same_rule g h k l q r o a b e d = ap (λ x. rule x l q) a ∙ ap (λ x. rule h x q) (sym b) ∙ ap (λ x. rule h k x) e ∙ d
 
 -- what stands for the goal takes its place
-pub expanded : AreLaws → (ts : Lexemes) (at : ℕ) (g : Goal) (body ss new : List Symbol) (vs : List Item) → new ≡ body ++ ss → rule g (ahead (drop at ts.list)) (tag vs) ≡ Some body
+pub expanded : AreLaws → (ts : Lexemes) (at : ℕ) (g : Goal) (body ss new : List Symbol) (vs : List StackItem) → new ≡ body ++ ss → rule g (ahead (drop at ts.list)) (tag vs) ≡ Some body
     → State ts.list at (Want g ∷ ss) vs → State ts.list at new vs
 expanded laws ts at g body ss new vs e q h = subst (λ (x : List Symbol). State ts.list at x vs) (sym e) (state_want laws ts at ss vs g body q h)
 

@@ -1,14 +1,14 @@
 -- To be believed: when a parse is refused.
 use Rattle.std.specs.Prelude.{◌≡◌, ℕ, ◌+◌, ◌<◌, ◌≤◌, Bool, true, false, if◌then◌else◌, List, [], ◌∷◌, ◌++◌, length, take, pred, slice_index_or}
 use Rattle.kr_base.specs.declared.place.Place.{Place}
+use Rattle.kr_base.specs.declared.refusal.RefusalAt.{RefusalAt}
+use Rattle.kr_base.specs.declared.refusal.RefusalAt.TheVariants as refusals
 use Rattle.kr_lex.specs.Lexemes.{Lexeme, Lexemes}
 use Rattle.kr_lex.specs.Spelling.{is_outside_profile}
 use Rattle.kr_lex.specs.declared.kind.Kind.{Kind}
 use Rattle.kr_lex.specs.declared.kind.Kind.TheVariants as kinds
 use Rattle.kr_ast.specs.Tree.{Tree}
 use Rattle.kr_parse_grammar.specs.Grammar.{Derives}
-use Rattle.kr_parse.specs.declared.refusal.ParseRefusal.{ParseRefusal}
-use Rattle.kr_parse.specs.declared.refusal.ParseRefusal.TheVariants as refusals
 use Rattle.kr_parse.specs.declared.refusal.ParseRule.{ParseRule}
 use Rattle.kr_parse.specs.declared.refusal.ParseRule.TheVariants as rules
 
@@ -82,9 +82,9 @@ IsUnparsed ts p rules.Unsupported = IsLeastDead ts p true
 IsUnparsed ts p rules.TooNested = IsFirstTooNested ts p
 
 -- want of memory is free
-abbrev pub IsRefusal : Lexemes → ParseRefusal → Type 0
+abbrev pub IsRefusal : Lexemes → RefusalAt ParseRule → Type 0
 IsRefusal ts (refusals.Broken p rule) = IsUnparsed ts p rule
-IsRefusal ts refusals.NoMemory = Unit {0}
+IsRefusal ts (refusals.NoMemory _) = Unit {0}
 
 -- a tree is derived, and no bracket is too deep
 pub record IsParsed (ts : Lexemes) (t : Tree) : Type 0 where

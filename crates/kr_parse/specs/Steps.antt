@@ -7,7 +7,7 @@ use Rattle.kr_parse_grammar.specs.declared.value.Form.TheVariants as forms
 use Rattle.kr_parse_grammar.specs.declared.goal.Symbol.{Symbol}
 use Rattle.kr_parse_grammar.specs.declared.goal.Symbol.TheVariants.{Take, Keep, Word, Literal as Leaf, Spell, Want, Build}
 use Rattle.kr_parse_grammar.specs.Terminals.{terminal_of}
-use Rattle.kr_parse_grammar.specs.Values.{Item, mark, word, part}
+use Rattle.kr_parse_grammar.specs.Values.{StackItem, mark, word, part}
 use Rattle.kr_parse_grammar.specs.Made.{literal}
 use Rattle.kr_parse_grammar.specs.Machine.{ahead, spelling}
 use Rattle.kr_parse_laws.specs.Laws.{Soundness, Completeness, SmallTrees, Productivity, Preservation, Termination}
@@ -40,7 +40,7 @@ AsksToken (Build m) = ⊥
 AsksToken _ = Unit {0}
 
 -- the values behind a token that the symbol asked for
-abbrev pub kept_of : Symbol → Lexeme → List Item → List Item
+abbrev pub kept_of : Symbol → Lexeme → List StackItem → List StackItem
 kept_of (Keep k) a vs = mark a.kind a.place ∷ vs
 kept_of Word a vs = word a.place a.text ∷ vs
 kept_of Leaf a vs = part a.place forms.Other (literal a) ∷ vs

@@ -13,7 +13,7 @@ use kr_parse_grammar::{Spelled, Symbol, Terminal, terminal_of};
 pub(crate) const OPEN_BRACKETS: u32 = 64;
 
 /// The index of the next token, how many brackets are open before it, and what it is: `End` behind the last token.
-#[derive(Clone, Copy, Debug)]
+#[derive(Clone, Copy)]
 pub(crate) struct Cursor {
     pub(crate) at: usize,
     pub(crate) depth: u32,

@@ -1,12 +1,11 @@
 // Why no tree was found.
 ghost use Rattle.std.specs.Prelude.{◌≡◌};
-ghost use Rattle.kr_parse.specs.declared.refusal.ParseRefusal.TheVariants.{NoMemory as Lacking};
 ghost use Rattle.kr_parse.specs.Rules.{rule_code};
 
-use kr_base::{NoMemory, Place};
+use kr_base::RefusalAt;
 
 /// A rule of the grammar, by what breaks it.
-#[derive(Clone, Copy, Debug, PartialEq, Eq)]
+#[derive(Clone, Copy, PartialEq, Eq)]
 pub enum ParseRule {
     /// P1: a token with which no derivable file goes on, the end of input being a last one.
     Syntax,
@@ -29,17 +28,5 @@ impl ParseRule {
     }
 }
 
-/// The tokens were refused: they break a rule at a place, or memory was refused.
-#[derive(Clone, Copy, Debug, PartialEq, Eq)]
-pub enum ParseRefusal {
-    Broken { place: Place, rule: ParseRule },
-    NoMemory,
-}
-
-impl From<NoMemory> for ParseRefusal {
-    ghost from_gives = { λ _ refusal. refusal ≡ Lacking };
-
-    fn from(_: NoMemory) -> ParseRefusal {
-        ParseRefusal::NoMemory
-    }
-}
+/// The tokens were refused: they break a rule of the grammar at a place, or memory was refused.
+pub type ParseRefusal = RefusalAt<ParseRule>;

@@ -16,7 +16,7 @@ use Rattle.kr_parse_grammar.specs.declared.goal.Symbol.{Symbol}
 use Rattle.kr_parse_grammar.specs.declared.goal.Symbol.TheVariants.{Take, Keep, Word, Literal as Leaf, Spell, Want, Build}
 use Rattle.kr_parse_grammar.specs.TokenMeanings.{java, util, override}
 use Rattle.kr_parse_grammar.specs.Terminals.{terminal_of}
-use Rattle.kr_parse_grammar.specs.Values.{Item, mark, word, part, tag}
+use Rattle.kr_parse_grammar.specs.Values.{StackItem, mark, word, part, tag}
 use Rattle.kr_parse_grammar.specs.Made.{made, literal}
 
 -- the token ahead
@@ -336,15 +336,15 @@ spelling spelled.Util = util
 spelling spelled.Override = override
 
 -- From these symbols and values the machine takes exactly these tokens, and ends with the values ws.
-pub data Runs : List Symbol → List Item → List Lexeme → List Item → Type 0 where
-  done : {vs : List Item} → Runs [] vs [] vs
-  take : {ss : List Symbol} {vs ws : List Item} {i : List Lexeme} {k : Terminal} (a : Lexeme) → terminal_of a.kind ≡ k → Runs ss vs i ws → Runs (Take k ∷ ss) vs (a ∷ i) ws
-  keep : {ss : List Symbol} {vs ws : List Item} {i : List Lexeme} {k : Terminal} (a : Lexeme) → terminal_of a.kind ≡ k → Runs ss (mark a.kind a.place ∷ vs) i ws → Runs (Keep k ∷ ss) vs (a ∷ i) ws
-  name : {ss : List Symbol} {vs ws : List Item} {i : List Lexeme} (a : Lexeme) → terminal_of a.kind ≡ Identifier → Runs ss (word a.place a.text ∷ vs) i ws → Runs (Word ∷ ss) vs (a ∷ i) ws
-  leaf : {ss : List Symbol} {vs ws : List Item} {i : List Lexeme} (a : Lexeme) → terminal_of a.kind ≡ Literal → Runs ss (part a.place forms.Other (literal a) ∷ vs) i ws → Runs (Leaf ∷ ss) vs (a ∷ i) ws
-  spell : {ss : List Symbol} {vs ws : List Item} {i : List Lexeme} {s : Spelled} (a : Lexeme) → terminal_of a.kind ≡ Identifier → a.text ≡ spelling s → Runs ss vs i ws → Runs (Spell s ∷ ss) vs (a ∷ i) ws
-  want : {ss : List Symbol} {vs ws : List Item} {i : List Lexeme} {g : Goal} (body : List Symbol) → rule g (ahead i) (tag vs) ≡ Some body → Runs (body ++ ss) vs i ws → Runs (Want g ∷ ss) vs i ws
-  build : {ss : List Symbol} {vs ws : List Item} {i : List Lexeme} {m : Make} → Runs ss (made m vs) i ws → Runs (Build m ∷ ss) vs i ws
+pub data Runs : List Symbol → List StackItem → List Lexeme → List StackItem → Type 0 where
+  done : {vs : List StackItem} → Runs [] vs [] vs
+  take : {ss : List Symbol} {vs ws : List StackItem} {i : List Lexeme} {k : Terminal} (a : Lexeme) → terminal_of a.kind ≡ k → Runs ss vs i ws → Runs (Take k ∷ ss) vs (a ∷ i) ws
+  keep : {ss : List Symbol} {vs ws : List StackItem} {i : List Lexeme} {k : Terminal} (a : Lexeme) → terminal_of a.kind ≡ k → Runs ss (mark a.kind a.place ∷ vs) i ws → Runs (Keep k ∷ ss) vs (a ∷ i) ws
+  name : {ss : List Symbol} {vs ws : List StackItem} {i : List Lexeme} (a : Lexeme) → terminal_of a.kind ≡ Identifier → Runs ss (word a.place a.text ∷ vs) i ws → Runs (Word ∷ ss) vs (a ∷ i) ws
+  leaf : {ss : List Symbol} {vs ws : List StackItem} {i : List Lexeme} (a : Lexeme) → terminal_of a.kind ≡ Literal → Runs ss (part a.place forms.Other (literal a) ∷ vs) i ws → Runs (Leaf ∷ ss) vs (a ∷ i) ws
+  spell : {ss : List Symbol} {vs ws : List StackItem} {i : List Lexeme} {s : Spelled} (a : Lexeme) → terminal_of a.kind ≡ Identifier → a.text ≡ spelling s → Runs ss vs i ws → Runs (Spell s ∷ ss) vs (a ∷ i) ws
+  want : {ss : List Symbol} {vs ws : List StackItem} {i : List Lexeme} {g : Goal} (body : List Symbol) → rule g (ahead i) (tag vs) ≡ Some body → Runs (body ++ ss) vs i ws → Runs (Want g ∷ ss) vs i ws
+  build : {ss : List Symbol} {vs ws : List StackItem} {i : List Lexeme} {m : Make} → Runs ss (made m vs) i ws → Runs (Build m ∷ ss) vs i ws
 
 -- what a parse begins with
 abbrev pub start : List Symbol

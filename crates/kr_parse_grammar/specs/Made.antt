@@ -17,7 +17,7 @@ use Rattle.kr_ast.specs.Tree.{Tree}
 use Rattle.kr_parse_grammar.specs.declared.value.Form.TheVariants as forms
 use Rattle.kr_parse_grammar.specs.declared.goal.Make.{Make}
 use Rattle.kr_parse_grammar.specs.declared.goal.Make.TheVariants as makes
-use Rattle.kr_parse_grammar.specs.Values.{Item, mark, word, pair, part, member, owner, no_modifiers}
+use Rattle.kr_parse_grammar.specs.Values.{StackItem, mark, word, pair, part, member, owner, no_modifiers}
 
 -- the place of what has none
 abbrev pub nowhere : Place
@@ -98,19 +98,19 @@ abbrev pub literal : Lexeme → Tree
 literal a = literal_of a.kind a.place a.text
 
 -- a name as an operand, compared with what stands below it, or tested by it where that is an expression
-abbrev pub joined : Place → Tree → Tree → List Item → List Item → List Item
+abbrev pub joined : Place → Tree → Tree → List StackItem → List StackItem → List StackItem
 joined p e t (part q f x ∷ us) cs = part q forms.Other (trees.InstanceOf q x t) ∷ us
 joined p e t (word q n ∷ us) (part r f x ∷ cs) = part r forms.Other (trees.Binary r binaries.Less x e) ∷ cs
 joined p e t (pair q o n ∷ us) (part r f x ∷ cs) = part r forms.Other (trees.Binary r binaries.Less x e) ∷ cs
 joined p e t us cs = part p forms.Target e ∷ us
 
 -- the names on top, which stood with `<` between them, as comparisons
-abbrev pub compared : List Item → List Item
+abbrev pub compared : List StackItem → List StackItem
 compared (word p n ∷ vs) = joined p (trees.Variable p n) (trees.NamedType p n) vs (compared vs)
 compared (pair p o n ∷ vs) = joined p (trees.FieldAccess p (trees.Variable p o) n) (trees.QualifiedType p o n) vs (compared vs)
 compared vs = vs
 
-abbrev pub made : Make → List Item → List Item
+abbrev pub made : Make → List StackItem → List StackItem
 made makes.Nil vs = part nowhere forms.Other trees.Nil ∷ vs
 made makes.Cons (part q g u ∷ part p f t ∷ vs) = part p forms.Other (trees.Cons t u) ∷ vs
 made makes.Pair (word q n ∷ word p o ∷ vs) = pair p o n ∷ vs

@@ -7,7 +7,7 @@ use Rattle.kr_parse_grammar.specs.declared.goal.Goal.{Goal}
 use Rattle.kr_parse_grammar.specs.declared.goal.Goal.TheVariants as goals
 use Rattle.kr_parse_grammar.specs.declared.goal.Symbol.{Symbol}
 use Rattle.kr_parse_grammar.specs.declared.goal.Symbol.TheVariants.{Take, Keep, Word, Literal as Leaf, Spell, Want, Build}
-use Rattle.kr_parse_grammar.specs.Values.{Item}
+use Rattle.kr_parse_grammar.specs.Values.{StackItem}
 use Rattle.kr_parse_grammar.specs.Machine.{Runs, start}
 
 abbrev pub is_end : Terminal → Bool
@@ -300,9 +300,9 @@ front [] = None
 front (a ∷ i) = Some a
 
 -- With the token at `at` ahead, what is taken from the start is what came before it and what these symbols take.
-pub record State (ts : List Lexeme) (at : ℕ) (ss : List Symbol) (vs : List Item) : Type 0 where
+pub record State (ts : List Lexeme) (at : ℕ) (ss : List Symbol) (vs : List StackItem) : Type 0 where
   pub within : at ≤ length ts
-  pub onward : (j : List Lexeme) (ws : List Item) → front j ≡ front (drop at ts) → Runs start [] (take at ts ++ j) ws → Runs ss vs j ws
-  pub back : (j : List Lexeme) (ws : List Item) → front j ≡ front (drop at ts) → Runs ss vs j ws → Runs start [] (take at ts ++ j) ws
-  pub viable : (j : List Lexeme) × (ws : List Item) × Runs start [] (take at ts ++ j) ws
+  pub onward : (j : List Lexeme) (ws : List StackItem) → front j ≡ front (drop at ts) → Runs start [] (take at ts ++ j) ws → Runs ss vs j ws
+  pub back : (j : List Lexeme) (ws : List StackItem) → front j ≡ front (drop at ts) → Runs ss vs j ws → Runs start [] (take at ts ++ j) ws
+  pub viable : (j : List Lexeme) × (ws : List StackItem) × Runs start [] (take at ts ++ j) ws
   pub good : Good ss

@@ -10,19 +10,19 @@ use Rattle.kr_parse_grammar.specs.declared.value.Modifiers.{Modifiers}
 use Rattle.kr_parse_grammar.specs.declared.value.Tag.{Tag}
 use Rattle.kr_parse_grammar.specs.declared.value.Tag.TheVariants as tags
 
-pub data Item : Type 0 where
+pub data StackItem : Type 0 where
   -- a token of whose spelling nothing is needed
-  mark : Kind → Place → Item
+  mark : Kind → Place → StackItem
   -- an identifier
-  word : Place → List ℕ → Item
+  word : Place → List ℕ → StackItem
   -- two identifiers with a dot between them
-  pair : Place → List ℕ → List ℕ → Item
+  pair : Place → List ℕ → List ℕ → StackItem
   -- a tree, and where its first token stands
-  part : Place → Form → Tree → Item
+  part : Place → Form → Tree → StackItem
   -- the modifiers of the member that comes, and whether its class is nested
-  member : Bool → Modifiers → Item
+  member : Bool → Modifiers → StackItem
   -- the name of the class whose members come, and whether it is nested
-  owner : Bool → Place → List ℕ → Item
+  owner : Bool → Place → List ℕ → StackItem
 
 abbrev pub no_modifiers : Modifiers
 no_modifiers = record { is_static = false; is_final = false; overrides = false }
@@ -36,7 +36,7 @@ tag_of_form forms.Local = tags.Local
 tag_of_form forms.Other = tags.Other
 
 -- a name, as the head of a type or an operand
-abbrev pub is_name : List Item → Bool
+abbrev pub is_name : List StackItem → Bool
 is_name (word p n ∷ vs) = true
 is_name (pair p o n ∷ vs) = true
 is_name _ = false
@@ -48,12 +48,12 @@ abbrev pub is_plain : Modifiers → Bool
 is_plain m = not m.is_static && not m.is_final && not m.overrides
 
 -- a word, by what stands below it
-abbrev pub tag_of_word : List ℕ → List Item → Tag
+abbrev pub tag_of_word : List ℕ → List StackItem → Tag
 tag_of_word n (member b m ∷ owner c p o ∷ vs) = if is_plain m && bytes_eq n o then tags.Constructor else tags.Word
 tag_of_word n _ = tags.Word
 
 -- what the values on top are
-abbrev pub tag : List Item → Tag
+abbrev pub tag : List StackItem → Tag
 tag [] = tags.Other
 tag (mark k p ∷ vs) = tags.Other
 tag (word p n ∷ vs) = tag_of_word n vs

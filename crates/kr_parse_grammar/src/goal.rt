@@ -3,7 +3,7 @@
 use crate::terminal::Terminal;
 
 /// An identifier with a meaning of its own.
-#[derive(Clone, Copy, Debug, PartialEq, Eq)]
+#[derive(Clone, Copy, PartialEq, Eq)]
 pub enum Spelled {
     Java,
     Util,
@@ -11,7 +11,7 @@ pub enum Spelled {
 }
 
 /// What comes next. Goals whose names begin with `After`, or say where they stand, go on from the values on top.
-#[derive(Clone, Copy, Debug)]
+#[derive(Clone, Copy)]
 pub enum Goal {
     // files and classes
     File,
@@ -111,7 +111,7 @@ pub enum Goal {
 }
 
 /// What is made of the values on top.
-#[derive(Clone, Copy, Debug)]
+#[derive(Clone, Copy)]
 pub enum Make {
     Nil,
     Cons,
@@ -189,7 +189,7 @@ pub enum Make {
 }
 
 /// A symbol on the parser's stack.
-#[derive(Clone, Copy, Debug)]
+#[derive(Clone, Copy)]
 pub enum Symbol {
     /// a token comes next
     Take(Terminal),

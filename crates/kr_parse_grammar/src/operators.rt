@@ -8,7 +8,7 @@ use crate::goal::{Goal, Make, Symbol};
 use crate::terminal::Terminal;
 
 /// How an expression goes on behind an operand.
-#[derive(Clone, Copy, Debug)]
+#[derive(Clone, Copy)]
 pub enum Infix {
     /// no expression goes on so
     Dead,

@@ -5,7 +5,7 @@ ghost use Rattle.kr_parse_grammar.specs.Terminals.{terminal_of};
 use kr_lex::Kind;
 
 /// Tokens that the grammar treats alike. `End` stands behind the last token.
-#[derive(Clone, Copy, Debug, PartialEq, Eq)]
+#[derive(Clone, Copy, PartialEq, Eq)]
 pub enum Terminal {
     End,
     Identifier,

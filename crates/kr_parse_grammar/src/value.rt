@@ -1,7 +1,7 @@
 // What the parser tells apart among the trees and modifiers that it has read.
 
 /// What a tree may still become part of: expressions by their form, types, and declarations of locals.
-#[derive(Clone, Copy, Debug, PartialEq, Eq)]
+#[derive(Clone, Copy, PartialEq, Eq)]
 pub enum Form {
     /// what may be assigned to: a variable, a field or an element
     Target,
@@ -14,7 +14,7 @@ pub enum Form {
 }
 
 /// The modifiers of a member that matter.
-#[derive(Clone, Copy, Debug, PartialEq, Eq)]
+#[derive(Clone, Copy, PartialEq, Eq)]
 pub struct Modifiers {
     pub is_static: bool,
     pub is_final: bool,
@@ -22,7 +22,7 @@ pub struct Modifiers {
 }
 
 /// What the values on top are, where a choice of the parser depends on them.
-#[derive(Clone, Copy, Debug, PartialEq, Eq)]
+#[derive(Clone, Copy, PartialEq, Eq)]
 pub enum Tag {
     Target,
     Invocation,

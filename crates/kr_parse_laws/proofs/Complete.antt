@@ -10,7 +10,7 @@ use Rattle.kr_parse_grammar.specs.declared.goal.Goal.TheVariants as goals
 use Rattle.kr_parse_grammar.specs.declared.goal.Symbol.{Symbol}
 use Rattle.kr_parse_grammar.specs.declared.goal.Symbol.TheVariants.{Want}
 use Rattle.kr_parse_grammar.specs.Terminals.{terminal_of}
-use Rattle.kr_parse_grammar.specs.Values.{Item, part}
+use Rattle.kr_parse_grammar.specs.Values.{StackItem, part}
 use Rattle.kr_parse_grammar.specs.Made.{the_primitive, assigned, literal_of, jump}
 use Rattle.kr_parse_grammar.specs.Grammar as grammar
 use Rattle.kr_parse_grammar.specs.Grammar.{at, Class, Der, Derives, Heading}
@@ -165,7 +165,7 @@ complete (grammar.another {i = i} {j = j} {m = l} {r = r} {f = f} {t = t} {u = u
 -- what is derived the machine takes from the start
 pub completeness : Completeness
 completeness i t (j, h, d) =
-    let c : (p : Place) × (f : Form) × ((ss : List Symbol) (vs ws : List Item) → Runs ss (part p f t ∷ vs) [] ws → Runs (Want goals.Classes ∷ ss) vs j ws) = complete d refl in
+    let c : (p : Place) × (f : Form) × ((ss : List Symbol) (vs ws : List StackItem) → Runs ss (part p f t ∷ vs) [] ws → Runs (Want goals.Classes ∷ ss) vs j ws) = complete d refl in
     (c.0, c.1, heading h [] [] (part c.0 c.1 t ∷ []) (c.2 [] [] (part c.0 c.1 t ∷ []) done))
 
 -- a list of tokens has at most one tree

@@ -19,7 +19,7 @@ use Rattle.kr_parse_grammar.specs.declared.goal.Symbol.{Symbol}
 use Rattle.kr_parse_grammar.specs.declared.goal.Symbol.TheVariants.{Take, Keep, Want, Build}
 use Rattle.kr_parse_grammar.specs.Terminals.{terminal_of}
 use Rattle.kr_parse_grammar.specs.TokenMeanings.{binary_of, level}
-use Rattle.kr_parse_grammar.specs.Values.{Item, mark, word, part, tag, is_name}
+use Rattle.kr_parse_grammar.specs.Values.{StackItem, mark, word, part, tag, is_name}
 use Rattle.kr_parse_grammar.specs.Made.{made, compared}
 use Rattle.kr_parse_grammar.specs.Grammar.{at}
 use Rattle.kr_parse_grammar.specs.Machine.{ahead, rule, starts_unary, level_of, operators_rule, Runs, take, keep, want, build}
@@ -41,12 +41,12 @@ tested_rule terminals.Dot q e h = cc
 tested_rule terminals.Less q e h = cc
 tested_rule _ q e h = refl
 
-chain_end : (n : ℕ) (ss : List Symbol) (vs ws : List Item) (p : Place) (t : Tree) (r : List Lexeme) → n ≤ 8 → is_relation (ahead r) ≡ false → Runs (Want (goals.Operators n 7) ∷ ss) (part p forms.Other t ∷ vs) r ws
-    → (ts : List Symbol) (ns : List Item) (v : Item) (q : Place) (e u y : Tree) (f : Form) → Gated n ss ts ws → IsName v q e u → is_name ns ≡ true → compared ns ≡ part p f y ∷ vs
+chain_end : (n : ℕ) (ss : List Symbol) (vs ws : List StackItem) (p : Place) (t : Tree) (r : List Lexeme) → n ≤ 8 → is_relation (ahead r) ≡ false → Runs (Want (goals.Operators n 7) ∷ ss) (part p forms.Other t ∷ vs) r ws
+    → (ts : List Symbol) (ns : List StackItem) (v : StackItem) (q : Place) (e u y : Tree) (f : Form) → Gated n ss ts ws → IsName v q e u → is_name ns ≡ true → compared ns ≡ part p f y ∷ vs
     → t ≡ trees.Binary p binaries.Less y e → Runs (Want goals.ChainName ∷ ts) (v ∷ ns) r ws
 chain_end n ss vs ws p t r h far d ts ns v q e u y f gate isn isns nm z =
     let c : (ends_operand (ahead r) ≡ true) × (level_of (ahead r) ≤ 7) = operators_inv n 7 ss (part p forms.Other t ∷ vs) ws r h d in
-    let cs : List Item = part q forms.Target e ∷ part p f y ∷ vs in
+    let cs : List StackItem = part q forms.Target e ∷ part p f y ∷ vs in
     let x : Runs ts (part p forms.Other (trees.Binary p binaries.Less y e) ∷ vs) r ws = rw z at (gate p t vs r d) in
     let low : level_of (ahead r) < 8 = omega (arith, c.1) in
     let w : Runs (Want goals.ChainPrimary ∷ ts) cs r ws =
@@ -55,8 +55,8 @@ chain_end n ss vs ws p t r h far d ts ns v q e u y f gate isn isns nm z =
     let b : made makes.Variable (made makes.CompareBelow (v ∷ ns)) ≡ cs = below_variable v q e u ns (part p f y ∷ vs) isn nm in
     want (Build makes.CompareBelow ∷ Build makes.Variable ∷ Want goals.ChainPrimary ∷ []) (chain_rule (ahead r) (tag (v ∷ ns)) c.0 far) (build (build (rw b w)))
 
-test_end : (n : ℕ) (ss : List Symbol) (vs ws : List Item) (p : Place) (t : Tree) (r : List Lexeme) → n ≤ 8 → is_less (ahead r) ≡ false → Runs (Want (goals.Operators n 7) ∷ ss) (part p forms.Other t ∷ vs) r ws
-    → (v : Item) (q : Place) (e u y : Tree) (f : Form) → IsName v q e u → t ≡ trees.InstanceOf p y u → Runs (Want goals.TestedName ∷ Want (goals.Operators n 7) ∷ ss) (v ∷ part p f y ∷ vs) r ws
+test_end : (n : ℕ) (ss : List Symbol) (vs ws : List StackItem) (p : Place) (t : Tree) (r : List Lexeme) → n ≤ 8 → is_less (ahead r) ≡ false → Runs (Want (goals.Operators n 7) ∷ ss) (part p forms.Other t ∷ vs) r ws
+    → (v : StackItem) (q : Place) (e u y : Tree) (f : Form) → IsName v q e u → t ≡ trees.InstanceOf p y u → Runs (Want goals.TestedName ∷ Want (goals.Operators n 7) ∷ ss) (v ∷ part p f y ∷ vs) r ws
 test_end n ss vs ws p t r h far d v q e u y f isn z =
     let c : (ends_operand (ahead r) ≡ true) × (level_of (ahead r) ≤ 7) = operators_inv n 7 ss (part p forms.Other t ∷ vs) ws r h d in
     let x : Runs (Want (goals.Operators n 7) ∷ ss) (part p forms.Other (trees.InstanceOf p y u) ∷ vs) r ws = rw z at d in
@@ -68,7 +68,7 @@ not_less terminals.Less h = cc
 not_less _ h = refl
 
 -- where no comparison comes
-pub conts_end : (x n : ℕ) (ss : List Symbol) (vs ws : List Item) (p : Place) (t : Tree) (r : List Lexeme) → (x ≡ 7 → n ≤ 8) → (x ≡ 7 → is_relation (ahead r) ≡ false) → ((y : ℕ) → Reaches x y → Part (Want (goals.Operators n y) ∷ ss) vs p t r ws)
+pub conts_end : (x n : ℕ) (ss : List Symbol) (vs ws : List StackItem) (p : Place) (t : Tree) (r : List Lexeme) → (x ≡ 7 → n ≤ 8) → (x ≡ 7 → is_relation (ahead r) ≡ false) → ((y : ℕ) → Reaches x y → Part (Want (goals.Operators n y) ∷ ss) vs p t r ws)
     → Conts x n ss vs ws p t r
 conts_end x n ss vs ws p t r h far rel = record {
   rels = rel;
@@ -80,20 +80,20 @@ conts_end x n ss vs ws p t r h far rel = record {
     reach e l a b = omega (arith, e, a)
 
 -- behind two names with a dot between them no third comes
-pub pair_tag : (c : Bool) (v : Item) (q : Place) (e u : Tree) (ns : List Item) → IsName v q e u → passes c v terminals.Dot ≡ true → tag (v ∷ ns) ≡ tags.Pair
+pub pair_tag : (c : Bool) (v : StackItem) (q : Place) (e u : Tree) (ns : List StackItem) → IsName v q e u → passes c v terminals.Dot ≡ true → tag (v ∷ ns) ≡ tags.Pair
 pair_tag c v q e u ns a_word h = cc
 pair_tag c v q e u ns a_pair h = refl
 
 -- Names in a chain, as operands.
-module _ (ts : List Symbol) (ns : List Item) (p : Place) (f : Form) (t : Tree) (vs ws : List Item) (isns : is_name ns ≡ true) (nm : compared ns ≡ part p f t ∷ vs) where
-  pub chain_operand : (v : Item) (q : Place) (e u : Tree) (j : List Lexeme) → IsName v q e u → passes true v (ahead j) ≡ true
+module _ (ts : List Symbol) (ns : List StackItem) (p : Place) (f : Form) (t : Tree) (vs ws : List StackItem) (isns : is_name ns ≡ true) (nm : compared ns ≡ part p f t ∷ vs) where
+  pub chain_operand : (v : StackItem) (q : Place) (e u : Tree) (j : List Lexeme) → IsName v q e u → passes true v (ahead j) ≡ true
       → Runs (Want goals.Suffixes ∷ Want goals.Postfixes ∷ Want (goals.Operators 8 10) ∷ Build makes.Less ∷ ts) (part q forms.Target e ∷ part p f t ∷ vs) j ws → Runs (Want goals.ChainName ∷ ts) (v ∷ ns) j ws
   chain_operand v q e u j isn h d = go v isn (ahead j) refl h
     where
-      behind : (v : Item) → IsName v q e u → Runs (Build makes.CompareBelow ∷ Build makes.Variable ∷ Want goals.ChainPrimary ∷ ts) (v ∷ ns) j ws
+      behind : (v : StackItem) → IsName v q e u → Runs (Build makes.CompareBelow ∷ Build makes.Variable ∷ Want goals.ChainPrimary ∷ ts) (v ∷ ns) j ws
       behind v isn = build (build (rw (below_variable v q e u ns (part p f t ∷ vs) isn nm) (want (Want goals.Suffixes ∷ Want goals.Postfixes ∷ Want (goals.Operators 8 10) ∷ Build makes.Less ∷ []) refl d)))
 
-      go : (v : Item) → IsName v q e u → (k : Terminal) → ahead j ≡ k → passes true v k ≡ true → Runs (Want goals.ChainName ∷ ts) (v ∷ ns) j ws
+      go : (v : StackItem) → IsName v q e u → (k : Terminal) → ahead j ≡ k → passes true v k ≡ true → Runs (Want goals.ChainName ∷ ts) (v ∷ ns) j ws
       go v isn terminals.Less z y = cc
       go v isn terminals.Greater z y = cc
       go v isn terminals.LeftBracket z y = cc
@@ -112,7 +112,7 @@ module _ (ts : List Symbol) (ns : List Item) (p : Place) (f : Form) (t : Tree) (
     operand = chain_operand;
   }
     where
-      bracket : (v : Item) (q : Place) (e u : Tree) (j : List Lexeme) → IsName v q e u
+      bracket : (v : StackItem) (q : Place) (e u : Tree) (j : List Lexeme) → IsName v q e u
           → Runs (Want goals.Expression ∷ Take terminals.RightBracket ∷ Build makes.ArrayAccess ∷ Want goals.ChainPrimary ∷ ts) (part q forms.Target e ∷ part p f t ∷ vs) j ws → Runs (Want goals.ChainBracket ∷ ts) (v ∷ ns) j ws
       bracket v q e u j isn d = go (ahead j) refl (expression_starts (Take terminals.RightBracket ∷ Build makes.ArrayAccess ∷ Want goals.ChainPrimary ∷ ts) (part q forms.Target e ∷ part p f t ∷ vs) ws j d)
         where
@@ -121,7 +121,7 @@ module _ (ts : List Symbol) (ns : List Item) (p : Place) (f : Form) (t : Tree) (
           go k z y = step goals.ChainBracket k ts (v ∷ ns) ws j z (build (build (rw (below_variable v q e u ns (part p f t ∷ vs) isn nm) d)))
 
 -- An operand behind `<` in a chain, which may be a further name.
-arg_of : (n : ℕ) (ss : List Symbol) (vs ws : List Item) (p : Place) (f : Form) (t u : Tree) (y : ℕ) (m r : List Lexeme) (ts : List Symbol) (ns : List Item) → n ≤ 7 → 7 < y → is_name ns ≡ true → compared ns ≡ part p f t ∷ vs
+arg_of : (n : ℕ) (ss : List Symbol) (vs ws : List StackItem) (p : Place) (f : Form) (t u : Tree) (y : ℕ) (m r : List Lexeme) (ts : List Symbol) (ns : List StackItem) → n ≤ 7 → 7 < y → is_name ns ≡ true → compared ns ≡ part p f t ∷ vs
     → Gated n ss ts ws → OperationClaim y m u r → Conts 7 n ss vs ws p (trees.Binary p binaries.Less t u) r → Runs (Want goals.ChainArgument ∷ ts) ns m ws
 arg_of n ss vs ws p f t u y m r ts ns low high isns nm gate claim k = go (ahead m) refl (unary_starts (Want (goals.Operators 8 10) ∷ Build makes.Less ∷ ts) (part p f t ∷ vs) ws m simple)
   where
@@ -161,11 +161,11 @@ quiet_end terminals.Old e h = cc
 quiet_end terminals.Complement e h = cc
 quiet_end _ e h = refl
 
-tested_gate : (n : ℕ) (ss : List Symbol) (ws : List Item) → Gated n ss (Want goals.AfterTested ∷ Want (goals.Operators n 7) ∷ ss) ws
+tested_gate : (n : ℕ) (ss : List Symbol) (ws : List StackItem) → Gated n ss (Want goals.AfterTested ∷ Want (goals.Operators n 7) ∷ ss) ws
 tested_gate n ss ws p t vs j d = step goals.AfterTested (ahead j) (Want (goals.Operators n 7) ∷ ss) (part p forms.Other t ∷ vs) ws j refl d
 
 -- Behind the left operand of an operator.
-module _ (x y n : ℕ) (ss : List Symbol) (vs ws : List Item) (p : Place) (t u : Tree) (o : BinaryOperator) (a : Lexeme) (m r : List Lexeme)
+module _ (x y n : ℕ) (ss : List Symbol) (vs ws : List StackItem) (p : Place) (t u : Tree) (o : BinaryOperator) (a : Lexeme) (m r : List Lexeme)
     (po : binary_of a.kind ≡ Some o) (lx : level o ≤ x) (ly : level o < y) (nl : n ≤ level o) (claim : OperationClaim y m u r) (k : Conts (level o) n ss vs ws p (trees.Binary p o t u) r) where
   facts : OperatorFacts a.kind (Some o)
   facts = facts_of a.kind o po
@@ -176,7 +176,7 @@ module _ (x y n : ℕ) (ss : List Symbol) (vs ws : List Item) (p : Place) (t u :
   ends : (ends_operand (ahead r) ≡ true) × (level_of (ahead r) ≤ level o)
   ends = operators_inv n (level o) ss (part p forms.Other (trees.Binary p o t u) ∷ vs) ws r (omega (arith, nl)) result
 
-  right : (st : List Symbol) (us : List Item) → Part st us (at m) u r ws → Runs (Want goals.Unary ∷ Want (goals.Operators (level o + 1) 10) ∷ st) us m ws
+  right : (st : List Symbol) (us : List StackItem) → Part st us (at m) u r ws → Runs (Want goals.Unary ∷ Want (goals.Operators (level o + 1) 10) ∷ st) us m ws
   right st us d =
       let low : level_of (ahead r) ≤ level o = ends.1 in
       claim.simple (Want (goals.Operators (level o + 1) 10) ∷ st) (level o + 1) st us ws (omega (arith, ly)) (λ vs j d. d)
@@ -189,12 +189,12 @@ module _ (x y n : ℕ) (ss : List Symbol) (vs ws : List Item) (p : Place) (t u :
       (infix_rule n z (level o) (terminal_of a.kind) facts.0 facts.2 facts.3 nl h)
       (keep a refl (right (Build makes.Binary ∷ Want (goals.Operators n (level o)) ∷ ss) (mark a.kind a.place ∷ part p f t ∷ vs) (λ g. build (rw facts.1 result))))
 
-  arg_at : (ts : List Symbol) (ns : List Item) (f : Form) → o ≡ binaries.Less → is_name ns ≡ true → compared ns ≡ part p f t ∷ vs → Gated n ss ts ws → Runs (Want goals.ChainArgument ∷ ts) ns m ws
+  arg_at : (ts : List Symbol) (ns : List StackItem) (f : Form) → o ≡ binaries.Less → is_name ns ≡ true → compared ns ≡ part p f t ∷ vs → Gated n ss ts ws → Runs (Want goals.ChainArgument ∷ ts) ns m ws
   arg_at ts ns f ro isns nm gate =
       let e : level o ≡ 7 = ap level ro in
       arg_of n ss vs ws p f t u y m r ts ns (omega (arith, nl, e)) (omega (arith, ly, e)) isns nm gate claim (rw ro at k)
 
-  greater_at : (ts : List Symbol) (ns : List Item) → o ≡ binaries.Greater → compared ns ≡ part p forms.Other t ∷ vs → Gated n ss ts ws → Runs (Want goals.ChainGreater ∷ ts) ns m ws
+  greater_at : (ts : List Symbol) (ns : List StackItem) → o ≡ binaries.Greater → compared ns ≡ part p forms.Other t ∷ vs → Gated n ss ts ws → Runs (Want goals.ChainGreater ∷ ts) ns m ws
   greater_at ts ns ro nm gate = go (ahead m) refl (unary_starts (Want (goals.Operators 8 10) ∷ Build makes.Greater ∷ ts) (part p forms.Other t ∷ vs) ws m operand)
     where
       e : level o ≡ 7
@@ -218,7 +218,7 @@ module _ (x y n : ℕ) (ss : List Symbol) (vs ws : List Item) (p : Place) (t u :
       go terminals.Complement z s = step goals.ChainGreater terminals.Complement ts ns ws m z (build (rw nm operand))
       go h z s = cc
 
-  chain_at : x ≡ 7 → (ts : List Symbol) (ns : List Item) (v : Item) (q : Place) (e w z : Tree) (f : Form) → Gated n ss ts ws → IsName v q e w → is_name ns ≡ true → compared ns ≡ part p f z ∷ vs
+  chain_at : x ≡ 7 → (ts : List Symbol) (ns : List StackItem) (v : StackItem) (q : Place) (e w z : Tree) (f : Form) → Gated n ss ts ws → IsName v q e w → is_name ns ≡ true → compared ns ≡ part p f z ∷ vs
       → t ≡ trees.Binary p binaries.Less z e → Runs (Want goals.ChainName ∷ ts) (v ∷ ns) (a ∷ m) ws
   chain_at x7 ts ns v q e w z f gate isn isns nm tz = go (terminal_of a.kind) refl facts.5
     where
@@ -230,7 +230,7 @@ module _ (x y n : ℕ) (ss : List Symbol) (vs ws : List Item) (p : Place) (t u :
       go terminals.Greater h ro = step goals.ChainName terminals.Greater ts (v ∷ ns) ws (a ∷ m) h (take a h (greater_at ts (v ∷ ns) ro nms gate))
       go h z ro = chain_end n ss vs ws p t (a ∷ m) (omega (arith, nl, lx, x7)) (rw z refl) (operate 7 (omega (arith, lx, x7)) forms.Other) ts ns v q e w _ f gate isn isns nm tz
 
-  test_at : x ≡ 7 → (v : Item) (q : Place) (e w z : Tree) (f : Form) → IsName v q e w → t ≡ trees.InstanceOf p z w → Runs (Want goals.TestedName ∷ Want (goals.Operators n 7) ∷ ss) (v ∷ part p f z ∷ vs) (a ∷ m) ws
+  test_at : x ≡ 7 → (v : StackItem) (q : Place) (e w z : Tree) (f : Form) → IsName v q e w → t ≡ trees.InstanceOf p z w → Runs (Want goals.TestedName ∷ Want (goals.Operators n 7) ∷ ss) (v ∷ part p f z ∷ vs) (a ∷ m) ws
   test_at x7 v q e w z f isn tz = go (terminal_of a.kind) refl facts.5
     where
       nms : compared (v ∷ part p f z ∷ vs) ≡ part p forms.Other t ∷ vs
@@ -249,7 +249,7 @@ module _ (x y n : ℕ) (ss : List Symbol) (vs ws : List Item) (p : Place) (t u :
   }
 
   -- where the left operand is a name
-  bare_left : (c : Bool) (g : Goal) (us : List Symbol) (ns : List Item) (ts : List Symbol) → Context c g us ns (Want goals.Postfixes ∷ ts) vs ws → Enters n ss ts ws → (c ≡ true → 8 ≤ n) → (n ≤ 7 → Begins g us ns n ss vs ws) → Bare g us ns p t (a ∷ m) ws
+  bare_left : (c : Bool) (g : Goal) (us : List Symbol) (ns : List StackItem) (ts : List Symbol) → Context c g us ns (Want goals.Postfixes ∷ ts) vs ws → Enters n ss ts ws → (c ≡ true → 8 ≤ n) → (n ≤ 7 → Begins g us ns n ss vs ws) → Bare g us ns p t (a ∷ m) ws
   bare_left c g us ns ts ctx enters high begins v w isn = go (terminal_of a.kind) refl facts.5 (let f : level_of (terminal_of a.kind) ≡ level o = facts.0 in let h : 1 ≤ level o = facts.3 in omega (arith, f, h))
     where
       operand : Runs (Want goals.Suffixes ∷ Want goals.Postfixes ∷ ts) (part p forms.Target t ∷ vs) (a ∷ m) ws
@@ -280,7 +280,7 @@ binary_claim x y i m r t u o a left po lx claim ly = record {
 }
 
 -- Behind the expression that `instanceof` tests.
-module _ (x n : ℕ) (ss : List Symbol) (vs ws : List Item) (p : Place) (t u : Tree) (a : Lexeme) (m r : List Lexeme)
+module _ (x n : ℕ) (ss : List Symbol) (vs ws : List StackItem) (p : Place) (t u : Tree) (a : Lexeme) (m r : List Lexeme)
     (ka : terminal_of a.kind ≡ terminals.Instanceof) (lx : 7 ≤ x) (nl : n ≤ 7) (claim : ReferenceClaim m u r) (k : Conts 7 n ss vs ws p (trees.InstanceOf p t u) r) where
   tested : Runs (Want (goals.Operators n 7) ∷ ss) (part p forms.Other (trees.InstanceOf p t u) ∷ vs) r ws
   tested = k.rels 7 (λ l a b. a) forms.Other
@@ -299,7 +299,7 @@ module _ (x n : ℕ) (ss : List Symbol) (vs ws : List Item) (p : Place) (t u : T
   test_conts : Conts x n ss vs ws p t (a ∷ m)
   test_conts = conts_end x n ss vs ws p t (a ∷ m) (λ e. omega (arith, nl)) (λ e. rw ka refl) (λ z h f. test_operate z (h 7 lx (omega arith)) f)
 
-  test_bare : (c : Bool) (g : Goal) (us : List Symbol) (ns : List Item) (ts : List Symbol) → Context c g us ns (Want goals.Postfixes ∷ ts) vs ws → Enters n ss ts ws → Bare g us ns p t (a ∷ m) ws
+  test_bare : (c : Bool) (g : Goal) (us : List Symbol) (ns : List StackItem) (ts : List Symbol) → Context c g us ns (Want goals.Postfixes ∷ ts) vs ws → Enters n ss ts ws → Bare g us ns p t (a ∷ m) ws
   test_bare c g us ns ts ctx enters v w isn = ctx.operand v p t w (a ∷ m) isn (rw ka refl)
       (past_operand ts (part p forms.Target t ∷ vs) ws (a ∷ m) (rw ka refl) (enters (part p forms.Target t ∷ vs) (a ∷ m) (test_operate 10 (omega arith) forms.Target)))
 
@@ -319,5 +319,5 @@ operand_claim i r t claim = record {
   led = λ c g us ns ts n ss vs ws ctx nl enters high begins k bare z. claim.led c g us ns ts vs ws ctx (ends n ss vs ws nl k) (λ f. enters (part (at i) f t ∷ vs) r (k.rels 10 (λ l a b. b) f)) bare z;
 }
   where
-    ends : (n : ℕ) (ss : List Symbol) (vs ws : List Item) → n ≤ 11 → Conts 11 n ss vs ws (at i) t r → ends_operand (ahead r) ≡ true
+    ends : (n : ℕ) (ss : List Symbol) (vs ws : List StackItem) → n ≤ 11 → Conts 11 n ss vs ws (at i) t r → ends_operand (ahead r) ≡ true
     ends n ss vs ws nl k = (operators_inv n 10 ss (part (at i) forms.Other t ∷ vs) ws r (omega (arith, nl)) (k.rels 10 (λ l a b. b) forms.Other)).0

@@ -13,7 +13,7 @@ use Rattle.kr_parse_grammar.specs.declared.goal.Make.TheVariants as makes
 use Rattle.kr_parse_grammar.specs.declared.goal.Symbol.{Symbol}
 use Rattle.kr_parse_grammar.specs.declared.goal.Symbol.TheVariants.{Take, Want, Build}
 use Rattle.kr_parse_grammar.specs.Terminals.{terminal_of}
-use Rattle.kr_parse_grammar.specs.Values.{Item, word, part, member, owner, no_modifiers}
+use Rattle.kr_parse_grammar.specs.Values.{StackItem, word, part, member, owner, no_modifiers}
 use Rattle.kr_parse_grammar.specs.Made.{nowhere, made}
 use Rattle.kr_parse_grammar.specs.declared.value.Modifiers.{Modifiers}
 use Rattle.kr_parse_grammar.specs.declared.goal.Spelled.TheVariants as spelled
@@ -24,7 +24,7 @@ use Rattle.kr_parse_laws.proofs.CompleteSteps.{open_at, step}
 use Rattle.kr_parse_laws.proofs.CompleteClaims.{NameClaim, ExtendedClaim, owner_make, ClassClaim, MemberClaim, MembersClaim, ClassesClaim}
 use Rattle.kr_parse_laws.proofs.CompleteMembers.{access_means}
 
-owner_of : (n : Bool) (q p : Place) (f : Form) (t : Tree) (b : List ℕ) (vs : List Item) → made (owner_make n) (part q f t ∷ word p b ∷ vs) ≡ owner n p b ∷ part q f t ∷ vs
+owner_of : (n : Bool) (q p : Place) (f : Form) (t : Tree) (b : List ℕ) (vs : List StackItem) → made (owner_make n) (part q f t ∷ word p b ∷ vs) ≡ owner n p b ∷ part q f t ∷ vs
 owner_of true q p f t b vs = refl
 owner_of false q p f t b vs = refl
 
@@ -62,14 +62,14 @@ class_claim n i m r t u a b c d ka kb ext kc members kd = record {
 }
 
 -- modifiers before a class
-class_ahead : {i j : List Lexeme} {f : Modifiers} → Modified i f j → f.overrides ≡ false → (ss : List Symbol) (vs ws : List Item) → Runs (Want goals.ClassAhead ∷ ss) vs j ws → Runs (Want goals.ClassAhead ∷ ss) vs i ws
+class_ahead : {i j : List Lexeme} {f : Modifiers} → Modified i f j → f.overrides ≡ false → (ss : List Symbol) (vs ws : List StackItem) → Runs (Want goals.ClassAhead ∷ ss) vs j ws → Runs (Want goals.ClassAhead ∷ ss) vs i ws
 class_ahead grammar.nothing h = λ ss vs ws k. k
 class_ahead (grammar.access {r = r} a d e) h = λ ss vs ws k. class_ahead d h ss vs ws (step goals.ClassAhead terminals.Access ss vs ws (a ∷ r) (access_means a.kind e) (take a (access_means a.kind e) k))
 class_ahead (grammar.static {r = r} a d e) h = λ ss vs ws k. class_ahead d h ss vs ws (step goals.ClassAhead terminals.Static ss vs ws (a ∷ r) (ap terminal_of e) (take a (ap terminal_of e) k))
 class_ahead (grammar.final {r = r} a d e) h = λ ss vs ws k. class_ahead d h ss vs ws (step goals.ClassAhead terminals.Final ss vs ws (a ∷ r) (ap terminal_of e) (take a (ap terminal_of e) k))
 class_ahead (grammar.overriding a b d e g x) h = absurd (let y : true ≡ false = h in cc)
 
-classes_enter : (ss : List Symbol) (vs ws : List Item) (i : List Lexeme) → Runs (Want goals.ClassAhead ∷ Want goals.Classes ∷ Build makes.Cons ∷ ss) vs i ws → Runs (Want goals.Classes ∷ ss) vs i ws
+classes_enter : (ss : List Symbol) (vs ws : List StackItem) (i : List Lexeme) → Runs (Want goals.ClassAhead ∷ Want goals.Classes ∷ Build makes.Cons ∷ ss) vs i ws → Runs (Want goals.Classes ∷ ss) vs i ws
 classes_enter ss vs ws i d = go (ahead i) refl
   where
     go : (k : Terminal) → ahead i ≡ k → Runs (Want goals.Classes ∷ ss) vs i ws
@@ -94,18 +94,18 @@ classes_claim i j m r f t u d h c rest = λ e. (
 )
 
 -- What stands before the classes.
-imports_enter : (ss : List Symbol) (vs ws : List Item) (i : List Lexeme) → Runs (Want goals.Classes ∷ ss) vs i ws → Runs (Want goals.Imports ∷ ss) vs i ws
+imports_enter : (ss : List Symbol) (vs ws : List StackItem) (i : List Lexeme) → Runs (Want goals.Classes ∷ ss) vs i ws → Runs (Want goals.Imports ∷ ss) vs i ws
 imports_enter ss vs ws i d = go (ahead i) refl
   where
     go : (k : Terminal) → ahead i ≡ k → Runs (Want goals.Imports ∷ ss) vs i ws
     go terminals.Import e = absurd (open_at goals.ClassAhead terminals.Import e (open_at goals.Classes terminals.Import e d))
     go k e = step goals.Imports k ss vs ws i e d
 
-imported : (f : Lexeme) → grammar.Imported f.kind → (ss : List Symbol) (vs ws : List Item) (i : List Lexeme) → Runs ss vs i ws → Runs (Want goals.Imported ∷ ss) vs (f ∷ i) ws
+imported : (f : Lexeme) → grammar.Imported f.kind → (ss : List Symbol) (vs ws : List StackItem) (i : List Lexeme) → Runs ss vs i ws → Runs (Want goals.Imported ∷ ss) vs (f ∷ i) ws
 imported f (grammar.Imported.name e) ss vs ws i k = step goals.Imported terminals.Identifier ss vs ws (f ∷ i) (ap terminal_of e) (take f (ap terminal_of e) k)
 imported f (grammar.Imported.all e) ss vs ws i k = step goals.Imported terminals.Star ss vs ws (f ∷ i) (ap terminal_of e) (take f (ap terminal_of e) k)
 
-imports : {i r : List Lexeme} → grammar.Imports i r → (ss : List Symbol) (vs ws : List Item) → Runs (Want goals.Classes ∷ ss) vs r ws → Runs (Want goals.Imports ∷ ss) vs i ws
+imports : {i r : List Lexeme} → grammar.Imports i r → (ss : List Symbol) (vs ws : List StackItem) → Runs (Want goals.Classes ∷ ss) vs r ws → Runs (Want goals.Imports ∷ ss) vs i ws
 imports (grammar.no_import {i = i}) = λ ss vs ws k. imports_enter ss vs ws i k
 imports (grammar.import {i = i} a b c d e f g ka kb tb kc kd td ke kf kg rest) = λ ss vs ws k.
     step goals.Imports terminals.Import ss vs ws (a ∷ b ∷ c ∷ d ∷ e ∷ f ∷ g ∷ i) (ap terminal_of ka)
@@ -117,18 +117,18 @@ imports (grammar.import {i = i} a b c d e f g ka kb tb kc kd td ke kf kg rest) =
     (imported f kf (Take terminals.Semicolon ∷ Want goals.Imports ∷ ss) vs ws (g ∷ i)
     (take g (ap terminal_of kg) (imports rest ss vs ws k))))))))
 
-dotted : {i r : List Lexeme} → grammar.Dotted i r → ahead r ≡ terminals.Semicolon → (ss : List Symbol) (vs ws : List Item) → Runs ss vs r ws → Runs (Want goals.Dotted ∷ ss) vs i ws
+dotted : {i r : List Lexeme} → grammar.Dotted i r → ahead r ≡ terminals.Semicolon → (ss : List Symbol) (vs ws : List StackItem) → Runs ss vs r ws → Runs (Want goals.Dotted ∷ ss) vs i ws
 dotted (grammar.no_more {i = i}) e = λ ss vs ws k. step goals.Dotted terminals.Semicolon ss vs ws i e k
 dotted (grammar.dot {i = i} a b ka kb rest) e = λ ss vs ws k. step goals.Dotted terminals.Dot ss vs ws (a ∷ b ∷ i) (ap terminal_of ka) (take a (ap terminal_of ka) (take b (ap terminal_of kb) (dotted rest e ss vs ws k)))
 
-file_enter : (ss : List Symbol) (vs ws : List Item) (i : List Lexeme) → Runs (Want goals.Imports ∷ ss) vs i ws → Runs (Want goals.File ∷ ss) vs i ws
+file_enter : (ss : List Symbol) (vs ws : List StackItem) (i : List Lexeme) → Runs (Want goals.Imports ∷ ss) vs i ws → Runs (Want goals.File ∷ ss) vs i ws
 file_enter ss vs ws i d = go (ahead i) refl
   where
     go : (k : Terminal) → ahead i ≡ k → Runs (Want goals.File ∷ ss) vs i ws
     go terminals.Package e = absurd (open_at goals.ClassAhead terminals.Package e (open_at goals.Classes terminals.Package e (open_at goals.Imports terminals.Package e d)))
     go k e = step goals.File k ss vs ws i e d
 
-pub heading : {i j : List Lexeme} → grammar.Heading i j → (ss : List Symbol) (vs ws : List Item) → Runs (Want goals.Classes ∷ ss) vs j ws → Runs (Want goals.File ∷ ss) vs i ws
+pub heading : {i j : List Lexeme} → grammar.Heading i j → (ss : List Symbol) (vs ws : List StackItem) → Runs (Want goals.Classes ∷ ss) vs j ws → Runs (Want goals.File ∷ ss) vs i ws
 heading (grammar.unpackaged {i = i} d) = λ ss vs ws k. file_enter ss vs ws i (imports d ss vs ws k)
 heading (grammar.packaged {i = i} {m = m} a b c ka kb d kc rest) = λ ss vs ws k.
     step goals.File terminals.Package ss vs ws (a ∷ b ∷ i) (ap terminal_of ka)

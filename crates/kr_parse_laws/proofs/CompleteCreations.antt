@@ -15,7 +15,7 @@ use Rattle.kr_parse_grammar.specs.declared.goal.Symbol.{Symbol}
 use Rattle.kr_parse_grammar.specs.declared.goal.Symbol.TheVariants.{Take, Want, Build}
 use Rattle.kr_parse_grammar.specs.Terminals.{terminal_of}
 use Rattle.kr_parse_grammar.specs.TokenMeanings.{primitive_of}
-use Rattle.kr_parse_grammar.specs.Values.{Item, mark, part}
+use Rattle.kr_parse_grammar.specs.Values.{StackItem, mark, part}
 use Rattle.kr_parse_grammar.specs.Made.{made}
 use Rattle.kr_parse_grammar.specs.Grammar.{at}
 use Rattle.kr_parse_grammar.specs.Machine.{ahead, Runs, take, keep, build}
@@ -28,29 +28,29 @@ use Rattle.kr_parse_laws.proofs.CompletePrimary.{arguments, enter}
 new_not_name : (a : Lexeme) → terminal_of a.kind ≡ terminals.New → terminal_of a.kind ≡ terminals.Identifier → ⊥
 new_not_name a ka z = let y : terminals.New ≡ terminals.Identifier = differ (terminal_of a.kind) terminals.New terminals.Identifier ka z in cc
 
-type_starts : (ss : List Symbol) (vs ws : List Item) (i : List Lexeme) → Runs (Want goals.Type ∷ ss) vs i ws → ahead i ≢ terminals.Greater
+type_starts : (ss : List Symbol) (vs ws : List StackItem) (i : List Lexeme) → Runs (Want goals.Type ∷ ss) vs i ws → ahead i ≢ terminals.Greater
 type_starts ss vs ws i d = λ e. open_at goals.Type terminals.Greater e d
 
-diamond_of : (v : Item) (p : Place) (e u : Tree) (vs : List Item) → IsName v p e u → made makes.Diamond (v ∷ vs) ≡ part p forms.Type (trees.DiamondType p u) ∷ vs
+diamond_of : (v : StackItem) (p : Place) (e u : Tree) (vs : List StackItem) → IsName v p e u → made makes.Diamond (v ∷ vs) ≡ part p forms.Type (trees.DiamondType p u) ∷ vs
 diamond_of v p e u vs a_word = refl
 diamond_of v p e u vs a_pair = refl
 
 -- the arguments of a creation, behind its type
 object : (f : Form) (q : Place) (t : Tree) (a b c : Lexeme) (m r : List Lexeme) (u : Tree) → terminal_of b.kind ≡ terminals.LeftParenthesis → Optional (Parted ExpressionClaim) m u (c ∷ r) → terminal_of c.kind ≡ terminals.RightParenthesis
-    → (ss : List Symbol) (vs ws : List Item) → Runs ss (part a.place forms.Invocation (trees.ObjectCreation a.place t u) ∷ vs) r ws → Runs (Want goals.ObjectCreation ∷ ss) (part q f t ∷ mark a.kind a.place ∷ vs) (b ∷ m) ws
+    → (ss : List Symbol) (vs ws : List StackItem) → Runs ss (part a.place forms.Invocation (trees.ObjectCreation a.place t u) ∷ vs) r ws → Runs (Want goals.ObjectCreation ∷ ss) (part q f t ∷ mark a.kind a.place ∷ vs) (b ∷ m) ws
 object f q t a b c m r u kb args kc ss vs ws k =
     step goals.ObjectCreation terminals.LeftParenthesis ss (part q f t ∷ mark a.kind a.place ∷ vs) ws (b ∷ m) kb
     (take b kb (arguments args kc (Take terminals.RightParenthesis ∷ Build makes.ObjectCreation ∷ ss) (part q f t ∷ mark a.kind a.place ∷ vs) ws (λ p g. take c kc (build k))))
 
 -- a class, created by its name
 module _ (a : Lexeme) (i l : List Lexeme) (t : Tree) (ka : terminal_of a.kind ≡ terminals.New) (n : NameClaim i t l) where
-  created : (w : Bool) (ss : List Symbol) (vs ws : List Item) → Runs (Want goals.CreatorName ∷ Want goals.Suffixes ∷ tail w ss) (n.value ∷ mark a.kind a.place ∷ vs) l ws → Runs (Want (start w) ∷ ss) vs (a ∷ i) ws
+  created : (w : Bool) (ss : List Symbol) (vs ws : List StackItem) → Runs (Want goals.CreatorName ∷ Want goals.Suffixes ∷ tail w ss) (n.value ∷ mark a.kind a.place ∷ vs) l ws → Runs (Want (start w) ∷ ss) vs (a ∷ i) ws
   created w ss vs ws k = enter w terminals.New refl ss vs ws (a ∷ i) ka
       (keep a ka
       (step goals.Creator terminals.Identifier (Want goals.Suffixes ∷ tail w ss) (mark a.kind a.place ∷ vs) ws i n.identifier
       (n.loop goals.CreatorName (Want goals.Suffixes ∷ tail w ss) (mark a.kind a.place ∷ vs) ws refl (λ q m. refl) k)))
 
-  created_type : (ss : List Symbol) (vs ws : List Item) → Runs ss (part (at i) forms.Type t ∷ mark a.kind a.place ∷ vs) l ws → Runs (Build makes.TypeOfName ∷ ss) (n.value ∷ mark a.kind a.place ∷ vs) l ws
+  created_type : (ss : List Symbol) (vs ws : List StackItem) → Runs ss (part (at i) forms.Type t ∷ mark a.kind a.place ∷ vs) l ws → Runs (Build makes.TypeOfName ∷ ss) (n.value ∷ mark a.kind a.place ∷ vs) l ws
   created_type ss vs ws k = build (rw (type_of n.value (at i) n.operand t (mark a.kind a.place ∷ vs) n.isname) k)
 
 pub creation_claim : (i m r : List Lexeme) (t u : Tree) (a b c : Lexeme) → terminal_of a.kind ≡ terminals.New → NameClaim i t (b ∷ m) → terminal_of b.kind ≡ terminals.LeftParenthesis → Optional (Parted ExpressionClaim) m u (c ∷ r) → terminal_of c.kind ≡ terminals.RightParenthesis
@@ -72,14 +72,14 @@ generic_creation_claim i m n r t u v a b c d e ka nm kb type kc kd args ke = rec
   led = λ c g ss ns ts vs ws ctx x bare z. absurd (new_not_name a ka z);
 }
   where
-    typed : (w : Bool) (ss : List Symbol) (vs ws : List Item) → Runs (Want goals.Suffixes ∷ tail w ss) (part a.place forms.Invocation (trees.ObjectCreation a.place (trees.GenericType (at i) t u) v) ∷ vs) r ws
+    typed : (w : Bool) (ss : List Symbol) (vs ws : List StackItem) → Runs (Want goals.Suffixes ∷ tail w ss) (part a.place forms.Invocation (trees.ObjectCreation a.place (trees.GenericType (at i) t u) v) ∷ vs) r ws
         → Runs (Want goals.Type ∷ Take terminals.Greater ∷ Build makes.Generic ∷ Want goals.ObjectCreation ∷ Want goals.Suffixes ∷ tail w ss) (nm.value ∷ mark a.kind a.place ∷ vs) m ws
     typed w ss vs ws k = type.type.simple (Take terminals.Greater ∷ Build makes.Generic ∷ Want goals.ObjectCreation ∷ Want goals.Suffixes ∷ tail w ss) (nm.value ∷ mark a.kind a.place ∷ vs) ws (rw kc refl)
         (step goals.Dimensions terminals.Greater (Take terminals.Greater ∷ Build makes.Generic ∷ Want goals.ObjectCreation ∷ Want goals.Suffixes ∷ tail w ss) (part (at m) forms.Type u ∷ nm.value ∷ mark a.kind a.place ∷ vs) ws (c ∷ d ∷ n) kc
         (take c kc (build (rw (generic_of nm.value (at i) nm.operand t (at m) forms.Type u (mark a.kind a.place ∷ vs) nm.isname)
         (object forms.Type (at i) (trees.GenericType (at i) t u) a d e n r v kd args ke (Want goals.Suffixes ∷ tail w ss) vs ws k)))))
 
-    argument : (w : Bool) (ss : List Symbol) (vs ws : List Item) → Runs (Want goals.Type ∷ Take terminals.Greater ∷ Build makes.Generic ∷ Want goals.ObjectCreation ∷ Want goals.Suffixes ∷ tail w ss) (nm.value ∷ mark a.kind a.place ∷ vs) m ws
+    argument : (w : Bool) (ss : List Symbol) (vs ws : List StackItem) → Runs (Want goals.Type ∷ Take terminals.Greater ∷ Build makes.Generic ∷ Want goals.ObjectCreation ∷ Want goals.Suffixes ∷ tail w ss) (nm.value ∷ mark a.kind a.place ∷ vs) m ws
         → Runs (Want goals.CreatorArgument ∷ Want goals.Suffixes ∷ tail w ss) (nm.value ∷ mark a.kind a.place ∷ vs) m ws
     argument w ss vs ws x = go (ahead m) refl
       where
@@ -101,7 +101,7 @@ diamond_creation_claim i n r t v a b c d e ka nm kb kc kd args ke = record {
 
 -- the length of an array, behind its type
 length_of : (f : Form) (q : Place) (t : Tree) (a b c : Lexeme) (m r : List Lexeme) (u : Tree) → terminal_of b.kind ≡ terminals.LeftBracket → ExpressionClaim m u (c ∷ r) → terminal_of c.kind ≡ terminals.RightBracket
-    → (ss : List Symbol) (vs ws : List Item) → Runs ss (part a.place forms.ArrayCreation (trees.ArrayCreation a.place t u) ∷ vs) r ws → Runs (Want goals.ArrayLength ∷ ss) (part q f t ∷ mark a.kind a.place ∷ vs) (b ∷ m) ws
+    → (ss : List Symbol) (vs ws : List StackItem) → Runs ss (part a.place forms.ArrayCreation (trees.ArrayCreation a.place t u) ∷ vs) r ws → Runs (Want goals.ArrayLength ∷ ss) (part q f t ∷ mark a.kind a.place ∷ vs) (b ∷ m) ws
 length_of f q t a b c m r u kb d kc ss vs ws k =
     step goals.ArrayLength terminals.LeftBracket ss (part q f t ∷ mark a.kind a.place ∷ vs) ws (b ∷ m) kb
     (take b kb (d.simple (Take terminals.RightBracket ∷ Build makes.ArrayCreation ∷ ss) (part q f t ∷ mark a.kind a.place ∷ vs) ws (rw kc refl) (λ g. take c kc (build k))))

@@ -15,7 +15,7 @@ use Rattle.kr_parse_grammar.specs.declared.goal.Make.TheVariants as makes
 use Rattle.kr_parse_grammar.specs.declared.goal.Symbol.{Symbol}
 use Rattle.kr_parse_grammar.specs.declared.goal.Symbol.TheVariants.{Take, Word, Want, Build}
 use Rattle.kr_parse_grammar.specs.Terminals.{terminal_of}
-use Rattle.kr_parse_grammar.specs.Values.{Item, mark, word, part, tag}
+use Rattle.kr_parse_grammar.specs.Values.{StackItem, mark, word, part, tag}
 use Rattle.kr_parse_grammar.specs.Made.{compared, assigned}
 use Rattle.kr_parse_grammar.specs.Grammar.{at}
 use Rattle.kr_parse_grammar.specs.Machine.{ahead, rule, starts_unary, ends_expression, level_of, Runs, take, keep, want, build}
@@ -26,8 +26,8 @@ use Rattle.kr_parse_laws.proofs.CompleteChains.{conts_end, pair_tag}
 use Rattle.kr_parse_laws.proofs.CompleteOperands.{unary_enter}
 
 -- Names in parentheses, as operands.
-module _ (ss : List Symbol) (k : Kind) (p : Place) (vs ws : List Item) where
-  enclosed_operand : (v : Item) (q : Place) (e u : Tree) (j : List Lexeme) → IsName v q e u → passes false v (ahead j) ≡ true
+module _ (ss : List Symbol) (k : Kind) (p : Place) (vs ws : List StackItem) where
+  enclosed_operand : (v : StackItem) (q : Place) (e u : Tree) (j : List Lexeme) → IsName v q e u → passes false v (ahead j) ≡ true
       → Runs (Want goals.Suffixes ∷ Want goals.Postfixes ∷ Want goals.AfterUnary ∷ Want goals.Closing ∷ ss) (part q forms.Target e ∷ mark k p ∷ vs) j ws → Runs (Want goals.EnclosedName ∷ ss) (v ∷ mark k p ∷ vs) j ws
   enclosed_operand v q e u j isn h d = go (ahead j) refl h
     where
@@ -76,7 +76,7 @@ module _ (ss : List Symbol) (k : Kind) (p : Place) (vs ws : List Item) where
     operand = enclosed_operand;
   }
     where
-      bracket : (v : Item) (q : Place) (e u : Tree) (j : List Lexeme) → IsName v q e u
+      bracket : (v : StackItem) (q : Place) (e u : Tree) (j : List Lexeme) → IsName v q e u
           → Runs (Want goals.Expression ∷ Take terminals.RightBracket ∷ Build makes.ArrayAccess ∷ Want goals.EnclosedPrimary ∷ ss) (part q forms.Target e ∷ mark k p ∷ vs) j ws → Runs (Want goals.EnclosedBracket ∷ ss) (v ∷ mark k p ∷ vs) j ws
       bracket v q e u j isn d = go (ahead j) refl (expression_starts (Take terminals.RightBracket ∷ Build makes.ArrayAccess ∷ Want goals.EnclosedPrimary ∷ ss) (part q forms.Target e ∷ mark k p ∷ vs) ws j d)
         where
@@ -92,12 +92,12 @@ module _ (ss : List Symbol) (k : Kind) (p : Place) (vs ws : List Item) where
     names = names;
   }
     where
-      names : (v : Item) (q : Place) (e u : Tree) → IsName v q e u → compared (v ∷ mark k p ∷ vs) ≡ part q forms.Target e ∷ mark k p ∷ vs
+      names : (v : StackItem) (q : Place) (e u : Tree) → IsName v q e u → compared (v ∷ mark k p ∷ vs) ≡ part q forms.Target e ∷ mark k p ∷ vs
       names v q e u a_word = refl
       names v q e u a_pair = refl
 
 -- where operators go on, no assignment does
-pub after_unary : (ss : List Symbol) (ws : List Item) → Enters 1 (Want goals.AfterOperation ∷ ss) (Want goals.AfterUnary ∷ ss) ws
+pub after_unary : (ss : List Symbol) (ws : List StackItem) → Enters 1 (Want goals.AfterOperation ∷ ss) (Want goals.AfterUnary ∷ ss) ws
 after_unary ss ws vs j d = go (ahead j) refl
   where
     go : (k : Terminal) → ahead j ≡ k → Runs (Want goals.AfterUnary ∷ ss) vs j ws
@@ -118,7 +118,7 @@ stop_facts terminals.Question e = (refl, omega arith, refl)
 stop_facts terminals.Colon e = (refl, omega arith, refl)
 stop_facts _ e = cc
 
-stop_passes : (v : Item) (k : Terminal) → ends_expression k ≡ true → passes false v k ≡ true
+stop_passes : (v : StackItem) (k : Terminal) → ends_expression k ≡ true → passes false v k ≡ true
 stop_passes v terminals.RightParenthesis e = refl
 stop_passes v terminals.RightBracket e = refl
 stop_passes v terminals.Semicolon e = refl
@@ -141,7 +141,7 @@ closes_rule _ q e = refl
 
 -- an operation, and what stands behind it
 conditional_by : (x : ℕ) (i l r : List Lexeme) (c t : Tree) → OperationClaim x i c l → (closes (ahead r) ≡ true → ends_expression (ahead l) ≡ true)
-    → ((ss : List Symbol) (vs ws : List Item) → closes (ahead r) ≡ true → Part ss vs (at i) t r ws → Part (Want goals.AfterOperation ∷ ss) vs (at i) c l ws) → ConditionalClaim i t r
+    → ((ss : List Symbol) (vs ws : List StackItem) → closes (ahead r) ≡ true → Part ss vs (at i) t r ws → Part (Want goals.AfterOperation ∷ ss) vs (at i) c l ws) → ConditionalClaim i t r
 conditional_by x i l r c t d stop after = record {
   simple = λ ts ss vs ws enters e k. d.simple ts 1 (Want goals.AfterOperation ∷ ss) vs ws d.least enters (conts ss vs ws e k);
   enclosed = λ ss h p vs ws e k z. d.led false goals.EnclosedName ss (mark h p ∷ vs) (Want goals.AfterUnary ∷ Want goals.Closing ∷ ss) 1 (Want goals.AfterOperation ∷ Want goals.Closing ∷ ss) (mark h p ∷ vs) ws
@@ -154,10 +154,10 @@ conditional_by x i l r c t d stop after = record {
     facts : closes (ahead r) ≡ true → StopFacts (ahead l)
     facts e = stop_facts (ahead l) (stop e)
 
-    rels : (ss : List Symbol) (vs ws : List Item) → closes (ahead r) ≡ true → Part ss vs (at i) t r ws → (y : ℕ) → Part (Want (goals.Operators 1 y) ∷ Want goals.AfterOperation ∷ ss) vs (at i) c l ws
+    rels : (ss : List Symbol) (vs ws : List StackItem) → closes (ahead r) ≡ true → Part ss vs (at i) t r ws → (y : ℕ) → Part (Want (goals.Operators 1 y) ∷ Want goals.AfterOperation ∷ ss) vs (at i) c l ws
     rels ss vs ws e k y f = operators_stop 1 y (Want goals.AfterOperation ∷ ss) (part (at i) f c ∷ vs) ws l (facts e).0 (facts e).1 (after ss vs ws e k f)
 
-    conts : (ss : List Symbol) (vs ws : List Item) → closes (ahead r) ≡ true → Part ss vs (at i) t r ws → Conts x 1 (Want goals.AfterOperation ∷ ss) vs ws (at i) c l
+    conts : (ss : List Symbol) (vs ws : List StackItem) → closes (ahead r) ≡ true → Part ss vs (at i) t r ws → Conts x 1 (Want goals.AfterOperation ∷ ss) vs ws (at i) c l
     conts ss vs ws e k = conts_end x 1 (Want goals.AfterOperation ∷ ss) vs ws (at i) c l (λ z. omega arith) (λ z. (facts e).2) (λ y h f. rels ss vs ws e k y f)
 
 pub operation_claim : (x : ℕ) (i r : List Lexeme) (t : Tree) → OperationClaim x i t r → ConditionalClaim i t r
@@ -167,7 +167,7 @@ pub choice_claim : (x : ℕ) (i m n r : List Lexeme) (c t u : Tree) (a b : Lexem
     → ConditionalClaim i (trees.Conditional (at i) c t u) r
 choice_claim x i m n r c t u a b d ka e kb g = conditional_by x i (a ∷ m) r c (trees.Conditional (at i) c t u) d (λ z. rw ka refl) after
   where
-    after : (ss : List Symbol) (vs ws : List Item) → closes (ahead r) ≡ true → Part ss vs (at i) (trees.Conditional (at i) c t u) r ws → Part (Want goals.AfterOperation ∷ ss) vs (at i) c (a ∷ m) ws
+    after : (ss : List Symbol) (vs ws : List StackItem) → closes (ahead r) ≡ true → Part ss vs (at i) (trees.Conditional (at i) c t u) r ws → Part (Want goals.AfterOperation ∷ ss) vs (at i) c (a ∷ m) ws
     after ss vs ws z k f =
         step goals.AfterOperation terminals.Question ss (part (at i) f c ∷ vs) ws (a ∷ m) ka
         (take a ka
@@ -177,7 +177,7 @@ choice_claim x i m n r c t u a b d ka e kb g = conditional_by x i (a ∷ m) r c 
         (g.simple (Want (goals.Operators 1 10) ∷ Want goals.AfterOperation ∷ Build makes.Conditional ∷ ss) (Build makes.Conditional ∷ ss) (part (at m) y t ∷ part (at i) f c ∷ vs) ws (λ us j w. w) z (λ w. build (k forms.Other)))))))
 
 -- Expressions.
-in_parentheses : (ss : List Symbol) (vs ws : List Item) (i : List Lexeme) → Runs (Want goals.Expression ∷ Want goals.Closing ∷ ss) vs i ws → (ahead i ≡ terminals.Identifier → Runs (Word ∷ Want goals.EnclosedName ∷ ss) vs i ws) → Runs (Want goals.InParentheses ∷ ss) vs i ws
+in_parentheses : (ss : List Symbol) (vs ws : List StackItem) (i : List Lexeme) → Runs (Want goals.Expression ∷ Want goals.Closing ∷ ss) vs i ws → (ahead i ≡ terminals.Identifier → Runs (Word ∷ Want goals.EnclosedName ∷ ss) vs i ws) → Runs (Want goals.InParentheses ∷ ss) vs i ws
 in_parentheses ss vs ws i d h = go (ahead i) refl (expression_starts (Want goals.Closing ∷ ss) vs ws i d)
   where
     go : (k : Terminal) → ahead i ≡ k → starts_unary k ≡ true → Runs (Want goals.InParentheses ∷ ss) vs i ws
@@ -191,7 +191,7 @@ conditional_claim i r t d = record {
   enclosed = λ ss h p vs ws e k. in_parentheses ss (mark h p ∷ vs) ws i (simple (Want goals.Closing ∷ ss) (mark h p ∷ vs) ws e k) (d.enclosed ss h p vs ws e k);
 }
   where
-    simple : (ss : List Symbol) (vs ws : List Item) → closes (ahead r) ≡ true → Part ss vs (at i) t r ws → Runs (Want goals.Expression ∷ ss) vs i ws
+    simple : (ss : List Symbol) (vs ws : List StackItem) → closes (ahead r) ≡ true → Part ss vs (at i) t r ws → Runs (Want goals.Expression ∷ ss) vs i ws
     simple ss vs ws e k = want (Want goals.Unary ∷ Want goals.AfterUnary ∷ []) refl (d.simple (Want goals.AfterUnary ∷ ss) ss vs ws (after_unary ss ws) e k)
 
 pub assignment_by : (i m r : List Lexeme) (t u w : Tree) (a : Lexeme) → PrimaryClaim forms.Target i t (a ∷ m) → is_assigning (terminal_of a.kind) ≡ true → ExpressionClaim m u r → assigned a.kind (at i) t u ≡ w → AssignmentClaim i w r
@@ -213,12 +213,12 @@ assigning_postfix terminals.Equal q e = refl
 assigning_postfix terminals.Compound q e = refl
 assigning_postfix _ q e = cc
 
-pub assigning_passes : (v : Item) (k : Terminal) → is_assigning k ≡ true → passes false v k ≡ true
+pub assigning_passes : (v : StackItem) (k : Terminal) → is_assigning k ≡ true → passes false v k ≡ true
 assigning_passes v terminals.Equal e = refl
 assigning_passes v terminals.Compound e = refl
 assigning_passes v _ e = cc
 
-pub assigning_suffixes : (i r : List Lexeme) (t : Tree) (d : AssignmentClaim i t r) (ss : List Symbol) (vs ws : List Item) → Runs ss (part (at i) forms.Target d.target ∷ vs) d.rest ws → Runs (Want goals.Suffixes ∷ ss) (part (at i) forms.Target d.target ∷ vs) d.rest ws
+pub assigning_suffixes : (i r : List Lexeme) (t : Tree) (d : AssignmentClaim i t r) (ss : List Symbol) (vs ws : List StackItem) → Runs ss (part (at i) forms.Target d.target ∷ vs) d.rest ws → Runs (Want goals.Suffixes ∷ ss) (part (at i) forms.Target d.target ∷ vs) d.rest ws
 assigning_suffixes i r t d ss vs ws x = want [] (suffixes_end (ahead d.rest) tags.Target (assigning_primary (ahead d.rest) d.assigning)) x
 
 pub assignment_claim : (i r : List Lexeme) (t : Tree) → AssignmentClaim i t r → ExpressionClaim i t r
@@ -230,7 +230,7 @@ assignment_claim i r t d = record {
       (λ y v w isn. enclosed_operand ss h p vs ws v (at i) d.target w d.rest isn (assigning_passes v (ahead d.rest) d.assigning) (behind (Want goals.Closing ∷ ss) (mark h p ∷ vs) ws e k)) z);
 }
   where
-    after : (ss : List Symbol) (vs ws : List Item) → closes (ahead r) ≡ true → Part ss vs (at i) t r ws → Runs (Want goals.AfterUnary ∷ ss) (part (at i) forms.Target d.target ∷ vs) d.rest ws
+    after : (ss : List Symbol) (vs ws : List StackItem) → closes (ahead r) ≡ true → Part ss vs (at i) t r ws → Runs (Want goals.AfterUnary ∷ ss) (part (at i) forms.Target d.target ∷ vs) d.rest ws
     after ss vs ws e k = go (ahead d.rest) refl d.assigning
       where
         go : (h : Terminal) → ahead d.rest ≡ h → is_assigning h ≡ true → Runs (Want goals.AfterUnary ∷ ss) (part (at i) forms.Target d.target ∷ vs) d.rest ws
@@ -238,8 +238,8 @@ assignment_claim i r t d = record {
         go terminals.Compound z y = step goals.AfterUnary terminals.Compound ss (part (at i) forms.Target d.target ∷ vs) ws d.rest z (d.behind terminals.Compound ss vs ws z e (k forms.Other))
         go h z y = cc
 
-    behind : (ss : List Symbol) (vs ws : List Item) → closes (ahead r) ≡ true → Part ss vs (at i) t r ws → Runs (Want goals.Suffixes ∷ Want goals.Postfixes ∷ Want goals.AfterUnary ∷ ss) (part (at i) forms.Target d.target ∷ vs) d.rest ws
+    behind : (ss : List Symbol) (vs ws : List StackItem) → closes (ahead r) ≡ true → Part ss vs (at i) t r ws → Runs (Want goals.Suffixes ∷ Want goals.Postfixes ∷ Want goals.AfterUnary ∷ ss) (part (at i) forms.Target d.target ∷ vs) d.rest ws
     behind ss vs ws e k = assigning_suffixes i r t d (Want goals.Postfixes ∷ Want goals.AfterUnary ∷ ss) vs ws (want [] (assigning_postfix (ahead d.rest) tags.Target d.assigning) (after ss vs ws e k))
 
-    simple : (ss : List Symbol) (vs ws : List Item) → closes (ahead r) ≡ true → Part ss vs (at i) t r ws → Runs (Want goals.Expression ∷ ss) vs i ws
+    simple : (ss : List Symbol) (vs ws : List StackItem) → closes (ahead r) ≡ true → Part ss vs (at i) t r ws → Runs (Want goals.Expression ∷ ss) vs i ws
     simple ss vs ws e k = want (Want goals.Unary ∷ Want goals.AfterUnary ∷ []) refl (unary_enter (Want goals.AfterUnary ∷ ss) vs ws i (d.takes.simple true (Want goals.AfterUnary ∷ ss) vs ws (behind ss vs ws e k)))

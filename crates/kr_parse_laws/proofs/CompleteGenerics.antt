@@ -13,7 +13,7 @@ use Rattle.kr_parse_grammar.specs.declared.goal.Make.TheVariants as makes
 use Rattle.kr_parse_grammar.specs.declared.goal.Symbol.{Symbol}
 use Rattle.kr_parse_grammar.specs.declared.goal.Symbol.TheVariants.{Take, Word, Want, Build}
 use Rattle.kr_parse_grammar.specs.Terminals.{terminal_of}
-use Rattle.kr_parse_grammar.specs.Values.{Item, mark, part, tag, is_name}
+use Rattle.kr_parse_grammar.specs.Values.{StackItem, mark, part, tag, is_name}
 use Rattle.kr_parse_grammar.specs.Grammar.{at}
 use Rattle.kr_parse_grammar.specs.Machine.{ahead, starts_unary, Runs, take, want, build}
 use Rattle.kr_parse_laws.proofs.CompleteSteps.{open_at, open_with, step, step_with, take_next, take_kind, build_inv}
@@ -24,13 +24,13 @@ use Rattle.kr_parse_laws.proofs.CompleteTypes.{member_name_rule}
 
 -- An array type.
 module _ (i r : List Lexeme) (t : Tree) (a b : Lexeme) (ka : terminal_of a.kind ≡ terminals.LeftBracket) (kb : terminal_of b.kind ≡ terminals.RightBracket) where
-  dimension : (ss : List Symbol) (vs ws : List Item) → Runs (Want goals.Dimensions ∷ ss) (part (at i) forms.Type (trees.ArrayType (at i) t) ∷ vs) r ws → Runs (Want goals.Dimensions ∷ ss) (part (at i) forms.Type t ∷ vs) (a ∷ b ∷ r) ws
+  dimension : (ss : List Symbol) (vs ws : List StackItem) → Runs (Want goals.Dimensions ∷ ss) (part (at i) forms.Type (trees.ArrayType (at i) t) ∷ vs) r ws → Runs (Want goals.Dimensions ∷ ss) (part (at i) forms.Type t ∷ vs) (a ∷ b ∷ r) ws
   dimension ss vs ws d = step goals.Dimensions terminals.LeftBracket ss (part (at i) forms.Type t ∷ vs) ws (a ∷ b ∷ r) ka (take a ka (take b kb (build d)))
 
   quiet_bracket : Quiet (a ∷ b ∷ r)
   quiet_bracket c m e kc = let z : terminals.LeftBracket ≡ terminals.Greater = differ (terminal_of a.kind) terminals.LeftBracket terminals.Greater ka (ap ahead e ∙ kc) in cc
 
-  tested_dimension : (ss : List Symbol) (vs ws : List Item) → Runs (Want goals.Dimensions ∷ Build makes.InstanceOf ∷ ss) (part (at i) forms.Type (trees.ArrayType (at i) t) ∷ vs) r ws → (v : Item) (q : Place) (e : Tree) → IsName v q e t → q ≡ at i
+  tested_dimension : (ss : List Symbol) (vs ws : List StackItem) → Runs (Want goals.Dimensions ∷ Build makes.InstanceOf ∷ ss) (part (at i) forms.Type (trees.ArrayType (at i) t) ∷ vs) r ws → (v : StackItem) (q : Place) (e : Tree) → IsName v q e t → q ≡ at i
       → Runs (Want goals.TestedName ∷ ss) (v ∷ vs) (a ∷ b ∷ r) ws
   tested_dimension ss vs ws d v q e isn z = step goals.TestedName terminals.LeftBracket ss (v ∷ vs) ws (a ∷ b ∷ r) ka
       (build (rw (type_of v q e t vs isn, z) (dimension (Build makes.InstanceOf ∷ ss) vs ws d)))
@@ -51,7 +51,7 @@ array_claim i r t a b d ka kb = record {
 }
 
 -- dimensions behind a chain that is a type
-past_dimensions : (ss ts : List Symbol) (q : Place) (ns ws : List Item) → is_name ns ≡ false → ((t : Tree) (j : List Lexeme) → Runs ss (part q forms.Type t ∷ ns) j ws → Runs ts (part q forms.Type t ∷ ns) j ws)
+past_dimensions : (ss ts : List Symbol) (q : Place) (ns ws : List StackItem) → is_name ns ≡ false → ((t : Tree) (j : List Lexeme) → Runs ss (part q forms.Type t ∷ ns) j ws → Runs ts (part q forms.Type t ∷ ns) j ws)
     → (r : List Lexeme) (t : Tree) → Runs (Want goals.Dimensions ∷ ss) (part q forms.Type t ∷ ns) r ws → Runs (Want goals.ChainClosing ∷ ts) (part q forms.Type t ∷ ns) r ws
 past_dimensions ss ts q ns ws h f [] t d = step_with goals.ChainClosing terminals.End tags.Type ts (part q forms.Type t ∷ ns) ws [] refl (rw h refl) (f t [] (open_at goals.Dimensions terminals.End refl d))
 past_dimensions ss ts q ns ws h f (a ∷ []) t d = go (terminal_of a.kind) refl
@@ -61,7 +61,7 @@ past_dimensions ss ts q ns ws h f (a ∷ []) t d = go (terminal_of a.kind) refl
     go k e = step_with goals.ChainClosing k tags.Type ts (part q forms.Type t ∷ ns) ws (a ∷ []) e (rw h refl) (f t (a ∷ []) (open_at goals.Dimensions k e d))
 past_dimensions ss ts q ns ws h f (a ∷ b ∷ r) t d = further ss ts q ns ws h f a b r t (past_dimensions ss ts q ns ws h f r (trees.ArrayType q t)) d
   where
-    further : (ss ts : List Symbol) (q : Place) (ns ws : List Item) → is_name ns ≡ false → ((t : Tree) (j : List Lexeme) → Runs ss (part q forms.Type t ∷ ns) j ws → Runs ts (part q forms.Type t ∷ ns) j ws)
+    further : (ss ts : List Symbol) (q : Place) (ns ws : List StackItem) → is_name ns ≡ false → ((t : Tree) (j : List Lexeme) → Runs ss (part q forms.Type t ∷ ns) j ws → Runs ts (part q forms.Type t ∷ ns) j ws)
         → (a b : Lexeme) (r : List Lexeme) (t : Tree) → (Runs (Want goals.Dimensions ∷ ss) (part q forms.Type (trees.ArrayType q t) ∷ ns) r ws → Runs (Want goals.ChainClosing ∷ ts) (part q forms.Type (trees.ArrayType q t) ∷ ns) r ws)
         → Runs (Want goals.Dimensions ∷ ss) (part q forms.Type t ∷ ns) (a ∷ b ∷ r) ws → Runs (Want goals.ChainClosing ∷ ts) (part q forms.Type t ∷ ns) (a ∷ b ∷ r) ws
     further ss ts q ns ws h f a b r t rest d = go (terminal_of a.kind) refl
@@ -79,15 +79,15 @@ rest_of (a ∷ r) = r
 
 -- A generic type.
 module _ (i m r : List Lexeme) (t u : Tree) (a b : Lexeme) (n : NameClaim i t (a ∷ m)) (ka : terminal_of a.kind ≡ terminals.Less) (d : AnyTypeClaim m u (b ∷ r)) (kb : terminal_of b.kind ≡ terminals.Greater) where
-  angle : (ss : List Symbol) (vs ws : List Item) → Runs ss (part (at i) forms.Type (trees.GenericType (at i) t u) ∷ vs) r ws → Runs (Want goals.Type ∷ Take terminals.Greater ∷ Build makes.Generic ∷ ss) (n.value ∷ vs) m ws
+  angle : (ss : List Symbol) (vs ws : List StackItem) → Runs ss (part (at i) forms.Type (trees.GenericType (at i) t u) ∷ vs) r ws → Runs (Want goals.Type ∷ Take terminals.Greater ∷ Build makes.Generic ∷ ss) (n.value ∷ vs) m ws
   angle ss vs ws x = d.type.simple (Take terminals.Greater ∷ Build makes.Generic ∷ ss) (n.value ∷ vs) ws (rw kb refl)
       (step goals.Dimensions terminals.Greater (Take terminals.Greater ∷ Build makes.Generic ∷ ss) (part (at m) forms.Type u ∷ n.value ∷ vs) ws (b ∷ r) kb
       (take b kb (build (rw (generic_of n.value (at i) n.operand t (at m) forms.Type u vs n.isname) x))))
 
-  angle_tail : (ss : List Symbol) (vs ws : List Item) → Runs (Want goals.Dimensions ∷ ss) (part (at i) forms.Type (trees.GenericType (at i) t u) ∷ vs) r ws → Runs (Want goals.TypeTail ∷ ss) (n.value ∷ vs) (a ∷ m) ws
+  angle_tail : (ss : List Symbol) (vs ws : List StackItem) → Runs (Want goals.Dimensions ∷ ss) (part (at i) forms.Type (trees.GenericType (at i) t u) ∷ vs) r ws → Runs (Want goals.TypeTail ∷ ss) (n.value ∷ vs) (a ∷ m) ws
   angle_tail ss vs ws x = step goals.TypeTail terminals.Less ss (n.value ∷ vs) ws (a ∷ m) ka (take a ka (angle (Want goals.Dimensions ∷ ss) vs ws x))
 
-  angle_chain : (ss : List Symbol) (ns ws : List Item) → starts_unary (ahead r) ≡ false → Runs (Want goals.ChainClosing ∷ ss) (part (at i) forms.Type (trees.GenericType (at i) t u) ∷ ns) r ws → Runs (Want goals.ChainArgument ∷ ss) (n.value ∷ ns) m ws
+  angle_chain : (ss : List Symbol) (ns ws : List StackItem) → starts_unary (ahead r) ≡ false → Runs (Want goals.ChainClosing ∷ ss) (part (at i) forms.Type (trees.GenericType (at i) t u) ∷ ns) r ws → Runs (Want goals.ChainArgument ∷ ss) (n.value ∷ ns) m ws
   angle_chain ss ns ws q x = d.type.chain ss (n.value ∷ ns) ws isns quiet
       (step_with goals.ChainClosing terminals.Greater tags.InnerType ss (part (at m) forms.Type u ∷ n.value ∷ ns) ws (b ∷ r) kb (rw isns refl)
       (take b kb (build (rw (generic_of n.value (at i) n.operand t (at m) forms.Type u ns n.isname) x))))
@@ -98,14 +98,14 @@ module _ (i m r : List Lexeme) (t u : Tree) (a b : Lexeme) (n : NameClaim i t (a
       quiet : Quiet (b ∷ r)
       quiet c l e kc = let z : starts_unary (ahead r) ≡ starts_unary (ahead l) = ap (λ x. starts_unary (ahead (rest_of x))) e in sym z ∙ q
 
-  closing_quiet : (ss : List Symbol) (ns ws : List Item) → is_name ns ≡ true → Runs (Want goals.ChainClosing ∷ ss) (part (at i) forms.Type (trees.GenericType (at i) t u) ∷ ns) r ws → starts_unary (ahead r) ≡ false
+  closing_quiet : (ss : List Symbol) (ns ws : List StackItem) → is_name ns ≡ true → Runs (Want goals.ChainClosing ∷ ss) (part (at i) forms.Type (trees.GenericType (at i) t u) ∷ ns) r ws → starts_unary (ahead r) ≡ false
   closing_quiet ss ns ws h x = go (ahead r) refl
     where
       go : (k : Terminal) → ahead r ≡ k → starts_unary (ahead r) ≡ false
       go terminals.LeftBracket e = rw e refl
       go k e = rw (take_kind (open_with goals.ChainClosing k tags.InnerType e (rw h refl) x)) refl
 
-  dimensions_quiet : (ss : List Symbol) (vs ws : List Item) → Runs (Want goals.Dimensions ∷ Take terminals.RightParenthesis ∷ ss) vs r ws → starts_unary (ahead r) ≡ false
+  dimensions_quiet : (ss : List Symbol) (vs ws : List StackItem) → Runs (Want goals.Dimensions ∷ Take terminals.RightParenthesis ∷ ss) vs r ws → starts_unary (ahead r) ≡ false
   dimensions_quiet ss vs ws x = go (ahead r) refl
     where
       go : (k : Terminal) → ahead r ≡ k → starts_unary (ahead r) ≡ false

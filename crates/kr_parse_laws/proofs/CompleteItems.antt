@@ -17,7 +17,7 @@ use Rattle.kr_parse_grammar.specs.declared.goal.Symbol.{Symbol}
 use Rattle.kr_parse_grammar.specs.declared.goal.Symbol.TheVariants.{Take, Word, Want, Build}
 use Rattle.kr_parse_grammar.specs.Terminals.{terminal_of}
 use Rattle.kr_parse_grammar.specs.TokenMeanings.{step_before, step_behind}
-use Rattle.kr_parse_grammar.specs.Values.{Item, mark, word, part, tag}
+use Rattle.kr_parse_grammar.specs.Values.{StackItem, mark, word, part, tag}
 use Rattle.kr_parse_grammar.specs.Grammar.{at}
 use Rattle.kr_parse_grammar.specs.Machine.{ahead, rule, starts_unary, Runs, take, keep, name, want, build}
 use Rattle.kr_parse_laws.proofs.CompleteSteps.{open_at, step, step_with, name_inv}
@@ -41,7 +41,7 @@ initialised_claim i r t a b ka kb d = λ ss vs ws e k. name a ka
     (step goals.Initialiser terminals.Equal (Build makes.Declarator ∷ ss) (word a.place a.text ∷ vs) ws (b ∷ i) kb
     (take b kb (d.simple (Build makes.Declarator ∷ ss) (word a.place a.text ∷ vs) ws e (λ f. build k))))
 
-pub declarators : {i r : List Lexeme} {t : Tree} → Parted DeclaratorClaim i t r → ahead r ≡ terminals.Semicolon → (ss : List Symbol) (vs ws : List Item) → Any ss vs t r ws
+pub declarators : {i r : List Lexeme} {t : Tree} → Parted DeclaratorClaim i t r → ahead r ≡ terminals.Semicolon → (ss : List Symbol) (vs ws : List StackItem) → Any ss vs t r ws
     → Runs (Word ∷ Want goals.Initialiser ∷ Build makes.Declarator ∷ Want goals.MoreDeclarators ∷ ss) vs i ws
 declarators (last {i = i} {r = r} {t = t} d) e = λ ss vs ws k. d (Want goals.MoreDeclarators ∷ ss) vs ws (rw e refl)
     (step goals.MoreDeclarators terminals.Semicolon ss (part (at i) forms.Other t ∷ vs) ws r e (build (build (k (at i) forms.Other))))
@@ -50,7 +50,7 @@ declarators (comma {i = i} {m = m} {t = t} a d ka rest) e = λ ss vs ws k. d (Wa
     (take a ka (declarators rest e (Build makes.Cons ∷ ss) (part (at i) forms.Other t ∷ vs) ws (λ p g. build (k (at i) forms.Other)))))
 
 -- Locals.
-local_names : (ss : List Symbol) (vs ws : List Item) (m : List Lexeme) → Runs (Word ∷ Want goals.Initialiser ∷ Build makes.Declarator ∷ Want goals.MoreDeclarators ∷ Build makes.Local ∷ ss) vs m ws
+local_names : (ss : List Symbol) (vs ws : List StackItem) (m : List Lexeme) → Runs (Word ∷ Want goals.Initialiser ∷ Build makes.Declarator ∷ Want goals.MoreDeclarators ∷ Build makes.Local ∷ ss) vs m ws
     → Runs (Want goals.Dimensions ∷ Word ∷ Want goals.AfterLocalName ∷ ss) vs m ws
 local_names ss vs ws m d =
     step goals.Dimensions terminals.Identifier (Word ∷ Want goals.AfterLocalName ∷ ss) vs ws m (name_kind (Want goals.Initialiser ∷ Build makes.Declarator ∷ Want goals.MoreDeclarators ∷ Build makes.Local ∷ ss) vs ws m d) (go (name_inv d))
@@ -83,8 +83,8 @@ final_local_claim i m r t u a ka d ds = record {
 }
 
 -- Names that begin an item, as operands.
-module _ (ss : List Symbol) (ns ws : List Item) (plain : Plain ns) where
-  item_operand : (v : Item) (q : Place) (e u : Tree) (j : List Lexeme) → IsName v q e u → passes false v (ahead j) ≡ true
+module _ (ss : List Symbol) (ns ws : List StackItem) (plain : Plain ns) where
+  item_operand : (v : StackItem) (q : Place) (e u : Tree) (j : List Lexeme) → IsName v q e u → passes false v (ahead j) ≡ true
       → Runs (Want goals.Suffixes ∷ Want goals.AfterStatementPrimary ∷ Build makes.ExpressionStatement ∷ ss) (part q forms.Target e ∷ ns) j ws → Runs (Want goals.ItemName ∷ ss) (v ∷ ns) j ws
   item_operand v q e u j isn h d = go (ahead j) refl h
     where
@@ -110,7 +110,7 @@ module _ (ss : List Symbol) (ns ws : List Item) (plain : Plain ns) where
     operand = item_operand;
   }
     where
-      bracket : (v : Item) (q : Place) (e u : Tree) (j : List Lexeme) → IsName v q e u
+      bracket : (v : StackItem) (q : Place) (e u : Tree) (j : List Lexeme) → IsName v q e u
           → Runs (Want goals.Expression ∷ Take terminals.RightBracket ∷ Build makes.ArrayAccess ∷ Want goals.Suffixes ∷ Want goals.AfterStatementPrimary ∷ Build makes.ExpressionStatement ∷ ss) (part q forms.Target e ∷ ns) j ws → Runs (Want goals.ItemBracket ∷ ss) (v ∷ ns) j ws
       bracket v q e u j isn d = go (ahead j) refl (expression_starts (Take terminals.RightBracket ∷ Build makes.ArrayAccess ∷ Want goals.Suffixes ∷ Want goals.AfterStatementPrimary ∷ Build makes.ExpressionStatement ∷ ss) (part q forms.Target e ∷ ns) ws j d)
         where
@@ -119,7 +119,7 @@ module _ (ss : List Symbol) (ns ws : List Item) (plain : Plain ns) where
           go h z y = step goals.ItemBracket h ss (v ∷ ns) ws j z (build (rw (variable_of v q e u ns isn) d))
 
 -- Expressions that are statements.
-primary_enter : (ss : List Symbol) (vs ws : List Item) (i : List Lexeme) → Runs (Want goals.Primary ∷ Want goals.AfterStatementPrimary ∷ ss) vs i ws → Runs (Want goals.StatementExpression ∷ ss) vs i ws
+primary_enter : (ss : List Symbol) (vs ws : List StackItem) (i : List Lexeme) → Runs (Want goals.Primary ∷ Want goals.AfterStatementPrimary ∷ ss) vs i ws → Runs (Want goals.StatementExpression ∷ ss) vs i ws
 primary_enter ss vs ws i d = go (ahead i) refl
   where
     go : (k : Terminal) → ahead i ≡ k → Runs (Want goals.StatementExpression ∷ ss) vs i ws
@@ -134,7 +134,7 @@ assigns_claim i r t d = record {
       (λ y v w isn. item_operand ss vs ws plain v (at i) d.target w d.rest isn (assigning_passes v (ahead d.rest) d.assigning) (behind (Build makes.ExpressionStatement ∷ ss) vs ws e k)) z;
 }
   where
-    after : (ss : List Symbol) (vs ws : List Item) → closes (ahead r) ≡ true → Part ss vs (at i) t r ws → Runs (Want goals.AfterStatementPrimary ∷ ss) (part (at i) forms.Target d.target ∷ vs) d.rest ws
+    after : (ss : List Symbol) (vs ws : List StackItem) → closes (ahead r) ≡ true → Part ss vs (at i) t r ws → Runs (Want goals.AfterStatementPrimary ∷ ss) (part (at i) forms.Target d.target ∷ vs) d.rest ws
     after ss vs ws e k = go (ahead d.rest) refl d.assigning
       where
         go : (h : Terminal) → ahead d.rest ≡ h → is_assigning h ≡ true → Runs (Want goals.AfterStatementPrimary ∷ ss) (part (at i) forms.Target d.target ∷ vs) d.rest ws
@@ -142,7 +142,7 @@ assigns_claim i r t d = record {
         go terminals.Compound z y = step goals.AfterStatementPrimary terminals.Compound ss (part (at i) forms.Target d.target ∷ vs) ws d.rest z (d.behind terminals.Compound ss vs ws z e (k forms.Other))
         go h z y = cc
 
-    behind : (ss : List Symbol) (vs ws : List Item) → closes (ahead r) ≡ true → Part ss vs (at i) t r ws → Runs (Want goals.Suffixes ∷ Want goals.AfterStatementPrimary ∷ ss) (part (at i) forms.Target d.target ∷ vs) d.rest ws
+    behind : (ss : List Symbol) (vs ws : List StackItem) → closes (ahead r) ≡ true → Part ss vs (at i) t r ws → Runs (Want goals.Suffixes ∷ Want goals.AfterStatementPrimary ∷ ss) (part (at i) forms.Target d.target ∷ vs) d.rest ws
     behind ss vs ws e k = assigning_suffixes i r t d (Want goals.AfterStatementPrimary ∷ ss) vs ws (after ss vs ws e k)
 
 pub steps_claim : (i r : List Lexeme) (t : Tree) (o : StepOperator) (a : Lexeme) → step_before a.kind ≡ Some o → OperandClaim ends_operand goals.Unary [] i t r → StatementExpressionClaim (a ∷ i) (trees.Step a.place o t) r
@@ -165,7 +165,7 @@ is_stepped_claim f i r t o a d e = record {
     facts : BehindFacts a.kind (Some o)
     facts = behind_means a.kind o e
 
-    behind : (g : Form) (ss : List Symbol) (vs ws : List Item) → Part ss vs (at i) (trees.Step (at i) o t) r ws → Runs (Want goals.Suffixes ∷ Want goals.AfterStatementPrimary ∷ ss) (part (at i) g t ∷ vs) (a ∷ r) ws
+    behind : (g : Form) (ss : List Symbol) (vs ws : List StackItem) → Part ss vs (at i) (trees.Step (at i) o t) r ws → Runs (Want goals.Suffixes ∷ Want goals.AfterStatementPrimary ∷ ss) (part (at i) g t ∷ vs) (a ∷ r) ws
     behind g ss vs ws k = step goals.Suffixes terminals.Step (Want goals.AfterStatementPrimary ∷ ss) (part (at i) g t ∷ vs) ws (a ∷ r) facts.0
         (step goals.AfterStatementPrimary terminals.Step ss (part (at i) g t ∷ vs) ws (a ∷ r) facts.0 (keep a facts.0 (build (rw facts.1 (k forms.Other)))))
 
@@ -184,11 +184,11 @@ invokes_claim i r t d = record {
       (behind (Build makes.ExpressionStatement ∷ ss) vs ws e k) (λ y. absurd (let w : forms.Invocation ≡ forms.Target = y in cc)) z;
 }
   where
-    behind : (ss : List Symbol) (vs ws : List Item) → closes (ahead r) ≡ true → Part ss vs (at i) t r ws → Runs (Want goals.Suffixes ∷ Want goals.AfterStatementPrimary ∷ ss) (part (at i) forms.Invocation t ∷ vs) r ws
+    behind : (ss : List Symbol) (vs ws : List StackItem) → closes (ahead r) ≡ true → Part ss vs (at i) t r ws → Runs (Want goals.Suffixes ∷ Want goals.AfterStatementPrimary ∷ ss) (part (at i) forms.Invocation t ∷ vs) r ws
     behind ss vs ws e k = want [] (suffixes_end (ahead r) tags.Invocation (operand_primary (ahead r) (closes_operand (ahead r) e)))
         (want [] (invocation_rule (ahead r) e) (k forms.Invocation))
 
-pub statement_starts : (ss : List Symbol) (vs ws : List Item) (i : List Lexeme) → Runs (Want goals.StatementExpression ∷ ss) vs i ws → starts_unary (ahead i) ≡ true
+pub statement_starts : (ss : List Symbol) (vs ws : List StackItem) (i : List Lexeme) → Runs (Want goals.StatementExpression ∷ ss) vs i ws → starts_unary (ahead i) ≡ true
 statement_starts ss vs ws i d = go (ahead i) refl
   where
     go : (k : Terminal) → ahead i ≡ k → starts_unary (ahead i) ≡ true
@@ -201,10 +201,10 @@ evaluated_claim i r t d = record {
   item = λ ss vs ws e plain k. item ss vs ws e plain k;
 }
   where
-    simple : (ss : List Symbol) (vs ws : List Item) → closes (ahead r) ≡ true → Runs ss (part (at i) forms.Other (trees.ExpressionStatement (at i) t) ∷ vs) r ws → Runs (Want goals.StatementExpression ∷ Build makes.ExpressionStatement ∷ ss) vs i ws
+    simple : (ss : List Symbol) (vs ws : List StackItem) → closes (ahead r) ≡ true → Runs ss (part (at i) forms.Other (trees.ExpressionStatement (at i) t) ∷ vs) r ws → Runs (Want goals.StatementExpression ∷ Build makes.ExpressionStatement ∷ ss) vs i ws
     simple ss vs ws e k = d.simple (Build makes.ExpressionStatement ∷ ss) vs ws e (λ f. build k)
 
-    item : (ss : List Symbol) (vs ws : List Item) → closes (ahead r) ≡ true → Plain vs → Runs ss (part (at i) forms.Other (trees.ExpressionStatement (at i) t) ∷ vs) r ws → Runs (Want goals.Item ∷ ss) vs i ws
+    item : (ss : List Symbol) (vs ws : List StackItem) → closes (ahead r) ≡ true → Plain vs → Runs ss (part (at i) forms.Other (trees.ExpressionStatement (at i) t) ∷ vs) r ws → Runs (Want goals.Item ∷ ss) vs i ws
     item ss vs ws e plain k = go (ahead i) refl (statement_starts (Build makes.ExpressionStatement ∷ ss) vs ws i (simple ss vs ws e k))
       where
         go : (h : Terminal) → ahead i ≡ h → starts_unary h ≡ true → Runs (Want goals.Item ∷ ss) vs i ws

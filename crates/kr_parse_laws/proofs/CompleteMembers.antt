@@ -18,7 +18,7 @@ use Rattle.kr_parse_grammar.specs.declared.goal.Symbol.{Symbol}
 use Rattle.kr_parse_grammar.specs.declared.goal.Symbol.TheVariants.{Take, Word, Want, Build}
 use Rattle.kr_parse_grammar.specs.Terminals.{terminal_of}
 use Rattle.kr_parse_grammar.specs.TokenMeanings.{is_access}
-use Rattle.kr_parse_grammar.specs.Values.{Item, mark, word, part, member, owner, tag, no_modifiers}
+use Rattle.kr_parse_grammar.specs.Values.{StackItem, mark, word, part, member, owner, tag, no_modifiers}
 use Rattle.kr_parse_grammar.specs.Made.{nowhere, the_primitive}
 use Rattle.kr_parse_grammar.specs.declared.value.Modifiers.{Modifiers}
 use Rattle.kr_parse_grammar.specs.declared.goal.Spelled.TheVariants as spelled
@@ -49,7 +49,7 @@ access_facts _ = tt
 pub access_means : (k : Kind) → is_access k ≡ true → terminal_of k ≡ terminals.Access
 access_means k e = let z : AccessFacts k true = rw e at (access_facts k) in z
 
-modified : {i j : List Lexeme} {f : Modifiers} → Modified i f j → (ss : List Symbol) (n : Bool) (vs ws : List Item) → Runs (Want goals.Member ∷ ss) (member n f ∷ vs) j ws → Runs (Want goals.Member ∷ ss) (member n no_modifiers ∷ vs) i ws
+modified : {i j : List Lexeme} {f : Modifiers} → Modified i f j → (ss : List Symbol) (n : Bool) (vs ws : List StackItem) → Runs (Want goals.Member ∷ ss) (member n f ∷ vs) j ws → Runs (Want goals.Member ∷ ss) (member n no_modifiers ∷ vs) i ws
 modified grammar.nothing = λ ss n vs ws k. k
 modified (grammar.access {r = r} {f = f} a d e) = λ ss n vs ws k. modified d ss n vs ws (step goals.Member terminals.Access ss (member n f ∷ vs) ws (a ∷ r) (access_means a.kind e) (take a (access_means a.kind e) k))
 modified (grammar.static {r = r} {f = f} a d e) = λ ss n vs ws k. modified d ss n vs ws (step goals.Member terminals.Static ss (member n f ∷ vs) ws (a ∷ r) (ap terminal_of e) (take a (ap terminal_of e) (build k)))
@@ -58,30 +58,30 @@ modified (grammar.overriding {r = r} {f = f} a b d e g h) = λ ss n vs ws k. mod
     (step goals.Member terminals.At ss (member n f ∷ vs) ws (a ∷ b ∷ r) (ap terminal_of e) (take a (ap terminal_of e) (spell {s = spelled.Override} b (ap terminal_of g) h (build k))))
 
 -- Parameters.
-typed_word : (i r : List Lexeme) (t : Tree) (n : Lexeme) → AnyTypeClaim i t (n ∷ r) → terminal_of n.kind ≡ terminals.Identifier → (ss : List Symbol) (vs ws : List Item) → Runs ss (word n.place n.text ∷ part (at i) forms.Type t ∷ vs) r ws
+typed_word : (i r : List Lexeme) (t : Tree) (n : Lexeme) → AnyTypeClaim i t (n ∷ r) → terminal_of n.kind ≡ terminals.Identifier → (ss : List Symbol) (vs ws : List StackItem) → Runs ss (word n.place n.text ∷ part (at i) forms.Type t ∷ vs) r ws
     → Runs (Want goals.Type ∷ Word ∷ ss) vs i ws
 typed_word i r t n d kn ss vs ws k = d.type.simple (Word ∷ ss) vs ws (rw kn refl) (step goals.Dimensions terminals.Identifier (Word ∷ ss) (part (at i) forms.Type t ∷ vs) ws (n ∷ r) kn (name n kn k))
 
 pub parameter_claim : (i r : List Lexeme) (t : Tree) (n : Lexeme) → AnyTypeClaim i t (n ∷ r) → terminal_of n.kind ≡ terminals.Identifier → ParameterClaim i (trees.Parameter n.place t n.text) r
 parameter_claim i r t n d kn = λ ss vs ws k. go (ahead i) refl d.type.starts ss vs ws (typed_word i r t n d kn (Build makes.Parameter ∷ ss) vs ws (build (k n.place forms.Other)))
   where
-    go : (h : Terminal) → ahead i ≡ h → starts_type h ≡ true → (ss : List Symbol) (vs ws : List Item) → Runs (Want goals.Type ∷ Word ∷ Build makes.Parameter ∷ ss) vs i ws → Runs (Want goals.Parameter ∷ ss) vs i ws
+    go : (h : Terminal) → ahead i ≡ h → starts_type h ≡ true → (ss : List Symbol) (vs ws : List StackItem) → Runs (Want goals.Type ∷ Word ∷ Build makes.Parameter ∷ ss) vs i ws → Runs (Want goals.Parameter ∷ ss) vs i ws
     go terminals.Final e z ss vs ws x = cc
     go h e z ss vs ws x = step goals.Parameter h ss vs ws i e x
 
 pub final_parameter_claim : (i r : List Lexeme) (t : Tree) (a n : Lexeme) → terminal_of a.kind ≡ terminals.Final → AnyTypeClaim i t (n ∷ r) → terminal_of n.kind ≡ terminals.Identifier → ParameterClaim (a ∷ i) (trees.Parameter n.place t n.text) r
 final_parameter_claim i r t a n ka d kn = λ ss vs ws k. step goals.Parameter terminals.Final ss vs ws (a ∷ i) ka (take a ka (typed_word i r t n d kn (Build makes.Parameter ∷ ss) vs ws (build (k n.place forms.Other))))
 
-more_parameters : {i r : List Lexeme} {t : Tree} → Parted ParameterClaim i t r → ahead r ≡ terminals.RightParenthesis → (ss : List Symbol) (vs ws : List Item) → Any ss vs t r ws → Runs (Want goals.Parameter ∷ Want goals.MoreParameters ∷ ss) vs i ws
+more_parameters : {i r : List Lexeme} {t : Tree} → Parted ParameterClaim i t r → ahead r ≡ terminals.RightParenthesis → (ss : List Symbol) (vs ws : List StackItem) → Any ss vs t r ws → Runs (Want goals.Parameter ∷ Want goals.MoreParameters ∷ ss) vs i ws
 more_parameters (last {r = r} {t = t} d) e = λ ss vs ws k. d (Want goals.MoreParameters ∷ ss) vs ws (λ p f. step goals.MoreParameters terminals.RightParenthesis ss (part p f t ∷ vs) ws r e (build (build (k p forms.Other))))
 more_parameters (comma {m = m} {t = t} a d ka rest) e = λ ss vs ws k. d (Want goals.MoreParameters ∷ ss) vs ws
     (λ p f. step goals.MoreParameters terminals.Comma ss (part p f t ∷ vs) ws (a ∷ m) ka (take a ka (more_parameters rest e (Build makes.Cons ∷ ss) (part p f t ∷ vs) ws (λ q g. build (k p forms.Other)))))
 
-parameters : {i r : List Lexeme} {t : Tree} → Optional (Parted ParameterClaim) i t r → ahead r ≡ terminals.RightParenthesis → (ss : List Symbol) (vs ws : List Item) → Any ss vs t r ws → Runs (Want goals.Parameters ∷ ss) vs i ws
+parameters : {i r : List Lexeme} {t : Tree} → Optional (Parted ParameterClaim) i t r → ahead r ≡ terminals.RightParenthesis → (ss : List Symbol) (vs ws : List StackItem) → Any ss vs t r ws → Runs (Want goals.Parameters ∷ ss) vs i ws
 parameters (absent {i = i}) e = λ ss vs ws k. step goals.Parameters terminals.RightParenthesis ss vs ws i e (build (k nowhere forms.Other))
 parameters (present {i = i} d) e = λ ss vs ws k. enter ss vs ws i (more_parameters d e ss vs ws k)
   where
-    enter : (ss : List Symbol) (vs ws : List Item) (i : List Lexeme) → Runs (Want goals.Parameter ∷ Want goals.MoreParameters ∷ ss) vs i ws → Runs (Want goals.Parameters ∷ ss) vs i ws
+    enter : (ss : List Symbol) (vs ws : List StackItem) (i : List Lexeme) → Runs (Want goals.Parameter ∷ Want goals.MoreParameters ∷ ss) vs i ws → Runs (Want goals.Parameters ∷ ss) vs i ws
     enter ss vs ws i d = go (ahead i) refl
       where
         go : (k : Terminal) → ahead i ≡ k → Runs (Want goals.Parameters ∷ ss) vs i ws
@@ -89,14 +89,14 @@ parameters (present {i = i} d) e = λ ss vs ws k. enter ss vs ws i (more_paramet
         go k e = step goals.Parameters k ss vs ws i e d
 
 -- Fields.
-not_overriding : (b : Bool) (f : Modifiers) → f.overrides ≡ false → (vs : List Item) → tag (member b f ∷ vs) ≢ tags.Overriding
+not_overriding : (b : Bool) (f : Modifiers) → f.overrides ≡ false → (vs : List StackItem) → tag (member b f ∷ vs) ≢ tags.Overriding
 not_overriding b f e vs z = go (f.is_static && not b) (let w : (if false then tags.Overriding else if f.is_static && not b then tags.Nestable else tags.Other) ≡ tags.Overriding = rw e at z in w)
   where
     go : (c : Bool) → (if c then tags.Nestable else tags.Other) ≡ tags.Overriding → ⊥
     go true y = let w : tags.Nestable ≡ tags.Overriding = y in cc
     go false y = let w : tags.Other ≡ tags.Overriding = y in cc
 
-field_enter : (ss : List Symbol) (vs ws : List Item) (j : List Lexeme) → Runs (Want goals.Initialiser ∷ Build makes.Declarator ∷ Want goals.MoreDeclarators ∷ Take terminals.Semicolon ∷ Build makes.Field ∷ ss) vs j ws → Runs (Want goals.FieldOrMethod ∷ ss) vs j ws
+field_enter : (ss : List Symbol) (vs ws : List StackItem) (j : List Lexeme) → Runs (Want goals.Initialiser ∷ Build makes.Declarator ∷ Want goals.MoreDeclarators ∷ Take terminals.Semicolon ∷ Build makes.Field ∷ ss) vs j ws → Runs (Want goals.FieldOrMethod ∷ ss) vs j ws
 field_enter ss vs ws j d = go (ahead j) refl
   where
     go : (k : Terminal) → ahead j ≡ k → Runs (Want goals.FieldOrMethod ∷ ss) vs j ws
@@ -105,7 +105,7 @@ field_enter ss vs ws j d = go (ahead j) refl
     go terminals.Semicolon e = step goals.FieldOrMethod terminals.Semicolon ss vs ws j e d
     go k e = absurd (let z : k ≡ terminals.Semicolon = sym e ∙ take_kind (build_inv (build_inv (open_at goals.MoreDeclarators k e (build_inv (build_inv (open_at goals.Initialiser k e d)))))) in cc)
 
-field_names : (ss : List Symbol) (vs ws : List Item) (m : List Lexeme) → Runs (Word ∷ Want goals.Initialiser ∷ Build makes.Declarator ∷ Want goals.MoreDeclarators ∷ Take terminals.Semicolon ∷ Build makes.Field ∷ ss) vs m ws
+field_names : (ss : List Symbol) (vs ws : List StackItem) (m : List Lexeme) → Runs (Word ∷ Want goals.Initialiser ∷ Build makes.Declarator ∷ Want goals.MoreDeclarators ∷ Take terminals.Semicolon ∷ Build makes.Field ∷ ss) vs m ws
     → Runs (Want goals.Dimensions ∷ Word ∷ Want goals.FieldOrMethod ∷ ss) vs m ws
 field_names ss vs ws m d =
     step goals.Dimensions terminals.Identifier (Word ∷ Want goals.FieldOrMethod ∷ ss) vs ws m
@@ -136,7 +136,7 @@ typed_method i r t d = λ a b l z ka kb ss vs ws k. enter ss vs ws (ahead i) ref
     (d.type.simple (Word ∷ Want goals.ContractedMethod ∷ ss) vs ws (rw (z, ka) refl)
     (rw z (step goals.Dimensions terminals.Identifier (Word ∷ Want goals.ContractedMethod ∷ ss) (part (at i) forms.Type t ∷ vs) ws (a ∷ b ∷ l) ka (name a ka k))))
   where
-    enter : (ss : List Symbol) (vs ws : List Item) (h : Terminal) → ahead i ≡ h → starts_type h ≡ true → Runs (Want goals.Type ∷ Word ∷ Want goals.ContractedMethod ∷ ss) vs i ws → Runs (Want goals.MethodAhead ∷ ss) vs i ws
+    enter : (ss : List Symbol) (vs ws : List StackItem) (h : Terminal) → ahead i ≡ h → starts_type h ≡ true → Runs (Want goals.Type ∷ Word ∷ Want goals.ContractedMethod ∷ ss) vs i ws → Runs (Want goals.MethodAhead ∷ ss) vs i ws
     enter ss vs ws terminals.Primitive x y w = step goals.MethodAhead terminals.Primitive ss vs ws i x w
     enter ss vs ws terminals.Identifier x y w = step goals.MethodAhead terminals.Identifier ss vs ws i x w
     enter ss vs ws h x y w = cc
@@ -144,7 +144,7 @@ typed_method i r t d = λ a b l z ka kb ss vs ws k. enter ss vs ws (ahead i) ref
 typed_member : (i r : List Lexeme) (t : Tree) → AnyTypeClaim i t r → Begun goals.Member goals.Method i t r
 typed_member i r t d = λ a b l z ka kb ss vs ws k. go a b l z ka kb ss vs ws k (tag vs) refl
   where
-    go : (a b : Lexeme) (l : List Lexeme) → r ≡ a ∷ b ∷ l → terminal_of a.kind ≡ terminals.Identifier → terminal_of b.kind ≡ terminals.LeftParenthesis → (ss : List Symbol) (vs ws : List Item)
+    go : (a b : Lexeme) (l : List Lexeme) → r ≡ a ∷ b ∷ l → terminal_of a.kind ≡ terminals.Identifier → terminal_of b.kind ≡ terminals.LeftParenthesis → (ss : List Symbol) (vs ws : List StackItem)
         → Runs (Want goals.Method ∷ ss) (word a.place a.text ∷ part (at i) forms.Type t ∷ vs) (b ∷ l) ws → (q : Tag) → tag vs ≡ q → Runs (Want goals.Member ∷ ss) vs i ws
     go a b l z ka kb ss vs ws k = at_tag
       where
@@ -184,7 +184,7 @@ plain_method o n i j m l r f t u s a b c d e mods result ka kb ps kc kd body ke 
     (λ x y. take e ke (build (k a.place forms.Other))))))))))
 
 -- Contracts.
-members_enter : (ss : List Symbol) (vs ws : List Item) (i : List Lexeme) → Runs (Want goals.Member ∷ others ss) vs i ws → Runs (Want goals.Members ∷ ss) vs i ws
+members_enter : (ss : List Symbol) (vs ws : List StackItem) (i : List Lexeme) → Runs (Want goals.Member ∷ others ss) vs i ws → Runs (Want goals.Members ∷ ss) vs i ws
 members_enter ss vs ws i d = go (ahead i) refl
   where
     go : (k : Terminal) → ahead i ≡ k → Runs (Want goals.Members ∷ ss) vs i ws
@@ -214,10 +214,10 @@ postcondition_claim i r t a b c ka kb d kc = record {
       (take b kb (d.simple (Take terminals.Semicolon ∷ Build makes.Ensures ∷ ss) (mark a.kind a.place ∷ vs) ws (rw kc refl) (λ f. take c kc (build (k a.place forms.Other))))));
 }
 
-contracts : {i r : List Lexeme} {t : Tree} → Listed ContractClaim i t r → ahead r ≢ terminals.Contract → (ss : List Symbol) (vs ws : List Item) → Any ss vs t r ws → Runs (Want goals.Contracts ∷ ss) vs i ws
+contracts : {i r : List Lexeme} {t : Tree} → Listed ContractClaim i t r → ahead r ≢ terminals.Contract → (ss : List Symbol) (vs ws : List StackItem) → Any ss vs t r ws → Runs (Want goals.Contracts ∷ ss) vs i ws
 contracts (end {i = i}) h = λ ss vs ws k. none ss vs ws i h (build (k nowhere forms.Other))
   where
-    none : (ss : List Symbol) (vs ws : List Item) (i : List Lexeme) → ahead i ≢ terminals.Contract → Runs (Build makes.Nil ∷ ss) vs i ws → Runs (Want goals.Contracts ∷ ss) vs i ws
+    none : (ss : List Symbol) (vs ws : List StackItem) (i : List Lexeme) → ahead i ≢ terminals.Contract → Runs (Build makes.Nil ∷ ss) vs i ws → Runs (Want goals.Contracts ∷ ss) vs i ws
     none ss vs ws i h d = go (ahead i) refl
       where
         go : (k : Terminal) → ahead i ≡ k → Runs (Want goals.Contracts ∷ ss) vs i ws
@@ -228,7 +228,7 @@ contracts (next {i = i} {t = t} c rest) h = λ ss vs ws k. step goals.Contracts 
     (λ p f. contracts rest h (Build makes.Cons ∷ ss) (part p f t ∷ vs) ws (λ q g. build (k p forms.Other))))
 
 -- modifiers behind contracts
-modified_method : {i j : List Lexeme} {f : Modifiers} → Modified i f j → (ss : List Symbol) (n : Bool) (vs ws : List Item) → Runs (Want goals.MethodAhead ∷ ss) (member n f ∷ vs) j ws → Runs (Want goals.MethodAhead ∷ ss) (member n no_modifiers ∷ vs) i ws
+modified_method : {i j : List Lexeme} {f : Modifiers} → Modified i f j → (ss : List Symbol) (n : Bool) (vs ws : List StackItem) → Runs (Want goals.MethodAhead ∷ ss) (member n f ∷ vs) j ws → Runs (Want goals.MethodAhead ∷ ss) (member n no_modifiers ∷ vs) i ws
 modified_method grammar.nothing = λ ss n vs ws k. k
 modified_method (grammar.access {r = r} {f = f} a d e) = λ ss n vs ws k. modified_method d ss n vs ws (step goals.MethodAhead terminals.Access ss (member n f ∷ vs) ws (a ∷ r) (access_means a.kind e) (take a (access_means a.kind e) k))
 modified_method (grammar.static {r = r} {f = f} a d e) = λ ss n vs ws k. modified_method d ss n vs ws (step goals.MethodAhead terminals.Static ss (member n f ∷ vs) ws (a ∷ r) (ap terminal_of e) (take a (ap terminal_of e) (build k)))
@@ -239,7 +239,7 @@ modified_method (grammar.overriding {r = r} {f = f} a b d e g h) = λ ss n vs ws
 -- a method behind its contracts
 behind_contracts : (o : List ℕ) (n : Bool) (i j m l r : List Lexeme) (f : Modifiers) (v t u s : Tree) (a b c d e : Lexeme) → Modified i f j → ResultClaim j t (a ∷ b ∷ m) → terminal_of a.kind ≡ terminals.Identifier → terminal_of b.kind ≡ terminals.LeftParenthesis
     → Optional (Parted ParameterClaim) m u (c ∷ d ∷ l) → terminal_of c.kind ≡ terminals.RightParenthesis → terminal_of d.kind ≡ terminals.LeftBrace → Listed BlockStatementClaim l s (e ∷ r) → terminal_of e.kind ≡ terminals.RightBrace
-    → (ss : List Symbol) (q : Place) (g : Form) (vs ws : List Item) → Any ss vs (trees.Method a.place f.is_static a.text (trees.Signature a.place t u v) s) r ws → Runs (Want goals.MethodAhead ∷ ss) (member n no_modifiers ∷ part q g v ∷ vs) i ws
+    → (ss : List Symbol) (q : Place) (g : Form) (vs ws : List StackItem) → Any ss vs (trees.Method a.place f.is_static a.text (trees.Signature a.place t u v) s) r ws → Runs (Want goals.MethodAhead ∷ ss) (member n no_modifiers ∷ part q g v ∷ vs) i ws
 behind_contracts o n i j m l r f v t u s a b c d e mods result ka kb ps kc kd body ke = λ ss q g vs ws k.
     modified_method mods ss n (part q g v ∷ vs) ws
     (result.contracted a b m refl ka kb ss (member n f ∷ part q g v ∷ vs) ws
@@ -278,7 +278,7 @@ calls_super_claim i r t a b c d ka kb args kc kd = λ ss vs ws k.
     (λ p f. take c kc (take d kd (build (k a.place forms.Other))))))))
 
 -- a body whose first statement may begin with `super`
-body_enter : (ss : List Symbol) (vs ws : List Item) (i : List Lexeme) → Runs (Want goals.Statements ∷ ss) (part nowhere forms.Other trees.Nil ∷ vs) i ws → Runs (Want goals.ConstructorBody ∷ ss) vs i ws
+body_enter : (ss : List Symbol) (vs ws : List StackItem) (i : List Lexeme) → Runs (Want goals.Statements ∷ ss) (part nowhere forms.Other trees.Nil ∷ vs) i ws → Runs (Want goals.ConstructorBody ∷ ss) vs i ws
 body_enter ss vs ws i d = go (ahead i) refl
   where
     begins : (s : Lexeme) × (j : List Lexeme) × (i ≡ s ∷ j) × (terminal_of s.kind ≡ terminals.Super)
@@ -297,11 +297,11 @@ body_enter ss vs ws i d = go (ahead i) refl
         (open_at goals.Statements terminals.Super e d))))))
     go k e = step goals.ConstructorBody k ss vs ws i e (build d)
 
-constructor_body : {j k : List Lexeme} {s : Tree} → Optional ConstructorCallClaim j s k → (ss : List Symbol) (vs ws : List Item) → Any (Want goals.Statements ∷ ss) vs s k ws → Runs (Want goals.ConstructorBody ∷ ss) vs j ws
+constructor_body : {j k : List Lexeme} {s : Tree} → Optional ConstructorCallClaim j s k → (ss : List Symbol) (vs ws : List StackItem) → Any (Want goals.Statements ∷ ss) vs s k ws → Runs (Want goals.ConstructorBody ∷ ss) vs j ws
 constructor_body (absent {i = i}) = λ ss vs ws k. body_enter ss vs ws i (k nowhere forms.Other)
 constructor_body (present d) = λ ss vs ws k. d ss vs ws k
 
-constructor_tag : (n : Bool) (p q : Place) (x o : List ℕ) (vs : List Item) → x ≡ o → tag (word q x ∷ member n no_modifiers ∷ owner n p o ∷ vs) ≡ tags.Constructor
+constructor_tag : (n : Bool) (p q : Place) (x o : List ℕ) (vs : List StackItem) → x ≡ o → tag (word q x ∷ member n no_modifiers ∷ owner n p o ∷ vs) ≡ tags.Constructor
 constructor_tag n p q x o vs e = let z : bytes_eq x o ≡ true = (bytes_eq-Decides x o).1 e in rw z refl
 
 pub constructor_claim : (o : List ℕ) (n : Bool) (i m j k r : List Lexeme) (u s t : Tree) (a b c d e : Lexeme) → Modified i no_modifiers (a ∷ b ∷ m) → terminal_of a.kind ≡ terminals.Identifier → a.text ≡ o → terminal_of b.kind ≡ terminals.LeftParenthesis
@@ -321,7 +321,7 @@ constructor_claim o n i m j l r u s t a b c d e mods ka eo kb ps kc kd call body
     (λ z w. take e ke (build (k a.place forms.Other))))))))))))
 
 -- Nested classes.
-nested_tag : (f : Modifiers) (vs : List Item) → f.is_static ≡ true → f.overrides ≡ false → tag (member false f ∷ vs) ≡ tags.Nestable
+nested_tag : (f : Modifiers) (vs : List StackItem) → f.is_static ≡ true → f.overrides ≡ false → tag (member false f ∷ vs) ≡ tags.Nestable
 nested_tag f vs e h = rw (h, e) refl
 
 pub nested_claim : (o : List ℕ) (i j r : List Lexeme) (f : Modifiers) (t : Tree) → Modified i f j → f.is_static ≡ true → f.overrides ≡ false → ClassClaim true j t r → PlainClaim o false i t r

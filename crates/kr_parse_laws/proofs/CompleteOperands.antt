@@ -21,7 +21,7 @@ use Rattle.kr_parse_grammar.specs.declared.goal.Symbol.{Symbol}
 use Rattle.kr_parse_grammar.specs.declared.goal.Symbol.TheVariants.{Take, Want, Build}
 use Rattle.kr_parse_grammar.specs.Terminals.{terminal_of}
 use Rattle.kr_parse_grammar.specs.TokenMeanings.{primitive_of, sign_of, step_before, step_behind, complement_of, compound_of}
-use Rattle.kr_parse_grammar.specs.Values.{Item, mark, part, tag}
+use Rattle.kr_parse_grammar.specs.Values.{StackItem, mark, part, tag}
 use Rattle.kr_parse_grammar.specs.Made.{the_primitive, the_unary, the_step_before, the_step_behind, assigned}
 use Rattle.kr_parse_grammar.specs.Grammar.{at}
 use Rattle.kr_parse_grammar.specs.Machine.{ahead, starts_unsigned, Runs, take, keep, want, build}
@@ -132,7 +132,7 @@ step_postfix i r t o a d e = record {
     facts : BehindFacts a.kind (Some o)
     facts = behind_means a.kind o e
 
-    stepped : (ss : List Symbol) (vs ws : List Item) → Part (Want goals.Postfixes ∷ ss) vs (at i) (trees.Step (at i) o t) r ws → Part (Want goals.Postfixes ∷ ss) vs (at i) t (a ∷ r) ws
+    stepped : (ss : List Symbol) (vs ws : List StackItem) → Part (Want goals.Postfixes ∷ ss) vs (at i) (trees.Step (at i) o t) r ws → Part (Want goals.Postfixes ∷ ss) vs (at i) t (a ∷ r) ws
     stepped ss vs ws k f = step goals.Postfixes terminals.Step ss (part (at i) f t ∷ vs) ws (a ∷ r) facts.0 (keep a facts.0 (build (rw facts.1 (k forms.Other))))
 
 pub unsigned_of_postfix : (i r : List Lexeme) (t : Tree) → OperandClaim ends_suffixes goals.Unsigned (Want goals.Postfixes ∷ []) i t r → OperandClaim ends_operand goals.Unsigned [] i t r
@@ -197,7 +197,7 @@ reference_cast_claim i m r t u a b ka type kb d = record {
   led = λ c g ss ns ts vs ws ctx x k bare z. absurd (let y : terminals.LeftParenthesis ≡ terminals.Identifier = differ (terminal_of a.kind) terminals.LeftParenthesis terminals.Identifier ka z in cc);
 }
 
-pub unary_enter : (ss : List Symbol) (vs ws : List Item) (i : List Lexeme) → Runs (Want goals.Unsigned ∷ ss) vs i ws → Runs (Want goals.Unary ∷ ss) vs i ws
+pub unary_enter : (ss : List Symbol) (vs ws : List StackItem) (i : List Lexeme) → Runs (Want goals.Unsigned ∷ ss) vs i ws → Runs (Want goals.Unary ∷ ss) vs i ws
 unary_enter ss vs ws i d = go (ahead i) refl (unsigned_starts ss vs ws i d)
   where
     go : (k : Terminal) → ahead i ≡ k → starts_unsigned k ≡ true → Runs (Want goals.Unary ∷ ss) vs i ws

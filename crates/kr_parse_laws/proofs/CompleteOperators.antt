@@ -20,7 +20,7 @@ use Rattle.kr_parse_grammar.specs.declared.goal.Symbol.{Symbol}
 use Rattle.kr_parse_grammar.specs.declared.goal.Symbol.TheVariants.{Keep, Want, Build}
 use Rattle.kr_parse_grammar.specs.Terminals.{terminal_of}
 use Rattle.kr_parse_grammar.specs.TokenMeanings.{binary_of, level}
-use Rattle.kr_parse_grammar.specs.Values.{Item, mark, word, pair, part, member, owner, tag, is_name}
+use Rattle.kr_parse_grammar.specs.Values.{StackItem, mark, word, pair, part, member, owner, tag, is_name}
 use Rattle.kr_parse_grammar.specs.Made.{made, compared, the_binary}
 use Rattle.kr_parse_grammar.specs.Machine.{ahead, rule, starts_unary, starts_unsigned, ends_expression, level_of, infix_body, operators_rule, Runs, want}
 use Rattle.kr_parse_laws.proofs.CompleteSteps.{RunsOf, opens}
@@ -67,19 +67,19 @@ closes_operand terminals.Colon e = refl
 closes_operand _ e = cc
 
 -- behind a whole operand the machine passes on
-pub past_operand : (ss : List Symbol) (vs ws : List Item) (r : List Lexeme) → ends_operand (ahead r) ≡ true → Runs ss vs r ws → Runs (Want goals.Suffixes ∷ Want goals.Postfixes ∷ ss) vs r ws
+pub past_operand : (ss : List Symbol) (vs ws : List StackItem) (r : List Lexeme) → ends_operand (ahead r) ≡ true → Runs ss vs r ws → Runs (Want goals.Suffixes ∷ Want goals.Postfixes ∷ ss) vs r ws
 past_operand ss vs ws r e d = want [] (suffixes_end (ahead r) (tag vs) (operand_primary (ahead r) e)) (want [] (postfixes_end (ahead r) (tag vs) e) d)
 
 -- Operators.
-when_runs : (b : Bool) (o : Option (List Symbol)) (ss : List Symbol) (vs ws : List Item) (r : List Lexeme) → RunsOf (if b then o else None) ss vs r ws → b ≡ true
+when_runs : (b : Bool) (o : Option (List Symbol)) (ss : List Symbol) (vs ws : List StackItem) (r : List Lexeme) → RunsOf (if b then o else None) ss vs r ws → b ≡ true
 when_runs true o ss vs ws r x = refl
 when_runs false o ss vs ws r x = absurd x
 
-unless_runs : (b : Bool) (o : Option (List Symbol)) (ss : List Symbol) (vs ws : List Item) (r : List Lexeme) → RunsOf (if b then None else o) ss vs r ws → b ≡ false
+unless_runs : (b : Bool) (o : Option (List Symbol)) (ss : List Symbol) (vs ws : List StackItem) (r : List Lexeme) → RunsOf (if b then None else o) ss vs r ws → b ≡ false
 unless_runs true o ss vs ws r x = absurd x
 unless_runs false o ss vs ws r x = refl
 
-pub operators_inv : (n y : ℕ) (ss : List Symbol) (vs ws : List Item) (r : List Lexeme) → n ≤ suc y → Runs (Want (goals.Operators n y) ∷ ss) vs r ws → (ends_operand (ahead r) ≡ true) × (level_of (ahead r) ≤ y)
+pub operators_inv : (n y : ℕ) (ss : List Symbol) (vs ws : List StackItem) (r : List Lexeme) → n ≤ suc y → Runs (Want (goals.Operators n y) ∷ ss) vs r ws → (ends_operand (ahead r) ≡ true) × (level_of (ahead r) ≤ y)
 operators_inv n y ss vs ws r h d = go (level_of (ahead r)) (ahead r) (opens d)
   where
     high : (l : ℕ) (k : Terminal) (b : Bool) → nat_lt (suc l) n ≡ b → RunsOf (if b then Some [] else if nat_lt y (suc l) then None else Some (infix_body n k)) ss vs r ws → suc l ≤ y
@@ -94,7 +94,7 @@ stop_rule : (n y l : ℕ) (k : Terminal) → is_at_end l k ≡ true → l < n �
 stop_rule n y zero k e h = rw e refl
 stop_rule n y (suc l) k e h = let z : nat_lt (suc l) n ≡ true = lt-ltb (suc l) n h in rw z refl
 
-pub operators_stop : (n y : ℕ) (ss : List Symbol) (vs ws : List Item) (r : List Lexeme) → ends_operand (ahead r) ≡ true → level_of (ahead r) < n → Runs ss vs r ws → Runs (Want (goals.Operators n y) ∷ ss) vs r ws
+pub operators_stop : (n y : ℕ) (ss : List Symbol) (vs ws : List StackItem) (r : List Lexeme) → ends_operand (ahead r) ≡ true → level_of (ahead r) < n → Runs ss vs r ws → Runs (Want (goals.Operators n y) ∷ ss) vs r ws
 operators_stop n y ss vs ws r e h d = want [] (stop_rule n y (level_of (ahead r)) (ahead r) e h) d
 
 pub go_rule : (n y l : ℕ) (k : Terminal) → 1 ≤ l → n ≤ l → l ≤ y → operators_rule n y k l ≡ Some (infix_body n k)
@@ -160,7 +160,7 @@ low_relation terminals.Greater h = absurd (omega (arith, h))
 low_relation _ h = refl
 
 -- What operands begin with.
-pub primary_starts : (ss : List Symbol) (vs ws : List Item) (i : List Lexeme) → Runs (Want goals.Primary ∷ ss) vs i ws → starts_unsigned (ahead i) ≡ true
+pub primary_starts : (ss : List Symbol) (vs ws : List StackItem) (i : List Lexeme) → Runs (Want goals.Primary ∷ ss) vs i ws → starts_unsigned (ahead i) ≡ true
 primary_starts ss vs ws i d = go (ahead i) (opens d)
   where
     go : (k : Terminal) → RunsOf (rule goals.Primary k (tag vs)) ss vs i ws → starts_unsigned k ≡ true
@@ -172,7 +172,7 @@ primary_starts ss vs ws i d = go (ahead i) (opens d)
     go terminals.New x = refl
     go _ x = absurd x
 
-pub unsigned_starts : (ss : List Symbol) (vs ws : List Item) (i : List Lexeme) → Runs (Want goals.Unsigned ∷ ss) vs i ws → starts_unsigned (ahead i) ≡ true
+pub unsigned_starts : (ss : List Symbol) (vs ws : List StackItem) (i : List Lexeme) → Runs (Want goals.Unsigned ∷ ss) vs i ws → starts_unsigned (ahead i) ≡ true
 unsigned_starts ss vs ws i d = go (ahead i) refl (opens d)
   where
     go : (k : Terminal) → ahead i ≡ k → RunsOf (rule goals.Unsigned k (tag vs)) ss vs i ws → starts_unsigned k ≡ true
@@ -185,7 +185,7 @@ signed terminals.Sign e = refl
 signed terminals.Step e = refl
 signed k e = e
 
-pub unary_starts : (ss : List Symbol) (vs ws : List Item) (i : List Lexeme) → Runs (Want goals.Unary ∷ ss) vs i ws → starts_unary (ahead i) ≡ true
+pub unary_starts : (ss : List Symbol) (vs ws : List StackItem) (i : List Lexeme) → Runs (Want goals.Unary ∷ ss) vs i ws → starts_unary (ahead i) ≡ true
 unary_starts ss vs ws i d = go (ahead i) refl (opens d)
   where
     go : (k : Terminal) → ahead i ≡ k → RunsOf (rule goals.Unary k (tag vs)) ss vs i ws → starts_unary k ≡ true
@@ -193,30 +193,30 @@ unary_starts ss vs ws i d = go (ahead i) refl (opens d)
     go terminals.Step e x = refl
     go k e x = rw e at (signed (ahead i) (unsigned_starts ss vs ws i x))
 
-pub expression_starts : (ss : List Symbol) (vs ws : List Item) (i : List Lexeme) → Runs (Want goals.Expression ∷ ss) vs i ws → starts_unary (ahead i) ≡ true
+pub expression_starts : (ss : List Symbol) (vs ws : List StackItem) (i : List Lexeme) → Runs (Want goals.Expression ∷ ss) vs i ws → starts_unary (ahead i) ≡ true
 expression_starts ss vs ws i d = unary_starts (Want goals.AfterUnary ∷ ss) vs ws i (want_body d)
   where
     want_body : Runs (Want goals.Expression ∷ ss) vs i ws → Runs (Want goals.Unary ∷ Want goals.AfterUnary ∷ ss) vs i ws
     want_body x = opens x
 
 -- What is made of names.
-pub variable_of : (v : Item) (p : Place) (e u : Tree) (vs : List Item) → IsName v p e u → made makes.Variable (v ∷ vs) ≡ part p forms.Target e ∷ vs
+pub variable_of : (v : StackItem) (p : Place) (e u : Tree) (vs : List StackItem) → IsName v p e u → made makes.Variable (v ∷ vs) ≡ part p forms.Target e ∷ vs
 variable_of v p e u vs a_word = refl
 variable_of v p e u vs a_pair = refl
 
-pub type_of : (v : Item) (p : Place) (e u : Tree) (vs : List Item) → IsName v p e u → made makes.TypeOfName (v ∷ vs) ≡ part p forms.Type u ∷ vs
+pub type_of : (v : StackItem) (p : Place) (e u : Tree) (vs : List StackItem) → IsName v p e u → made makes.TypeOfName (v ∷ vs) ≡ part p forms.Type u ∷ vs
 type_of v p e u vs a_word = refl
 type_of v p e u vs a_pair = refl
 
-pub generic_of : (v : Item) (p : Place) (e u : Tree) (q : Place) (g : Form) (x : Tree) (vs : List Item) → IsName v p e u → made makes.Generic (part q g x ∷ v ∷ vs) ≡ part p forms.Type (trees.GenericType p u x) ∷ vs
+pub generic_of : (v : StackItem) (p : Place) (e u : Tree) (q : Place) (g : Form) (x : Tree) (vs : List StackItem) → IsName v p e u → made makes.Generic (part q g x ∷ v ∷ vs) ≡ part p forms.Type (trees.GenericType p u x) ∷ vs
 generic_of v p e u q g x vs a_word = refl
 generic_of v p e u q g x vs a_pair = refl
 
-pub below_variable : (v : Item) (p : Place) (e u : Tree) (ns cs : List Item) → IsName v p e u → compared ns ≡ cs → made makes.Variable (made makes.CompareBelow (v ∷ ns)) ≡ part p forms.Target e ∷ cs
+pub below_variable : (v : StackItem) (p : Place) (e u : Tree) (ns cs : List StackItem) → IsName v p e u → compared ns ≡ cs → made makes.Variable (made makes.CompareBelow (v ∷ ns)) ≡ part p forms.Target e ∷ cs
 below_variable v p e u ns cs a_word z = ap (λ x. part p forms.Target e ∷ x) z
 below_variable v p e u ns cs a_pair z = ap (λ x. part p forms.Target e ∷ x) z
 
-pub plain_name : (ns : List Item) → is_name ns ≡ true → Plain ns
+pub plain_name : (ns : List StackItem) → is_name ns ≡ true → Plain ns
 plain_name (word q m ∷ ns) e = λ p n. refl
 plain_name (pair q o m ∷ ns) e = λ p n. refl
 plain_name [] e = λ p n. refl
@@ -226,7 +226,7 @@ plain_name (member b m ∷ ns) e = cc
 plain_name (owner b q m ∷ ns) e = λ p n. refl
 
 -- a name behind names, compared with them
-pub compares : (v : Item) (q p : Place) (e u y : Tree) (f : Form) (ns vs : List Item) → IsName v q e u → is_name ns ≡ true → compared ns ≡ part p f y ∷ vs → compared (v ∷ ns) ≡ part p forms.Other (trees.Binary p binaries.Less y e) ∷ vs
+pub compares : (v : StackItem) (q p : Place) (e u y : Tree) (f : Form) (ns vs : List StackItem) → IsName v q e u → is_name ns ≡ true → compared ns ≡ part p f y ∷ vs → compared (v ∷ ns) ≡ part p forms.Other (trees.Binary p binaries.Less y e) ∷ vs
 compares v q p e u y f (word r m ∷ ns) vs a_word h z = rw z refl
 compares v q p e u y f (word r m ∷ ns) vs a_pair h z = rw z refl
 compares v q p e u y f (pair r o m ∷ ns) vs a_word h z = rw z refl
@@ -238,10 +238,10 @@ compares v q p e u y f (member b m ∷ ns) vs i h z = cc
 compares v q p e u y f (owner b r m ∷ ns) vs i h z = cc
 
 -- a name behind a tested expression
-pub tests : (v : Item) (q p : Place) (e u y : Tree) (f : Form) (vs : List Item) → IsName v q e u → compared (v ∷ part p f y ∷ vs) ≡ part p forms.Other (trees.InstanceOf p y u) ∷ vs
+pub tests : (v : StackItem) (q p : Place) (e u y : Tree) (f : Form) (vs : List StackItem) → IsName v q e u → compared (v ∷ part p f y ∷ vs) ≡ part p forms.Other (trees.InstanceOf p y u) ∷ vs
 tests v q p e u y f vs a_word = refl
 tests v q p e u y f vs a_pair = refl
 
-pub named : (v : Item) (q : Place) (e u : Tree) (ns : List Item) → IsName v q e u → is_name (v ∷ ns) ≡ true
+pub named : (v : StackItem) (q : Place) (e u : Tree) (ns : List StackItem) → IsName v q e u → is_name (v ∷ ns) ≡ true
 named v q e u ns a_word = refl
 named v q e u ns a_pair = refl

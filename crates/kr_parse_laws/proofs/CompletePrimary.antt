@@ -15,7 +15,7 @@ use Rattle.kr_parse_grammar.specs.declared.goal.Make.TheVariants as makes
 use Rattle.kr_parse_grammar.specs.declared.goal.Symbol.{Symbol}
 use Rattle.kr_parse_grammar.specs.declared.goal.Symbol.TheVariants.{Take, Want, Build}
 use Rattle.kr_parse_grammar.specs.Terminals.{terminal_of}
-use Rattle.kr_parse_grammar.specs.Values.{Item, mark, word, pair, part, tag, is_name}
+use Rattle.kr_parse_grammar.specs.Values.{StackItem, mark, word, pair, part, tag, is_name}
 use Rattle.kr_parse_grammar.specs.Made.{nowhere, literal}
 use Rattle.kr_parse_grammar.specs.Grammar.{at}
 use Rattle.kr_parse_grammar.specs.Machine.{ahead, rule, starts_unary, Runs, take, keep, name, leaf, want, build}
@@ -25,21 +25,21 @@ use Rattle.kr_parse_laws.proofs.CompleteClaims.{Any, Optional, absent, present, 
 use Rattle.kr_parse_laws.proofs.CompleteOperands.{differ}
 
 -- Arguments.
-more_arguments : {i r : List Lexeme} {t : Tree} → Parted ExpressionClaim i t r → ahead r ≡ terminals.RightParenthesis → (ss : List Symbol) (vs ws : List Item) → Any ss vs t r ws → Runs (Want goals.Expression ∷ Want goals.MoreArguments ∷ ss) vs i ws
+more_arguments : {i r : List Lexeme} {t : Tree} → Parted ExpressionClaim i t r → ahead r ≡ terminals.RightParenthesis → (ss : List Symbol) (vs ws : List StackItem) → Any ss vs t r ws → Runs (Want goals.Expression ∷ Want goals.MoreArguments ∷ ss) vs i ws
 more_arguments (last {i = i} {r = r} {t = t} d) e = λ ss vs ws k. d.simple (Want goals.MoreArguments ∷ ss) vs ws (rw e refl)
     (λ f. step goals.MoreArguments terminals.RightParenthesis ss (part (at i) f t ∷ vs) ws r e (build (build (k (at i) forms.Other))))
 more_arguments (comma {i = i} {m = m} {r = r} {t = t} a d ka rest) e = λ ss vs ws k. d.simple (Want goals.MoreArguments ∷ ss) vs ws (rw ka refl)
     (λ f. step goals.MoreArguments terminals.Comma ss (part (at i) f t ∷ vs) ws (a ∷ m) ka
     (take a ka (more_arguments rest e (Build makes.Cons ∷ ss) (part (at i) f t ∷ vs) ws (λ p g. build (k (at i) forms.Other)))))
 
-arguments_enter : (ss : List Symbol) (vs ws : List Item) (i : List Lexeme) → Runs (Want goals.Expression ∷ Want goals.MoreArguments ∷ ss) vs i ws → Runs (Want goals.Arguments ∷ ss) vs i ws
+arguments_enter : (ss : List Symbol) (vs ws : List StackItem) (i : List Lexeme) → Runs (Want goals.Expression ∷ Want goals.MoreArguments ∷ ss) vs i ws → Runs (Want goals.Arguments ∷ ss) vs i ws
 arguments_enter ss vs ws i d = go (ahead i) refl (expression_starts (Want goals.MoreArguments ∷ ss) vs ws i d)
   where
     go : (k : Terminal) → ahead i ≡ k → starts_unary k ≡ true → Runs (Want goals.Arguments ∷ ss) vs i ws
     go terminals.RightParenthesis e z = cc
     go k e z = step goals.Arguments k ss vs ws i e d
 
-pub arguments : {i r : List Lexeme} {t : Tree} → Optional (Parted ExpressionClaim) i t r → ahead r ≡ terminals.RightParenthesis → (ss : List Symbol) (vs ws : List Item) → Any ss vs t r ws → Runs (Want goals.Arguments ∷ ss) vs i ws
+pub arguments : {i r : List Lexeme} {t : Tree} → Optional (Parted ExpressionClaim) i t r → ahead r ≡ terminals.RightParenthesis → (ss : List Symbol) (vs ws : List StackItem) → Any ss vs t r ws → Runs (Want goals.Arguments ∷ ss) vs i ws
 arguments (absent {i = i}) e = λ ss vs ws k. step goals.Arguments terminals.RightParenthesis ss vs ws i e (build (k nowhere forms.Other))
 arguments (present {i = i} d) e = λ ss vs ws k. arguments_enter ss vs ws i (more_arguments d e ss vs ws k)
 
@@ -52,7 +52,7 @@ is_lead terminals.Old = true
 is_lead terminals.New = true
 is_lead _ = false
 
-pub enter : (b : Bool) (k : Terminal) → is_lead k ≡ true → (ss : List Symbol) (vs ws : List Item) (i : List Lexeme) → ahead i ≡ k → RunsOf (rule goals.Primary k (tag vs)) (tail b ss) vs i ws → Runs (Want (start b) ∷ ss) vs i ws
+pub enter : (b : Bool) (k : Terminal) → is_lead k ≡ true → (ss : List Symbol) (vs ws : List StackItem) (i : List Lexeme) → ahead i ≡ k → RunsOf (rule goals.Primary k (tag vs)) (tail b ss) vs i ws → Runs (Want (start b) ∷ ss) vs i ws
 enter false k h ss vs ws i e d = step goals.Primary k ss vs ws i e d
 enter true terminals.Literal h ss vs ws i e d = step goals.Unsigned terminals.Literal ss vs ws i e (step goals.Primary terminals.Literal (Want goals.Postfixes ∷ ss) vs ws i e d)
 enter true terminals.Identifier h ss vs ws i e d = step goals.Unsigned terminals.Identifier ss vs ws i e (step goals.Primary terminals.Identifier (Want goals.Postfixes ∷ ss) vs ws i e d)
@@ -73,7 +73,7 @@ parentheses_claim i r t a b ka d kb = record {
   led = λ c g ss ns ts vs ws ctx x bare z. absurd (let y : terminals.LeftParenthesis ≡ terminals.Identifier = differ (terminal_of a.kind) terminals.LeftParenthesis terminals.Identifier ka z in cc);
 }
   where
-    go : (w : Bool) (ss : List Symbol) (vs ws : List Item) → Runs (Want goals.Suffixes ∷ tail w ss) (part a.place forms.Other t ∷ vs) r ws → Runs (Want (start w) ∷ ss) vs (a ∷ i) ws
+    go : (w : Bool) (ss : List Symbol) (vs ws : List StackItem) → Runs (Want goals.Suffixes ∷ tail w ss) (part a.place forms.Other t ∷ vs) r ws → Runs (Want (start w) ∷ ss) vs (a ∷ i) ws
     go false ss vs ws k = step goals.Primary terminals.LeftParenthesis ss vs ws (a ∷ i) ka
         (keep a ka (d.simple (Take terminals.RightParenthesis ∷ Build makes.Enclosed ∷ Want goals.Suffixes ∷ ss) (mark a.kind a.place ∷ vs) ws (rw kb refl) (λ f. take b kb (build k))))
     go true ss vs ws k = step goals.Unsigned terminals.LeftParenthesis ss vs ws (a ∷ i) ka
@@ -81,7 +81,7 @@ parentheses_claim i r t a b ka d kb = record {
         (λ f. step goals.Closing terminals.RightParenthesis ss (part (at i) f t ∷ mark a.kind a.place ∷ vs) ws (b ∷ r) kb (take b kb (build k)))))
 
 -- a variable, where no call begins
-primary_name : (ss : List Symbol) (p : Place) (n : List ℕ) (vs ws : List Item) (j : List Lexeme) → Runs (Want goals.Suffixes ∷ ss) (part p forms.Target (trees.Variable p n) ∷ vs) j ws → Runs (Want goals.PrimaryName ∷ ss) (word p n ∷ vs) j ws
+primary_name : (ss : List Symbol) (p : Place) (n : List ℕ) (vs ws : List StackItem) (j : List Lexeme) → Runs (Want goals.Suffixes ∷ ss) (part p forms.Target (trees.Variable p n) ∷ vs) j ws → Runs (Want goals.PrimaryName ∷ ss) (word p n ∷ vs) j ws
 primary_name ss p n vs ws j d = go (ahead j) refl
   where
     go : (k : Terminal) → ahead j ≡ k → Runs (Want goals.PrimaryName ∷ ss) (word p n ∷ vs) j ws
@@ -125,7 +125,7 @@ old_claim i r t a b c ka kb d kc = record {
 }
 
 -- What goes on from a primary expression.
-field_simple : (f : Form) (p : Place) (t : Tree) (a b : Lexeme) (r : List Lexeme) (ts : List Symbol) (vs ws : List Item) → terminal_of a.kind ≡ terminals.Dot → terminal_of b.kind ≡ terminals.Identifier
+field_simple : (f : Form) (p : Place) (t : Tree) (a b : Lexeme) (r : List Lexeme) (ts : List Symbol) (vs ws : List StackItem) → terminal_of a.kind ≡ terminals.Dot → terminal_of b.kind ≡ terminals.Identifier
     → Runs (Want goals.Suffixes ∷ ts) (part p forms.Target (trees.FieldAccess p t b.text) ∷ vs) r ws → Runs (Want goals.Suffixes ∷ ts) (part p f t ∷ vs) (a ∷ b ∷ r) ws
 field_simple f p t a b r ts vs ws ka kb k = step goals.Suffixes terminals.Dot ts (part p f t ∷ vs) ws (a ∷ b ∷ r) ka (take a ka (name b kb (go (ahead r) refl)))
   where
@@ -133,7 +133,7 @@ field_simple f p t a b r ts vs ws ka kb k = step goals.Suffixes terminals.Dot ts
     go terminals.LeftParenthesis e = absurd (open_at goals.Suffixes terminals.LeftParenthesis e k)
     go h e = step goals.Selected h ts (word b.place b.text ∷ part p f t ∷ vs) ws r e (build k)
 
-field_bare : (v : Item) (p : Place) (t w : Tree) → IsName v p t w → (c : Bool) (g : Goal) (ss : List Symbol) (ns : List Item) (ts : List Symbol) (vs ws : List Item) → Context c g ss ns ts vs ws → (a b : Lexeme) (r : List Lexeme)
+field_bare : (v : StackItem) (p : Place) (t w : Tree) → IsName v p t w → (c : Bool) (g : Goal) (ss : List Symbol) (ns : List StackItem) (ts : List Symbol) (vs ws : List StackItem) → Context c g ss ns ts vs ws → (a b : Lexeme) (r : List Lexeme)
     → terminal_of a.kind ≡ terminals.Dot → terminal_of b.kind ≡ terminals.Identifier → Runs (Want goals.Suffixes ∷ ts) (part p forms.Target t ∷ vs) (a ∷ b ∷ r) ws → Bare g ss ns p (trees.FieldAccess p t b.text) r ws → Runs (Want g ∷ ss) (v ∷ ns) (a ∷ b ∷ r) ws
 field_bare v p t w (a_word {n = n}) c g ss ns ts vs ws ctx a b r ka kb k bare =
     ctx.dot p n (a ∷ b ∷ r) ka (take a ka (name b kb (build (bare (pair p n b.text) (trees.QualifiedType p n b.text) a_pair))))
@@ -146,7 +146,7 @@ field_claim f i r t a b d ka kb = record {
       (λ h v w isn. field_bare v (at i) t w isn c g ss ns ts vs ws ctx a b r ka kb (field_simple forms.Target (at i) t a b r ts vs ws ka kb k) (bare refl)) z;
 }
 
-method_simple : (f : Form) (p : Place) (t u : Tree) (a b c d : Lexeme) (m r : List Lexeme) (ts : List Symbol) (vs ws : List Item) → terminal_of a.kind ≡ terminals.Dot → terminal_of b.kind ≡ terminals.Identifier → terminal_of c.kind ≡ terminals.LeftParenthesis
+method_simple : (f : Form) (p : Place) (t u : Tree) (a b c d : Lexeme) (m r : List Lexeme) (ts : List Symbol) (vs ws : List StackItem) → terminal_of a.kind ≡ terminals.Dot → terminal_of b.kind ≡ terminals.Identifier → terminal_of c.kind ≡ terminals.LeftParenthesis
     → Optional (Parted ExpressionClaim) m u (d ∷ r) → terminal_of d.kind ≡ terminals.RightParenthesis → Runs (Want goals.Suffixes ∷ ts) (part p forms.Invocation (trees.MethodCall p t b.text u) ∷ vs) r ws
     → Runs (Want goals.Suffixes ∷ ts) (part p f t ∷ vs) (a ∷ b ∷ c ∷ m) ws
 method_simple f p t u a b c d m r ts vs ws ka kb kc args kd k =
@@ -156,7 +156,7 @@ method_simple f p t u a b c d m r ts vs ws ka kb kc args kd k =
     (step goals.Selected terminals.LeftParenthesis ts (word b.place b.text ∷ part p f t ∷ vs) ws (c ∷ m) kc
     (take c kc (arguments args kd (Take terminals.RightParenthesis ∷ Build makes.MethodCall ∷ Want goals.Suffixes ∷ ts) (word b.place b.text ∷ part p f t ∷ vs) ws (λ q g. take d kd (build k)))))))
 
-method_bare : (v : Item) (p : Place) (t w : Tree) → IsName v p t w → (x : Bool) (g : Goal) (ss : List Symbol) (ns : List Item) (ts : List Symbol) (vs ws : List Item) → Context x g ss ns ts vs ws → (u : Tree) (a b c d : Lexeme) (m r : List Lexeme)
+method_bare : (v : StackItem) (p : Place) (t w : Tree) → IsName v p t w → (x : Bool) (g : Goal) (ss : List Symbol) (ns : List StackItem) (ts : List Symbol) (vs ws : List StackItem) → Context x g ss ns ts vs ws → (u : Tree) (a b c d : Lexeme) (m r : List Lexeme)
     → terminal_of a.kind ≡ terminals.Dot → terminal_of b.kind ≡ terminals.Identifier → terminal_of c.kind ≡ terminals.LeftParenthesis → Optional (Parted ExpressionClaim) m u (d ∷ r) → terminal_of d.kind ≡ terminals.RightParenthesis
     → Runs (Want goals.Suffixes ∷ ts) (part p forms.Invocation (trees.MethodCall p t b.text u) ∷ vs) r ws → Runs (Want goals.Suffixes ∷ ts) (part p forms.Target t ∷ vs) (a ∷ b ∷ c ∷ m) ws → Runs (Want g ∷ ss) (v ∷ ns) (a ∷ b ∷ c ∷ m) ws
 method_bare v p t w (a_word {n = n}) x g ss ns ts vs ws ctx u a b c d m r ka kb kc args kd k simple =
@@ -178,7 +178,7 @@ method_claim f i m r t u a b c d left ka kb kc args kd = record {
       (λ h v w isn. method_bare v (at i) t w isn x g ss ns ts vs ws ctx u a b c d m r ka kb kc args kd k (method_simple forms.Target (at i) t u a b c d m r ts vs ws ka kb kc args kd k)) z;
 }
 
-index_rule : (f : Form) (p : Place) (t : Tree) (vs : List Item) → f ≢ forms.ArrayCreation → rule goals.Suffixes terminals.LeftBracket (tag (part p f t ∷ vs)) ≡ Some (Take terminals.LeftBracket ∷ Want goals.Expression ∷ Take terminals.RightBracket ∷ Build makes.ArrayAccess ∷ Want goals.Suffixes ∷ [])
+index_rule : (f : Form) (p : Place) (t : Tree) (vs : List StackItem) → f ≢ forms.ArrayCreation → rule goals.Suffixes terminals.LeftBracket (tag (part p f t ∷ vs)) ≡ Some (Take terminals.LeftBracket ∷ Want goals.Expression ∷ Take terminals.RightBracket ∷ Build makes.ArrayAccess ∷ Want goals.Suffixes ∷ [])
 index_rule forms.ArrayCreation p t vs h = absurd (h refl)
 index_rule forms.Type p t vs h = go (is_name vs)
   where
@@ -190,7 +190,7 @@ index_rule forms.Invocation p t vs h = refl
 index_rule forms.Local p t vs h = refl
 index_rule forms.Other p t vs h = refl
 
-index_simple : (f : Form) (p : Place) (t u : Tree) (a b : Lexeme) (m r : List Lexeme) (ts : List Symbol) (vs ws : List Item) → f ≢ forms.ArrayCreation → terminal_of a.kind ≡ terminals.LeftBracket → ExpressionClaim m u (b ∷ r) → terminal_of b.kind ≡ terminals.RightBracket
+index_simple : (f : Form) (p : Place) (t u : Tree) (a b : Lexeme) (m r : List Lexeme) (ts : List Symbol) (vs ws : List StackItem) → f ≢ forms.ArrayCreation → terminal_of a.kind ≡ terminals.LeftBracket → ExpressionClaim m u (b ∷ r) → terminal_of b.kind ≡ terminals.RightBracket
     → Runs (Want goals.Suffixes ∷ ts) (part p forms.Target (trees.ArrayAccess p t u) ∷ vs) r ws → Runs (Want goals.Suffixes ∷ ts) (part p f t ∷ vs) (a ∷ m) ws
 index_simple f p t u a b m r ts vs ws h ka d kb k =
     want (Take terminals.LeftBracket ∷ Want goals.Expression ∷ Take terminals.RightBracket ∷ Build makes.ArrayAccess ∷ Want goals.Suffixes ∷ []) (rw ka (index_rule f p t vs h))

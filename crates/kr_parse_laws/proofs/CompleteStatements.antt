@@ -11,7 +11,7 @@ use Rattle.kr_parse_grammar.specs.declared.goal.Make.TheVariants as makes
 use Rattle.kr_parse_grammar.specs.declared.goal.Symbol.{Symbol}
 use Rattle.kr_parse_grammar.specs.declared.goal.Symbol.TheVariants.{Take, Want, Build}
 use Rattle.kr_parse_grammar.specs.Terminals.{terminal_of}
-use Rattle.kr_parse_grammar.specs.Values.{Item, mark, part}
+use Rattle.kr_parse_grammar.specs.Values.{StackItem, mark, part}
 use Rattle.kr_parse_grammar.specs.Made.{nowhere, jump}
 use Rattle.kr_parse_grammar.specs.Grammar.{at, EndsOpen}
 use Rattle.kr_parse_grammar.specs.Machine.{ahead, starts_unary, Runs, take, keep, build}
@@ -22,7 +22,7 @@ use Rattle.kr_parse_laws.proofs.CompleteOperands.{differ}
 use Rattle.kr_parse_laws.proofs.CompleteItems.{statement_starts}
 
 -- where no expression begins
-no_expression : (k : Terminal) → starts_unary k ≡ false → (ss : List Symbol) (vs ws : List Item) (i : List Lexeme) → ahead i ≡ k → Runs (Want goals.StatementExpression ∷ ss) vs i ws → ⊥
+no_expression : (k : Terminal) → starts_unary k ≡ false → (ss : List Symbol) (vs ws : List StackItem) (i : List Lexeme) → ahead i ≡ k → Runs (Want goals.StatementExpression ∷ ss) vs i ws → ⊥
 no_expression k h ss vs ws i e d = let z : starts_unary (ahead i) ≡ true = statement_starts ss vs ws i d in let w : starts_unary k ≡ true = rw e at z in (let y : true ≡ false = sym w ∙ h in cc)
 
 -- what begins a statement that is no item
@@ -39,20 +39,20 @@ begins_statement terminals.For = true
 begins_statement _ = false
 
 statement_by : (k : Terminal) (i r : List Lexeme) (t : Tree) → ahead i ≡ k → begins_statement k ≡ true
-    → ((ss : List Symbol) (vs ws : List Item) → NoElse t r → Runs ss (part (at i) forms.Other t ∷ vs) r ws → Runs (Want goals.Statement ∷ ss) vs i ws) → StatementClaim i t r
+    → ((ss : List Symbol) (vs ws : List StackItem) → NoElse t r → Runs ss (part (at i) forms.Other t ∷ vs) r ws → Runs (Want goals.Statement ∷ ss) vs i ws) → StatementClaim i t r
 statement_by k i r t e h f = record {
   simple = f;
   block = λ ss vs ws far plain d. go k e h ss vs ws (f ss vs ws far d);
 }
   where
-    go : (k : Terminal) → ahead i ≡ k → begins_statement k ≡ true → (ss : List Symbol) (vs ws : List Item) → Runs (Want goals.Statement ∷ ss) vs i ws → Runs (Want goals.BlockStatement ∷ ss) vs i ws
+    go : (k : Terminal) → ahead i ≡ k → begins_statement k ≡ true → (ss : List Symbol) (vs ws : List StackItem) → Runs (Want goals.Statement ∷ ss) vs i ws → Runs (Want goals.BlockStatement ∷ ss) vs i ws
     go terminals.Final e h ss vs ws d = cc
     go terminals.Primitive e h ss vs ws d = cc
     go terminals.Identifier e h ss vs ws d = cc
     go k e h ss vs ws d = step goals.BlockStatement k ss vs ws i e d
 
 -- Blocks.
-statements_enter : (ss : List Symbol) (vs ws : List Item) (i : List Lexeme) → Runs (Want goals.BlockStatement ∷ Want goals.Statements ∷ Build makes.Cons ∷ ss) vs i ws → Runs (Want goals.Statements ∷ ss) vs i ws
+statements_enter : (ss : List Symbol) (vs ws : List StackItem) (i : List Lexeme) → Runs (Want goals.BlockStatement ∷ Want goals.Statements ∷ Build makes.Cons ∷ ss) vs i ws → Runs (Want goals.Statements ∷ ss) vs i ws
 statements_enter ss vs ws i d = go (ahead i) refl
   where
     go : (k : Terminal) → ahead i ≡ k → Runs (Want goals.Statements ∷ ss) vs i ws
@@ -60,11 +60,11 @@ statements_enter ss vs ws i d = go (ahead i) refl
         (open_at goals.Statement terminals.RightBrace e (open_at goals.BlockStatement terminals.RightBrace e d)))
     go k e = step goals.Statements k ss vs ws i e d
 
-statements_else : (ss : List Symbol) (vs ws : List Item) (i : List Lexeme) → Runs (Want goals.Statements ∷ ss) vs i ws → ahead i ≡ terminals.Else → ⊥
+statements_else : (ss : List Symbol) (vs ws : List StackItem) (i : List Lexeme) → Runs (Want goals.Statements ∷ ss) vs i ws → ahead i ≡ terminals.Else → ⊥
 statements_else ss vs ws i d e = no_expression terminals.Else refl (Build makes.ExpressionStatement ∷ Take terminals.Semicolon ∷ Want goals.Statements ∷ Build makes.Cons ∷ ss) vs ws i e
     (open_at goals.Statement terminals.Else e (open_at goals.BlockStatement terminals.Else e (open_at goals.Statements terminals.Else e d)))
 
-pub statements : {i r : List Lexeme} {t : Tree} → Listed BlockStatementClaim i t r → ahead r ≡ terminals.RightBrace → (ss : List Symbol) (vs ws : List Item) → Plain vs → Any ss vs t r ws → Runs (Want goals.Statements ∷ ss) vs i ws
+pub statements : {i r : List Lexeme} {t : Tree} → Listed BlockStatementClaim i t r → ahead r ≡ terminals.RightBrace → (ss : List Symbol) (vs ws : List StackItem) → Plain vs → Any ss vs t r ws → Runs (Want goals.Statements ∷ ss) vs i ws
 statements (end {i = i}) e = λ ss vs ws plain k. step goals.Statements terminals.RightBrace ss vs ws i e (build (k nowhere forms.Other))
 statements (next {i = i} {m = m} {t = t} d rest) e = λ ss vs ws plain k.
     let further : Any (Want goals.Statements ∷ Build makes.Cons ∷ ss) vs t m ws = λ p f. statements rest e (Build makes.Cons ∷ ss) (part p f t ∷ vs) ws (λ q n. refl) (λ q g. build (k p forms.Other)) in
@@ -73,7 +73,7 @@ statements (next {i = i} {m = m} {t = t} d rest) e = λ ss vs ws plain k.
 pub local_statement_claim : (i r : List Lexeme) (t : Tree) (a : Lexeme) → LocalClaim i t (a ∷ r) → terminal_of a.kind ≡ terminals.Semicolon → BlockStatementClaim i t r
 local_statement_claim i r t a d ka = λ ss vs ws far plain k. go (ahead i) refl d.starts ss vs ws (d.item (Take terminals.Semicolon ∷ ss) vs ws ka plain (λ p f. take a ka (k p f)))
   where
-    go : (h : Terminal) → ahead i ≡ h → starts_local h ≡ true → (ss : List Symbol) (vs ws : List Item) → Runs (Want goals.Item ∷ Take terminals.Semicolon ∷ ss) vs i ws → Runs (Want goals.BlockStatement ∷ ss) vs i ws
+    go : (h : Terminal) → ahead i ≡ h → starts_local h ≡ true → (ss : List Symbol) (vs ws : List StackItem) → Runs (Want goals.Item ∷ Take terminals.Semicolon ∷ ss) vs i ws → Runs (Want goals.BlockStatement ∷ ss) vs i ws
     go terminals.Final e z ss vs ws x = step goals.BlockStatement terminals.Final ss vs ws i e x
     go terminals.Primitive e z ss vs ws x = step goals.BlockStatement terminals.Primitive ss vs ws i e x
     go terminals.Identifier e z ss vs ws x = step goals.BlockStatement terminals.Identifier ss vs ws i e x
@@ -96,13 +96,13 @@ evaluate_claim i r t a d ka = record {
   block = λ ss vs ws far plain k. block ss vs ws plain k;
 }
   where
-    run : (ss : List Symbol) (vs ws : List Item) → Runs ss (part (at i) forms.Other t ∷ vs) r ws → Runs (Want goals.StatementExpression ∷ Build makes.ExpressionStatement ∷ Take terminals.Semicolon ∷ ss) vs i ws
+    run : (ss : List Symbol) (vs ws : List StackItem) → Runs ss (part (at i) forms.Other t ∷ vs) r ws → Runs (Want goals.StatementExpression ∷ Build makes.ExpressionStatement ∷ Take terminals.Semicolon ∷ ss) vs i ws
     run ss vs ws k = d.simple (Take terminals.Semicolon ∷ ss) vs ws (rw ka refl) (take a ka k)
 
-    starts : (ss : List Symbol) (vs ws : List Item) → Runs ss (part (at i) forms.Other t ∷ vs) r ws → starts_unary (ahead i) ≡ true
+    starts : (ss : List Symbol) (vs ws : List StackItem) → Runs ss (part (at i) forms.Other t ∷ vs) r ws → starts_unary (ahead i) ≡ true
     starts ss vs ws k = statement_starts (Build makes.ExpressionStatement ∷ Take terminals.Semicolon ∷ ss) vs ws i (run ss vs ws k)
 
-    simple : (ss : List Symbol) (vs ws : List Item) → Runs ss (part (at i) forms.Other t ∷ vs) r ws → Runs (Want goals.Statement ∷ ss) vs i ws
+    simple : (ss : List Symbol) (vs ws : List StackItem) → Runs ss (part (at i) forms.Other t ∷ vs) r ws → Runs (Want goals.Statement ∷ ss) vs i ws
     simple ss vs ws k = go (ahead i) refl (starts ss vs ws k)
       where
         go : (h : Terminal) → ahead i ≡ h → starts_unary h ≡ true → Runs (Want goals.Statement ∷ ss) vs i ws
@@ -117,7 +117,7 @@ evaluate_claim i r t a d ka = record {
         go terminals.For e z = cc
         go h e z = step goals.Statement h ss vs ws i e (run ss vs ws k)
 
-    block : (ss : List Symbol) (vs ws : List Item) → Plain vs → Runs ss (part (at i) forms.Other t ∷ vs) r ws → Runs (Want goals.BlockStatement ∷ ss) vs i ws
+    block : (ss : List Symbol) (vs ws : List StackItem) → Plain vs → Runs ss (part (at i) forms.Other t ∷ vs) r ws → Runs (Want goals.BlockStatement ∷ ss) vs i ws
     block ss vs ws plain k = go (ahead i) refl (starts ss vs ws k)
       where
         go : (h : Terminal) → ahead i ≡ h → starts_unary h ≡ true → Runs (Want goals.BlockStatement ∷ ss) vs i ws
@@ -127,11 +127,11 @@ evaluate_claim i r t a d ka = record {
         go h e z = step goals.BlockStatement h ss vs ws i e (simple ss vs ws k)
 
 -- Statements that begin with a keyword.
-optional_expression : {i r : List Lexeme} {t : Tree} → Optional ExpressionClaim i t r → ahead r ≡ terminals.Semicolon → (ss : List Symbol) (vs ws : List Item) → Any ss vs t r ws → Runs (Want goals.OptionalExpression ∷ ss) vs i ws
+optional_expression : {i r : List Lexeme} {t : Tree} → Optional ExpressionClaim i t r → ahead r ≡ terminals.Semicolon → (ss : List Symbol) (vs ws : List StackItem) → Any ss vs t r ws → Runs (Want goals.OptionalExpression ∷ ss) vs i ws
 optional_expression (absent {i = i}) e = λ ss vs ws k. step goals.OptionalExpression terminals.Semicolon ss vs ws i e (build (k nowhere forms.Other))
 optional_expression (present {i = i} d) e = λ ss vs ws k. enter ss vs ws i (d.simple ss vs ws (rw e refl) (λ f. k (at i) f))
   where
-    enter : (ss : List Symbol) (vs ws : List Item) (i : List Lexeme) → Runs (Want goals.Expression ∷ ss) vs i ws → Runs (Want goals.OptionalExpression ∷ ss) vs i ws
+    enter : (ss : List Symbol) (vs ws : List StackItem) (i : List Lexeme) → Runs (Want goals.Expression ∷ ss) vs i ws → Runs (Want goals.OptionalExpression ∷ ss) vs i ws
     enter ss vs ws i d = go (ahead i) refl (expression_starts ss vs ws i d)
       where
         go : (k : Terminal) → ahead i ≡ k → starts_unary k ≡ true → Runs (Want goals.OptionalExpression ∷ ss) vs i ws
@@ -149,7 +149,7 @@ break_claim i t a b ka kb e = statement_by terminals.Break (a ∷ b ∷ i) i t k
 pub continue_claim : (i : List Lexeme) (t : Tree) (a b : Lexeme) → terminal_of a.kind ≡ terminals.Continue → terminal_of b.kind ≡ terminals.Semicolon → jump a.kind a.place ≡ t → StatementClaim (a ∷ b ∷ i) t i
 continue_claim i t a b ka kb e = statement_by terminals.Continue (a ∷ b ∷ i) i t ka refl (λ ss vs ws far k. step goals.Statement terminals.Continue ss vs ws (a ∷ b ∷ i) ka (keep a ka (take b kb (build (rw e k)))))
 
-no_else : (ss : List Symbol) (vs ws : List Item) (r : List Lexeme) → (ahead r ≡ terminals.Else → ⊥) → Runs (Build makes.IfThen ∷ ss) vs r ws → Runs (Want goals.ElsePart ∷ ss) vs r ws
+no_else : (ss : List Symbol) (vs ws : List StackItem) (r : List Lexeme) → (ahead r ≡ terminals.Else → ⊥) → Runs (Build makes.IfThen ∷ ss) vs r ws → Runs (Want goals.ElsePart ∷ ss) vs r ws
 no_else ss vs ws r h d = go (ahead r) refl
   where
     go : (k : Terminal) → ahead r ≡ k → Runs (Want goals.ElsePart ∷ ss) vs r ws
@@ -201,7 +201,7 @@ do_claim i m r c s a b d e g ka f kb kd x ke kg = statement_by terminals.Do (a �
     (λ h. take e ke (take g kg (build k)))))))))
 
 -- The heads of loops.
-more_initial : {i r : List Lexeme} {t : Tree} → Parted EvaluatedClaim i t r → ahead r ≡ terminals.Semicolon → (ss : List Symbol) (vs ws : List Item) → Any ss vs t r ws
+more_initial : {i r : List Lexeme} {t : Tree} → Parted EvaluatedClaim i t r → ahead r ≡ terminals.Semicolon → (ss : List Symbol) (vs ws : List StackItem) → Any ss vs t r ws
     → Runs (Want goals.StatementExpression ∷ Build makes.ExpressionStatement ∷ Want goals.MoreInitial ∷ ss) vs i ws
 more_initial (last {i = i} {r = r} {t = t} d) e = λ ss vs ws k. d.simple (Want goals.MoreInitial ∷ ss) vs ws (rw e refl)
     (step goals.MoreInitial terminals.Semicolon ss (part (at i) forms.Other t ∷ vs) ws r e (build (build (k (at i) forms.Other))))
@@ -220,29 +220,29 @@ pub for_local_claim : (i r : List Lexeme) (t : Tree) → LocalClaim i t r → Fo
 for_local_claim i r t d = λ ss vs ws e plain k. d.item (Want goals.MoreInitial ∷ ss) vs ws e plain
     (λ p f. step goals.MoreInitial terminals.Semicolon ss (part p f t ∷ vs) ws r e (build (build (k p forms.Other))))
 
-for_initial : {i r : List Lexeme} {t : Tree} → Optional ForInitialClaim i t r → ahead r ≡ terminals.Semicolon → (ss : List Symbol) (vs ws : List Item) → Plain vs → Any ss vs t r ws → Runs (Want goals.ForInitial ∷ ss) vs i ws
+for_initial : {i r : List Lexeme} {t : Tree} → Optional ForInitialClaim i t r → ahead r ≡ terminals.Semicolon → (ss : List Symbol) (vs ws : List StackItem) → Plain vs → Any ss vs t r ws → Runs (Want goals.ForInitial ∷ ss) vs i ws
 for_initial (absent {i = i}) e = λ ss vs ws plain k. step goals.ForInitial terminals.Semicolon ss vs ws i e (build (k nowhere forms.Other))
 for_initial (present {i = i} d) e = λ ss vs ws plain k. enter ss vs ws i (d ss vs ws e plain k)
   where
-    enter : (ss : List Symbol) (vs ws : List Item) (i : List Lexeme) → Runs (Want goals.Item ∷ Want goals.MoreInitial ∷ ss) vs i ws → Runs (Want goals.ForInitial ∷ ss) vs i ws
+    enter : (ss : List Symbol) (vs ws : List StackItem) (i : List Lexeme) → Runs (Want goals.Item ∷ Want goals.MoreInitial ∷ ss) vs i ws → Runs (Want goals.ForInitial ∷ ss) vs i ws
     enter ss vs ws i d = go (ahead i) refl
       where
         go : (k : Terminal) → ahead i ≡ k → Runs (Want goals.ForInitial ∷ ss) vs i ws
         go terminals.Semicolon e = absurd (no_expression terminals.Semicolon refl (Build makes.ExpressionStatement ∷ Want goals.MoreInitial ∷ ss) vs ws i e (open_at goals.Item terminals.Semicolon e d))
         go k e = step goals.ForInitial k ss vs ws i e d
 
-more_updates : {i r : List Lexeme} {t : Tree} → Parted StatementExpressionClaim i t r → ahead r ≡ terminals.RightParenthesis → (ss : List Symbol) (vs ws : List Item) → Any ss vs t r ws → Runs (Want goals.StatementExpression ∷ Want goals.MoreUpdates ∷ ss) vs i ws
+more_updates : {i r : List Lexeme} {t : Tree} → Parted StatementExpressionClaim i t r → ahead r ≡ terminals.RightParenthesis → (ss : List Symbol) (vs ws : List StackItem) → Any ss vs t r ws → Runs (Want goals.StatementExpression ∷ Want goals.MoreUpdates ∷ ss) vs i ws
 more_updates (last {i = i} {r = r} {t = t} d) e = λ ss vs ws k. d.simple (Want goals.MoreUpdates ∷ ss) vs ws (rw e refl)
     (λ f. step goals.MoreUpdates terminals.RightParenthesis ss (part (at i) f t ∷ vs) ws r e (build (build (k (at i) forms.Other))))
 more_updates (comma {i = i} {m = m} {t = t} a d ka rest) e = λ ss vs ws k. d.simple (Want goals.MoreUpdates ∷ ss) vs ws (rw ka refl)
     (λ f. step goals.MoreUpdates terminals.Comma ss (part (at i) f t ∷ vs) ws (a ∷ m) ka
     (take a ka (more_updates rest e (Build makes.Cons ∷ ss) (part (at i) f t ∷ vs) ws (λ p g. build (k (at i) forms.Other)))))
 
-for_updates : {i r : List Lexeme} {t : Tree} → Optional (Parted StatementExpressionClaim) i t r → ahead r ≡ terminals.RightParenthesis → (ss : List Symbol) (vs ws : List Item) → Any ss vs t r ws → Runs (Want goals.ForUpdates ∷ ss) vs i ws
+for_updates : {i r : List Lexeme} {t : Tree} → Optional (Parted StatementExpressionClaim) i t r → ahead r ≡ terminals.RightParenthesis → (ss : List Symbol) (vs ws : List StackItem) → Any ss vs t r ws → Runs (Want goals.ForUpdates ∷ ss) vs i ws
 for_updates (absent {i = i}) e = λ ss vs ws k. step goals.ForUpdates terminals.RightParenthesis ss vs ws i e (build (k nowhere forms.Other))
 for_updates (present {i = i} d) e = λ ss vs ws k. enter ss vs ws i (more_updates d e ss vs ws k)
   where
-    enter : (ss : List Symbol) (vs ws : List Item) (i : List Lexeme) → Runs (Want goals.StatementExpression ∷ Want goals.MoreUpdates ∷ ss) vs i ws → Runs (Want goals.ForUpdates ∷ ss) vs i ws
+    enter : (ss : List Symbol) (vs ws : List StackItem) (i : List Lexeme) → Runs (Want goals.StatementExpression ∷ Want goals.MoreUpdates ∷ ss) vs i ws → Runs (Want goals.ForUpdates ∷ ss) vs i ws
     enter ss vs ws i d = go (ahead i) refl
       where
         go : (k : Terminal) → ahead i ≡ k → Runs (Want goals.ForUpdates ∷ ss) vs i ws

@@ -17,7 +17,7 @@ use Rattle.kr_parse_grammar.specs.declared.goal.Symbol.{Symbol}
 use Rattle.kr_parse_grammar.specs.declared.goal.Symbol.TheVariants.{Take, Keep, Word, Want, Build}
 use Rattle.kr_parse_grammar.specs.Terminals.{terminal_of}
 use Rattle.kr_parse_grammar.specs.TokenMeanings.{primitive_of}
-use Rattle.kr_parse_grammar.specs.Values.{Item, mark, word, pair, part, tag, is_name}
+use Rattle.kr_parse_grammar.specs.Values.{StackItem, mark, word, pair, part, tag, is_name}
 use Rattle.kr_parse_grammar.specs.Grammar.{at}
 use Rattle.kr_parse_grammar.specs.Machine.{ahead, rule, starts_unary, starts_unsigned, Runs, take, keep, name, want, build}
 use Rattle.kr_parse_laws.proofs.CompleteSteps.{open_at, open_with, step, take_inv, take_kind}
@@ -37,14 +37,14 @@ simple_name_claim i a ka = record {
   extends = λ ss vs ws h d. name a ka (step goals.ClassTail terminals.LeftBrace ss (word a.place a.text ∷ vs) ws i h (build d));
 }
   where
-    typed : (ss : List Symbol) (vs ws : List Item) → ahead i ≢ terminals.Dot → Runs (Want goals.TypeTail ∷ ss) (word a.place a.text ∷ vs) i ws → Runs (Want goals.TypeName ∷ ss) (word a.place a.text ∷ vs) i ws
+    typed : (ss : List Symbol) (vs ws : List StackItem) → ahead i ≢ terminals.Dot → Runs (Want goals.TypeTail ∷ ss) (word a.place a.text ∷ vs) i ws → Runs (Want goals.TypeName ∷ ss) (word a.place a.text ∷ vs) i ws
     typed ss vs ws h d = go (ahead i) refl
       where
         go : (k : Terminal) → ahead i ≡ k → Runs (Want goals.TypeName ∷ ss) (word a.place a.text ∷ vs) i ws
         go terminals.Dot e = absurd (h e)
         go k e = step goals.TypeName k ss (word a.place a.text ∷ vs) ws i e d
 
-    member : (ss : List Symbol) (vs ws : List Item) → is_tail (ahead i) ≡ true → Runs (Want goals.TypeTail ∷ Word ∷ Want goals.FieldOrMethod ∷ ss) (word a.place a.text ∷ vs) i ws → Runs (Want goals.MemberName ∷ ss) (word a.place a.text ∷ vs) i ws
+    member : (ss : List Symbol) (vs ws : List StackItem) → is_tail (ahead i) ≡ true → Runs (Want goals.TypeTail ∷ Word ∷ Want goals.FieldOrMethod ∷ ss) (word a.place a.text ∷ vs) i ws → Runs (Want goals.MemberName ∷ ss) (word a.place a.text ∷ vs) i ws
     member ss vs ws h d = go (ahead i) refl h
       where
         go : (k : Terminal) → ahead i ≡ k → is_tail k ≡ true → Runs (Want goals.MemberName ∷ ss) (word a.place a.text ∷ vs) i ws
@@ -79,10 +79,10 @@ primitive_claim i a o e = record { type = type; reference = reference }
     facts : PrimitiveFacts a.kind (Some o)
     facts = primitive_means a.kind o e
 
-    kept : (ss : List Symbol) (vs ws : List Item) → Runs ss (part a.place forms.Type (trees.PrimitiveType a.place o) ∷ vs) i ws → Runs (Keep terminals.Primitive ∷ Build makes.TypeOfMark ∷ ss) vs (a ∷ i) ws
+    kept : (ss : List Symbol) (vs ws : List StackItem) → Runs ss (part a.place forms.Type (trees.PrimitiveType a.place o) ∷ vs) i ws → Runs (Keep terminals.Primitive ∷ Build makes.TypeOfMark ∷ ss) vs (a ∷ i) ws
     kept ss vs ws d = keep a facts.0 (build (rw facts.1 d))
 
-    simple : (ss : List Symbol) (vs ws : List Item) → Runs (Want goals.Dimensions ∷ ss) (part a.place forms.Type (trees.PrimitiveType a.place o) ∷ vs) i ws → Runs (Want goals.Type ∷ ss) vs (a ∷ i) ws
+    simple : (ss : List Symbol) (vs ws : List StackItem) → Runs (Want goals.Dimensions ∷ ss) (part a.place forms.Type (trees.PrimitiveType a.place o) ∷ vs) i ws → Runs (Want goals.Type ∷ ss) vs (a ∷ i) ws
     simple ss vs ws d = step goals.Type terminals.Primitive ss vs ws (a ∷ i) facts.0 (kept (Want goals.Dimensions ∷ ss) vs ws d)
 
     type : TypeClaim (a ∷ i) (trees.PrimitiveType a.place o) i
@@ -104,7 +104,7 @@ primitive_claim i a o e = record { type = type; reference = reference }
           (kept (Take terminals.LeftBracket ∷ Take terminals.RightBracket ∷ Build makes.Array ∷ Want goals.Dimensions ∷ Build makes.InstanceOf ∷ ss) (part p f x ∷ vs) ws (open_at goals.Dimensions terminals.LeftBracket h d));
     }
 
-pub name_kind : (ss : List Symbol) (vs ws : List Item) (i : List Lexeme) → Runs (Word ∷ ss) vs i ws → ahead i ≡ terminals.Identifier
+pub name_kind : (ss : List Symbol) (vs ws : List StackItem) (i : List Lexeme) → Runs (Word ∷ ss) vs i ws → ahead i ≡ terminals.Identifier
 name_kind ss vs ws i (name a p d) = p
 
 -- dimensions, or a name
@@ -113,7 +113,7 @@ names terminals.LeftBracket = true
 names terminals.Identifier = true
 names _ = false
 
-pub dimensions_name : (ss : List Symbol) (vs ws : List Item) (r : List Lexeme) → Runs (Want goals.Dimensions ∷ Word ∷ ss) vs r ws → names (ahead r) ≡ true
+pub dimensions_name : (ss : List Symbol) (vs ws : List StackItem) (r : List Lexeme) → Runs (Want goals.Dimensions ∷ Word ∷ ss) vs r ws → names (ahead r) ≡ true
 dimensions_name ss vs ws r d = go (ahead r) refl
   where
     go : (k : Terminal) → ahead r ≡ k → names (ahead r) ≡ true
@@ -140,10 +140,10 @@ tail_rule _ q e = refl
 
 -- A class type.
 module _ (i r : List Lexeme) (t : Tree) (n : NameClaim i t r) where
-  named_tail : (ss : List Symbol) (vs ws : List Item) → is_type_end (ahead r) ≡ true → Runs (Want goals.Dimensions ∷ ss) (part (at i) forms.Type t ∷ vs) r ws → Runs (Want goals.TypeTail ∷ ss) (n.value ∷ vs) r ws
+  named_tail : (ss : List Symbol) (vs ws : List StackItem) → is_type_end (ahead r) ≡ true → Runs (Want goals.Dimensions ∷ ss) (part (at i) forms.Type t ∷ vs) r ws → Runs (Want goals.TypeTail ∷ ss) (n.value ∷ vs) r ws
   named_tail ss vs ws h d = want (Build makes.TypeOfName ∷ Want goals.Dimensions ∷ []) (tail_rule (ahead r) (tag (n.value ∷ vs)) h) (build (rw (type_of n.value (at i) n.operand t vs n.isname) d))
 
-  named_local : (ss : List Symbol) (vs ws : List Item) → Runs (Want goals.Dimensions ∷ Word ∷ Want goals.AfterLocalName ∷ ss) (part (at i) forms.Type t ∷ vs) r ws → Runs (Want goals.ItemName ∷ ss) (n.value ∷ vs) r ws
+  named_local : (ss : List Symbol) (vs ws : List StackItem) → Runs (Want goals.Dimensions ∷ Word ∷ Want goals.AfterLocalName ∷ ss) (part (at i) forms.Type t ∷ vs) r ws → Runs (Want goals.ItemName ∷ ss) (n.value ∷ vs) r ws
   named_local ss vs ws d = go (ahead r) refl (dimensions_name (Want goals.AfterLocalName ∷ ss) (part (at i) forms.Type t ∷ vs) ws r d)
     where
       bracket : (a : Lexeme) × (j : List Lexeme) × (r ≡ a ∷ j) × (terminal_of a.kind ≡ terminals.LeftBracket)
@@ -156,7 +156,7 @@ module _ (i r : List Lexeme) (t : Tree) (n : NameClaim i t r) where
       go terminals.Identifier e h = step goals.ItemName terminals.Identifier ss (n.value ∷ vs) ws r e (build (rw (type_of n.value (at i) n.operand t vs n.isname) (open_at goals.Dimensions terminals.Identifier e d)))
       go k e h = cc
 
-  named_chain : (ss : List Symbol) (ns ws : List Item) → is_name ns ≡ true → Quiet r → Runs (Want goals.ChainClosing ∷ ss) (part (at i) forms.Type t ∷ ns) r ws → Runs (Want goals.ChainName ∷ ss) (n.value ∷ ns) r ws
+  named_chain : (ss : List Symbol) (ns ws : List StackItem) → is_name ns ≡ true → Quiet r → Runs (Want goals.ChainClosing ∷ ss) (part (at i) forms.Type t ∷ ns) r ws → Runs (Want goals.ChainName ∷ ss) (n.value ∷ ns) r ws
   named_chain ss ns ws h quiet d = go (ahead r) refl
     where
       inner : tag (part (at i) forms.Type t ∷ ns) ≡ tags.InnerType
@@ -193,7 +193,7 @@ module _ (i r : List Lexeme) (t : Tree) (n : NameClaim i t r) where
       go terminals.LeftBracket e = bracket (take_inv (open_with goals.ChainClosing terminals.LeftBracket tags.InnerType e inner d))
       go k e = greater (take_inv (open_with goals.ChainClosing k tags.InnerType e inner d))
 
-  named_cast : (ss : List Symbol) (k : Kind) (p : Place) (vs ws : List Item) → Runs (Want goals.Dimensions ∷ Take terminals.RightParenthesis ∷ Want goals.Unsigned ∷ Build makes.Cast ∷ ss) (part (at i) forms.Type t ∷ mark k p ∷ vs) r ws
+  named_cast : (ss : List Symbol) (k : Kind) (p : Place) (vs ws : List StackItem) → Runs (Want goals.Dimensions ∷ Take terminals.RightParenthesis ∷ Want goals.Unsigned ∷ Build makes.Cast ∷ ss) (part (at i) forms.Type t ∷ mark k p ∷ vs) r ws
       → Runs (Want goals.EnclosedName ∷ ss) (n.value ∷ mark k p ∷ vs) r ws
   named_cast ss k p vs ws d = go (ahead r) refl
     where

@@ -21,7 +21,7 @@ use Rattle.kr_parse_grammar.specs.declared.goal.Make.TheVariants as makes
 use Rattle.kr_parse_grammar.specs.declared.goal.Symbol.{Symbol}
 use Rattle.kr_parse_grammar.specs.declared.goal.Symbol.TheVariants.{Take, Keep, Word, Literal as Leaf, Spell, Want, Build}
 use Rattle.kr_parse_grammar.specs.Terminals.{terminal_of}
-use Rattle.kr_parse_grammar.specs.Values.{Item, mark, word, pair, part, member, owner, tag, tag_of_word, tag_of_member}
+use Rattle.kr_parse_grammar.specs.Values.{StackItem, mark, word, pair, part, member, owner, tag, tag_of_word, tag_of_member}
 use Rattle.kr_parse_grammar.specs.Made.{made, nowhere}
 use Rattle.kr_parse_grammar.specs.Machine.{ahead, rule, spelling, Runs, done, take, keep, name, leaf, spell, want, build}
 use Rattle.kr_parse_grammar.specs.State.{is_inside, closes, ends_primary, ends_type, ends_statement, follows, first_of, first, IsTaken, Good}
@@ -29,14 +29,14 @@ use Rattle.kr_parse_laws.specs.Laws.{Productivity}
 use Rattle.kr_parse_laws.proofs.Behind.{void_is, of_closes, of_primary, of_type, end_is, semicolon_is, left_brace_is, right_brace_is, right_parenthesis_is, closes_primary, closes_type, closes_inside, primary_inside, type_inside, statement_inside, inside_apart}
 
 -- tokens that take the symbols; what they begin with is known, but for a chain of names that closes
-record Finish (ss : List Symbol) (vs : List Item) : Type 0 where
+record Finish (ss : List Symbol) (vs : List StackItem) : Type 0 where
   tokens : List Lexeme
-  left : List Item
+  left : List StackItem
   runs : Runs ss vs tokens left
   begins : first ss ≢ Outside → ahead tokens ≡ first ss
 
 abbrev Finishes : List Symbol → Type 0
-Finishes ss = (vs : List Item) → Finish ss vs
+Finishes ss = (vs : List StackItem) → Finish ss vs
 
 -- a kind for each terminal
 abbrev kind_of : Terminal → Kind
@@ -139,14 +139,14 @@ finish_build : (m : Make) (ss : List Symbol) → Finishes ss → Finishes (Build
 finish_build m ss d vs = record { tokens = (d (made m vs)).tokens; left = (d (made m vs)).left; runs = build (d (made m vs)).runs; begins = (d (made m vs)).begins }
 
 -- a goal is finished where what stands for it is
-by_rule : (g : Goal) (body ss : List Symbol) (vs : List Item) → rule g (first (body ++ ss)) (tag vs) ≡ Some body → first_of g (first ss) ≡ first (body ++ ss) → is_inside (first (body ++ ss)) ≡ true
+by_rule : (g : Goal) (body ss : List Symbol) (vs : List StackItem) → rule g (first (body ++ ss)) (tag vs) ≡ Some body → first_of g (first ss) ≡ first (body ++ ss) → is_inside (first (body ++ ss)) ≡ true
     → Finish (body ++ ss) vs → Finish (Want g ∷ ss) vs
 by_rule g body ss vs r e n f =
     let a : ahead f.tokens ≡ first (body ++ ss) = f.begins (inside_apart (first (body ++ ss)) n) in
     record { tokens = f.tokens; left = f.left; runs = want body (rw a r) f.runs; begins = λ _. a ∙ sym e }
 
 -- where that begins with what stands behind
-module _ (g : Goal) (body ss : List Symbol) (vs : List Item) where
+module _ (g : Goal) (body ss : List Symbol) (vs : List StackItem) where
   by_equal : (k : Terminal) → first ss ≡ k → rule g k (tag vs) ≡ Some body → first (body ++ ss) ≡ first ss → first_of g (first ss) ≡ first ss → is_inside k ≡ true
       → Finish (body ++ ss) vs → Finish (Want g ∷ ss) vs
   by_equal k e r b o n f = by_rule g body ss vs (rw b (rw e r)) (o ∙ sym b) (rw b (rw e n)) f
@@ -189,7 +189,7 @@ if_outer : (b : Bool) (q r : Tag) → is_inner q ≡ false → is_inner r ≡ fa
 if_outer true q r h g = h
 if_outer false q r h g = g
 
-word_outer : (n : List ℕ) (vs : List Item) → is_inner (tag_of_word n vs) ≡ false
+word_outer : (n : List ℕ) (vs : List StackItem) → is_inner (tag_of_word n vs) ≡ false
 word_outer n (member b m ∷ owner c p o ∷ vs) = if_outer _ tags.Constructor tags.Word refl refl
 word_outer n _ = refl
 
@@ -200,17 +200,17 @@ ends_chain : (q : Tag) (k : Terminal) → closes k ≡ true → is_inner q ≡ f
 ends_chain tags.InnerType k h e = cc
 ends_chain q k h e = of_closes (λ k. rule goals.ChainClosing k q ≡ Some []) refl refl refl refl refl k h
 
-by_closing : (body ss : List Symbol) (vs : List Item) → rule goals.ChainClosing (first (body ++ ss)) (tag vs) ≡ Some body → is_inside (first (body ++ ss)) ≡ true
+by_closing : (body ss : List Symbol) (vs : List StackItem) → rule goals.ChainClosing (first (body ++ ss)) (tag vs) ≡ Some body → is_inside (first (body ++ ss)) ≡ true
     → Finish (body ++ ss) vs → Finish (Want goals.ChainClosing ∷ ss) vs
 by_closing body ss vs r n f =
     let a : ahead f.tokens ≡ first (body ++ ss) = f.begins (inside_apart (first (body ++ ss)) n) in
     record { tokens = f.tokens; left = f.left; runs = want body (rw a r) f.runs; begins = λ m. absurd (m refl) }
 
 module _ (ss : List Symbol) (h : closes (first ss) ≡ true) (d : Finishes ss) where
-  closed : (vs : List Item) → is_inner (tag vs) ≡ false → Finish (Want goals.ChainClosing ∷ ss) vs
+  closed : (vs : List StackItem) → is_inner (tag vs) ≡ false → Finish (Want goals.ChainClosing ∷ ss) vs
   closed vs n = by_closing [] ss vs (ends_chain (tag vs) (first ss) h n) (closes_inside (first ss) h) (d vs)
 
-  inner : (vs : List Item) → tag vs ≡ tags.InnerType → Finish (Want goals.ChainClosing ∷ ss) (made makes.Generic vs) → Finish (Want goals.ChainClosing ∷ ss) vs
+  inner : (vs : List StackItem) → tag vs ≡ tags.InnerType → Finish (Want goals.ChainClosing ∷ ss) (made makes.Generic vs) → Finish (Want goals.ChainClosing ∷ ss) vs
   inner vs e f = by_closing (Take Greater ∷ Build makes.Generic ∷ Want goals.ChainClosing ∷ []) ss vs (rw e refl) refl record {
     tokens = token Greater [] ∷ f.tokens;
     left = f.left;
@@ -218,12 +218,12 @@ module _ (ss : List Symbol) (h : closes (first ss) ≡ true) (d : Finishes ss) w
     begins = λ _. refl;
   }
 
-  finish_part : (p : Place) (f : Form) (t : Tree) (vs : List Item) → Finish (Want goals.ChainClosing ∷ ss) (part p f t ∷ vs)
+  finish_part : (p : Place) (f : Form) (t : Tree) (vs : List StackItem) → Finish (Want goals.ChainClosing ∷ ss) (part p f t ∷ vs)
   finish_part p forms.Type t (word r n ∷ vs) = inner (part p forms.Type t ∷ word r n ∷ vs) refl (finish_part r forms.Type (trees.GenericType r (trees.NamedType r n) t) vs)
   finish_part p forms.Type t (pair r o n ∷ vs) = inner (part p forms.Type t ∷ pair r o n ∷ vs) refl (finish_part r forms.Type (trees.GenericType r (trees.QualifiedType r o n) t) vs)
   finish_part p f t vs = closed (part p f t ∷ vs) refl
 
-  finish_closing_chain : (vs : List Item) → Finish (Want goals.ChainClosing ∷ ss) vs
+  finish_closing_chain : (vs : List StackItem) → Finish (Want goals.ChainClosing ∷ ss) vs
   finish_closing_chain (part p f t ∷ vs) = finish_part p f t vs
   finish_closing_chain (word p n ∷ vs) = closed (word p n ∷ vs) (word_outer n vs)
   finish_closing_chain (member b m ∷ vs) = closed (member b m ∷ vs) (member_outer b m)
@@ -232,7 +232,7 @@ module _ (ss : List Symbol) (h : closes (first ss) ≡ true) (d : Finishes ss) w
 finish_chain_closing : (ss : List Symbol) → follows goals.ChainClosing (first ss) ≡ true → Finishes ss → Finishes (Want goals.ChainClosing ∷ ss)
 finish_chain_closing ss h d vs = finish_closing_chain ss h d vs
 
-finish_after_tested_by : (ss : List Symbol) (vs : List Item) (q : Tag) → tag vs ≡ q → closes (first ss) ≡ true → Finishes ss → Finish (Want goals.AfterTested ∷ ss) vs
+finish_after_tested_by : (ss : List Symbol) (vs : List StackItem) (q : Tag) → tag vs ≡ q → closes (first ss) ≡ true → Finishes ss → Finish (Want goals.AfterTested ∷ ss) vs
 finish_after_tested_by ss vs tags.Type e h d = by_rule goals.AfterTested (Build makes.InstanceOf ∷ []) ss vs (rw e refl) refl (closes_inside (first ss) h) (finish_build makes.InstanceOf _ d vs)
 finish_after_tested_by ss vs _ e h d = by_rule goals.AfterTested [] ss vs (rw e refl) refl (closes_inside (first ss) h) (d vs)
 
@@ -500,7 +500,7 @@ finish_enclosed_bracket : (ss : List Symbol) → follows goals.EnclosedBracket (
 finish_enclosed_bracket ss h d vs = by_rule goals.EnclosedBracket (Build makes.TypeOfName ∷ Take RightBracket ∷ Build makes.Array ∷ Want goals.Dimensions ∷ Take RightParenthesis ∷ Want goals.Unsigned ∷ Build makes.Cast ∷ []) ss vs refl refl refl
     (finish_build makes.TypeOfName _ (finish_take RightBracket _ tt (finish_build makes.Array _ (finish_dimensions _ refl (finish_take RightParenthesis _ tt (finish_unsigned _ h (finish_build makes.Cast _ d)))))) vs)
 
-finish_after_chain_by : (ss : List Symbol) (vs : List Item) (q : Tag) → tag vs ≡ q → closes (first ss) ≡ true → Finishes ss → Finish (Want goals.AfterChain ∷ ss) vs
+finish_after_chain_by : (ss : List Symbol) (vs : List StackItem) (q : Tag) → tag vs ≡ q → closes (first ss) ≡ true → Finishes ss → Finish (Want goals.AfterChain ∷ ss) vs
 finish_after_chain_by ss vs tags.Type e h d = by_rule goals.AfterChain (Take RightParenthesis ∷ Want goals.Unsigned ∷ Build makes.Cast ∷ []) ss vs (rw e refl) refl refl
     (finish_take RightParenthesis _ tt (finish_unsigned _ h (finish_build makes.Cast _ d)) vs)
 finish_after_chain_by ss vs _ e h d = by_rule goals.AfterChain (Want (goals.Operators 1 7) ∷ Want goals.AfterOperation ∷ Want goals.Closing ∷ []) ss vs (rw e refl) refl refl

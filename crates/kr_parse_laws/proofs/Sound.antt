@@ -11,7 +11,7 @@ use Rattle.kr_parse_grammar.specs.declared.goal.Goal.{Goal}
 use Rattle.kr_parse_grammar.specs.declared.goal.Goal.TheVariants as goals
 use Rattle.kr_parse_grammar.specs.declared.goal.Symbol.{Symbol}
 use Rattle.kr_parse_grammar.specs.declared.goal.Symbol.TheVariants.{Want}
-use Rattle.kr_parse_grammar.specs.Values.{Item, part, tag}
+use Rattle.kr_parse_grammar.specs.Values.{StackItem, part, tag}
 use Rattle.kr_parse_grammar.specs.Machine.{ahead, rule}
 use Rattle.kr_parse_grammar.specs.Grammar as grammar
 use Rattle.kr_parse_grammar.specs.Grammar.{Class, Der, Modified, at, ClassName, ReferenceType, AnyType, Maybe, Many, Several}
@@ -30,7 +30,7 @@ use Rattle.kr_parse_laws.proofs.SoundTested.{means_chain_argument, means_chain_n
 use Rattle.kr_parse_laws.proofs.SoundStatements.{means_initialiser, means_more_declarators, means_after_local_name, means_item, means_item_name, means_item_bracket, means_statement_expression, means_after_statement_primary, means_block_statement, means_statements, means_statement, means_optional_expression, means_else_part, means_for_initial, means_more_initial, means_for_updates, means_more_updates}
 use Rattle.kr_parse_laws.proofs.SoundMembers.{means_parameters, means_parameter, means_more_parameters, means_constructor_body, means_after_super, means_contracted_method, means_contract, means_contracts, means_method_ahead, means_method, means_field_or_method, means_member_name, means_member, means_members, means_class_ahead, means_classes, means_dotted, means_imported, means_imports, means_file}
 
-means : (g : Goal) (vs : List Item) (ss : List Symbol) (i : List Lexeme) (ws : List Item) → DenOf (rule g (ahead i) (tag vs)) ss vs i ws → Den (Want g ∷ ss) vs i ws
+means : (g : Goal) (vs : List StackItem) (ss : List Symbol) (i : List Lexeme) (ws : List StackItem) → DenOf (rule g (ahead i) (tag vs)) ss vs i ws → Den (Want g ∷ ss) vs i ws
 means goals.File vs ss i ws d = means_file (ahead i) (tag vs) vs ss i ws d
 means goals.Dotted vs ss i ws d = means_dotted (ahead i) (tag vs) vs ss i ws d
 means goals.Imports vs ss i ws d = means_imports (ahead i) (tag vs) vs ss i ws d
@@ -111,14 +111,14 @@ means goals.Tested vs ss i ws d = means_tested (ahead i) (tag vs) vs ss i ws d
 means goals.TestedName vs ss i ws d = means_tested_name (ahead i) (tag vs) vs refl ss i ws d
 means goals.AfterTested vs ss i ws d = means_after_tested (ahead i) vs ss i ws d
 
-den_of : (o : Option (List Symbol)) (body ss : List Symbol) (vs : List Item) (i : List Lexeme) (ws : List Item) → o ≡ Some body → Den (body ++ ss) vs i ws → DenOf o ss vs i ws
+den_of : (o : Option (List Symbol)) (body ss : List Symbol) (vs : List StackItem) (i : List Lexeme) (ws : List StackItem) → o ≡ Some body → Den (body ++ ss) vs i ws → DenOf o ss vs i ws
 den_of o body ss vs i ws e d = subst (λ x. DenOf x ss vs i ws) (sym e) d
 
 literal_of_token : (a : Lexeme) (r : List Lexeme) → Kinds terminals.Literal a.kind → Der (grammar.Primary forms.Other) (a ∷ r) (literal a) r
 literal_of_token a r h = h a r refl
 
 -- what the machine takes is what its symbols stand for
-sound : {ss : List Symbol} {vs ws : List Item} {i : List Lexeme} → Runs ss vs i ws → Den ss vs i ws
+sound : {ss : List Symbol} {vs ws : List StackItem} {i : List Lexeme} → Runs ss vs i ws → Den ss vs i ws
 sound done = (refl, refl)
 sound (take {i = i} {k = k} a p d) = (a, i, refl, kind_of a.kind k p, sound d)
 sound (keep {i = i} {k = k} a p d) = (a, i, refl, kind_of a.kind k p, sound d)

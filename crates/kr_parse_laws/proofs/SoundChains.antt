@@ -15,7 +15,7 @@ use Rattle.kr_parse_grammar.specs.declared.goal.Goal.TheVariants as goals
 use Rattle.kr_parse_grammar.specs.declared.goal.Make.TheVariants as makes
 use Rattle.kr_parse_grammar.specs.declared.goal.Symbol.{Symbol}
 use Rattle.kr_parse_grammar.specs.declared.goal.Symbol.TheVariants.{Want, Build}
-use Rattle.kr_parse_grammar.specs.Values.{Item, mark, word, pair, part, member, owner, is_name}
+use Rattle.kr_parse_grammar.specs.Values.{StackItem, mark, word, pair, part, member, owner, is_name}
 use Rattle.kr_parse_grammar.specs.Made.{compared, joined}
 use Rattle.kr_parse_grammar.specs.Grammar as grammar
 use Rattle.kr_parse_grammar.specs.Grammar.{Class, Der, Modified, at, ClassName, ReferenceType, AnyType, Maybe, Many, Several}
@@ -25,7 +25,7 @@ use Rattle.kr_parse_grammar.specs.TokenMeanings.{binary_of, level}
 use Rattle.kr_parse_laws.proofs.SoundTypes.{generic_of}
 
 -- what is known of a chain may be told in other words
-pub chained_map : (us : List Item) (H I : List Lexeme → Type 0) (K : List Item → List Lexeme → Type 0) → ((j : List Lexeme) → I j → H j) → Chained us H K → Chained us I K
+pub chained_map : (us : List StackItem) (H I : List Lexeme → Type 0) (K : List StackItem → List Lexeme → Type 0) → ((j : List Lexeme) → I j → H j) → Chained us H K → Chained us I K
 chained_map (word p n ∷ us) H I K m c = chained_map us H I K m c
 chained_map (pair p o n ∷ us) H I K m c = chained_map us H I K m c
 chained_map (part q f x ∷ us) H I K m (inl (p, t, r, h, k)) = inl (p, t, r, λ j s. h j (m j s), k)
@@ -39,36 +39,36 @@ chained_map (member b n ∷ us) H I K m (inr (p, t, r, h, k)) = inr (p, t, r, λ
 chained_map (owner b q n ∷ us) H I K m (inl (p, t, r, h, k)) = inl (p, t, r, λ j s. h j (m j s), k)
 chained_map (owner b q n ∷ us) H I K m (inr (p, t, r, h, k)) = inr (p, t, r, λ j s. h j (m j s), k)
 
-pub behind_of : (us : List Item) (X : Type 0) → (is_name us ≡ true → X) → Behind us X
+pub behind_of : (us : List StackItem) (X : Type 0) → (is_name us ≡ true → X) → Behind us X
 behind_of (word p n ∷ us) X f = f refl
 behind_of (pair p o n ∷ us) X f = f refl
 behind_of _ X f = tt
 
-pub behind_map : (us : List Item) (X Y : Type 0) → (X → Y) → Behind us X → Behind us Y
+pub behind_map : (us : List StackItem) (X Y : Type 0) → (X → Y) → Behind us X → Behind us Y
 behind_map (word p n ∷ us) X Y f x = f x
 behind_map (pair p o n ∷ us) X Y f x = f x
 behind_map _ X Y f x = tt
 
 -- arguments of types
-pub as_argument : (us : List Item) (j r : List Lexeme) (t : Tree) → Der ReferenceType j t r → Der (argument us) j t r
+pub as_argument : (us : List StackItem) (j r : List Lexeme) (t : Tree) → Der ReferenceType j t r → Der (argument us) j t r
 as_argument us j r t d = go (is_name us)
   where
     go : (b : Bool) → Der (if b then AnyType else ReferenceType) j t r
     go true = grammar.reference_type d
     go false = d
 
-pub of_argument : (us : List Item) (j r : List Lexeme) (t : Tree) → Der (argument us) j t r → Der AnyType j t r
+pub of_argument : (us : List StackItem) (j r : List Lexeme) (t : Tree) → Der (argument us) j t r → Der AnyType j t r
 of_argument us j r t d = go (is_name us) d
   where
     go : (b : Bool) → Der (if b then AnyType else ReferenceType) j t r → Der AnyType j t r
     go true x = x
     go false x = grammar.reference_type x
 
-pub any_argument : (us : List Item) (j r : List Lexeme) (t : Tree) → is_name us ≡ true → Der AnyType j t r → Der (argument us) j t r
+pub any_argument : (us : List StackItem) (j r : List Lexeme) (t : Tree) → is_name us ≡ true → Der AnyType j t r → Der (argument us) j t r
 any_argument us j r t z d = subst (λ b. Der (if b then AnyType else ReferenceType) j t r) (sym z) d
 
 -- a chain whose last name got its argument
-pub fills : (v : Item) (us : List Item) (j m l r : List Lexeme) (t : Tree) (c : Lexeme) → (h : List Lexeme) × Before us j h × NamedBefore kinds.Less v h m → Der AnyType m t l
+pub fills : (v : StackItem) (us : List StackItem) (j m l r : List Lexeme) (t : Tree) (c : Lexeme) → (h : List Lexeme) × Before us j h × NamedBefore kinds.Less v h m → Der AnyType m t l
     → l ≡ c ∷ r → c.kind ≡ kinds.Greater
     → (h : List Lexeme) × Before us j h × (place_of v ≡ at h) × Der (argument us) h (trees.GenericType (place_of v) (class_of v) t) r
 fills v us j m l r t c (h, s, (b, o, kb)) d e kc =
@@ -86,7 +86,7 @@ pub compare_of : (o : BinaryOperator) (p : Place) (j m r : List Lexeme) (x t : T
 compare_of o p j m r x t b is lv v (y, le, d) (z, ge, c) = rw v (grammar.binary b d is lv le c (omega (arith, ge)))
 
 -- a type that an operand is tested for
-pub test_of : (q : Place) (f : Form) (x : Tree) (vs : List Item) (j i r : List Lexeme) (u : Tree) → Before (part q f x ∷ vs) j i → Der ReferenceType i u r
+pub test_of : (q : Place) (f : Form) (x : Tree) (vs : List StackItem) (j i r : List Lexeme) (u : Tree) → Before (part q f x ∷ vs) j i → Der ReferenceType i u r
     → Der (grammar.Operation 7) j (trees.InstanceOf q x u) r
 test_of q f x vs j i r u (y, a, d, le, z, ka) c = rw z (grammar.instance_of a d ka le c)
 
@@ -94,17 +94,17 @@ alone : (j r : List Lexeme) (t : Tree) → Der (grammar.Primary forms.Target) j 
 alone j r t d = grammar.operand (grammar.unsigned (grammar.postfix (grammar.primary d)))
 
 -- a name as an operand, compared with the names below it
-record Joined (us : List Item) (v : Item) (H : List Lexeme → Type 0) (K : List Item → List Lexeme → Type 0) : Type 0 where
+record Joined (us : List StackItem) (v : StackItem) (H : List Lexeme → Type 0) (K : List StackItem → List Lexeme → Type 0) : Type 0 where
   place : Place
   form : Form
   tree : Tree
-  below : List Item
+  below : List StackItem
   is : joined (place_of v) (operand_of v) (class_of v) us (compared us) ≡ part place form tree ∷ below
   reads : (j m r : List Lexeme) → Before us j m → Named v m r → (place ≡ at j) × Tight 7 j tree r
   ends : (t : Tree) (r : List Lexeme) → ((j : List Lexeme) → H j → (place ≡ at j) × Der (grammar.Operation 7) j t r) → K (part place forms.Other t ∷ below) r → Chained us H K
 
 -- one name more
-longer : (w : Item) (us vs : List Item) (v : Item) (H : List Lexeme → Type 0) (K : List Item → List Lexeme → Type 0) → (j : Joined us w H K)
+longer : (w : StackItem) (us vs : List StackItem) (v : StackItem) (H : List Lexeme → Type 0) (K : List StackItem → List Lexeme → Type 0) → (j : Joined us w H K)
     → joined (place_of v) (operand_of v) (class_of v) vs (compared vs) ≡ part j.place forms.Other (trees.Binary j.place binaries.Less j.tree (operand_of v)) ∷ j.below
     → ((a m : List Lexeme) → Before vs a m → (h : List Lexeme) × Before us a h × NamedBefore kinds.Less w h m) → (Chained us H K → Chained vs H K) → Joined vs v H K
 longer w us vs v H K j e before chained = record {
@@ -123,7 +123,7 @@ longer w us vs v H K j e before chained = record {
         let x = j.reads a h (b ∷ m) s o in
         (x.0, (7, le_refl 7, compare_of binaries.Less j.place a m r j.tree (operand_of v) b (less_is b.kind kb) refl x.0 x.1 (11, lit≤ tt, alone m r (operand_of v) (named_operand v m r y))))
 
-joins : (us : List Item) (v : Item) (H : List Lexeme → Type 0) (K : List Item → List Lexeme → Type 0) → Joined us v H K
+joins : (us : List StackItem) (v : StackItem) (H : List Lexeme → Type 0) (K : List StackItem → List Lexeme → Type 0) → Joined us v H K
 joins (word q n ∷ us) v H K =
     let j : Joined us (word q n) H K = joins us (word q n) H K in
     longer (word q n) us (word q n ∷ us) v H K j (ap (λ s. joined (place_of v) (operand_of v) (class_of v) (word q n ∷ us) s) j.is) (λ a m s. s) (λ c. c)
@@ -151,14 +151,14 @@ joins us v H K = record {
 
 -- a comparison with the last name of a chain
 ends_with : (o : BinaryOperator) (x : Kind) → ((y : Kind) → y ≡ x → binary_of y ≡ Some o) → level o ≡ 7
-    → (v : Item) (us : List Item) (i r : List Lexeme) (t : Tree) (K : List Item → List Lexeme → Type 0) → (j : Joined us v (λ a. EndingBefore x v us i a) K)
+    → (v : StackItem) (us : List StackItem) (i r : List Lexeme) (t : Tree) (K : List StackItem → List Lexeme → Type 0) → (j : Joined us v (λ a. EndingBefore x v us i a) K)
     → Tight 8 i t r → K (part j.place forms.Other (trees.Binary j.place o j.tree t) ∷ j.below) r → Chained us (λ a. EndingBefore x v us i a) K
 ends_with o x is lv v us i r t K j c k = j.ends (trees.Binary j.place o j.tree t) r (λ a s. go a s) k
   where
     go : (a : List Lexeme) → EndingBefore x v us i a → (j.place ≡ at a) × Der (grammar.Operation 7) a (trees.Binary j.place o j.tree t) r
     go a (m, s, (b, y, kb)) = let z = j.reads a m (b ∷ i) s y in (z.0, compare_of o j.place a i r j.tree t b (is b.kind kb) lv z.0 z.1 c)
 
-pub chain_less : (v : Item) (us : List Item) (ss : List Symbol) (i : List Lexeme) (ws : List Item)
+pub chain_less : (v : StackItem) (us : List StackItem) (ss : List Symbol) (i : List Lexeme) (ws : List StackItem)
     → Den (Want goals.Unary ∷ Want (goals.Operators 8 10) ∷ Build makes.Less ∷ ss) (joined (place_of v) (operand_of v) (class_of v) us (compared us)) i ws
     → Chained us (λ a. EndingBefore kinds.Less v us i a) (Goes ss ws)
 chain_less v us ss i ws d = go (joins us v (λ a. EndingBefore kinds.Less v us i a) (Goes ss ws))
@@ -172,7 +172,7 @@ chain_less v us ss i ws d = go (joins us v (λ a. EndingBefore kinds.Less v us i
     go : Joined us v (λ a. EndingBefore kinds.Less v us i a) (Goes ss ws) → Chained us (λ a. EndingBefore kinds.Less v us i a) (Goes ss ws)
     go j = fin j (subst (λ s. Den (Want goals.Unary ∷ Want (goals.Operators 8 10) ∷ Build makes.Less ∷ ss) s i ws) j.is d)
 
-pub chain_greater : (v : Item) (us : List Item) (ss : List Symbol) (i : List Lexeme) (ws : List Item)
+pub chain_greater : (v : StackItem) (us : List StackItem) (ss : List Symbol) (i : List Lexeme) (ws : List StackItem)
     → Den (Want goals.Unary ∷ Want (goals.Operators 8 10) ∷ Build makes.Greater ∷ ss) (joined (place_of v) (operand_of v) (class_of v) us (compared us)) i ws
     → Chained us (λ a. EndingBefore kinds.Greater v us i a) (Goes ss ws)
 chain_greater v us ss i ws d = go (joins us v (λ a. EndingBefore kinds.Greater v us i a) (Goes ss ws))
@@ -187,16 +187,16 @@ chain_greater v us ss i ws d = go (joins us v (λ a. EndingBefore kinds.Greater 
     go j = fin j (subst (λ s. Den (Want goals.Unary ∷ Want (goals.Operators 8 10) ∷ Build makes.Greater ∷ ss) s i ws) j.is d)
 
 -- names, each with `<` behind it, as one comparison
-record Compared (us : List Item) (H : List Lexeme → Type 0) (K : List Item → List Lexeme → Type 0) : Type 0 where
+record Compared (us : List StackItem) (H : List Lexeme → Type 0) (K : List StackItem → List Lexeme → Type 0) : Type 0 where
   place : Place
   form : Form
   tree : Tree
-  below : List Item
+  below : List StackItem
   is : compared us ≡ part place form tree ∷ below
   reads : (j m : List Lexeme) → Before us j m → (b : Lexeme) × (place ≡ at j) × Tight 7 j tree (b ∷ m) × (b.kind ≡ kinds.Less)
   ends : (t : Tree) (r : List Lexeme) → ((j : List Lexeme) → H j → (place ≡ at j) × Der (grammar.Operation 7) j t r) → K (part place forms.Other t ∷ below) r → Chained us H K
 
-compares : (us : List Item) (H : List Lexeme → Type 0) (K : List Item → List Lexeme → Type 0) → is_name us ≡ true → Compared us H K
+compares : (us : List StackItem) (H : List Lexeme → Type 0) (K : List StackItem → List Lexeme → Type 0) → is_name us ≡ true → Compared us H K
 compares (word w n ∷ us) H K z =
     let j : Joined us (word w n) H K = joins us (word w n) H K in record { place = j.place; form = j.form; tree = j.tree; below = j.below; is = j.is; reads = λ a m s. (let x = j.reads a s.0 (s.2.0 ∷ m) s.1 s.2.1 in (s.2.0, x.0, x.1, s.2.2)); ends = λ t r h k. j.ends t r h k }
 compares (pair w o n ∷ us) H K z =
@@ -204,7 +204,7 @@ compares (pair w o n ∷ us) H K z =
 compares _ H K z = (let bad : false ≡ true = z in cc)
 
 -- an operand behind `<`
-pub chain_operand : (us : List Item) (R : List Lexeme → Type 0) (f : Form) (w : Place) (t : Tree) (ss : List Symbol) (i : List Lexeme) (ws : List Item) → is_name us ≡ true
+pub chain_operand : (us : List StackItem) (R : List Lexeme → Type 0) (f : Form) (w : Place) (t : Tree) (ss : List Symbol) (i : List Lexeme) (ws : List StackItem) → is_name us ≡ true
     → ((m : List Lexeme) → R m → (w ≡ at m) × Der (grammar.Primary f) m t i)
     → Den (Want goals.ChainPrimary ∷ ss) (part w f t ∷ compared us) i ws → Chained us (λ j. (m : List Lexeme) × Before us j m × R m) (Goes ss ws)
 chain_operand us R f w t ss i ws z reads d = go (compares us (λ j. (m : List Lexeme) × Before us j m × R m) (Goes ss ws) z)

@@ -17,7 +17,7 @@ use Rattle.kr_parse_grammar.specs.declared.goal.Goal.TheVariants as goals
 use Rattle.kr_parse_grammar.specs.declared.goal.Make.TheVariants as makes
 use Rattle.kr_parse_grammar.specs.declared.goal.Symbol.{Symbol}
 use Rattle.kr_parse_grammar.specs.declared.goal.Symbol.TheVariants.{Take, Keep, Want, Build}
-use Rattle.kr_parse_grammar.specs.Values.{Item, mark, word, pair, part, tag}
+use Rattle.kr_parse_grammar.specs.Values.{StackItem, mark, word, pair, part, tag}
 use Rattle.kr_parse_grammar.specs.TokenMeanings.{primitive_of}
 use Rattle.kr_parse_grammar.specs.Made.{nowhere, assigned, the_primitive, the_unary, the_step_before, the_step_behind, the_binary}
 use Rattle.kr_parse_grammar.specs.Grammar as grammar
@@ -28,18 +28,18 @@ use Rattle.kr_parse_laws.proofs.SoundSteps.{from, onto, begins, both, three, fou
 use Rattle.std.proofs.lemmas.Bool.{ltb-false}
 
 -- a list in parentheses, or none
-pub means_arguments : (k : Terminal) (q : Tag) (vs : List Item) → Holds goals.Arguments k q vs
+pub means_arguments : (k : Terminal) (q : Tag) (vs : List StackItem) → Holds goals.Arguments k q vs
 means_arguments terminals.RightParenthesis q vs ss i ws d = (nowhere, forms.Other, trees.Nil, i, grammar.absent, d)
 means_arguments k q vs ss i ws (p, f, t, m, (z, x), (p1, g, u, r, h, d)) = (p1, g, u, r, grammar.present (h i x), d)
 
-pub means_more_arguments : (k : Terminal) (q : Tag) (vs : List Item) → Holds goals.MoreArguments k q vs
+pub means_more_arguments : (k : Terminal) (q : Tag) (vs : List StackItem) → Holds goals.MoreArguments k q vs
 means_more_arguments terminals.Comma q (part p f t ∷ vs) ss i ws (a, m, e, ka, (p1, g, u, l, (z, x), (p2, g2, v, r, h, d))) =
     (p, forms.Other, trees.Cons t v, r, λ j s. grammar.comma a (onto e s) ka (h m x), d)
 means_more_arguments k q (part p f t ∷ vs) ss i ws d = (p, forms.Other, trees.Cons t trees.Nil, i, λ j s. grammar.last s, d)
 means_more_arguments k q _ ss i ws d = tt
 
 -- primary expressions
-pub means_primary : (k : Terminal) (q : Tag) (vs : List Item) → Holds goals.Primary k q vs
+pub means_primary : (k : Terminal) (q : Tag) (vs : List StackItem) → Holds goals.Primary k q vs
 means_primary terminals.Literal q vs ss i ws (a, m, e, l, (p, f, t, r, (z, h), d)) = (p, f, t, r, (z ∙ begins e, h i (begins e) (from e l)), d)
 means_primary terminals.Identifier q vs ss i ws (a, m, e, ka, (p, f, t, r, (z, h), d)) = (p, f, t, r, (z ∙ begins e, h i (a, e, ka, refl, refl)), d)
 means_primary terminals.LeftParenthesis q vs ss i ws (a, m, e, ka, (p, f, t, l, (z, x), (b, s, y, kb, (p1, g, u, r, (w, h), d)))) =
@@ -52,11 +52,11 @@ means_primary terminals.New q vs ss i ws (a, m, e, ka, (p, f, t, l, (z, x), (p1,
     (p1, g, u, r, (w ∙ (z ∙ begins e), h i (z ∙ begins e) (x i m (a, e, ka, refl) refl)), d)
 means_primary _ q vs ss i ws d = absurd d
 
-plain_primary_name : (p : Place) (n : List ℕ) (vs : List Item) (ss : List Symbol) (i : List Lexeme) (ws : List Item)
+plain_primary_name : (p : Place) (n : List ℕ) (vs : List StackItem) (ss : List Symbol) (i : List Lexeme) (ws : List StackItem)
     → Den (Build makes.Variable ∷ Want goals.Suffixes ∷ ss) (word p n ∷ vs) i ws → Den (Want goals.PrimaryName ∷ ss) (word p n ∷ vs) i ws
 plain_primary_name p n vs ss i ws (p2, g, t, s, (w, h), d) = (p2, g, t, s, (w, λ j o. h j (named_at (word p n) j i o) (named_operand (word p n) j i o)), d)
 
-pub means_primary_name : (k : Terminal) (q : Tag) (vs : List Item) → Holds goals.PrimaryName k q vs
+pub means_primary_name : (k : Terminal) (q : Tag) (vs : List StackItem) → Holds goals.PrimaryName k q vs
 means_primary_name terminals.LeftParenthesis q (word p n ∷ vs) ss i ws (b, m, e, kb, (p1, f, u, l, x, (c, r, y, kc, (p2, g, t, s, (w, h), d)))) =
     (p2, g, t, s, (w, λ j o. h j (named_at (word p n) j i o) (named_call (word p n) j i r u o (b, c, m, e, kb, onto y x, kc))), d)
 means_primary_name k q (word p n ∷ vs) ss i ws d = plain_primary_name p n vs ss i ws d
@@ -68,7 +68,7 @@ access_of : (f : Form) (p : Place) (j i m r : List Lexeme) (t u : Tree) (a b : L
     → Der (grammar.Primary forms.Target) j (trees.ArrayAccess p t u) r
 access_of f p j i m r t u a b v d other e ka x kb = rw v (grammar.array_access a b (onto e d) other ka x kb)
 
-pub means_suffixes : (k : Terminal) (q : Tag) (vs : List Item) → tag vs ≡ q → Holds goals.Suffixes k q vs
+pub means_suffixes : (k : Terminal) (q : Tag) (vs : List StackItem) → tag vs ≡ q → Holds goals.Suffixes k q vs
 means_suffixes terminals.Dot q (part p f t ∷ vs) e ss i ws (a, m, y, ka, (b, l, x, kb, (p1, g, u, r, (z, h), d))) =
     (p1, g, u, r, (z, λ j w s. h j m a w (onto y s) ka (b, x, kb, refl, refl)), d)
 means_suffixes terminals.LeftBracket tags.ArrayCreation (part p f t ∷ vs) e ss i ws d = absurd d
@@ -94,11 +94,11 @@ selected_field : (f : Form) (p w : Place) (n : List ℕ) (j s i : List Lexeme) (
     → Der (grammar.Primary forms.Target) j (trees.FieldAccess p t n) i
 selected_field f p w n j s i t a v d ka (b, e, kb, z, y) = rw (v, y) (grammar.field_access a b (behind e d) ka kb)
 
-plain_selected : (w p : Place) (n : List ℕ) (f : Form) (t : Tree) (vs : List Item) (ss : List Symbol) (i : List Lexeme) (ws : List Item)
+plain_selected : (w p : Place) (n : List ℕ) (f : Form) (t : Tree) (vs : List StackItem) (ss : List Symbol) (i : List Lexeme) (ws : List StackItem)
     → Den (Build makes.FieldAccess ∷ Want goals.Suffixes ∷ ss) (word w n ∷ part p f t ∷ vs) i ws → Den (Want goals.Selected ∷ ss) (word w n ∷ part p f t ∷ vs) i ws
 plain_selected w p n f t vs ss i ws (p2, g, v, r, (z, h), d) = (p2, g, v, r, (z, λ j s a o dx ka na. h j o (selected_field f p w n j s i t a o dx ka na)), d)
 
-pub means_selected : (k : Terminal) (q : Tag) (vs : List Item) → Holds goals.Selected k q vs
+pub means_selected : (k : Terminal) (q : Tag) (vs : List StackItem) → Holds goals.Selected k q vs
 means_selected terminals.LeftParenthesis q (word w n ∷ part p f t ∷ vs) ss i ws (c, m, y, kc, (p1, f1, u, l, x, (b, l2, y2, kb, (p2, g, v, r, (z, h), d)))) =
     (p2, g, v, r, (z, λ j s a o dx ka na. h j o (selected_call f p w n j s i l2 t u a o dx ka na (c, b, m, y, kc, onto y2 x, kb))), d)
 means_selected k q (word w n ∷ part p f t ∷ vs) ss i ws d = plain_selected w p n f t vs ss i ws d
@@ -130,7 +130,7 @@ new_generic : (p w : Place) (h j i m s r : List Lexeme) (t v u : Tree) (l b : Le
 new_generic p w h j i m s r t v u l b (o, g, ko, z) y d kl dv f kb (c, e, s1, f2, kc, x, ke) =
     rw (z, y) (from g (grammar.generic_creation o l b c e ko d kl (onto (both f f2) dv) kb kc x ke))
 
-pub means_creator : (k : Terminal) (q : Tag) (vs : List Item) → Holds goals.Creator k q vs
+pub means_creator : (k : Terminal) (q : Tag) (vs : List StackItem) → Holds goals.Creator k q vs
 means_creator terminals.Primitive q (mark x p ∷ vs) ss i ws (a, m, e, ka, (u, r, b, d)) =
     (p, forms.ArrayCreation, trees.ArrayCreation p (trees.PrimitiveType a.place (the_primitive a.kind)) u, r, (refl, λ h j o s. new_primitive p h j i m r a u o s e ka b), d)
 means_creator terminals.Identifier q (mark x p ∷ vs) ss i ws (a, m, e, ka, (p1, f, t, r, (z, h), d)) =
@@ -138,19 +138,19 @@ means_creator terminals.Identifier q (mark x p ∷ vs) ss i ws (a, m, e, ka, (p1
 means_creator _ q (mark x p ∷ vs) ss i ws d = absurd d
 means_creator k q _ ss i ws d = tt
 
-creates_object : (v : Item) (p : Place) (vs : List Item) (ss : List Symbol) (ws : List Item) (i : List Lexeme)
+creates_object : (v : StackItem) (p : Place) (vs : List StackItem) (ss : List Symbol) (ws : List StackItem) (i : List Lexeme)
     → (u : Tree) × (r : List Lexeme) × Enclosed i u r × Den ss (part p forms.Invocation (trees.ObjectCreation p (class_of v) u) ∷ vs) r ws
     → Creates p (λ j. Named v j i) vs (Goes ss ws)
 creates_object v p vs ss ws i (u, r, b, d) =
     (p, forms.Invocation, trees.ObjectCreation p (class_of v) u, r, (refl, λ h j o s. new_object p h j i r (class_of v) u o (named_class v j i s) b), d)
 
-creates_array : (v : Item) (p : Place) (vs : List Item) (ss : List Symbol) (ws : List Item) (i : List Lexeme)
+creates_array : (v : StackItem) (p : Place) (vs : List StackItem) (ss : List Symbol) (ws : List StackItem) (i : List Lexeme)
     → (u : Tree) × (r : List Lexeme) × Bracketed i u r × Den ss (part p forms.ArrayCreation (trees.ArrayCreation p (class_of v) u) ∷ vs) r ws
     → Creates p (λ j. Named v j i) vs (Goes ss ws)
 creates_array v p vs ss ws i (u, r, b, d) =
     (p, forms.ArrayCreation, trees.ArrayCreation p (class_of v) u, r, (refl, λ h j o s. new_array p h j i r (class_of v) u o (named_class v j i s) b), d)
 
-pub means_creator_name : (k : Terminal) (q : Tag) (vs : List Item) → tag vs ≡ q → Holds goals.CreatorName k q vs
+pub means_creator_name : (k : Terminal) (q : Tag) (vs : List StackItem) → tag vs ≡ q → Holds goals.CreatorName k q vs
 means_creator_name terminals.Dot tags.Word (word w n ∷ mark x p ∷ vs) e ss i ws (d, m, y, kd, (b, l, f, kb, (p1, g, t, r, (z, h), c))) =
     (p1, g, t, r, (z, λ a j o s. h a j o (paired w n d b j i m l y kd f kb s)), c)
 means_creator_name terminals.Dot tags.Word (pair w o n ∷ mark x p ∷ vs) e ss i ws d = (let bad : tags.Pair ≡ tags.Word = e in cc)
@@ -166,7 +166,7 @@ means_creator_name k q (word w n ∷ mark x p ∷ vs) e ss i ws d = absurd d
 means_creator_name k q (pair w o n ∷ mark x p ∷ vs) e ss i ws d = absurd d
 means_creator_name k q _ e ss i ws d = tt
 
-creates_generic : (v : Item) (p : Place) (t : Tree) (vs : List Item) (ss : List Symbol) (ws : List Item) (i l m : List Lexeme) (b : Lexeme) → Der AnyType i t l → l ≡ b ∷ m
+creates_generic : (v : StackItem) (p : Place) (t : Tree) (vs : List StackItem) (ss : List Symbol) (ws : List StackItem) (i l m : List Lexeme) (b : Lexeme) → Der AnyType i t l → l ≡ b ∷ m
     → b.kind ≡ kinds.Greater
     → (u : Tree) × (r : List Lexeme) × Enclosed m u r × Den ss (part p forms.Invocation (trees.ObjectCreation p (trees.GenericType (place_of v) (class_of v) t) u) ∷ vs) r ws
     → Creates p (λ j. NamedBefore kinds.Less v j i) vs (Goes ss ws)
@@ -179,7 +179,7 @@ creates_generic v p t vs ss ws i l m b g y kb (u, r, e, d) = (
   d,
 )
 
-creates_diamond : (v : Item) (p : Place) (vs : List Item) (ss : List Symbol) (ws : List Item) (i m : List Lexeme) (b : Lexeme) → i ≡ b ∷ m → b.kind ≡ kinds.Greater
+creates_diamond : (v : StackItem) (p : Place) (vs : List StackItem) (ss : List Symbol) (ws : List StackItem) (i m : List Lexeme) (b : Lexeme) → i ≡ b ∷ m → b.kind ≡ kinds.Greater
     → (u : Tree) × (r : List Lexeme) × Enclosed m u r × Den ss (part p forms.Invocation (trees.ObjectCreation p (trees.DiamondType (place_of v) (class_of v)) u) ∷ vs) r ws
     → Creates p (λ j. NamedBefore kinds.Less v j i) vs (Goes ss ws)
 creates_diamond v p vs ss ws i m b y kb (u, r, e, d) = (
@@ -191,37 +191,37 @@ creates_diamond v p vs ss ws i m b y kb (u, r, e, d) = (
   d,
 )
 
-pub means_creator_argument : (k : Terminal) (q : Tag) (vs : List Item) → Holds goals.CreatorArgument k q vs
+pub means_creator_argument : (k : Terminal) (q : Tag) (vs : List StackItem) → Holds goals.CreatorArgument k q vs
 means_creator_argument terminals.Greater q (word w n ∷ mark x p ∷ vs) ss i ws (b, m, y, kb, d) = creates_diamond (word w n) p vs ss ws i m b y kb d
 means_creator_argument terminals.Greater q (pair w o n ∷ mark x p ∷ vs) ss i ws (b, m, y, kb, d) = creates_diamond (pair w o n) p vs ss ws i m b y kb d
 means_creator_argument k q (word w n ∷ mark x p ∷ vs) ss i ws d = creates_generic (word w n) p d.2 vs ss ws i d.3 d.5.1 d.5.0 d.4.1 d.5.2 d.5.3 d.5.4
 means_creator_argument k q (pair w o n ∷ mark x p ∷ vs) ss i ws d = creates_generic (pair w o n) p d.2 vs ss ws i d.3 d.5.1 d.5.0 d.4.1 d.5.2 d.5.3 d.5.4
 means_creator_argument k q _ ss i ws d = tt
 
-pub means_object_creation : (k : Terminal) (q : Tag) (vs : List Item) → Holds goals.ObjectCreation k q vs
+pub means_object_creation : (k : Terminal) (q : Tag) (vs : List StackItem) → Holds goals.ObjectCreation k q vs
 means_object_creation k q (part w f t ∷ mark x p ∷ vs) ss i ws (b, m, e, kb, (p1, g, u, l, y, (c, r, z, kc, d))) = (u, r, (b, c, m, e, kb, onto z y, kc), d)
 means_object_creation k q _ ss i ws d = tt
 
-pub means_array_length : (k : Terminal) (q : Tag) (vs : List Item) → Holds goals.ArrayLength k q vs
+pub means_array_length : (k : Terminal) (q : Tag) (vs : List StackItem) → Holds goals.ArrayLength k q vs
 means_array_length k q (part w f t ∷ mark x p ∷ vs) ss i ws (b, m, e, kb, (p1, g, u, l, (z1, y), (c, r, z, kc, d))) = (u, r, (b, c, m, e, kb, onto z y, kc), d)
 means_array_length k q _ ss i ws d = tt
 
 -- expressions with one operand
-plain_unary : (vs : List Item) (ss : List Symbol) (i : List Lexeme) (ws : List Item) → Den (Want goals.Unsigned ∷ ss) vs i ws → Den (Want goals.Unary ∷ ss) vs i ws
+plain_unary : (vs : List StackItem) (ss : List Symbol) (i : List Lexeme) (ws : List StackItem) → Den (Want goals.Unsigned ∷ ss) vs i ws → Den (Want goals.Unary ∷ ss) vs i ws
 plain_unary vs ss i ws (p, f, t, r, (z, x), d) = (p, f, t, r, (z, from_unsigned f i r t x), d)
 
-pub means_unary : (k : Terminal) (q : Tag) (vs : List Item) → Holds goals.Unary k q vs
+pub means_unary : (k : Terminal) (q : Tag) (vs : List StackItem) → Holds goals.Unary k q vs
 means_unary terminals.Sign q vs ss i ws (a, m, e, ka, (p, f, t, r, (z, x), d)) =
     (a.place, forms.Other, trees.Unary a.place (the_unary a.kind) t, r, (begins e, (from e (grammar.sign a ka.0 x.0), tt)), d)
 means_unary terminals.Step q vs ss i ws (a, m, e, ka, (p, f, t, r, (z, x), d)) =
     (a.place, forms.Other, trees.Step a.place (the_step_before a.kind) t, r, (begins e, (from e (grammar.stepped_before a ka.0 x.0), tt)), d)
 means_unary k q vs ss i ws d = plain_unary vs ss i ws d
 
-plain_unsigned : (vs : List Item) (ss : List Symbol) (i : List Lexeme) (ws : List Item) → Den (Want goals.Primary ∷ Want goals.Postfixes ∷ ss) vs i ws
+plain_unsigned : (vs : List StackItem) (ss : List Symbol) (i : List Lexeme) (ws : List StackItem) → Den (Want goals.Primary ∷ Want goals.Postfixes ∷ ss) vs i ws
     → Den (Want goals.Unsigned ∷ ss) vs i ws
 plain_unsigned vs ss i ws (p, f, t, m, (z, x), (p1, g, u, r, (w, h), d)) = (p1, g, u, r, (w ∙ z, from_postfix g i r u (h i z (from_primary f i m t x))), d)
 
-pub means_unsigned : (k : Terminal) (q : Tag) (vs : List Item) → Holds goals.Unsigned k q vs
+pub means_unsigned : (k : Terminal) (q : Tag) (vs : List StackItem) → Holds goals.Unsigned k q vs
 means_unsigned terminals.Complement q vs ss i ws (a, m, e, ka, (p, f, t, r, (z, x), d)) =
     (a.place, forms.Other, trees.Unary a.place (the_unary a.kind) t, r, (begins e, (from e (grammar.complement a ka x.0), tt)), d)
 means_unsigned terminals.LeftParenthesis q vs ss i ws (a, m, e, ka, (p, f, t, r, (z, h), d)) = (p, f, t, r, (z ∙ begins e, h i m (a, e, ka, refl) refl), d)
@@ -231,7 +231,7 @@ stepped_of : (p : Place) (j i m : List Lexeme) (t : Tree) (a : Lexeme) → p ≡
     → Der grammar.Postfix j (trees.Step p (the_step_behind a.kind) t) m
 stepped_of p j i m t a v d e ka = rw v (grammar.stepped_behind a (onto e d) ka.1)
 
-pub means_postfixes : (k : Terminal) (q : Tag) (vs : List Item) → Holds goals.Postfixes k q vs
+pub means_postfixes : (k : Terminal) (q : Tag) (vs : List StackItem) → Holds goals.Postfixes k q vs
 means_postfixes terminals.Step q (part p f t ∷ vs) ss i ws (a, m, e, ka, (p1, g, u, r, (z, h), d)) = (p1, g, u, r, (z, λ j v s. h j v (stepped_of p j i m t a v s.0 e ka, tt)), d)
 means_postfixes k q (part p f t ∷ vs) ss i ws d = (p, f, t, i, (refl, λ j v s. s), d)
 means_postfixes k q _ ss i ws d = tt
@@ -244,7 +244,7 @@ binary_of p l y z j i m r t u a v d e ka b x c = rw v (grammar.binary a (onto e 
 
 -- a binary operator of a level, by the limits
 means_binary : (k : Terminal) (l n x : ℕ) → l ≤ 10 → ((y : Kind) → Kinds k y → IsBinary l y) → (b c : Bool) → nat_lt l n ≡ b → nat_lt x l ≡ c
-    → (p : Place) (f : Form) (t : Tree) (vs : List Item) (ss : List Symbol) (i : List Lexeme) (ws : List Item)
+    → (p : Place) (f : Form) (t : Tree) (vs : List StackItem) (ss : List Symbol) (i : List Lexeme) (ws : List StackItem)
     → DenOf (if b then Some [] else if c then None else Some (Keep k ∷ Want goals.Unary ∷ Want (goals.Operators (l + 1) 10) ∷ Build makes.Binary ∷ Want (goals.Operators n l) ∷ [])) ss (part p f t ∷ vs) i ws
     → Den (Want (goals.Operators n x) ∷ ss) (part p f t ∷ vs) i ws
 means_binary k l n x top is true c eb ec p f t vs ss i ws d = (p, f, t, i, (refl, λ j y v ax an s. (y, an, s)), d)
@@ -262,7 +262,7 @@ means_binary k l n x top is false false eb ec p f t vs ss i ws (a, m, e, ka, (p1
     joined_at j y v ax s =
         let high : l ≤ x = ltb-false x l ec in binary_of p l y right.0 j i m m2 t t2 a v s e (is a.kind ka) (omega (arith, high, ax)) right.2 (let o : l + 1 ≤ right.0 = right.1 in omega (arith, o))
 
-means_test : (n x : ℕ) (b c : Bool) → nat_lt 7 n ≡ b → nat_lt x 7 ≡ c → (p : Place) (f : Form) (t : Tree) (vs : List Item) (ss : List Symbol) (i : List Lexeme) (ws : List Item)
+means_test : (n x : ℕ) (b c : Bool) → nat_lt 7 n ≡ b → nat_lt x 7 ≡ c → (p : Place) (f : Form) (t : Tree) (vs : List StackItem) (ss : List Symbol) (i : List Lexeme) (ws : List StackItem)
     → DenOf (if b then Some [] else if c then None else Some (Take terminals.Instanceof ∷ Want goals.Tested ∷ Want (goals.Operators n 7) ∷ [])) ss (part p f t ∷ vs) i ws
     → Den (Want (goals.Operators n x) ∷ ss) (part p f t ∷ vs) i ws
 means_test n x true c eb ec p f t vs ss i ws d = (p, f, t, i, (refl, λ j y v ax an s. (y, an, s)), d)
@@ -279,7 +279,7 @@ greater_is y e = subst (λ x. IsBinary 7 x) (sym e) (refl, refl)
 star_is : (y : Kind) → y ≡ kinds.Star → IsBinary 10 y
 star_is y e = subst (λ x. IsBinary 10 x) (sym e) (refl, refl)
 
-pub means_operators : (n x : ℕ) (k : Terminal) (q : Tag) (vs : List Item) → Holds (goals.Operators n x) k q vs
+pub means_operators : (n x : ℕ) (k : Terminal) (q : Tag) (vs : List StackItem) → Holds (goals.Operators n x) k q vs
 means_operators n x terminals.Or q (part p f t ∷ vs) ss i ws d = means_binary terminals.Or 1 n x (lit≤ tt) (λ y z. z) (nat_lt 1 n) (nat_lt x 1) refl refl p f t vs ss i ws d
 means_operators n x terminals.And q (part p f t ∷ vs) ss i ws d = means_binary terminals.And 2 n x (lit≤ tt) (λ y z. z) (nat_lt 2 n) (nat_lt x 2) refl refl p f t vs ss i ws d
 means_operators n x terminals.BitOr q (part p f t ∷ vs) ss i ws d = means_binary terminals.BitOr 3 n x (lit≤ tt) (λ y z. z) (nat_lt 3 n) (nat_lt x 3) refl refl p f t vs ss i ws d
@@ -313,13 +313,13 @@ choice_of : (p : Place) (x : ℕ) (j i m l s r : List Lexeme) (c t u : Tree) (a 
     → Der grammar.Conditional j (trees.Conditional p c t u) r
 choice_of p x j i m l s r c t u a b v d e ka dt f kb du = rw v (grammar.choice a b (onto e d) ka (onto f dt) kb du)
 
-pub means_after_operation : (k : Terminal) (q : Tag) (vs : List Item) → Holds goals.AfterOperation k q vs
+pub means_after_operation : (k : Terminal) (q : Tag) (vs : List StackItem) → Holds goals.AfterOperation k q vs
 means_after_operation terminals.Question q (part p f t ∷ vs) ss i ws (a, m, e, ka, (p1, f1, t1, l, (z1, x1), (b, s, e2, kb, (p2, f2, t2, r, (z2, x2), d)))) =
     (p, forms.Other, trees.Conditional p t t1 t2, r, (refl, λ j x v o. choice_of p x j i m l s r t t1 t2 a b v o e ka x1 e2 kb x2), d)
 means_after_operation k q (part p f t ∷ vs) ss i ws d = (p, f, t, i, (refl, λ j x v o. grammar.operation o), d)
 means_after_operation k q _ ss i ws d = tt
 
-pub means_conditional : (k : Terminal) (q : Tag) (vs : List Item) → Holds goals.Conditional k q vs
+pub means_conditional : (k : Terminal) (q : Tag) (vs : List StackItem) → Holds goals.Conditional k q vs
 means_conditional k q vs ss i ws (p, f, t, m, (z, x), (p1, g, u, l, (y, h), (p2, g2, v, r, (w, h2), d))) =
     (p2, g2, v, r, (w ∙ (y ∙ z), (let o = h i 11 z (lit≤ tt) (lit≤ tt) (grammar.operand x.0) in h2 i o.0 (y ∙ z) o.2)), d)
 
@@ -339,14 +339,14 @@ pub compounds : (f : Form) (p : Place) (j i m r : List Lexeme) (t u : Tree) (a :
     → Der grammar.Expression m u r → Der grammar.Assignment j (assigned a.kind p t u) r
 compounds f p j i m r t u a v z s e ka x = compound_of p j i m r t u a v (subst (λ y. IsTarget y j t i) z s) e ka x
 
-plain_after_unary : (p : Place) (f : Form) (t : Tree) (vs : List Item) (ss : List Symbol) (i : List Lexeme) (ws : List Item)
+plain_after_unary : (p : Place) (f : Form) (t : Tree) (vs : List StackItem) (ss : List Symbol) (i : List Lexeme) (ws : List StackItem)
     → Den (Want (goals.Operators 1 10) ∷ Want goals.AfterOperation ∷ ss) (part p f t ∷ vs) i ws → Den (Want goals.AfterUnary ∷ ss) (part p f t ∷ vs) i ws
 plain_after_unary p f t vs ss i ws (p1, g, u, m, (z, h), (p2, g2, v, r, (w, h2), d)) = (p2, g2, v, r, (w ∙ z, λ j o s. goes j o s), d)
   where
     goes : (j : List Lexeme) → p ≡ at j → Operand grammar.Unary f j t i → Der grammar.Expression j v r
     goes j o s = let x = h j 11 o (lit≤ tt) (lit≤ tt) (grammar.operand s.0) in grammar.conditional (h2 j x.0 (z ∙ o) x.2)
 
-pub means_after_unary : (k : Terminal) (q : Tag) (vs : List Item) → tag vs ≡ q → Holds goals.AfterUnary k q vs
+pub means_after_unary : (k : Terminal) (q : Tag) (vs : List StackItem) → tag vs ≡ q → Holds goals.AfterUnary k q vs
 means_after_unary terminals.Equal tags.Target (part p f t ∷ vs) e ss i ws (a, m, y, ka, (p1, g, u, r, (z, x), d)) =
     (p, forms.Other, assigned a.kind p t u, r, (refl, λ j v s. grammar.assignment (assigns f p j i m r t u a v (target_of p f t vs e) s.1 y ka x)), d)
 means_after_unary terminals.Compound tags.Target (part p f t ∷ vs) e ss i ws (a, m, y, ka, (p1, g, u, r, (z, x), d)) =
@@ -354,5 +354,5 @@ means_after_unary terminals.Compound tags.Target (part p f t ∷ vs) e ss i ws (
 means_after_unary k q (part p f t ∷ vs) e ss i ws d = plain_after_unary p f t vs ss i ws d
 means_after_unary k q _ e ss i ws d = tt
 
-pub means_expression : (k : Terminal) (q : Tag) (vs : List Item) → Holds goals.Expression k q vs
+pub means_expression : (k : Terminal) (q : Tag) (vs : List StackItem) → Holds goals.Expression k q vs
 means_expression k q vs ss i ws (p, f, t, m, (z, x), (p1, g, u, r, (w, h), d)) = (p1, g, u, r, (w ∙ z, h i z x), d)

@@ -16,7 +16,7 @@ use Rattle.kr_parse_grammar.specs.declared.goal.Goal.{Goal}
 use Rattle.kr_parse_grammar.specs.declared.goal.Goal.TheVariants as goals
 use Rattle.kr_parse_grammar.specs.declared.goal.Symbol.{Symbol}
 use Rattle.kr_parse_grammar.specs.declared.goal.Symbol.TheVariants.{Take, Keep, Word, Literal as Leaf, Spell, Want, Build}
-use Rattle.kr_parse_grammar.specs.Values.{Item, mark, word, pair, part, member, owner, no_modifiers, is_name}
+use Rattle.kr_parse_grammar.specs.Values.{StackItem, mark, word, pair, part, member, owner, no_modifiers, is_name}
 use Rattle.kr_parse_grammar.specs.Made.{made, literal, the_primitive}
 use Rattle.kr_parse_grammar.specs.Machine.{ahead, rule, spelling}
 use Rattle.kr_parse_grammar.specs.TokenMeanings.{primitive_of}
@@ -25,7 +25,7 @@ use Rattle.kr_parse_grammar.specs.Grammar.{Class, Der, Modified, Heading, at, En
 use Rattle.kr_parse_laws.proofs.SoundKinds.{Kinds}
 
 -- a tree is put on the values, and the rest goes on
-abbrev pub Gives : (Place → Form → Tree → List Lexeme → Type 0) → List Item → (List Item → List Lexeme → Type 0) → Type 0
+abbrev pub Gives : (Place → Form → Tree → List Lexeme → Type 0) → List StackItem → (List StackItem → List Lexeme → Type 0) → Type 0
 Gives P vs K = (p : Place) × (f : Form) × (t : Tree) × (r : List Lexeme) × P p f t r × K (part p f t ∷ vs) r
 
 -- from j to r a token of this kind stands, at this place
@@ -33,39 +33,39 @@ abbrev pub Token : Kind → Place → List Lexeme → List Lexeme → Type 0
 Token x p j r = (a : Lexeme) × (j ≡ a ∷ r) × (a.kind ≡ x) × (p ≡ a.place)
 
 -- from j to r a name stands
-abbrev pub Named : Item → List Lexeme → List Lexeme → Type 0
+abbrev pub Named : StackItem → List Lexeme → List Lexeme → Type 0
 Named (word p n) j r = (a : Lexeme) × (j ≡ a ∷ r) × (a.kind ≡ kinds.Identifier) × (p ≡ a.place) × (n ≡ a.text)
 Named (pair p o n) j r =
     (a : Lexeme) × (d : Lexeme) × (b : Lexeme) × (j ≡ a ∷ d ∷ b ∷ r) × (a.kind ≡ kinds.Identifier) × (d.kind ≡ kinds.Dot) × (b.kind ≡ kinds.Identifier) × (p ≡ a.place) × (o ≡ a.text) × (n ≡ b.text)
 Named _ j r = ⊥
 
 -- and behind it a token of this kind
-abbrev pub NamedBefore : Kind → Item → List Lexeme → List Lexeme → Type 0
+abbrev pub NamedBefore : Kind → StackItem → List Lexeme → List Lexeme → Type 0
 NamedBefore x v j r = (b : Lexeme) × Named v j (b ∷ r) × (b.kind ≡ x)
 
 -- from j to r a primitive type stands
 abbrev pub Primitively : Place → Tree → List Lexeme → List Lexeme → Type 0
 Primitively q t j r = (a : Lexeme) × (j ≡ a ∷ r) × (primitive_of a.kind ≡ Some (the_primitive a.kind)) × (q ≡ a.place) × (t ≡ trees.PrimitiveType a.place (the_primitive a.kind))
 
-abbrev pub place_of : Item → Place
+abbrev pub place_of : StackItem → Place
 place_of (word p n) = p
 place_of (pair p o n) = p
 place_of _ = record { file = 0; line = 0; col = 0 }
 
 -- a name as a type
-abbrev pub class_of : Item → Tree
+abbrev pub class_of : StackItem → Tree
 class_of (word p n) = trees.NamedType p n
 class_of (pair p o n) = trees.QualifiedType p o n
 class_of _ = trees.Nil
 
 -- as an operand
-abbrev pub operand_of : Item → Tree
+abbrev pub operand_of : StackItem → Tree
 operand_of (word p n) = trees.Variable p n
 operand_of (pair p o n) = trees.FieldAccess p (trees.Variable p o) n
 operand_of _ = trees.Nil
 
 -- and before arguments
-abbrev pub call_of : Item → Tree → Tree
+abbrev pub call_of : StackItem → Tree → Tree
 call_of (word p n) u = trees.Call p n u
 call_of (pair p o n) u = trees.MethodCall p (trees.Variable p o) n u
 call_of _ u = trees.Nil
@@ -103,11 +103,11 @@ Declared h t r = (m : Modifiers) × (j : List Lexeme) × Modified h m j × (m.ov
 abbrev pub Built : List Lexeme → Tree → Tree → List Lexeme → Type 0
 Built i s t r = (k : List Lexeme) × Der (Maybe grammar.ConstructorCall) i s k × Der (Many grammar.BlockStatement) k t r
 
-abbrev pub Body : (Tree → Tree → List Lexeme → Type 0) → List Item → (List Item → List Lexeme → Type 0) → Type 0
+abbrev pub Body : (Tree → Tree → List Lexeme → Type 0) → List StackItem → (List StackItem → List Lexeme → Type 0) → Type 0
 Body P vs K = (p : Place) × (q : Place) × (f : Form) × (g : Form) × (s : Tree) × (t : Tree) × (r : List Lexeme) × P s t r × K (part q g t ∷ part p f s ∷ vs) r
 
 -- a list goes on behind its first
-abbrev pub More : Class → Tree → List Lexeme → List Item → (List Item → List Lexeme → Type 0) → Type 0
+abbrev pub More : Class → Tree → List Lexeme → List StackItem → (List StackItem → List Lexeme → Type 0) → Type 0
 More c t i vs K = Gives (λ q g u r. (j : List Lexeme) → Der c j t i → Der (Several c) j u r) vs K
 
 -- a local or a statement, as the form says
@@ -124,31 +124,31 @@ abbrev pub Dimensioned : Place → Tree → List Lexeme → Tree → List Lexeme
 Dimensioned p t i u r = ((j : List Lexeme) → p ≡ at j → Der AnyType j t i → Der AnyType j u r) × ((j : List Lexeme) → p ≡ at j → Der ReferenceType j t i → Der ReferenceType j u r)
 
 -- a type that begins with a name
-abbrev pub TypeFrom : Item → List Lexeme → List Item → (List Item → List Lexeme → Type 0) → Type 0
+abbrev pub TypeFrom : StackItem → List Lexeme → List StackItem → (List StackItem → List Lexeme → Type 0) → Type 0
 TypeFrom v i vs K = Gives (λ q f t r. (q ≡ place_of v) × ((j : List Lexeme) → Named v j i → Der AnyType j t r)) vs K
 
 -- a creation behind `new` and what R says
-abbrev pub Creates : Place → (List Lexeme → Type 0) → List Item → (List Item → List Lexeme → Type 0) → Type 0
+abbrev pub Creates : Place → (List Lexeme → Type 0) → List StackItem → (List StackItem → List Lexeme → Type 0) → Type 0
 Creates p R vs K = Gives (λ q f t r. (q ≡ p) × ((h j : List Lexeme) → Token kinds.New p h j → R j → Der (grammar.Primary f) h t r)) vs K
 
 -- an operand behind `(` and what R says
-abbrev pub Encloses : Place → (List Lexeme → Type 0) → List Item → (List Item → List Lexeme → Type 0) → Type 0
+abbrev pub Encloses : Place → (List Lexeme → Type 0) → List StackItem → (List StackItem → List Lexeme → Type 0) → Type 0
 Encloses p R vs K = Gives (λ q f t r. (q ≡ p) × ((h j : List Lexeme) → Token kinds.LeftParenthesis p h j → R j → Operand grammar.Unsigned f h t r)) vs K
 
 -- a comparison or a test behind what H says
-abbrev pub Compares : (List Lexeme → Type 0) → Place → List Item → (List Item → List Lexeme → Type 0) → Type 0
+abbrev pub Compares : (List Lexeme → Type 0) → Place → List StackItem → (List StackItem → List Lexeme → Type 0) → Type 0
 Compares H q vs K = (t : Tree) × (r : List Lexeme) × ((j : List Lexeme) → H j → Der (grammar.Operation 7) j t r) × K (part q forms.Other t ∷ vs) r
 
 -- What stands from j to i, before what comes next in a chain: names, each with `<` behind it, and below them an operand
 -- that is tested, or nothing.
-abbrev pub Before : List Item → List Lexeme → List Lexeme → Type 0
+abbrev pub Before : List StackItem → List Lexeme → List Lexeme → Type 0
 Before (word p n ∷ us) j i = (m : List Lexeme) × Before us j m × NamedBefore kinds.Less (word p n) m i
 Before (pair p o n ∷ us) j i = (m : List Lexeme) × Before us j m × NamedBefore kinds.Less (pair p o n) m i
 Before (part q f x ∷ us) j i = (y : ℕ) × (a : Lexeme) × Der (grammar.Operation y) j x (a ∷ i) × (7 ≤ y) × (q ≡ at j) × (a.kind ≡ kinds.Instanceof)
 Before us j i = j ≡ i
 
 -- what a chain becomes from j on, of which H tells: a type where its names stood, or a comparison
-abbrev pub Chained : List Item → (List Lexeme → Type 0) → (List Item → List Lexeme → Type 0) → Type 0
+abbrev pub Chained : List StackItem → (List Lexeme → Type 0) → (List StackItem → List Lexeme → Type 0) → Type 0
 Chained (word p n ∷ us) H K = Chained us H K
 Chained (pair p o n ∷ us) H K = Chained us H K
 Chained (part q f x ∷ us) H K =
@@ -159,24 +159,24 @@ Chained us H K =
     ⊎ ((p : Place) × (t : Tree) × (r : List Lexeme) × ((j : List Lexeme) → H j → (p ≡ at j) × Der (grammar.Operation 7) j t r) × K (part p forms.Other t ∷ us) r)
 
 -- a chain has a name below
-abbrev pub Behind : List Item → Type 0 → Type 0
+abbrev pub Behind : List StackItem → Type 0 → Type 0
 Behind (word p n ∷ us) X = X
 Behind (pair p o n ∷ us) X = X
 Behind _ X = Unit {0}
 
 -- what may be an argument, and what is a type by itself
-abbrev pub argument : List Item → Class
+abbrev pub argument : List StackItem → Class
 argument us = if is_name us then AnyType else ReferenceType
 
 -- the name at the end of a chain
-abbrev pub Ending : Item → List Item → List Lexeme → List Lexeme → Type 0
+abbrev pub Ending : StackItem → List StackItem → List Lexeme → List Lexeme → Type 0
 Ending v us i j = (m : List Lexeme) × Before us j m × Named v m i
 
 -- and a token behind it
-abbrev pub EndingBefore : Kind → Item → List Item → List Lexeme → List Lexeme → Type 0
+abbrev pub EndingBefore : Kind → StackItem → List StackItem → List Lexeme → List Lexeme → Type 0
 EndingBefore x v us i j = (m : List Lexeme) × Before us j m × NamedBefore x v m i
 
-abbrev pub Meaning : Goal → List Item → List Lexeme → (List Item → List Lexeme → Type 0) → Type 0
+abbrev pub Meaning : Goal → List StackItem → List Lexeme → (List StackItem → List Lexeme → Type 0) → Type 0
 Meaning goals.File vs i K = Gives (λ p f t r. (j : List Lexeme) × Heading i j × Der grammar.Classes j t r) vs K
 Meaning goals.Dotted vs i K = (r : List Lexeme) × grammar.Dotted i r × K vs r
 Meaning goals.Imports vs i K = Gives (λ p f t r. (j : List Lexeme) × grammar.Imports i j × Der grammar.Classes j t r) vs K
@@ -289,7 +289,7 @@ Meaning goals.AfterTested (part p forms.Other t ∷ vs) i K = K (part p forms.Ot
 Meaning _ _ i K = Unit {0}
 
 -- what the symbols stand for
-abbrev pub Den : List Symbol → List Item → List Lexeme → List Item → Type 0
+abbrev pub Den : List Symbol → List StackItem → List Lexeme → List StackItem → Type 0
 Den [] vs i ws = (i ≡ []) × (vs ≡ ws)
 Den (Take k ∷ ss) vs i ws = (a : Lexeme) × (j : List Lexeme) × (i ≡ a ∷ j) × Kinds k a.kind × Den ss vs j ws
 Den (Keep k ∷ ss) vs i ws = (a : Lexeme) × (j : List Lexeme) × (i ≡ a ∷ j) × Kinds k a.kind × Den ss (mark a.kind a.place ∷ vs) j ws
@@ -300,14 +300,14 @@ Den (Spell s ∷ ss) vs i ws = (a : Lexeme) × (j : List Lexeme) × (i ≡ a ∷
 Den (Want g ∷ ss) vs i ws = Meaning g vs i (λ us r. Den ss us r ws)
 Den (Build m ∷ ss) vs i ws = Den ss (made m vs) i ws
 
-abbrev pub DenOf : Option (List Symbol) → List Symbol → List Item → List Lexeme → List Item → Type 0
+abbrev pub DenOf : Option (List Symbol) → List Symbol → List StackItem → List Lexeme → List StackItem → Type 0
 DenOf None ss vs i ws = ⊥
 DenOf (Some body) ss vs i ws = Den (body ++ ss) vs i ws
 
 -- these symbols go on
-abbrev pub Goes : List Symbol → List Item → List Item → List Lexeme → Type 0
+abbrev pub Goes : List Symbol → List StackItem → List StackItem → List Lexeme → Type 0
 Goes ss ws vs i = Den ss vs i ws
 
 -- what stands for a goal means what the goal means
-abbrev pub Holds : Goal → Terminal → Tag → List Item → Type 0
-Holds g k q vs = (ss : List Symbol) (i : List Lexeme) (ws : List Item) → DenOf (rule g k q) ss vs i ws → Den (Want g ∷ ss) vs i ws
+abbrev pub Holds : Goal → Terminal → Tag → List StackItem → Type 0
+Holds g k q vs = (ss : List Symbol) (i : List Lexeme) (ws : List StackItem) → DenOf (rule g k q) ss vs i ws → Den (Want g ∷ ss) vs i ws

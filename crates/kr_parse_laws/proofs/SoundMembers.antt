@@ -19,7 +19,7 @@ use Rattle.kr_parse_grammar.specs.declared.goal.Goal.TheVariants as goals
 use Rattle.kr_parse_grammar.specs.declared.goal.Make.TheVariants as makes
 use Rattle.kr_parse_grammar.specs.declared.goal.Symbol.{Symbol}
 use Rattle.kr_parse_grammar.specs.declared.goal.Symbol.TheVariants.{Take, Want, Build}
-use Rattle.kr_parse_grammar.specs.Values.{Item, mark, word, part, member, owner, tag, no_modifiers}
+use Rattle.kr_parse_grammar.specs.Values.{StackItem, mark, word, part, member, owner, tag, no_modifiers}
 use Rattle.kr_parse_grammar.specs.Made.{nowhere, the_primitive}
 use Rattle.kr_parse_grammar.specs.Grammar as grammar
 use Rattle.kr_parse_grammar.specs.Grammar.{Class, Der, Modified, at, ClassName, ReferenceType, AnyType, Maybe, Many, Several}
@@ -36,16 +36,16 @@ modified_onto : {h i j : List Lexeme} {f : Modifiers} → i ≡ j → Modified h
 modified_onto {h = h} {f = f} e x = subst (λ s. Modified h f s) e x
 
 -- parameters
-pub means_parameters : (k : Terminal) (q : Tag) (vs : List Item) → Holds goals.Parameters k q vs
+pub means_parameters : (k : Terminal) (q : Tag) (vs : List StackItem) → Holds goals.Parameters k q vs
 means_parameters terminals.RightParenthesis q vs ss i ws d = (nowhere, forms.Other, trees.Nil, i, grammar.absent, d)
 means_parameters k q vs ss i ws (p, f, t, m, x, (p1, g, u, r, h, d)) = (p1, g, u, r, grammar.present (h i x), d)
 
-pub means_parameter : (k : Terminal) (q : Tag) (vs : List Item) → Holds goals.Parameter k q vs
+pub means_parameter : (k : Terminal) (q : Tag) (vs : List StackItem) → Holds goals.Parameter k q vs
 means_parameter terminals.Final q vs ss i ws (a, m, e, ka, (p, f, t, l, (z, x), (b, r, y, kb, d))) =
     (b.place, forms.Other, trees.Parameter b.place t b.text, r, from e (grammar.final_parameter a b ka (onto y x) kb), d)
 means_parameter k q vs ss i ws d = (d.5.0.place, forms.Other, trees.Parameter d.5.0.place d.2 d.5.0.text, d.5.1, grammar.parameter d.5.0 (onto d.5.2 d.4.1) d.5.3, d.5.4)
 
-pub means_more_parameters : (k : Terminal) (q : Tag) (vs : List Item) → Holds goals.MoreParameters k q vs
+pub means_more_parameters : (k : Terminal) (q : Tag) (vs : List StackItem) → Holds goals.MoreParameters k q vs
 means_more_parameters terminals.Comma q (part p f t ∷ vs) ss i ws (a, m, e, ka, (p1, g, u, l, x, (p2, g2, v, r, h, d))) =
     (p, forms.Other, trees.Cons t v, r, λ j s. grammar.comma a (onto e s) ka (h m x), d)
 means_more_parameters k q (part p f t ∷ vs) ss i ws d = (p, forms.Other, trees.Cons t trees.Nil, i, λ j s. grammar.last s, d)
@@ -62,11 +62,11 @@ super_call_of : (p : Place) (j i l l1 l2 l3 r : List Lexeme) (u : Tree) (a b c d
     → Der (Maybe (Several grammar.Expression)) l2 u l3 → l3 ≡ d ∷ r → d.kind ≡ kinds.RightParenthesis → Der (grammar.Primary forms.Invocation) j (trees.SuperCall p b.text u) r
 super_call_of p j i l l1 l2 l3 r u a b c d (g, e, kg, z) y ka y1 kb y2 kc x y3 kd = rw z (from (four e y y1 y2) (grammar.super_call g a b c d kg ka kb kc (onto y3 x) kd))
 
-pub means_constructor_body : (k : Terminal) (q : Tag) (vs : List Item) → Holds goals.ConstructorBody k q vs
+pub means_constructor_body : (k : Terminal) (q : Tag) (vs : List StackItem) → Holds goals.ConstructorBody k q vs
 means_constructor_body terminals.Super q vs ss i ws (a, m, e, ka, (p, p1, f, g, s, t, r, h, d)) = (p, p1, f, g, s, t, r, h i (a, e, ka, refl), d)
 means_constructor_body k q vs ss i ws d = (nowhere, d.0, forms.Other, d.1, trees.Nil, d.2, d.3, (i, grammar.absent, d.4), d.5)
 
-pub means_after_super : (k : Terminal) (q : Tag) (vs : List Item) → Holds goals.AfterSuper k q vs
+pub means_after_super : (k : Terminal) (q : Tag) (vs : List StackItem) → Holds goals.AfterSuper k q vs
 means_after_super terminals.LeftParenthesis q (mark x p ∷ vs) ss i ws (a, l, y, ka, (p1, f1, u, l1, dx, (c, l2, y2, kc, (g, l3, y3, kg, (p2, f2, t, r, x2, d))))) =
     (p, p2, forms.Other, f2, trees.ConstructorCall p u, t, r, λ j o. (l3, grammar.present (calls_super_of p j i l l1 l2 l3 u a c g o y ka dx y2 kc y3 kg), x2), d)
 means_after_super terminals.Dot q (mark x p ∷ vs) ss i ws (a, l, y, ka, (b, l1, y1, kb, (c, l2, y2, kc, (p1, f1, u, l3, dx, (g, l4, y3, kg, (p2, f2, t2, l5, (z2, h2), (p3, f3, t3, l6, (z3, h3), (n, l7, y4, kn, (p4, f4, t4, r, x4, d))))))))) =
@@ -88,14 +88,14 @@ method_of : (o : List ℕ) (x : Bool) (w : Place) (n : List ℕ) (m : Modifiers)
 method_of o x w n m k h j l i l0 l1 l2 l3 l4 r v t u s a c d e ks mx dt (g, eq, kg, zw, yn) y ka dx y2 kc y3 kd ds y4 ke =
     rw (zw, yn) (grammar.method g a c d e ks mx (onto (both eq y) dt) kg ka (onto (both y2 y3) dx) kc kd (onto y4 ds) ke)
 
-pub means_method : (k : Terminal) (q : Tag) (vs : List Item) → Holds goals.Method k q vs
+pub means_method : (k : Terminal) (q : Tag) (vs : List StackItem) → Holds goals.Method k q vs
 means_method terminals.LeftParenthesis q (word w n ∷ part p f t ∷ member b m ∷ vs) ss i ws (a, l, y, ka, (p1, f1, u, l1, dx, (c, l2, y2, kc, (g, l3, y3, kg, (p2, f2, s, l4, x2, (e, r, y4, ke, d)))))) =
     (w, forms.Other, trees.Method w m.is_static n (trees.Signature w t u trees.Nil) s, r, λ o x h j l0 mx dt nm. method_of o x w n m h h j l0 i l l1 l2 l3 l4 r trees.Nil t u s a c g e grammar.end mx dt nm y ka dx y2 kc y3 kg x2 y4 ke, d)
 means_method _ q (word w n ∷ part p f t ∷ member b m ∷ vs) ss i ws d = absurd d
 means_method k q _ ss i ws d = tt
 
 -- methods with contracts
-pub means_contracted_method : (k : Terminal) (q : Tag) (vs : List Item) → Holds goals.ContractedMethod k q vs
+pub means_contracted_method : (k : Terminal) (q : Tag) (vs : List StackItem) → Holds goals.ContractedMethod k q vs
 means_contracted_method k q (word w n ∷ part p f t ∷ member b m ∷ part p0 f0 v ∷ vs) ss i ws d =
     go d
   where
@@ -113,7 +113,7 @@ postcondition_of : (p : Place) (j i l l1 r : List Lexeme) (t : Tree) (a c : Lexe
     → Der grammar.Expression l t l1 → l1 ≡ c ∷ r → c.kind ≡ kinds.Semicolon → Der grammar.Contract j (trees.Ensures p t) r
 postcondition_of p j i l l1 r t a c (g, e, kg, z) y ka dx y2 kc = rw z (from (both e y) (grammar.postcondition g a c kg ka (onto y2 dx) kc))
 
-pub means_contract : (k : Terminal) (q : Tag) (vs : List Item) → Holds goals.Contract k q vs
+pub means_contract : (k : Terminal) (q : Tag) (vs : List StackItem) → Holds goals.Contract k q vs
 means_contract terminals.Requires q (mark x p ∷ vs) ss i ws (a, l, y, ka, (p1, f1, t, l1, (z, dx), (c, r, y2, kc, d))) =
     (p, forms.Other, trees.Requires p t, r, λ j o. precondition_of p j i l l1 r t a c o y ka dx y2 kc, d)
 means_contract terminals.Ensures q (mark x p ∷ vs) ss i ws (a, l, y, ka, (p1, f1, t, l1, (z, dx), (c, r, y2, kc, d))) =
@@ -121,7 +121,7 @@ means_contract terminals.Ensures q (mark x p ∷ vs) ss i ws (a, l, y, ka, (p1, 
 means_contract _ q (mark x p ∷ vs) ss i ws d = absurd d
 means_contract k q _ ss i ws d = tt
 
-pub means_contracts : (k : Terminal) (q : Tag) (vs : List Item) → Holds goals.Contracts k q vs
+pub means_contracts : (k : Terminal) (q : Tag) (vs : List StackItem) → Holds goals.Contracts k q vs
 means_contracts terminals.Contract q vs ss i ws (a, l, y, ka, (p1, f1, t, l1, h, (p2, f2, u, r, dx, d))) =
     (p1, forms.Other, trees.Cons t u, r, grammar.next (h i (a, y, ka, refl)) dx, d)
 means_contracts k q vs ss i ws d = (nowhere, forms.Other, trees.Nil, i, grammar.end, d)
@@ -131,12 +131,12 @@ field_of : (o : List ℕ) (x : Bool) (p : Place) (m : Modifiers) (h j l l2 r : L
     → Der (grammar.Member o x) h (trees.Field p m.is_static m.is_final t v) r
 field_of o x p m h j l l2 r t v a mx ov z dt dv y ka = rw z (grammar.field a mx ov dt (onto y dv) ka)
 
-fields : (w p : Place) (n : List ℕ) (f : Form) (t : Tree) (b : Bool) (m : Modifiers) (vs : List Item) (ss : List Symbol) (i : List Lexeme) (ws : List Item)
+fields : (w p : Place) (n : List ℕ) (f : Form) (t : Tree) (b : Bool) (m : Modifiers) (vs : List StackItem) (ss : List Symbol) (i : List Lexeme) (ws : List StackItem)
     → Den (Want goals.Initialiser ∷ Build makes.Declarator ∷ Want goals.MoreDeclarators ∷ Take terminals.Semicolon ∷ Build makes.Field ∷ ss) (word w n ∷ part p f t ∷ member b m ∷ vs) i ws → Den (Want goals.FieldOrMethod ∷ ss) (word w n ∷ part p f t ∷ member b m ∷ vs) i ws
 fields w p n f t b m vs ss i ws (p1, f1, u, l1, h, (p2, f2, v, l2, h2, (a, r, y, ka, d))) =
     (p, forms.Other, trees.Field p m.is_static m.is_final t v, r, λ o x s j l mx ov z dt nm. field_of o x p m s j l l2 r t v a mx ov z dt (h2 l (h w n l nm)) y ka, d)
 
-pub means_field_or_method : (k : Terminal) (q : Tag) (vs : List Item) → Holds goals.FieldOrMethod k q vs
+pub means_field_or_method : (k : Terminal) (q : Tag) (vs : List StackItem) → Holds goals.FieldOrMethod k q vs
 means_field_or_method terminals.LeftParenthesis q (word w n ∷ part p f t ∷ member b m ∷ vs) ss i ws (p1, g, u, r, h, d) =
     (p1, g, u, r, λ o x s j l mx ov z dt nm. h o x s j l mx (grammar.result dt) nm, d)
 means_field_or_method terminals.Equal q (word w n ∷ part p f t ∷ member b m ∷ vs) ss i ws d = fields w p n f t b m vs ss i ws d
@@ -153,7 +153,7 @@ plain_modifiers m e = go m.is_static m.is_final m.overrides e
     go false false false e = refl
     go _ _ _ e = cc
 
-constructs : (n o : List ℕ) (b c : Bool) (m : Modifiers) (p : Place) (vs : List Item) → tag_of_word n (member b m ∷ owner c p o ∷ vs) ≡ tags.Constructor
+constructs : (n o : List ℕ) (b c : Bool) (m : Modifiers) (p : Place) (vs : List StackItem) → tag_of_word n (member b m ∷ owner c p o ∷ vs) ≡ tags.Constructor
     → (m ≡ no_modifiers) × (n ≡ o)
 constructs n o b c m p vs e = go (is_plain m) (bytes_eq n o) refl refl e
   where
@@ -169,7 +169,7 @@ constructor_of : (o : List ℕ) (x : Bool) (w : Place) (n : List ℕ) (m : Modif
 constructor_of o x w n m h j i l l1 l2 l3 l4 r u s t a c d e em en mx (g, eq, kg, zw, yn) y ka dx y2 kc y3 kd (k, ds, dt) y4 ke =
     rw zw (grammar.constructor g a c d e (subst (λ v. Modified h v (g ∷ a ∷ l)) em (modified_onto (both eq y) mx)) kg (sym yn ∙ en) ka (onto (both y2 y3) dx) kc kd ds (onto y4 dt) ke)
 
-pub means_member_name : (k : Terminal) (q : Tag) (vs : List Item) → tag vs ≡ q → Holds goals.MemberName k q vs
+pub means_member_name : (k : Terminal) (q : Tag) (vs : List StackItem) → tag vs ≡ q → Holds goals.MemberName k q vs
 means_member_name terminals.LeftParenthesis tags.Constructor (word w n ∷ member b m ∷ owner c p o ∷ vs) e ss i ws (a, l, y, ka, (p1, f1, u, l1, dx, (c1, l2, y2, kc, (g, l3, y3, kg, (p2, p3, f2, f3, s, t, l4, bx, (e1, r, y4, ke, d)))))) =
     (w, forms.Other, trees.Constructor w u s t, r, λ h j mx ov nm. (let z = constructs n o b c m p vs e in constructor_of o b w n m h j i l l1 l2 l3 l4 r u s t a c1 g e1 z.0 z.1 mx nm y ka dx y2 kc y3 kg bx y4 ke), d)
 means_member_name terminals.LeftParenthesis q (word w n ∷ member b m ∷ owner c p o ∷ vs) e ss i ws d = absurd d
@@ -213,7 +213,7 @@ void_of : (x : Kind) (p : Place) (i r : List Lexeme) → x ≡ kinds.Void → De
     → Der grammar.ResultType i (trees.PrimitiveType p (the_primitive x)) r
 void_of x p i r e d = subst (λ k. Der grammar.ResultType i (trees.PrimitiveType p (the_primitive k)) r) (sym e) d
 
-pub means_member : (k : Terminal) (q : Tag) (vs : List Item) → tag vs ≡ q → Holds goals.Member k q vs
+pub means_member : (k : Terminal) (q : Tag) (vs : List StackItem) → tag vs ≡ q → Holds goals.Member k q vs
 means_member terminals.Access q (member b m ∷ owner c p n ∷ vs) e ss i ws (a, l, y, ka, (p1, f, t, r, h, d)) =
     (p1, f, t, r, λ s x. h s (grammar.access a (modified_onto y x) ka), d)
 means_member terminals.Static q (member b m ∷ owner c p n ∷ vs) e ss i ws (a, l, y, ka, (p1, f, t, r, h, d)) =
@@ -236,7 +236,7 @@ means_member terminals.Identifier q (member b m ∷ owner c p n ∷ vs) e ss i w
 means_member _ q (member b m ∷ owner c p n ∷ vs) e ss i ws d = absurd d
 means_member k q _ e ss i ws d = tt
 
-pub means_method_ahead : (k : Terminal) (q : Tag) (vs : List Item) → Holds goals.MethodAhead k q vs
+pub means_method_ahead : (k : Terminal) (q : Tag) (vs : List StackItem) → Holds goals.MethodAhead k q vs
 means_method_ahead terminals.Access q (member b m ∷ part e g v ∷ vs) ss i ws (a, l, y, ka, (p1, f, t, r, h, d)) =
     (p1, f, t, r, λ o x c s ks mx. h o x c s ks (grammar.access a (modified_onto y mx) ka), d)
 means_method_ahead terminals.Static q (member b m ∷ part e g v ∷ vs) ss i ws (a, l, y, ka, (p1, f, t, r, h, d)) =
@@ -263,7 +263,7 @@ member_of : (n : List ℕ) (b c : Bool) (m : Modifiers) (i l r : List Lexeme) (t
     → ((s : List Lexeme) → Modified s m i → Der (grammar.Member n b) s t l) → Der (grammar.Members n c) l u r → Der (grammar.Members n c) i (trees.Cons t u) r
 member_of n b c m i l r t u z y h x = grammar.member (subst (λ v. Der (grammar.Member n v) i t l) y (h i (subst (λ f. Modified i f i) (sym z) grammar.nothing))) x
 
-pub means_members : (k : Terminal) (q : Tag) (vs : List Item) → Holds goals.Members k q vs
+pub means_members : (k : Terminal) (q : Tag) (vs : List StackItem) → Holds goals.Members k q vs
 means_members terminals.RightBrace q (member b m ∷ owner c p n ∷ vs) ss i ws d = (nowhere, forms.Other, trees.Nil, i, λ z y. grammar.no_member, d)
 means_members terminals.Semicolon q (member b m ∷ owner c p n ∷ vs) ss i ws (a, l, e, ka, (p1, f, t, r, h, d)) = (p1, f, t, r, λ z y. from e (grammar.skip_member a ka (h z y)), d)
 means_members terminals.Contract q (member b m ∷ owner c p n ∷ vs) ss i ws (a, l, e, ka, (p1, f1, t, l1, h1, (p2, f2, u, l2, dx, (p3, f3, v, l3, h3, (p4, f4, w, r, h4, d))))) =
@@ -272,7 +272,7 @@ means_members k q (member b m ∷ owner c p n ∷ vs) ss i ws d =
     (d.0, forms.Other, trees.Cons d.2 d.5.2, d.5.3, λ z y. member_of n b c m i d.3 d.5.3 d.2 d.5.2 z y d.4 (d.5.4 refl refl), d.5.5)
 means_members k q _ ss i ws d = tt
 
-pub means_class_ahead : (k : Terminal) (q : Tag) (vs : List Item) → Holds goals.ClassAhead k q vs
+pub means_class_ahead : (k : Terminal) (q : Tag) (vs : List StackItem) → Holds goals.ClassAhead k q vs
 means_class_ahead terminals.Access q vs ss i ws (a, m, e, ka, (p, f, t, r, h, d)) = (p, f, t, r, λ s x mx ov. h s x (grammar.access a (modified_onto e mx) ka) ov, d)
 means_class_ahead terminals.Static q vs ss i ws (a, m, e, ka, (p, f, t, r, h, d)) =
     (p, f, t, r, λ s x mx ov. h s (record x { is_static = true }) (grammar.static a (modified_onto e mx) ka) ov, d)
@@ -285,27 +285,27 @@ means_class_ahead _ q vs ss i ws d = absurd d
 another_of : (i m r : List Lexeme) (t u : Tree) → Declared i t m → Der grammar.Classes m u r → Der grammar.Classes i (trees.Cons t u) r
 another_of i m r t u (f, j, x, ov, dc) y = grammar.another x ov dc y
 
-pub means_classes : (k : Terminal) (q : Tag) (vs : List Item) → Holds goals.Classes k q vs
+pub means_classes : (k : Terminal) (q : Tag) (vs : List StackItem) → Holds goals.Classes k q vs
 means_classes terminals.End q vs ss i ws d = (nowhere, forms.Other, trees.Nil, i, grammar.no_class, d)
 means_classes terminals.Semicolon q vs ss i ws (a, m, e, ka, (p, f, t, r, x, d)) = (p, f, t, r, from e (grammar.skip_class a ka x), d)
 means_classes k q vs ss i ws d = (d.0, forms.Other, trees.Cons d.2 d.5.2, d.5.3, another_of i d.3 d.5.3 d.2 d.5.2 (d.4 i no_modifiers grammar.nothing refl) d.5.4, d.5.5)
 
 -- what stands before the classes
-pub means_dotted : (k : Terminal) (q : Tag) (vs : List Item) → Holds goals.Dotted k q vs
+pub means_dotted : (k : Terminal) (q : Tag) (vs : List StackItem) → Holds goals.Dotted k q vs
 means_dotted terminals.Dot q vs ss i ws (a, m, e, ka, (b, l, e2, kb, (r, x, d))) = (r, subst (λ j. grammar.Dotted j r) (sym (both e e2)) (grammar.dot a b ka kb x), d)
 means_dotted k q vs ss i ws d = (i, grammar.no_more, d)
 
-pub means_imported : (k : Terminal) (q : Tag) (vs : List Item) → Holds goals.Imported k q vs
+pub means_imported : (k : Terminal) (q : Tag) (vs : List StackItem) → Holds goals.Imported k q vs
 means_imported terminals.Identifier q vs ss i ws (a, m, e, ka, d) = (a, m, e, grammar.name ka, d)
 means_imported terminals.Star q vs ss i ws (a, m, e, ka, d) = (a, m, e, grammar.all ka, d)
 means_imported _ q vs ss i ws d = absurd d
 
-pub means_imports : (k : Terminal) (q : Tag) (vs : List Item) → Holds goals.Imports k q vs
+pub means_imports : (k : Terminal) (q : Tag) (vs : List StackItem) → Holds goals.Imports k q vs
 means_imports terminals.Import q vs ss i ws (a, m, e, ka, (b, l, e2, kb, tb, (c, l1, e3, kc, (g, l2, e4, kg, tg, (h, l3, e5, kh, (n, l4, e6, kn, (s, l5, e7, ks, (p, f, t, r, x, d)))))))) =
     (p, f, t, r, (x.0, subst (λ j. grammar.Imports j x.0) (sym (four e e2 e3 e4 ∙ ap (λ y. a ∷ b ∷ c ∷ g ∷ y) (three e5 e6 e7))) (grammar.import a b c g h n s ka kb tb kc kg tg kh kn ks x.1), x.2), d)
 means_imports k q vs ss i ws d = (d.0, d.1, d.2, d.3, (i, grammar.no_import, d.4), d.5)
 
-pub means_file : (k : Terminal) (q : Tag) (vs : List Item) → Holds goals.File k q vs
+pub means_file : (k : Terminal) (q : Tag) (vs : List StackItem) → Holds goals.File k q vs
 means_file terminals.Package q vs ss i ws (a, m, e, ka, (b, l, e2, kb, (l1, x, (c, l2, e3, kc, (p, f, t, r, h, d))))) =
     (p, f, t, r, (h.0, subst (λ j. Heading j h.0) (sym (both e e2)) (grammar.packaged a b c ka kb (subst (λ j. grammar.Dotted l j) e3 x) kc h.1), h.2), d)
 means_file k q vs ss i ws d = (d.0, d.1, d.2, d.3, (d.4.0, grammar.unpackaged d.4.1, d.4.2), d.5)

@@ -17,7 +17,7 @@ use Rattle.kr_parse_grammar.specs.declared.goal.Goal.TheVariants as goals
 use Rattle.kr_parse_grammar.specs.declared.goal.Make.TheVariants as makes
 use Rattle.kr_parse_grammar.specs.declared.goal.Symbol.{Symbol}
 use Rattle.kr_parse_grammar.specs.declared.goal.Symbol.TheVariants.{Take, Word, Want, Build}
-use Rattle.kr_parse_grammar.specs.Values.{Item, mark, word, pair, part, tag}
+use Rattle.kr_parse_grammar.specs.Values.{StackItem, mark, word, pair, part, tag}
 use Rattle.kr_parse_grammar.specs.Made.{nowhere, assigned, jump, the_step_before, the_step_behind}
 use Rattle.kr_parse_grammar.specs.Machine.{ahead, rule}
 use Rattle.kr_parse_grammar.specs.Grammar as grammar
@@ -39,17 +39,17 @@ initialised_of p n j i m r t a (b, g, kb, z, y) e ka x = rw (z, y) (from (both g
 declarator_of : (p : Place) (n : List ℕ) (j i : List Lexeme) → Named (word p n) j i → Der grammar.Declarator j (trees.Declarator p n trees.Nil) i
 declarator_of p n j i (b, g, kb, z, y) = rw (z, y) (from g (grammar.declarator b kb))
 
-pub means_initialiser : (k : Terminal) (q : Tag) (vs : List Item) → Holds goals.Initialiser k q vs
+pub means_initialiser : (k : Terminal) (q : Tag) (vs : List StackItem) → Holds goals.Initialiser k q vs
 means_initialiser terminals.Equal q vs ss i ws (a, m, e, ka, (p, f, t, r, (z, x), d)) = (p, f, t, r, λ w n j o. initialised_of w n j i m r t a o e ka x, d)
 means_initialiser k q vs ss i ws d = (nowhere, forms.Other, trees.Nil, i, λ w n j o. declarator_of w n j i o, d)
 
-pub means_more_declarators : (k : Terminal) (q : Tag) (vs : List Item) → Holds goals.MoreDeclarators k q vs
+pub means_more_declarators : (k : Terminal) (q : Tag) (vs : List StackItem) → Holds goals.MoreDeclarators k q vs
 means_more_declarators terminals.Comma q (part p f t ∷ vs) ss i ws (a, m, e, ka, (b, l, e2, kb, (p1, f1, u, s, h, (p2, f2, v, r, h2, d)))) =
     (p, forms.Other, trees.Cons t v, r, λ j x. grammar.comma a (onto e x) ka (h2 m (h b.place b.text m (b, e2, kb, refl, refl))), d)
 means_more_declarators k q (part p f t ∷ vs) ss i ws d = (p, forms.Other, trees.Cons t trees.Nil, i, λ j x. grammar.last x, d)
 means_more_declarators k q _ ss i ws d = tt
 
-pub means_after_local_name : (k : Terminal) (q : Tag) (vs : List Item) → Holds goals.AfterLocalName k q vs
+pub means_after_local_name : (k : Terminal) (q : Tag) (vs : List StackItem) → Holds goals.AfterLocalName k q vs
 means_after_local_name k q (word p n ∷ part w f t ∷ vs) ss i ws (p1, f1, u, s, h, (p2, f2, v, r, h2, d)) = (v, r, λ j o. h2 j (h p n j o), d)
 means_after_local_name k q _ ss i ws d = tt
 
@@ -64,14 +64,14 @@ final_of p j i m r t u a e ka v d x = rw v (from e (grammar.final_local a ka d x
 pub evaluated_of : (p : Place) (j r : List Lexeme) (t : Tree) → p ≡ at j → Der grammar.StatementExpression j t r → Der grammar.Evaluated j (trees.ExpressionStatement p t) r
 evaluated_of p j r t v d = rw v (grammar.evaluated d)
 
-evaluates : (R : List Lexeme → Type 0) (f : Form) (w : Place) (t : Tree) (vs : List Item) (ss : List Symbol) (i : List Lexeme) (ws : List Item)
+evaluates : (R : List Lexeme → Type 0) (f : Form) (w : Place) (t : Tree) (vs : List StackItem) (ss : List Symbol) (i : List Lexeme) (ws : List StackItem)
     → ((j : List Lexeme) → R j → (w ≡ at j) × Der (grammar.Primary f) j t i)
     → Den (Want goals.Suffixes ∷ Want goals.AfterStatementPrimary ∷ Build makes.ExpressionStatement ∷ ss) (part w f t ∷ vs) i ws
     → Gives (λ q g u r. (j : List Lexeme) → R j → ItemOf g j u r) vs (Goes ss ws)
 evaluates R f w t vs ss i ws reads (p1, g, u, l, (z, h), (p2, g2, v, r, (z2, h2), d)) =
     (p2, forms.Other, trees.ExpressionStatement p2 v, r, λ j s. (let y = reads j s in evaluated_of p2 j r v (z2 ∙ (z ∙ y.0)) (h2 j (z ∙ y.0) (h j y.0 y.1))), d)
 
-pub means_item : (k : Terminal) (q : Tag) (vs : List Item) → Holds goals.Item k q vs
+pub means_item : (k : Terminal) (q : Tag) (vs : List StackItem) → Holds goals.Item k q vs
 means_item terminals.Final q vs ss i ws (a, m, e, ka, (p, f, t, l, (z, x), (b, s, e2, kb, (u, r, h, d)))) =
     (p, forms.Local, trees.Local p t u, r, final_of p i m l r t u a e ka z x (h l (b, e2, kb, refl, refl)), d)
 means_item terminals.Primitive q vs ss i ws (p, f, t, l, (z, x), (b, s, e2, kb, (u, r, h, d))) =
@@ -80,7 +80,7 @@ means_item terminals.Identifier q vs ss i ws (a, m, e, ka, (p, f, t, r, h, d)) =
 means_item k q vs ss i ws d = (d.0, forms.Other, trees.ExpressionStatement d.0 d.2, d.3, evaluated_of d.0 i d.3 d.2 d.4.0 d.4.1, d.5)
 
 -- what a name at the head of an item goes on with
-item_local : (v : Item) (vs : List Item) (ss : List Symbol) (ws : List Item) (i m : List Lexeme) (a : Lexeme) → i ≡ a ∷ m → a.kind ≡ kinds.Identifier
+item_local : (v : StackItem) (vs : List StackItem) (ss : List Symbol) (ws : List StackItem) (i m : List Lexeme) (a : Lexeme) → i ≡ a ∷ m → a.kind ≡ kinds.Identifier
     → Den (Want goals.AfterLocalName ∷ ss) (word a.place a.text ∷ part (place_of v) forms.Type (class_of v) ∷ vs) m ws
     → Gives (λ q f t r. (j : List Lexeme) → Named v j i → ItemOf f j t r) vs (Goes ss ws)
 item_local v vs ss ws i m a y ka (u, r, h, d) = (
@@ -92,7 +92,7 @@ item_local v vs ss ws i m a y ka (u, r, h, d) = (
   d,
 )
 
-item_generic : (v : Item) (vs : List Item) (ss : List Symbol) (ws : List Item) (i m l r : List Lexeme) (t : Tree) (b c : Lexeme) → i ≡ b ∷ m → b.kind ≡ kinds.Less
+item_generic : (v : StackItem) (vs : List StackItem) (ss : List Symbol) (ws : List StackItem) (i m l r : List Lexeme) (t : Tree) (b c : Lexeme) → i ≡ b ∷ m → b.kind ≡ kinds.Less
     → Der AnyType m t l → l ≡ c ∷ r → c.kind ≡ kinds.Greater
     → Den (Want goals.Dimensions ∷ Word ∷ Want goals.AfterLocalName ∷ ss) (part (place_of v) forms.Type (trees.GenericType (place_of v) (class_of v) t) ∷ vs) r ws
     → Gives (λ q f t r. (j : List Lexeme) → Named v j i → ItemOf f j t r) vs (Goes ss ws)
@@ -103,17 +103,17 @@ item_generic v vs ss ws i m l r t b c y kb x y2 kc (p2, g, u, l2, (z, h), (a, m2
         let o = named_at v j i s in
         local_of p2 j l2 r2 u w (z ∙ o) (h.0 j o (grammar.reference_type (generic_of (place_of v) j i m l r (class_of v) t b c o (named_class v j i s) y kb x y2 kc))) (h2 l2 (a, y3, ka, refl, refl))
 
-item_call : (v : Item) (vs : List Item) (ss : List Symbol) (ws : List Item) (i r : List Lexeme) (u : Tree) → Enclosed i u r
+item_call : (v : StackItem) (vs : List StackItem) (ss : List Symbol) (ws : List StackItem) (i r : List Lexeme) (u : Tree) → Enclosed i u r
     → Den (Want goals.Suffixes ∷ Want goals.AfterStatementPrimary ∷ Build makes.ExpressionStatement ∷ ss) (part (place_of v) forms.Invocation (call_of v u) ∷ vs) r ws
     → Gives (λ q f t r. (j : List Lexeme) → Named v j i → ItemOf f j t r) vs (Goes ss ws)
 item_call v vs ss ws i r u e d = evaluates (λ j. Named v j i) forms.Invocation (place_of v) (call_of v u) vs ss r ws (λ j s. (named_at v j i s, named_call v j i r u s e)) d
 
-item_operand : (v : Item) (vs : List Item) (ss : List Symbol) (ws : List Item) (i : List Lexeme)
+item_operand : (v : StackItem) (vs : List StackItem) (ss : List Symbol) (ws : List StackItem) (i : List Lexeme)
     → Den (Want goals.Suffixes ∷ Want goals.AfterStatementPrimary ∷ Build makes.ExpressionStatement ∷ ss) (part (place_of v) forms.Target (operand_of v) ∷ vs) i ws
     → Gives (λ q f t r. (j : List Lexeme) → Named v j i → ItemOf f j t r) vs (Goes ss ws)
 item_operand v vs ss ws i d = evaluates (λ j. Named v j i) forms.Target (place_of v) (operand_of v) vs ss i ws (λ j s. (named_at v j i s, named_operand v j i s)) d
 
-pub means_item_name : (k : Terminal) (q : Tag) (vs : List Item) → tag vs ≡ q → Holds goals.ItemName k q vs
+pub means_item_name : (k : Terminal) (q : Tag) (vs : List StackItem) → tag vs ≡ q → Holds goals.ItemName k q vs
 means_item_name terminals.Identifier q (word w n ∷ vs) e ss i ws (a, m, y, ka, d) = item_local (word w n) vs ss ws i m a y ka d
 means_item_name terminals.Identifier q (pair w o n ∷ vs) e ss i ws (a, m, y, ka, d) = item_local (pair w o n) vs ss ws i m a y ka d
 means_item_name terminals.Less q (word w n ∷ vs) e ss i ws (b, m, y, kb, (p1, f1, t, l, (z1, x1), (c, r, y2, kc, d))) =
@@ -135,7 +135,7 @@ means_item_name k q (word w n ∷ vs) e ss i ws d = item_operand (word w n) vs s
 means_item_name k q (pair w o n ∷ vs) e ss i ws d = item_operand (pair w o n) vs ss ws i d
 means_item_name k q _ e ss i ws d = tt
 
-item_array : (v : Item) (vs : List Item) (ss : List Symbol) (ws : List Item) (i m : List Lexeme) (b : Lexeme) → i ≡ b ∷ m → b.kind ≡ kinds.RightBracket
+item_array : (v : StackItem) (vs : List StackItem) (ss : List Symbol) (ws : List StackItem) (i m : List Lexeme) (b : Lexeme) → i ≡ b ∷ m → b.kind ≡ kinds.RightBracket
     → Den (Want goals.Dimensions ∷ Word ∷ Want goals.AfterLocalName ∷ ss) (part (place_of v) forms.Type (trees.ArrayType (place_of v) (class_of v)) ∷ vs) m ws
     → Gives (λ q f t r. (j : List Lexeme) → NamedBefore kinds.LeftBracket v j i → ItemOf f j t r) vs (Goes ss ws)
 item_array v vs ss ws i m b y kb (p1, g, u, l, (z, h), (a, r, y2, ka, (w, r2, h2, d))) = (p1, forms.Local, trees.Local p1 u w, r2, λ j s. goes j s, d)
@@ -145,20 +145,20 @@ item_array v vs ss ws i m b y kb (p1, g, u, l, (z, h), (a, r, y2, ka, (w, r2, h2
         let o = named_at v j (s.0 ∷ i) s.1 in
         local_of p1 j l r2 u w (z ∙ o) (h.0 j o (grammar.reference_type (named_array v j i m b s y kb))) (h2 l (a, y2, ka, refl, refl))
 
-item_element : (v : Item) (vs : List Item) (ss : List Symbol) (ws : List Item) (i : List Lexeme)
+item_element : (v : StackItem) (vs : List StackItem) (ss : List Symbol) (ws : List StackItem) (i : List Lexeme)
     → Den (Want goals.Expression ∷ Take terminals.RightBracket ∷ Build makes.ArrayAccess ∷ Want goals.Suffixes ∷ Want goals.AfterStatementPrimary ∷ Build makes.ExpressionStatement ∷ ss) (part (place_of v) forms.Target (operand_of v) ∷ vs) i ws
     → Gives (λ q f t r. (j : List Lexeme) → NamedBefore kinds.LeftBracket v j i → ItemOf f j t r) vs (Goes ss ws)
 item_element v vs ss ws i (p1, f1, u, l, (z1, x1), (b, s, y, kb, d)) =
     evaluates (λ j. NamedBefore kinds.LeftBracket v j i) forms.Target (place_of v) (trees.ArrayAccess (place_of v) (operand_of v) u) vs ss s ws (λ j o. (named_at v j (o.0 ∷ i) o.1, element v j i l s u b o x1 y kb)) d
 
-pub means_item_bracket : (k : Terminal) (q : Tag) (vs : List Item) → Holds goals.ItemBracket k q vs
+pub means_item_bracket : (k : Terminal) (q : Tag) (vs : List StackItem) → Holds goals.ItemBracket k q vs
 means_item_bracket terminals.RightBracket q (word w n ∷ vs) ss i ws (b, m, y, kb, d) = item_array (word w n) vs ss ws i m b y kb d
 means_item_bracket terminals.RightBracket q (pair w o n ∷ vs) ss i ws (b, m, y, kb, d) = item_array (pair w o n) vs ss ws i m b y kb d
 means_item_bracket k q (word w n ∷ vs) ss i ws d = item_element (word w n) vs ss ws i d
 means_item_bracket k q (pair w o n ∷ vs) ss i ws d = item_element (pair w o n) vs ss ws i d
 means_item_bracket k q _ ss i ws d = tt
 
-pub means_statement_expression : (k : Terminal) (q : Tag) (vs : List Item) → Holds goals.StatementExpression k q vs
+pub means_statement_expression : (k : Terminal) (q : Tag) (vs : List StackItem) → Holds goals.StatementExpression k q vs
 means_statement_expression terminals.Step q vs ss i ws (a, m, e, ka, (p, f, t, r, (z, x), d)) =
     (a.place, forms.Other, trees.Step a.place (the_step_before a.kind) t, r, (begins e, from e (grammar.steps a ka.0 x.0)), d)
 means_statement_expression k q vs ss i ws d = (d.5.0, d.5.1, d.5.2, d.5.3, (d.5.4.0 ∙ d.4.0, d.5.4.1 i d.4.0 d.4.1), d.5.5)
@@ -167,7 +167,7 @@ is_stepped_of : (f : Form) (p : Place) (j i r : List Lexeme) (t : Tree) (a : Lex
     → Der grammar.StatementExpression j (trees.Step p (the_step_behind a.kind) t) r
 is_stepped_of f p j i r t a v d e ka = rw v (grammar.is_stepped a (onto e d) ka.1)
 
-pub means_after_statement_primary : (k : Terminal) (q : Tag) (vs : List Item) → tag vs ≡ q → Holds goals.AfterStatementPrimary k q vs
+pub means_after_statement_primary : (k : Terminal) (q : Tag) (vs : List StackItem) → tag vs ≡ q → Holds goals.AfterStatementPrimary k q vs
 means_after_statement_primary terminals.Step q (part p f t ∷ vs) e ss i ws (a, r, y, ka, d) =
     (p, forms.Other, trees.Step p (the_step_behind a.kind) t, r, (refl, λ j v x. is_stepped_of f p j i r t a v x y ka), d)
 means_after_statement_primary terminals.Equal tags.Target (part p f t ∷ vs) e ss i ws (a, m, y, ka, (p1, g, u, r, (z, x), d)) =
@@ -186,13 +186,13 @@ item_statement : (f : Form) (i m r : List Lexeme) (t : Tree) (a : Lexeme) → It
 item_statement forms.Local i m r t a x e ka = grammar.local_statement a (onto e x) ka
 item_statement _ i m r t a x e ka = grammar.statement (grammar.evaluate a (onto e x) ka)
 
-pub means_block_statement : (k : Terminal) (q : Tag) (vs : List Item) → Holds goals.BlockStatement k q vs
+pub means_block_statement : (k : Terminal) (q : Tag) (vs : List StackItem) → Holds goals.BlockStatement k q vs
 means_block_statement terminals.Final q vs ss i ws (p, f, t, m, x, (a, r, e, ka, d)) = (p, f, t, r, item_statement f i m r t a x e ka, d)
 means_block_statement terminals.Primitive q vs ss i ws (p, f, t, m, x, (a, r, e, ka, d)) = (p, f, t, r, item_statement f i m r t a x e ka, d)
 means_block_statement terminals.Identifier q vs ss i ws (p, f, t, m, x, (a, r, e, ka, d)) = (p, f, t, r, item_statement f i m r t a x e ka, d)
 means_block_statement k q vs ss i ws d = (d.0, d.1, d.2, d.3, grammar.statement d.4.0, d.5)
 
-pub means_statements : (k : Terminal) (q : Tag) (vs : List Item) → Holds goals.Statements k q vs
+pub means_statements : (k : Terminal) (q : Tag) (vs : List StackItem) → Holds goals.Statements k q vs
 means_statements terminals.RightBrace q vs ss i ws d = (nowhere, forms.Other, trees.Nil, i, grammar.end, d)
 means_statements k q vs ss i ws (p, f, t, m, x, (p1, f1, u, r, y, d)) = (p, forms.Other, trees.Cons t u, r, grammar.next x y, d)
 
@@ -203,7 +203,7 @@ continue_of : (x : Kind) (p : Place) (i r : List Lexeme) → x ≡ kinds.Continu
     → Der grammar.Statement i (jump x p) r × Apart (jump x p) r
 continue_of x p i r e d = subst (λ k. Der grammar.Statement i (jump k p) r × Apart (jump k p) r) (sym e) (d, λ h. absurd h)
 
-pub means_statement : (k : Terminal) (q : Tag) (vs : List Item) → Holds goals.Statement k q vs
+pub means_statement : (k : Terminal) (q : Tag) (vs : List StackItem) → Holds goals.Statement k q vs
 means_statement terminals.LeftBrace q vs ss i ws (a, m, e, ka, (p, f, t, l, x, (b, r, y, kb, d))) =
     (a.place, forms.Other, trees.Block a.place t, r, (from e (grammar.block a b ka (onto y x) kb), λ h. absurd h), d)
 means_statement terminals.Semicolon q vs ss i ws (a, r, e, ka, d) = (a.place, forms.Other, trees.Empty a.place, r, (from e (grammar.empty a ka), λ h. absurd h), d)
@@ -224,7 +224,7 @@ means_statement terminals.For q vs ss i ws (a, m, e, ka, (b, l, y, kb, (p1, f1, 
 means_statement k q vs ss i ws d =
     (d.0, forms.Other, trees.ExpressionStatement d.0 d.2, d.5.1, (grammar.evaluate d.5.0 (onto d.5.2 (evaluated_of d.0 i d.3 d.2 d.4.0 d.4.1)) d.5.3, λ h. absurd h), d.5.4)
 
-pub means_optional_expression : (k : Terminal) (q : Tag) (vs : List Item) → Holds goals.OptionalExpression k q vs
+pub means_optional_expression : (k : Terminal) (q : Tag) (vs : List StackItem) → Holds goals.OptionalExpression k q vs
 means_optional_expression terminals.Semicolon q vs ss i ws d = (nowhere, forms.Other, trees.Nil, i, grammar.absent, d)
 means_optional_expression k q vs ss i ws (p, f, t, r, (z, x), d) = (p, f, t, r, grammar.present x, d)
 
@@ -238,7 +238,7 @@ if_then_of : (p : Place) (h j m i : List Lexeme) (c s : Tree) (l d : Lexeme) →
     → d.kind ≡ kinds.RightParenthesis → Der grammar.Statement m s i → Der grammar.Statement h (IfThen p c s) i
 if_then_of p h j m i c s l d (a, g, ka, z) kl dc kd ds = rw z (from g (grammar.if_then a l d ka kl dc kd ds))
 
-pub means_else_part : (k : Terminal) (q : Tag) (vs : List Item) (ss : List Symbol) (i : List Lexeme) (ws : List Item) → ahead i ≡ k → DenOf (rule goals.ElsePart k q) ss vs i ws
+pub means_else_part : (k : Terminal) (q : Tag) (vs : List StackItem) (ss : List Symbol) (i : List Lexeme) (ws : List StackItem) → ahead i ≡ k → DenOf (rule goals.ElsePart k q) ss vs i ws
     → Den (Want goals.ElsePart ∷ ss) vs i ws
 means_else_part terminals.Else q (part b1 g1 s ∷ part a1 h1 c ∷ mark x p ∷ vs) ss i ws e (e1, m, y, ke, (p1, f1, u, r, (dx, far), d)) =
     (p, forms.Other, IfElse p c s u, r, (λ h j n l g o kl dc kg ds apart. if_else_of p h j n i m r c s u l g e1 o kl dc kg ds y ke (λ z. apart z e) dx, far), d)
@@ -259,22 +259,22 @@ last_of : (f : Form) (j i : List Lexeme) (t : Tree) → Initials f j t i (trees.
 last_of forms.Local j i t = λ x. grammar.for_local x
 last_of _ j i t = λ x. grammar.last x
 
-pub means_for_initial : (k : Terminal) (q : Tag) (vs : List Item) → Holds goals.ForInitial k q vs
+pub means_for_initial : (k : Terminal) (q : Tag) (vs : List StackItem) → Holds goals.ForInitial k q vs
 means_for_initial terminals.Semicolon q vs ss i ws d = (nowhere, forms.Other, trees.Nil, i, grammar.absent, d)
 means_for_initial k q vs ss i ws (p, f, t, m, x, (p1, g, u, r, h, d)) = (p1, g, u, r, grammar.present (initial_of f i m r t u (h i) x), d)
 
-pub means_more_initial : (k : Terminal) (q : Tag) (vs : List Item) → tag vs ≡ q → Holds goals.MoreInitial k q vs
+pub means_more_initial : (k : Terminal) (q : Tag) (vs : List StackItem) → tag vs ≡ q → Holds goals.MoreInitial k q vs
 means_more_initial terminals.Comma tags.Local (part p f t ∷ vs) e ss i ws d = absurd d
 means_more_initial terminals.Comma q (part p f t ∷ vs) e ss i ws (a, m, y, ka, (p1, f1, u, l, (z, x), (p2, f2, v, r, h, d))) =
     (p, forms.Other, trees.Cons t v, r, λ j. more_of f j i r t (trees.Cons t v) (λ so. let bad : tags.Local ≡ q = sym (local_tag p f t vs so) ∙ e in cc) (λ s. grammar.comma a (onto y s) ka (h m (evaluated_of p1 m l u z x))), d)
 means_more_initial k q (part p f t ∷ vs) e ss i ws d = (p, forms.Other, trees.Cons t trees.Nil, i, λ j. last_of f j i t, d)
 means_more_initial k q _ e ss i ws d = tt
 
-pub means_for_updates : (k : Terminal) (q : Tag) (vs : List Item) → Holds goals.ForUpdates k q vs
+pub means_for_updates : (k : Terminal) (q : Tag) (vs : List StackItem) → Holds goals.ForUpdates k q vs
 means_for_updates terminals.RightParenthesis q vs ss i ws d = (nowhere, forms.Other, trees.Nil, i, grammar.absent, d)
 means_for_updates k q vs ss i ws (p, f, t, m, (z, x), (p1, g, u, r, h, d)) = (p1, g, u, r, grammar.present (h i x), d)
 
-pub means_more_updates : (k : Terminal) (q : Tag) (vs : List Item) → Holds goals.MoreUpdates k q vs
+pub means_more_updates : (k : Terminal) (q : Tag) (vs : List StackItem) → Holds goals.MoreUpdates k q vs
 means_more_updates terminals.Comma q (part p f t ∷ vs) ss i ws (a, m, e, ka, (p1, g, u, l, (z, x), (p2, g2, v, r, h, d))) =
     (p, forms.Other, trees.Cons t v, r, λ j s. grammar.comma a (onto e s) ka (h m x), d)
 means_more_updates k q (part p f t ∷ vs) ss i ws d = (p, forms.Other, trees.Cons t trees.Nil, i, λ j s. grammar.last s, d)

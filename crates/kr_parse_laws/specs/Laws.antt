@@ -9,7 +9,7 @@ use Rattle.kr_parse_grammar.specs.declared.value.Form.{Form}
 use Rattle.kr_parse_grammar.specs.declared.goal.Goal.{Goal}
 use Rattle.kr_parse_grammar.specs.declared.goal.Symbol.{Symbol}
 use Rattle.kr_parse_grammar.specs.declared.goal.Symbol.TheVariants.{Want}
-use Rattle.kr_parse_grammar.specs.Values.{Item, part}
+use Rattle.kr_parse_grammar.specs.Values.{StackItem, part}
 use Rattle.kr_parse_grammar.specs.Grammar.{Derives}
 use Rattle.kr_parse_grammar.specs.Machine.{Runs, rule, start}
 use Rattle.kr_parse_grammar.specs.State.{Good, load}
@@ -24,7 +24,7 @@ SmallTrees = (i : List Lexeme) (t : Tree) → Derives i t → size t ≤ 3 * len
 
 -- what the machine takes from the start is derived
 abbrev pub Soundness : Type 0
-Soundness = (i : List Lexeme) (ws : List Item) → Runs start [] i ws → (p : Place) × (f : Form) × (t : Tree) × (ws ≡ part p f t ∷ []) × Derives i t
+Soundness = (i : List Lexeme) (ws : List StackItem) → Runs start [] i ws → (p : Place) × (f : Form) × (t : Tree) × (ws ≡ part p f t ∷ []) × Derives i t
 
 -- what is derived the machine takes from the start
 abbrev pub Completeness : Type 0
@@ -32,7 +32,7 @@ Completeness = (i : List Lexeme) (t : Tree) → Derives i t → (p : Place) × (
 
 -- good symbols can be taken, whatever the values are
 abbrev pub Productivity : Type 0
-Productivity = (ss : List Symbol) (vs : List Item) → Good ss → (i : List Lexeme) × (ws : List Item) × Runs ss vs i ws
+Productivity = (ss : List Symbol) (vs : List StackItem) → Good ss → (i : List Lexeme) × (ws : List StackItem) × Runs ss vs i ws
 
 -- what stands for a goal is good where the goal was
 abbrev pub Preservation : Type 0

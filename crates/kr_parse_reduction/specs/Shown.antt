@@ -4,14 +4,14 @@ use Rattle.kr_ast.specs.declared.node.Name.{Name}
 use Rattle.kr_ast.specs.Tree.{size}
 use Rattle.kr_ast.specs.Arena.{Arena, name_in, tree_at, tree_of, parts, names, AreNamesIn}
 use Rattle.kr_ast.specs.Forest.{AreRoots, IsIn}
-use Rattle.kr_parse_grammar.specs.Values.{Item, mark, word, pair, part, member, owner}
+use Rattle.kr_parse_grammar.specs.Values.{StackItem, mark, word, pair, part, member, owner}
 use Rattle.kr_parse_reduction.specs.declared.value.Kept.{Kept}
 use Rattle.kr_parse_reduction.specs.declared.value.Kept.TheVariants.{Mark, Word, Pair, Part, Member, Owner}
 use Rattle.kr_parse_reduction.specs.declared.plan.Plan.{Plan}
 use Rattle.kr_parse_reduction.specs.declared.moves.Move.{Move}
 use Rattle.kr_parse_reduction.specs.Perm.{Perm}
 
-abbrev pub item : Arena → Kept → Item
+abbrev pub item : Arena → Kept → StackItem
 item a (Mark k p) = mark k p
 item a (Word p n) = word p (name_in a.text n)
 item a (Pair p o n) = pair p (name_in a.text o) (name_in a.text n)
@@ -20,7 +20,7 @@ item a (Member b m) = member b m
 item a (Owner b p n) = owner b p (name_in a.text n)
 
 -- the values
-abbrev pub shown : Arena → List Kept → List Item
+abbrev pub shown : Arena → List Kept → List StackItem
 shown a [] = []
 shown a (v ∷ vs) = item a v ∷ shown a vs
 
@@ -39,7 +39,7 @@ names_of (Owner b p n ∷ vs) = n ∷ names_of vs
 names_of (v ∷ vs) = names_of vs
 
 -- how many nodes the trees of the values have
-abbrev pub sizes : List Item → ℕ
+abbrev pub sizes : List StackItem → ℕ
 sizes [] = 0
 sizes (part p f t ∷ vs) = size t + sizes vs
 sizes (v ∷ vs) = sizes vs
@@ -65,7 +65,7 @@ pub record Fits (text : List ℕ) (vs : List Kept) (s : Plan) (o : Option Kept) 
 abbrev pub stacked : Plan → Option Kept → ℕ → List Kept → List Kept
 stacked s o i vs = listed o ++ Part s.place s.form i ∷ drop s.taken vs
 
-abbrev pub planned : Arena → List Kept → Plan → Option Kept → List Item
+abbrev pub planned : Arena → List Kept → Plan → Option Kept → List StackItem
 planned a vs s o = shown a (listed o) ++ part s.place s.form (tree_of a.text (tree_at a.text a.entries) s.place s.node) ∷ drop s.taken (shown a vs)
 
 abbrev pub moving : Move → List Kept

@@ -6,7 +6,7 @@ use crate::value::{Kept, ValueStack, no_modifiers};
 use kr_parse_grammar::{Form, Make, Modifiers};
 
 /// A value that takes the place of so many others, maybe with one of these below it.
-#[derive(Clone, Copy, Debug)]
+#[derive(Clone, Copy)]
 pub struct Move {
     pub taken: usize,
     pub top: Kept,

@@ -12,7 +12,7 @@ use kr_lex::Kind;
 use kr_parse_grammar::{Form, Make};
 
 /// A node that takes the place of so many values, with its place and the form that its tree has.
-#[derive(Clone, Copy, Debug)]
+#[derive(Clone, Copy)]
 pub struct Plan {
     pub taken: usize,
     pub place: Place,

@@ -12,7 +12,7 @@ use std::alloc::Global;
 use std::marker::Model;
 
 /// What waits to become part of a tree.
-#[derive(Clone, Copy, Debug)]
+#[derive(Clone, Copy)]
 pub enum Kept {
     /// a token of whose spelling nothing is needed
     Mark {
@@ -50,7 +50,7 @@ pub enum Kept {
 }
 
 /// Which values are asked for.
-#[derive(Clone, Copy, Debug)]
+#[derive(Clone, Copy)]
 pub enum Sort {
     Any,
     Mark,

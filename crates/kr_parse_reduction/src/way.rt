@@ -6,7 +6,7 @@ use crate::value::Sort;
 use kr_parse_grammar::Make;
 
 /// By what steps something is made.
-#[derive(Clone, Copy, Debug)]
+#[derive(Clone, Copy)]
 pub enum Way {
     /// a node above the values
     Node,

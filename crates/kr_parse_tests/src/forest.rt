@@ -57,6 +57,6 @@ fn shown(alloc: Global, tree: &Tree, name: Name) -> Result<String, AllocError>
 pub(crate) fn of_sum(alloc: Global) -> Result<String, AllocError> {
     match sum(alloc) {
         Ok((tree, name)) => shown(alloc, &tree, name),
-        Err(NoMemory) => String::from_str(alloc, "no memory"),
+        Err(_) => String::from_str(alloc, "no memory"),
     }
 }

@@ -1,6 +1,6 @@
 // What a node is called: its kind, with its operator, its value or its modifiers.
 
-use kr_ast::Node;
+use kr_ast::{BinaryOperator, Node, Primitive, StepOperator, UnaryOperator};
 use std::alloc::{AllocError, Global};
 
 /// The kind of a type or an expression.
@@ -76,16 +76,69 @@ fn kind_of_declaration(node: Node) -> &'static str {
     }
 }
 
+fn name_of_primitive(primitive: Primitive) -> &'static str {
+    match primitive {
+        Primitive::Int => "Int",
+        Primitive::Boolean => "Boolean",
+        Primitive::Void => "Void",
+    }
+}
+
+fn name_of_unary(operator: UnaryOperator) -> &'static str {
+    match operator {
+        UnaryOperator::Plus => "Plus",
+        UnaryOperator::Minus => "Minus",
+        UnaryOperator::Complement => "Complement",
+        UnaryOperator::Not => "Not",
+    }
+}
+
+fn name_of_step(operator: StepOperator) -> &'static str {
+    match operator {
+        StepOperator::IncrementBefore => "IncrementBefore",
+        StepOperator::DecrementBefore => "DecrementBefore",
+        StepOperator::IncrementBehind => "IncrementBehind",
+        StepOperator::DecrementBehind => "DecrementBehind",
+    }
+}
+
+fn name_of_binary(operator: BinaryOperator) -> &'static str {
+    match operator {
+        BinaryOperator::Multiply => "Multiply",
+        BinaryOperator::Divide => "Divide",
+        BinaryOperator::Remainder => "Remainder",
+        BinaryOperator::Add => "Add",
+        BinaryOperator::Subtract => "Subtract",
+        BinaryOperator::ShiftLeft => "ShiftLeft",
+        BinaryOperator::ShiftRight => "ShiftRight",
+        BinaryOperator::ShiftRightUnsigned => "ShiftRightUnsigned",
+        BinaryOperator::Less => "Less",
+        BinaryOperator::Greater => "Greater",
+        BinaryOperator::LessOrEqual => "LessOrEqual",
+        BinaryOperator::GreaterOrEqual => "GreaterOrEqual",
+        BinaryOperator::Equal => "Equal",
+        BinaryOperator::NotEqual => "NotEqual",
+        BinaryOperator::BitAnd => "BitAnd",
+        BinaryOperator::BitXor => "BitXor",
+        BinaryOperator::BitOr => "BitOr",
+        BinaryOperator::And => "And",
+        BinaryOperator::Or => "Or",
+    }
+}
+
 /// What a node is called.
 pub(crate) fn kind(alloc: Global, node: Node) -> Result<String, AllocError> {
     match node {
-        Node::PrimitiveType { primitive } => format!(in alloc; "{primitive:?}"),
+        Node::PrimitiveType { primitive } => String::from_str(alloc, name_of_primitive(primitive)),
         Node::Number { value } => format!(in alloc; "{value}"),
         Node::Truth { value } => format!(in alloc; "{value}"),
-        Node::Unary { operator, .. } => format!(in alloc; "{operator:?}"),
-        Node::Step { operator, .. } => format!(in alloc; "{operator:?}"),
-        Node::Binary { operator, .. } => format!(in alloc; "{operator:?}"),
-        Node::CompoundAssignment { operator, .. } => format!(in alloc; "{operator:?}="),
+        Node::Unary { operator, .. } => String::from_str(alloc, name_of_unary(operator)),
+        Node::Step { operator, .. } => String::from_str(alloc, name_of_step(operator)),
+        Node::Binary { operator, .. } => String::from_str(alloc, name_of_binary(operator)),
+        Node::CompoundAssignment { operator, .. } => {
+            let name = name_of_binary(operator);
+            format!(in alloc; "{name}=")
+        }
         _ => String::from_str(alloc, kind_of_expression(node)),
     }
 }

@@ -4,12 +4,13 @@ use kr_lex::{Kind, LexRefusal, Token, Tokens, lex, one_list_law, spelling, unbro
 use std::alloc::{AllocError, Global};
 use std::mem;
 
-/// The tokens of a source that isn't too long.
+/// How many bytes a source may have.
+const LONGEST: usize = (1 << 30) - 1;
+
+/// The tokens of a source, up to where it is too long.
 pub(crate) fn tokens_of(alloc: Global, source: &[u8]) -> Result<Tokens, LexRefusal> {
-    if source.len() >= 1 << 30 {
-        return Err(LexRefusal::NoMemory);
-    }
-    lex(alloc, 7, source)
+    let length = source.len().min(LONGEST);
+    lex(alloc, 7, &source[..length])
 }
 
 /// Appends the spellings of the tokens, parted by spaces.
@@ -38,7 +39,7 @@ pub(crate) fn refused(alloc: Global, refusal: LexRefusal) -> Result<String, Allo
             let code = rule.code();
             format!(in alloc; "{line}:{col}: {code}")
         }
-        LexRefusal::NoMemory => String::from_str(alloc, "no memory"),
+        LexRefusal::NoMemory(_) => String::from_str(alloc, "no memory"),
     }
 }
 

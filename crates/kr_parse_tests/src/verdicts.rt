@@ -23,7 +23,7 @@ pub(crate) fn verdict(alloc: Global, tokens: &Tokens, origin: u32) -> Result<Str
             let col = place.col.wrapping_sub(origin);
             format!(in alloc; "{code} {col}")
         }
-        Err(ParseRefusal::NoMemory) => String::from_str(alloc, "no memory"),
+        Err(ParseRefusal::NoMemory(_)) => String::from_str(alloc, "no memory"),
     }
 }
 
@@ -44,6 +44,6 @@ pub(crate) fn is_within(alloc: Global, tokens: &Tokens, length: usize) -> bool {
                 && place.col >= 1
                 && (place.col - 1) as usize <= length
         }
-        Err(ParseRefusal::NoMemory) => false,
+        Err(ParseRefusal::NoMemory(_)) => false,
     }
 }

@@ -13,7 +13,7 @@ use Rattle.kr_ast.specs.Tree as trees
 use Rattle.kr_ast.specs.Arena.{Arena, name_in, tree_of, tree_at, names, AreNamesIn}
 use Rattle.kr_parse_grammar.specs.declared.value.Form.{Form}
 use Rattle.kr_parse_grammar.specs.declared.value.Form.TheVariants as forms
-use Rattle.kr_parse_grammar.specs.Values.{Item, mark, part}
+use Rattle.kr_parse_grammar.specs.Values.{StackItem, mark, part}
 use Rattle.kr_parse_grammar.specs.Made.{compared, joined, nowhere}
 use Rattle.kr_lex.specs.declared.kind.Kind.TheVariants.{Semicolon}
 use Rattle.kr_parse_reduction.specs.declared.value.Kept.{Kept}
@@ -168,7 +168,7 @@ tree_same a b (v ∷ vs) (suc k) s e = let t : shown b vs ≡ shown a vs = cc in
 
 marked_same : (a b : Arena) (vs : List Kept) (k : ℕ) → shown b vs ≡ shown a vs → shown b (slice_set vs k (value_in None)) ≡ shown a (slice_set vs k (value_in None))
 marked_same a b [] k s = refl
-marked_same a b (v ∷ vs) zero s = let t : shown b vs ≡ shown a vs = cc in ap (λ (xs : List Item). mark Semicolon nowhere ∷ xs) t
+marked_same a b (v ∷ vs) zero s = let t : shown b vs ≡ shown a vs = cc in ap (λ (xs : List StackItem). mark Semicolon nowhere ∷ xs) t
 marked_same a b (v ∷ vs) (suc k) s =
     let t : shown b vs ≡ shown a vs = cc in
     let i : item b v ≡ item a v = cc in
@@ -254,7 +254,7 @@ pub lowest_plain : (a b : Arena) (vs ws : List Kept) (d i n : ℕ) → n ≡ suc
 lowest_plain a b vs ws d i n p = subst (λ (k : ℕ). PlainFolds a b vs ws d i k) (sym p) (lowest_plain_at a b vs ws d i)
 
 -- a name more
-folded_more : (a : Arena) (vs : List Kept) (j : ℕ) (r : Place) (f : Form) (x : Tree) (cs : List Item) → is_named vs j ≡ true → is_named vs (suc j) ≡ true → compared (shown a (drop (suc j) vs)) ≡ part r f x ∷ cs
+folded_more : (a : Arena) (vs : List Kept) (j : ℕ) (r : Place) (f : Form) (x : Tree) (cs : List StackItem) → is_named vs j ≡ true → is_named vs (suc j) ≡ true → compared (shown a (drop (suc j) vs)) ≡ part r f x ∷ cs
     → compared (shown a (drop j vs)) ≡ part r forms.Other (trees.Binary r binaries.Less x (operand a.text (value_at vs j))) ∷ cs
 folded_more a [] j r f x cs e g h = absurd (false≢true e)
 folded_more a (Word p n ∷ Word q m ∷ us) zero r f x cs e g h = ap (joined p (trees.Variable p (name_in a.text n)) (trees.NamedType p (name_in a.text n)) (shown a (Word q m ∷ us))) h
@@ -367,7 +367,7 @@ all_move a b vs ws bottom past n q h names =
         same = subst (λ (is : List ℕ). Perm (h.node ∷ is) (h.node ∷ [])) (sym bare) (perm_refl (h.node ∷ []));
         named = tt;
       },
-      ap (λ (xs : List Item). part h.place h.form (tree_at b.text b.entries h.node) ∷ xs) e ∙ sym h.folded,
+      ap (λ (xs : List StackItem). part h.place h.form (tree_at b.text b.entries h.node) ∷ xs) e ∙ sym h.folded,
     ))
 
 abbrev pub BelowMove : Arena → Arena → List Kept → List Kept → ℕ → Type 0
@@ -395,7 +395,7 @@ below_move_at a b (u ∷ vs) (v ∷ w) p f i (suc past) (suc bottom) l k e g s c
         same = subst (λ (is : List ℕ). Perm (i ∷ is) (nodes_of (v ∷ Part p f i ∷ []))) (sym m1) (subst (λ (is : List ℕ). Perm (i ∷ (nodes_of (v ∷ []) ++ [])) is) (sym m2) (perm_into i (nodes_of (v ∷ [])) []));
         named = subst (AreNamesIn b.text) (sym (names_append (v ∷ []) (Part p f i ∷ []))) (in_join b.text (names_of (v ∷ [])) [] (in_front b.text (names_of (v ∷ [])) (names_of w) n1) tt);
       },
-      ap (λ (xs : List Item). item b v ∷ part p f (tree_at b.text b.entries i) ∷ xs) d ∙ ap (λ (o : Item). o ∷ part p f (tree_at b.text b.entries i) ∷ shown a (drop past w)) (x ∙ y) ∙ ap (λ (xs : List Item). item a u ∷ xs) (sym c),
+      ap (λ (xs : List StackItem). item b v ∷ part p f (tree_at b.text b.entries i) ∷ xs) d ∙ ap (λ (o : StackItem). o ∷ part p f (tree_at b.text b.entries i) ∷ shown a (drop past w)) (x ∙ y) ∙ ap (λ (xs : List StackItem). item a u ∷ xs) (sym c),
     )
 
 pub below_move : (a b : Arena) (vs ws : List Kept) (bottom past n : ℕ) → n ≡ past + 1 → 1 < bottom → Folding a vs b ws 1 bottom past → AreNamed vs 1 bottom → BelowMove a b vs ws n
@@ -415,4 +415,4 @@ compared_none a (v ∷ vs) e = refl
 
 pub below_none : (a : Arena) (vs : List Kept) → is_named vs 1 ≡ false → take 1 (shown a vs) ++ compared (drop 1 (shown a vs)) ≡ shown a vs
 below_none a [] e = refl
-below_none a (v ∷ vs) e = ap (λ (xs : List Item). item a v ∷ xs) (compared_none a vs e)
+below_none a (v ∷ vs) e = ap (λ (xs : List StackItem). item a v ∷ xs) (compared_none a vs e)

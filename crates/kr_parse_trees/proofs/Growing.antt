@@ -12,7 +12,7 @@ use Rattle.kr_ast.specs.Grow.{grow}
 use Rattle.kr_ast.specs.Arena.{Arena, name_in, tree_of, trees, tree_at, entry_tree, parts, names, AreNamesIn, root}
 use Rattle.kr_ast.specs.Forest.{AreFree, AreRoots, IsIn, IsOneRoot}
 use Rattle.kr_parse_grammar.specs.declared.value.Form.{Form}
-use Rattle.kr_parse_grammar.specs.Values.{Item, mark, word, pair, part, member, owner}
+use Rattle.kr_parse_grammar.specs.Values.{StackItem, mark, word, pair, part, member, owner}
 use Rattle.kr_parse_reduction.specs.declared.value.Kept.{Kept}
 use Rattle.kr_parse_reduction.specs.declared.value.Kept.TheVariants.{Mark, Word, Pair, Part, Member, Owner}
 use Rattle.kr_parse_reduction.specs.declared.plan.Plan.{Plan}
@@ -43,7 +43,7 @@ names_append (Owner b p n ∷ vs) ws = ap (λ (ns : List Name). n ∷ ns) (names
 
 pub shown_append : (a : Arena) (vs ws : List Kept) → shown a (vs ++ ws) ≡ shown a vs ++ shown a ws
 shown_append a [] ws = refl
-shown_append a (v ∷ vs) ws = ap (λ (is : List Item). item a v ∷ is) (shown_append a vs ws)
+shown_append a (v ∷ vs) ws = ap (λ (is : List StackItem). item a v ∷ is) (shown_append a vs ws)
 
 pub shown_drop : (a : Arena) (n : ℕ) (vs : List Kept) → shown a (drop n vs) ≡ drop n (shown a vs)
 shown_drop a zero vs = refl
@@ -93,14 +93,14 @@ pub record Extends (a b : Arena) : Type 0 where
 
 pub shown_same : (a b : Arena) (vs : List Kept) → Extends a b → AreFree a.entries (nodes_of vs) → AreNamesIn a.text (names_of vs) → shown b vs ≡ shown a vs
 shown_same a b [] x f n = refl
-shown_same a b (Mark k p ∷ vs) x f n = ap (λ (is : List Item). mark k p ∷ is) (shown_same a b vs x f n)
+shown_same a b (Mark k p ∷ vs) x f n = ap (λ (is : List StackItem). mark k p ∷ is) (shown_same a b vs x f n)
 shown_same a b (Word p m ∷ vs) x f n = let e = x.text m n.0 n.1 in let g = shown_same a b vs x f n.2 in cc
 shown_same a b (Pair p o m ∷ vs) x f n =
     let d = x.text o n.0 n.1 in
     let e = x.text m n.2.0 n.2.1 in
     let g = shown_same a b vs x f n.2.2 in cc
 shown_same a b (Part p c i ∷ vs) x f n = let e = x.tree i f.0 in let g = shown_same a b vs x f.3 n in cc
-shown_same a b (Member c m ∷ vs) x f n = ap (λ (is : List Item). member c m ∷ is) (shown_same a b vs x f n)
+shown_same a b (Member c m ∷ vs) x f n = ap (λ (is : List StackItem). member c m ∷ is) (shown_same a b vs x f n)
 shown_same a b (Owner c p m ∷ vs) x f n = let e = x.text m n.0 n.1 in let g = shown_same a b vs x f n.2 in cc
 
 at_below : (ts : List Tree) (t : Tree) (i : ℕ) → i < length ts → get_or (ts ++ t ∷ []) i Nil ≡ get_or ts i Nil
@@ -123,7 +123,7 @@ last_tree a b t i e g =
     let l : i ≡ length (trees a.text a.entries) = e ∙ sym (length_trees a.text a.entries) in
     ap (λ (ts : List Tree). get_or ts i Nil) g ∙ at_end (trees a.text a.entries) t i l
 
-pub sizes_append : (xs ys : List Item) → sizes (xs ++ ys) ≡ sizes xs + sizes ys
+pub sizes_append : (xs ys : List StackItem) → sizes (xs ++ ys) ≡ sizes xs + sizes ys
 sizes_append [] ys = omega arith
 sizes_append (part p f t ∷ xs) ys = omega (arith, sizes_append xs ys)
 sizes_append (mark k p ∷ xs) ys = sizes_append xs ys
@@ -160,8 +160,8 @@ put_shown a b vs s o i h f at text more =
     let g = shown_same a b (drop s.taken vs) x (free_back a.entries (nodes_of (listed o)) (nodes_of (drop s.taken vs)) free) (left_named a.text s.taken vs h.named) ∙ shown_drop a s.taken vs in
     let l = last_tree a b t i at more in
     shown_append b (listed o) (Part s.place s.form i ∷ drop s.taken vs)
-    ∙ ap (λ (xs : List Item). xs ++ part s.place s.form (tree_at b.text b.entries i) ∷ shown b (drop s.taken vs)) e
-    ∙ ap (λ (xs : List Item). shown a (listed o) ++ part s.place s.form (tree_at b.text b.entries i) ∷ xs) g
+    ∙ ap (λ (xs : List StackItem). xs ++ part s.place s.form (tree_at b.text b.entries i) ∷ shown b (drop s.taken vs)) e
+    ∙ ap (λ (xs : List StackItem). shown a (listed o) ++ part s.place s.form (tree_at b.text b.entries i) ∷ xs) g
     ∙ ap (λ (u : Tree). shown a (listed o) ++ part s.place s.form u ∷ drop s.taken (shown a vs)) l
 
 put_count : (a : Arena) (vs : List Kept) (s : Plan) (o : Option Kept) → AreBuilt a vs → Fits a.text vs s o → length a.entries + 1 ≡ sizes (planned a vs s o)
@@ -267,10 +267,10 @@ one_last a q g r h =
     let e : length a.entries - 1 ≡ r = only_in (h.last (length a.entries - 1) (omega arith)) in
     omega arith
 
-no_part : (x : Item) (xs : List Item) → [] ≡ x ∷ xs → ⊥
+no_part : (x : StackItem) (xs : List StackItem) → [] ≡ x ∷ xs → ⊥
 no_part x xs e = cc
 
-no_more : (x y z : Item) (xs : List Item) → x ∷ y ∷ xs ≡ z ∷ [] → ⊥
+no_more : (x y z : StackItem) (xs : List StackItem) → x ∷ y ∷ xs ≡ z ∷ [] → ⊥
 no_more x y z xs e = cc
 
 pub one_root : (a : Arena) (vs : List Kept) (p : Place) (f : Form) (t : Tree) → AreBuilt a vs → shown a vs ≡ part p f t ∷ [] → IsOneRoot a.entries × (root a ≡ t) × (length a.entries ≡ size t)

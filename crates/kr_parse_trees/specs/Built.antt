@@ -6,7 +6,7 @@ use Rattle.kr_ast.specs.Tree.{Tree, Nil, size}
 use Rattle.kr_ast.specs.Arena.{Arena, tree_of, root}
 use Rattle.kr_parse_grammar.specs.declared.value.Form.{Form}
 use Rattle.kr_parse_grammar.specs.declared.value.Form.TheVariants.{Other}
-use Rattle.kr_parse_grammar.specs.Values.{Item, part}
+use Rattle.kr_parse_grammar.specs.Values.{StackItem, part}
 use Rattle.kr_parse_reduction.specs.Shown.{shown, AreBuilt}
 use Rattle.kr_parse_trees.specs.declared.builder.Builder.{Builder}
 
@@ -14,17 +14,17 @@ use Rattle.kr_parse_trees.specs.declared.builder.Builder.{Builder}
 abbrev pub IsBuilt : Builder → Type 0
 IsBuilt b = AreBuilt b.forest b.values
 
-abbrev pub values_of : Builder → List Item
+abbrev pub values_of : Builder → List StackItem
 values_of b = shown b.forest b.values
 
 -- the tree of a node without parts or names
-abbrev pub leaf : Place → Node → Item
+abbrev pub leaf : Place → Node → StackItem
 leaf p n = part p Other (tree_of [] (λ i. Nil) p n)
 
 -- one tree and nothing else
-abbrev pub IsOnePart : List Item → Type 0
+abbrev pub IsOnePart : List StackItem → Type 0
 IsOnePart is = (p : Place) × (f : Form) × (t : Tree) × (is ≡ part p f t ∷ [])
 
 -- the arena's root is that tree, and it has no other nodes
-abbrev pub IsTreeOf : List Item → Arena → Type 0
+abbrev pub IsTreeOf : List StackItem → Arena → Type 0
 IsTreeOf is a = (p : Place) (f : Form) (t : Tree) → is ≡ part p f t ∷ [] → (root a ≡ t) × (length a.entries ≡ size t)

@@ -8,7 +8,7 @@ use Rattle.kr_parse_grammar.specs.declared.value.Form.TheVariants.{Other}
 use Rattle.kr_ast.specs.declared.node.BinaryOperator.TheVariants.{Less}
 use Rattle.kr_parse_reduction.specs.Kept.{place_at, node_at, value_at, value_in, is_of}
 use Rattle.kr_parse_reduction.specs.declared.value.Sort.TheVariants as sort
-use Rattle.kr_parse_grammar.specs.Values.{Item, part}
+use Rattle.kr_parse_grammar.specs.Values.{StackItem, part}
 use Rattle.kr_parse_grammar.specs.Made.{compared}
 use Rattle.kr_parse_reduction.specs.declared.value.Kept.{Kept}
 use Rattle.kr_parse_reduction.specs.declared.value.Kept.TheVariants.{Word, Pair, Part}
@@ -41,11 +41,11 @@ abbrev pub without : List Kept → ℕ → List Kept
 without vs i = drop 1 (slice_set vs i (value_in None))
 
 -- the tree at a depth tested by the type on top
-abbrev pub test_of : Arena → List Kept → ℕ → Item
+abbrev pub test_of : Arena → List Kept → ℕ → StackItem
 test_of a vs i = part (place_at vs i) Other (InstanceOf (place_at vs i) (tree_at a.text a.entries (node_at vs i)) (tree_at a.text a.entries (node_at vs 0)))
 
 -- the tree on top compared with the name at a depth
-abbrev pub less_of : Arena → List Kept → ℕ → Item
+abbrev pub less_of : Arena → List Kept → ℕ → StackItem
 less_of a vs i = part (place_at vs 0) Other (Binary (place_at vs 0) Less (tree_at a.text a.entries (node_at vs 0)) (operand a.text (value_at vs i)))
 
 -- The values from depth j on, as comparisons, stand on top of the others, which are as they were but for those that are

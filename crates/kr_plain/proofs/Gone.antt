@@ -11,20 +11,19 @@ use Rattle.kr_mean.specs.Entries.{entry_of, insert, sorted, vectors}
 use Rattle.kr_laws_slots.proofs.CutOrder.{tested, connected, before_trans, before_not_self, is_before_yes, is_before_no}
 use Rattle.kr_laws_pruning.proofs.Listed.{vectors_have}
 use Rattle.kr_laws_slots.proofs.Membership.{Has}
-use Rattle.kr_step.specs.declared.runner.Ending.{Ending}
-use Rattle.kr_plain.specs.Plain.{IsKept, Tries, Follows, mark_by}
+use Rattle.kr_plain.specs.Plain.{IsKept, Tries, Follows}
 
 -- the entries of those that were tried and kept
-pub record Keeps (S : Space) (order : List ℕ → List ℕ) (ending : List ℕ → Ending) (a b : Bound) (gone : List ℕ → Type 0) (found : List (Entry (Unit {0}))) : Type 0 where
-  pub entries : List (Entry (Unit {0}))
+pub record Keeps {T : Type 0} (S : Space) (order : List ℕ → List ℕ) (mark : List ℕ → Mark T) (a b : Bound) (gone : List ℕ → Type 0) (found : List (Entry T)) : Type 0 where
+  pub entries : List (Entry T)
   pub in_order : found ≡ sorted entries
-  pub sound : (e : Entry (Unit {0})) → Has e entries → (v : List ℕ) × IsKept S order a b v × (entry_of order (mark_by ending) v ≡ e)
-  pub complete : (v : List ℕ) → gone v → IsKept S order a b v → Has (entry_of order (mark_by ending) v) entries
+  pub sound : (e : Entry T) → Has e entries → (v : List ℕ) × IsKept S order a b v × (entry_of order mark v ≡ e)
+  pub complete : (v : List ℕ) → gone v → IsKept S order a b v → Has (entry_of order mark v) entries
 
 -- all those before the one that stands were tried; or all were
-abbrev pub Trying : Space → (List ℕ → List ℕ) → (List ℕ → Ending) → Bound → Bound → Bool → List ℕ → List (Entry (Unit {0})) → Type 0
-Trying S order ending a b true v found = IsVector S v × Keeps S order ending a b (λ u. Before u v) found
-Trying S order ending a b false v found = Keeps S order ending a b (λ u. Unit {0}) found
+abbrev pub Trying : {T : Type 0} → Space → (List ℕ → List ℕ) → (List ℕ → Mark T) → Bound → Bound → Bool → List ℕ → List (Entry T) → Type 0
+Trying S order mark a b true v found = IsVector S v × Keeps S order mark a b (λ u. Before u v) found
+Trying S order mark a b false v found = Keeps S order mark a b (λ u. Unit {0}) found
 
 -- how many are still to be tried
 abbrev pub left_over : Space → Bool → List ℕ → ℕ
@@ -52,8 +51,8 @@ none_before (x ∷ u) zero e b = b
 none_before (x ∷ u) (suc n) e (inl h) = omega (arith, h)
 none_before (x ∷ u) (suc n) e (inr h) = none_before u n (omega (arith, e)) h.1
 
-pub starts : (S : Space) (order : List ℕ → List ℕ) (ending : List ℕ → Ending) (a b : Bound) (v : List ℕ) → IsSpace S → v ≡ zeros S.slots → Trying S order ending a b true v []
-starts S order ending a b v is e = (
+pub starts : {T : Type 0} (S : Space) (order : List ℕ → List ℕ) (mark : List ℕ → Mark T) (a b : Bound) (v : List ℕ) → IsSpace S → v ≡ zeros S.slots → Trying S order mark a b true v []
+starts S order mark a b v is e = (
   record {
     long = ap length e ∙ zeros_length S.slots;
     within = λ s h. let f = is.filled s h in let z : get_or v s 0 ≡ 0 = ap (λ (l : List ℕ). get_or l s 0) e ∙ zero_at S.slots s in omega (arith, f, z);
@@ -68,20 +67,17 @@ starts S order ending a b v is e = (
 
 -- ---- one candidate
 
-module _ (S : Space) (order : List ℕ → List ℕ) (ending : List ℕ → Ending) (a b : Bound) (v : List ℕ) where
-  abbrev mark : List ℕ → Mark (Unit {0})
-  mark = mark_by ending
-
+module _ {T : Type 0} (S : Space) (order : List ℕ → List ℕ) (mark : List ℕ → Mark T) (a b : Bound) (v : List ℕ) where
   -- it was tried too
-  pub tried : (old new : List (Entry (Unit {0}))) → Keeps S order ending a b (λ u. Before u v) old → Tries S order ending a b v old new → Keeps S order ending a b (λ u. Before v u → ⊥) new
+  pub tried : (old new : List (Entry T)) → Keeps S order mark a b (λ u. Before u v) old → Tries S order mark a b v old new → Keeps S order mark a b (λ u. Before v u → ⊥) new
   tried old new k (inl t) = record {
     entries = entry_of order mark v ∷ k.entries;
-    in_order = t.1 ∙ ap (λ (l : List (Entry (Unit {0}))). insert (entry_of order mark v) l) k.in_order;
+    in_order = t.1 ∙ ap (λ (l : List (Entry T)). insert (entry_of order mark v) l) k.in_order;
     sound = sound;
     complete = λ u n kept. complete u n kept (tested u v);
   }
     where
-      sound : (e : Entry (Unit {0})) → (entry_of order mark v ≡ e) ⊎ Has e k.entries → (u : List ℕ) × IsKept S order a b u × (entry_of order mark u ≡ e)
+      sound : (e : Entry T) → (entry_of order mark v ≡ e) ⊎ Has e k.entries → (u : List ℕ) × IsKept S order a b u × (entry_of order mark u ≡ e)
       sound e (inl h) = (v, t.0, h)
       sound e (inr h) = k.sound e h
 
@@ -100,7 +96,7 @@ module _ (S : Space) (order : List ℕ → List ℕ) (ending : List ℕ → Endi
       complete u n kept (inr m) = absurd (t.0 (subst (λ (w : List ℕ). IsKept S order a b w) (connected u v m.0 n) kept))
 
   -- the next one, or the end
-  pub goes : (more : Bool) (w : List ℕ) (found : List (Entry (Unit {0}))) → Keeps S order ending a b (λ u. Before v u → ⊥) found → Follows S v more w → Trying S order ending a b more w found
+  pub goes : (more : Bool) (w : List ℕ) (found : List (Entry T)) → Keeps S order mark a b (λ u. Before v u → ⊥) found → Follows S v more w → Trying S order mark a b more w found
   goes true w found k f = (
     f.0,
     record {

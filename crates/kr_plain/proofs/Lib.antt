@@ -4,3 +4,4 @@ mod Entering
 mod Gone
 mod Whole
 pub mod Moving
+pub mod Told

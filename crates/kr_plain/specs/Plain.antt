@@ -11,26 +11,36 @@ use Rattle.kr_mean.specs.Space.{Space, IsVector}
 use Rattle.kr_mean.specs.Readings.{Lacks}
 use Rattle.kr_mean.specs.Runs.{key_along}
 use Rattle.kr_mean.specs.Entries.{IsListed, entry_of, insert}
-use Rattle.kr_step.specs.declared.runner.Ending.{Ending}
-use Rattle.kr_step.specs.declared.runner.Ending.TheVariants.{Valid, Invalid, Spent}
+use Rattle.kr_mean.specs.declared.row.Row.{Row}
+use Rattle.kr_value.specs.declared.value.Value.{Value}
+use Rattle.kr_step.specs.declared.candidates.Ending.{Ending}
+use Rattle.kr_step.specs.declared.candidates.Ending.TheVariants.{Valid, Invalid, Spent}
 
--- an entry without what is listed of its candidate
-abbrev pub bare_mark : {R : Type 0} → Mark R → Mark (Unit {0})
-bare_mark (marks.Valid row) = marks.Valid tt
-bare_mark marks.Invalid = marks.Invalid
-bare_mark marks.Spent = marks.Spent
+-- an entry with what is told of its row
+abbrev pub told_mark : {R T : Type 0} → (R → T) → Mark R → Mark T
+told_mark told (marks.Valid row) = marks.Valid (told row)
+told_mark told marks.Invalid = marks.Invalid
+told_mark told marks.Spent = marks.Spent
 
+abbrev pub told_entry : {R T : Type 0} → (R → T) → Entry R → Entry T
+told_entry told e = record { key = e.key; mark = told_mark told e.mark }
+
+-- without its row
 abbrev pub bare : {R : Type 0} → Entry R → Entry (Unit {0})
-bare e = record { key = e.key; mark = bare_mark e.mark }
+bare e = told_entry (λ row. tt) e
 
--- the mark of a run that ends so
-abbrev pub mark_for : Ending → Mark (Unit {0})
-mark_for Valid = marks.Valid tt
-mark_for Invalid = marks.Invalid
-mark_for Spent = marks.Spent
+-- with its structure alone
+abbrev pub structured : Entry Row → Entry (List (ℕ × Value))
+structured e = told_entry (λ row. row.structure) e
 
-abbrev pub mark_by : (List ℕ → Ending) → List ℕ → Mark (Unit {0})
-mark_by ending v = mark_for (ending v)
+-- the mark of a run that ends so, where this is told of a valid one
+abbrev pub mark_for : {T : Type 0} → T → Ending → Mark T
+mark_for told Valid = marks.Valid told
+mark_for told Invalid = marks.Invalid
+mark_for told Spent = marks.Spent
+
+abbrev pub mark_by : {T : Type 0} → (List ℕ → T) → (List ℕ → Ending) → List ℕ → Mark T
+mark_by told ending v = mark_for (told v) (ending v)
 
 -- The next vector, the first slot counting most; or there is none.
 abbrev pub Follows : Space → List ℕ → Bool → List ℕ → Type 0
@@ -42,9 +52,9 @@ abbrev pub IsKept : Space → (List ℕ → List ℕ) → Bound → Bound → Li
 IsKept space order a b v = IsListed space order v × (is_within a b (key_along v (order v)) ≡ true)
 
 -- the entry of a vector that is kept stands among the entries then; without one nothing changes
-abbrev pub Tries : Space → (List ℕ → List ℕ) → (List ℕ → Ending) → Bound → Bound → List ℕ → List (Entry (Unit {0})) → List (Entry (Unit {0})) → Type 0
-Tries space order ending a b v old new =
-    (IsKept space order a b v × (new ≡ insert (entry_of order (mark_by ending) v) old)) ⊎ ((IsKept space order a b v → ⊥) × (new ≡ old))
+abbrev pub Tries : {T : Type 0} → Space → (List ℕ → List ℕ) → (List ℕ → Mark T) → Bound → Bound → List ℕ → List (Entry T) → List (Entry T) → Type 0
+Tries space order mark a b v old new =
+    (IsKept space order a b v × (new ≡ insert (entry_of order mark v) old)) ⊎ ((IsKept space order a b v → ⊥) × (new ≡ old))
 
 -- of the slots below a number, those that an order doesn't have are at 0
 abbrev pub IsSettledUpto : ℕ → List ℕ → List ℕ → Type 0

@@ -3,16 +3,16 @@ ghost use Rattle.std.specs.Prelude.{◌≡◌};
 ghost use Rattle.kr_mean.specs.Space.{IsVector};
 ghost use Rattle.kr_plain.specs.Plain.{Follows};
 
-use kr_step::Runner;
+use kr_step::Candidates;
 
 /// Goes to the next candidate: the last slot that can take a greater index takes the next one, and those behind it go back
 /// to 0. False where there is none.
-pub(crate) fn count_on<R: Runner>(candidates: &mut R) -> bool
-    requires { IsVector (R.space candidates.old) (R.vector candidates.old) }
-    ensures space { R.space candidates.new ≡ R.space candidates.old }
-    ensures order { R.order candidates.new ≡ R.order candidates.old }
-    ensures ending { R.ending candidates.new ≡ R.ending candidates.old }
-    ensures follows { Follows (R.space candidates.old) (R.vector candidates.old) result (R.vector candidates.new) }
+pub(crate) fn count_on<C: Candidates>(candidates: &mut C) -> bool
+    requires { IsVector (C.space candidates.old) (C.vector candidates.old) }
+    ensures space { C.space candidates.new ≡ C.space candidates.old }
+    ensures order { C.order candidates.new ≡ C.order candidates.old }
+    ensures ending { C.ending candidates.new ≡ C.ending candidates.old }
+    ensures follows { Follows (C.space candidates.old) (C.vector candidates.old) result (C.vector candidates.new) }
 {
     let mut slot = candidates.slots();
     while slot > 0 {

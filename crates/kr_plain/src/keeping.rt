@@ -28,7 +28,7 @@ pub(crate) fn is_inside(span: &Span, key: &Cut) -> bool
 }
 
 /// How many entries stand before a key.
-fn count_before(entries: &[Entry<()>], key: &Cut) -> usize
+fn count_before<R>(entries: &[Entry<R>], key: &Cut) -> usize
     ensures { result ≡ before_count key.now entries.now }
 {
     for at in 0..entries.len() {
@@ -40,7 +40,10 @@ fn count_before(entries: &[Entry<()>], key: &Cut) -> usize
 }
 
 /// Puts an entry where its key belongs, unless there is one of that key. Without memory nothing changes.
-pub(crate) fn insert_entry(entries: &mut Vec<Entry<()>>, entry: Entry<()>) -> Result<(), NoMemory>
+pub(crate) fn insert_entry<R: Drop>(
+    entries: &mut Vec<Entry<R>>,
+    entry: Entry<R>,
+) -> Result<(), NoMemory>
     ensures { OnOk result (entries.new.items ≡ insert entry entries.old.items) }
 {
     let kept = entries.as_slice();
@@ -52,14 +55,14 @@ pub(crate) fn insert_entry(entries: &mut Vec<Entry<()>>, entry: Entry<()>) -> Re
     Ok(())
 }
 
-fn is_spent(mark: &Mark<()>) -> bool
+fn is_spent<R>(mark: &Mark<R>) -> bool
     ensures { result ≡ Rattle.kr_base.specs.Entries.is_spent mark.now }
 {
     matches!(mark, Mark::Spent)
 }
 
 /// How many entries there are up to and with the first spent one.
-fn count_through(entries: &[Entry<()>]) -> usize
+fn count_through<R>(entries: &[Entry<R>]) -> usize
     ensures { result ≡ through_count entries.now }
 {
     for at in 0..entries.len() {
@@ -71,7 +74,7 @@ fn count_through(entries: &[Entry<()>]) -> usize
 }
 
 /// Drops the entries behind the first spent one.
-pub(crate) fn end_at_spent(entries: &mut Vec<Entry<()>>)
+pub(crate) fn end_at_spent<R: Drop>(entries: &mut Vec<Entry<R>>)
     ensures { entries.new.items ≡ through_spent entries.old.items }
 {
     let count = count_through(entries.as_slice());

@@ -8,7 +8,7 @@ ghost use Rattle.kr_mean.specs.Space.{IsVector};
 
 use kr_base::{NoMemory, Steps};
 use kr_iso::{Slots, choice_law, next_choice};
-use kr_step::{Ending, Runner};
+use kr_step::{Candidates, Ending};
 use std::alloc::Global;
 use std::sync::ledger::Ledger;
 
@@ -27,16 +27,19 @@ fn is_allowed<S: Slots>(slots: &S, path: &[(u32, u32)], slot: u32, index: u32) -
 }
 
 /// Whether each choice along the order of the last run is allowed after those before it.
-pub(crate) fn is_allowed_along<R: Runner>(alloc: Global, runner: &R) -> Result<bool, NoMemory>
-    requires vector { IsVector (R.space runner.now) (R.vector runner.now) }
-    requires below { AllBelow (R.space runner.now).slots (R.last runner.now) }
-    ensures { IfOk result (λ allowed. IsTrue allowed ↔ AllowedAlong (R.space runner.now) (R.vector runner.now) [] (R.last runner.now)) }
+pub(crate) fn is_allowed_along<C: Candidates>(
+    alloc: Global,
+    candidates: &C,
+) -> Result<bool, NoMemory>
+    requires vector { IsVector (C.space candidates.now) (C.vector candidates.now) }
+    requires below { AllBelow (C.space candidates.now).slots (C.last candidates.now) }
+    ensures { IfOk result (λ allowed. IsTrue allowed ↔ AllowedAlong (C.space candidates.now) (C.vector candidates.now) [] (C.last candidates.now)) }
 {
-    let order = runner.last_order();
+    let order = candidates.last_order();
     let mut path = Vec::new(alloc);
     for slot in order {
-        let index = runner.index(*slot);
-        if !is_allowed(runner, path.as_slice(), *slot, index) {
+        let index = candidates.index(*slot);
+        if !is_allowed(candidates, path.as_slice(), *slot, index) {
             return Ok(false);
         }
         path.push((*slot, index))?;
@@ -46,23 +49,22 @@ pub(crate) fn is_allowed_along<R: Runner>(alloc: Global, runner: &R) -> Result<b
 
 /// Whether the candidate that stands is least: no other names for its objects give a smaller key. It takes one run, and
 /// then a look at each choice along the order, and no renaming.
-pub fn is_least<R: Runner, L: Ledger>(
+pub fn is_least<C: Candidates, L: Ledger>(
     alloc: Global,
-    runner: &mut R,
+    candidates: &mut C,
     runs: &mut Steps<L>,
 ) -> Result<bool, NoMemory>
-    requires { IsVector (R.space runner.old) (R.vector runner.old) }
-    ensures space { R.space runner.new ≡ R.space runner.old }
-    ensures order { R.order runner.new ≡ R.order runner.old }
-    ensures ending { R.ending runner.new ≡ R.ending runner.old }
-    ensures vector { R.vector runner.new ≡ R.vector runner.old }
-    ensures least { IfOk result (λ least. IsTrue least ↔ IsLeast (R.space runner.old) (R.order runner.old) (R.vector runner.old)) }
+    requires { IsVector (C.space candidates.old) (C.vector candidates.old) }
+    ensures space { C.space candidates.new ≡ C.space candidates.old }
+    ensures order { C.order candidates.new ≡ C.order candidates.old }
+    ensures ending { C.ending candidates.new ≡ C.ending candidates.old }
+    ensures vector { C.vector candidates.new ≡ C.vector candidates.old }
+    ensures least { IfOk result (λ least. IsTrue least ↔ IsLeast (C.space candidates.old) (C.order candidates.old) (C.vector candidates.old)) }
     ensures runs { runs.new ≡ runs.old + 1 }
 {
-    runner.laws();
+    candidates.laws();
     choice_law::<Ending>();
-    runs.tick();
-    runner.run()?;
-    let allowed = is_allowed_along(alloc, &*runner)?;
+    candidates.run(runs)?;
+    let allowed = is_allowed_along(alloc, &*candidates)?;
     Ok(allowed)
 }

@@ -8,7 +8,8 @@ mod least;
 mod listed;
 mod plain;
 mod renaming;
+mod telling;
 
 pub use least::is_least;
-pub use plain::list_plain;
+pub use plain::{list_keys, list_plain};
 pub use renaming::{Perm, is_renaming, rename};

@@ -9,7 +9,7 @@ ghost use Rattle.kr_plain.specs.Plain.{IsSettledUpto};
 use crate::least::is_allowed_along;
 use kr_base::{Cut, NoMemory};
 use kr_iso::choice_law;
-use kr_step::{Ending, Runner};
+use kr_step::{Candidates, Ending};
 use std::alloc::Global;
 
 /// Whether a slot is among these.
@@ -25,9 +25,9 @@ fn has_slot(slots: &[u32], slot: u32) -> bool
 }
 
 /// Whether every slot that the last order doesn't have is at 0.
-fn is_settled<R: Runner>(candidates: &R) -> bool
-    requires { length (R.vector candidates.now) ≡ (R.space candidates.now).slots }
-    ensures { IsTrue result ↔ IsSettledUpto (R.space candidates.now).slots (R.last candidates.now) (R.vector candidates.now) }
+fn is_settled<C: Candidates>(candidates: &C) -> bool
+    requires { length (C.vector candidates.now) ≡ (C.space candidates.now).slots }
+    ensures { IsTrue result ↔ IsSettledUpto (C.space candidates.now).slots (C.last candidates.now) (C.vector candidates.now) }
 {
     let order = candidates.last_order();
     for slot in 0..candidates.slots() {
@@ -39,10 +39,10 @@ fn is_settled<R: Runner>(candidates: &R) -> bool
 }
 
 /// Whether the candidate that was run last is listed: the least of its class, and 0 wherever its order doesn't lead.
-pub(crate) fn is_listed<R: Runner>(alloc: Global, candidates: &R) -> Result<bool, NoMemory>
-    requires vector { IsVector (R.space candidates.now) (R.vector candidates.now) }
-    requires last { R.last candidates.now ≡ R.order candidates.now (R.vector candidates.now) }
-    ensures { IfOk result (λ listed. IsTrue listed ↔ IsListed (R.space candidates.now) (R.order candidates.now) (R.vector candidates.now)) }
+pub(crate) fn is_listed<C: Candidates>(alloc: Global, candidates: &C) -> Result<bool, NoMemory>
+    requires vector { IsVector (C.space candidates.now) (C.vector candidates.now) }
+    requires last { C.last candidates.now ≡ C.order candidates.now (C.vector candidates.now) }
+    ensures { IfOk result (λ listed. IsTrue listed ↔ IsListed (C.space candidates.now) (C.order candidates.now) (C.vector candidates.now)) }
 {
     candidates.laws();
     choice_law::<Ending>();
@@ -53,9 +53,9 @@ pub(crate) fn is_listed<R: Runner>(alloc: Global, candidates: &R) -> Result<bool
 }
 
 /// The key of the candidate that was run last.
-pub(crate) fn last_key<R: Runner>(alloc: Global, candidates: &R) -> Result<Cut, NoMemory>
-    requires { AllBelow (length (R.vector candidates.now)) (R.last candidates.now) }
-    ensures { IfOk result (λ key. key ≡ key_along (R.vector candidates.now) (R.last candidates.now)) }
+pub(crate) fn last_key<C: Candidates>(alloc: Global, candidates: &C) -> Result<Cut, NoMemory>
+    requires { AllBelow (length (C.vector candidates.now)) (C.last candidates.now) }
+    ensures { IfOk result (λ key. key ≡ key_along (C.vector candidates.now) (C.last candidates.now)) }
 {
     let order = candidates.last_order();
     let mut numbers = Vec::new(alloc);

@@ -4,7 +4,7 @@ use Rattle.kr_ast.specs.Tree as trees
 use Rattle.kr_ast.specs.Tree.{Tree}
 use Rattle.kr_ast.specs.declared.node.UnaryOperator.{UnaryOperator}
 use Rattle.kr_ast.specs.declared.node.UnaryOperator.TheVariants.{Minus}
-use Rattle.kr_types_meaning.specs.Scopes.{Scope, Declaring, Locals, value, statement, in_loop, in_old, declaring, bind, bind_as, after}
+use Rattle.kr_types_meaning.specs.Scopes.{Scope, Declaring, Locals, value, statement, in_loop, in_old, declaring, bind_local, bind_as, after}
 use Rattle.kr_types_meaning.specs.Typing.{operand}
 use Rattle.kr_laws_shapes.specs.Expressions.{IsCreated, Shaped}
 use Rattle.kr_types_meaning.specs.Running.{local_type, running}
@@ -104,8 +104,8 @@ maybe s t (inr h) = expression s t h
 
 -- ---- declarators of locals
 
-binds : (s : Scope) (n : _) → s.declaring ≡ Locals → bind n (running s).declared (running s) ≡ running (bind_as s.declaring n s)
-binds s n e = ap (λ (d : Declaring). bind n (local_type d s.declared) (running s)) e ∙ sym (ap (λ (d : Declaring). running (bind_as d n s)) e)
+binds : (s : Scope) (n : _) → s.declaring ≡ Locals → bind_local n (running s).declared (running s) ≡ running (bind_as s.declaring n s)
+binds s n e = ap (λ (d : Declaring). bind_local n (local_type d s.declared) (running s)) e ∙ sym (ap (λ (d : Declaring). running (bind_as d n s)) e)
 
 keeps : (s : Scope) (n : _) → s.declaring ≡ Locals → (bind_as s.declaring n s).declaring ≡ Locals
 keeps s n e = ap (λ (d : Declaring). (bind_as d n s).declaring) e ∙ e

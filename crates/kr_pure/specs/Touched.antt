@@ -38,4 +38,4 @@ IsFirstTouch problem nodes (Some p) = IsLeastTouch problem nodes p
 -- the place is that of the first node that isn't pure; want of memory is free
 abbrev pub Refuses : problems.Problem → PureRefusal → Type 0
 Refuses problem (Impure place) = IsFirstImpure problem place
-Refuses problem NoMemory = Unit {0}
+Refuses problem (NoMemory why) = Unit {0}

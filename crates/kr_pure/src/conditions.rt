@@ -15,7 +15,7 @@ use kr_types::Program;
 use std::alloc::Global;
 
 /// The conditions that hold before a call, or those that hold behind it.
-#[derive(Clone, Copy, Debug)]
+#[derive(Clone, Copy)]
 pub(crate) enum Side {
     Required,
     Ensured,

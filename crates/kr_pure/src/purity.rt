@@ -16,17 +16,17 @@ use std::alloc::Global;
 
 /// The problem was refused: the predicate's code creates an object that the finitization counts, or writes a field or an element
 /// of one, first at this place; or memory was refused.
-#[derive(Clone, Copy, Debug, PartialEq, Eq)]
+#[derive(Clone, Copy, PartialEq, Eq)]
 pub enum PureRefusal {
     Impure { place: Place },
-    NoMemory,
+    NoMemory(NoMemory),
 }
 
 impl From<NoMemory> for PureRefusal {
-    ghost from_gives = { λ _ refusal. refusal ≡ Lacking };
+    ghost from_gives = { λ why refusal. refusal ≡ Lacking why };
 
-    fn from(_: NoMemory) -> PureRefusal {
-        PureRefusal::NoMemory
+    fn from(why: NoMemory) -> PureRefusal {
+        PureRefusal::NoMemory(why)
     }
 }
 

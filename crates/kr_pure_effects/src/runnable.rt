@@ -39,7 +39,7 @@ pub fn overriders(
 {
     let classes = members.len();
     if classes > 0xffff_ffff {
-        return Err(NoMemory);
+        return Err(NoMemory::at_limit(classes as u64));
     }
     let mut found = Vec::new(alloc);
     for class in 0..classes as u32 {

@@ -19,7 +19,7 @@ use kr_value::Class;
 
 /// What a node touches: nothing; a field of the objects of a class and of those below; that it creates objects of a
 /// class; an element of arrays of a type of elements, by its number, or that it creates such arrays.
-#[derive(Clone, Copy, Debug, PartialEq, Eq)]
+#[derive(Clone, Copy, PartialEq, Eq)]
 pub enum Touch {
     Nothing,
     Fields(u32),

@@ -1,5 +1,1 @@
 pub mod Texts
-pub mod Marks
-pub mod Progress
-pub mod Returns
-pub mod Endings

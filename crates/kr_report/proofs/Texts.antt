@@ -20,7 +20,7 @@ five_pieces a b c d e x y p q = ap (λ t. a ++ (t ++ (c ++ (y ++ (e ++ []))))) p
 -- a listing has no verdicts
 pub no_verdict : (problem : Problem) (v : List ℕ) → problem.mode ≡ Listing → verdict_of problem v ≡ None
 unfolding verdict_of
-no_verdict problem v e = ap (λ m. verdict_by problem v (tested_method problem m)) e
+no_verdict problem v e = ap (λ m. verdict_by problem v problem.fuel (tested_method problem m)) e
 
 -- so its rows are a key and a structure
 pub row_is : (problem : Problem) (v : List ℕ) → problem.mode ≡ Listing

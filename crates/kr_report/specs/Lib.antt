@@ -4,4 +4,3 @@ pub mod Texts
 pub mod Reports
 pub mod Endings
 pub mod Summaries
-pub mod Puts

@@ -154,6 +154,10 @@ spent_text key = codes "spent " ++ cut_text key ++ codes "\n"
 abbrev pub checked_text : ℕ → ℕ → List ℕ
 checked_text classes slots = codes "ok classes " ++ decimal classes ++ codes " slots " ++ decimal slots ++ codes "\n"
 
+-- `nodes N valid V`
+abbrev pub counted_text : ℕ → ℕ → List ℕ
+counted_text nodes valid = codes "nodes " ++ decimal nodes ++ codes " valid " ++ decimal valid ++ codes "\n"
+
 abbrev pub usage_text : List ℕ
 usage_text = codes "usage fault\n"
 

@@ -4,7 +4,7 @@ ghost use Rattle.kr_base.specs.Cuts.{cut_text, dotted};
 ghost use Rattle.kr_text.specs.Lines.{line_bytes};
 
 use itoa::Buffer;
-use kr_base::{Cut, Failed, NoMemory, put_all};
+use kr_base::{Cut, NoMemory};
 use kr_text::Line;
 
 /// Adds bytes to a line.
@@ -12,10 +12,7 @@ use kr_text::Line;
 pub fn add_bytes(line: &mut Line, bytes: &[u8]) -> Result<(), NoMemory>
     ensures { OnOk result (line_bytes line.new ≡ line_bytes line.old ++ bytes.now) }
 {
-    match put_all(line, bytes) {
-        Ok(()) => Ok(()),
-        Err(Failed) => Err(NoMemory),
-    }
+    line.add(bytes)
 }
 
 /// Adds a number in decimal.
@@ -39,7 +36,7 @@ fn add_dotted(line: &mut Line, number: u32) -> Result<(), NoMemory>
 }
 
 /// Adds the numbers of a key, joined by dots.
-pub(crate) fn add_key(line: &mut Line, key: &Cut) -> Result<(), NoMemory>
+pub fn add_key(line: &mut Line, key: &Cut) -> Result<(), NoMemory>
     ensures { OnOk result (line_bytes line.new ≡ line_bytes line.old ++ cut_text key.now) }
 {
     let Some((first, rest)) = key.numbers().split_first() else {

@@ -9,12 +9,12 @@ use Rattle.kr_mean.specs.Problem.{Problem}
 use Rattle.kr_mean.specs.Runs.{end_on}
 use Rattle.kr_mean.specs.Entries.{row_of}
 use Rattle.kr_mean.specs.declared.row.Row.{Row}
-use Rattle.kr_step.specs.declared.runner.Ending.{Ending}
-use Rattle.kr_step.specs.declared.runner.Ending.TheVariants as ends
-use Rattle.kr_scan.specs.Scans.{ending_of, entry_at}
+use Rattle.kr_step.specs.declared.candidates.Ending.{Ending}
+use Rattle.kr_step.specs.declared.candidates.Ending.TheVariants as ends
+use Rattle.kr_step_span.specs.Scans.{ending_of, entry_at}
 use Rattle.kr_report.specs.Reports.{rows_of_mark, rows_in, spent_key, spent_key_of}
 use Rattle.kr_report.specs.Texts.{capped}
-use Rattle.kr_report.proofs.Marks.{is_valid_mark, is_invalid_mark, is_spent_mark}
+use Rattle.kr_report_listing.proofs.Marks.{is_valid_mark, is_invalid_mark, is_spent_mark}
 use Rattle.kr_base.specs.declared.memory.NoMemory.{NoMemory}
 use Rattle.kr_report_listing.specs.Tallies.{CountsOn, Tallies}
 use Rattle.kr_report_listing.specs.declared.tally.Tally.{Tally}

@@ -1,4 +1,6 @@
-mod Moved
-pub mod Rows
+pub mod Endings
+pub mod Marks
+pub mod Progress
+pub mod Returns
 mod Left
 mod Ends

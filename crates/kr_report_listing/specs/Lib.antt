@@ -1,4 +1,2 @@
-pub mod Accepting
-pub mod Fields
-pub mod Preparing
+pub mod Puts
 pub mod Tallies

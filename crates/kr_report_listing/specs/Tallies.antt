@@ -1,17 +1,15 @@
 -- To be believed: how many entries are valid, or which one is spent; and the answer that says it.
-use Rattle.std.specs.Prelude.{◌≡◌, ◌+◌, ◌-◌, ◌^◌, ℕ, List, ◌++◌, length, min, Option, Some, None, codes, decimal}
+use Rattle.std.specs.Prelude.{◌≡◌, ◌+◌, ◌-◌, ◌^◌, ℕ, List, length, min, Option, Some, None}
 use Rattle.kr_base.specs.declared.entry.Entry.{Entry}
 use Rattle.kr_mean.specs.declared.row.Row.{Row}
-use Rattle.kr_step.specs.declared.runner.Ending.{Ending}
-use Rattle.kr_step.specs.declared.runner.Ending.TheVariants as ends
+use Rattle.kr_step.specs.declared.candidates.Ending.{Ending}
+use Rattle.kr_step.specs.declared.candidates.Ending.TheVariants as ends
 use Rattle.kr_report.specs.Reports.{Answer, line_answer, rows_in, spent_key}
-use Rattle.kr_report.specs.Texts.{capped, spent_text}
+use Rattle.kr_report.specs.Texts.{capped, counted_text, spent_text}
+use Rattle.kr_report.specs.declared.lines.Summary.{Summary}
+use Rattle.kr_report.specs.declared.lines.Summary.TheVariants as summaries
 use Rattle.kr_report_listing.specs.declared.tally.Tally.{Tally}
 use Rattle.kr_report_listing.specs.declared.tally.Tally.TheVariants.{Valid, Spent}
-
--- `nodes N valid V`
-abbrev pub counted_text : ℕ → ℕ → List ℕ
-counted_text nodes valid = codes "nodes " ++ decimal nodes ++ codes " valid " ++ decimal valid ++ codes "\n"
 
 -- how many entries are valid, where none is spent; else `spent KEY` of the first spent one
 abbrev pub tally_by : ℕ → ℕ → Option (List ℕ) → Answer
@@ -29,13 +27,10 @@ abbrev pub Tallies : List (Entry Row) → Tally → Type 0
 Tallies es (Valid n) = (spent_key es ≡ None) × (n ≡ capped (length (rows_in es)))
 Tallies es (Spent key) = spent_key es ≡ Some key
 
-abbrev pub tally_line : ℕ → Tally → List ℕ
-tally_line nodes (Valid n) = counted_text nodes n
-tally_line nodes (Spent key) = spent_text key
-
-abbrev pub tally_status : Tally → ℕ
-tally_status (Valid n) = 0
-tally_status (Spent key) = 5
+-- with what a call ends that counts structures of so many nodes
+abbrev pub tally_summary : ℕ → Tally → Summary
+tally_summary nodes (Valid n) = summaries.Demo nodes n
+tally_summary nodes (Spent key) = summaries.Spent key
 
 -- the count behind an entry, by how its run ends
 abbrev pub CountsOn : ℕ → Ending → ℕ → Type 0

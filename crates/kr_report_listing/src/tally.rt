@@ -3,14 +3,15 @@ ghost use Rattle.std.specs.Prelude.{◌≡◌, IfOk};
 ghost use Rattle.kr_base.specs.declared.span.Bound.TheVariants.{At};
 ghost use Rattle.kr_base.specs.Entries.{entries_in};
 ghost use Rattle.kr_mean.specs.Entries.{all_entries};
-ghost use Rattle.kr_report.specs.Puts.{IsSpent};
-ghost use Rattle.kr_scan.specs.Scans.{RunsOn};
+ghost use Rattle.kr_report_listing.specs.Puts.{IsSpent};
+ghost use Rattle.kr_space_problem.specs.Posed.{posed};
+ghost use Rattle.kr_step_span.specs.Scans.{RunsOn};
 ghost use Rattle.kr_report_listing.specs.Tallies.{CountsOn, Tallies};
 ghost use Rattle.kr_report_listing.specs.declared.tally.Tally.TheVariants.{Spent};
 
 use kr_base::{Cut, NoMemory, Steps};
-use kr_judge_again::Subject;
-use kr_scan::{Ending, Next, Runner, Scan};
+use kr_judge_prepared::Prepared;
+use kr_step_span::{Candidates, Ending, Next, SpanSearch};
 use std::alloc::Global;
 use std::sync::ledger::Ledger;
 
@@ -47,26 +48,23 @@ fn counted(valid: u64, ending: Ending) -> u64
 fn spent_at(alloc: Global, key: &[u32]) -> Result<Tally, NoMemory>
     ensures { IfOk result (λ tally. tally ≡ Spent key.now) }
 {
-    match key.to_vec(alloc) {
-        Ok(numbers) => Ok(Tally::Spent(Cut::new(numbers))),
-        Err(_) => Err(NoMemory),
-    }
+    Ok(Tally::Spent(Cut::new(key.to_vec(alloc)?)))
 }
 
-/// The tally of the entries of a scan, whose candidates are the subject's.
-pub(crate) fn tally_of<R: Runner + Drop, S: Subject, L: Ledger>(
+/// The tally of the entries of a scan, whose candidates are the problem's.
+pub(crate) fn tally_of<C: Candidates + Drop, L: Ledger>(
     alloc: Global,
-    _subject: &S,
-    scan: &mut Scan<R>,
+    _prepared: &Prepared,
+    scan: &mut SpanSearch<C>,
     runs: &mut Steps<L>,
 ) -> Result<Tally, NoMemory>
-    requires runs_on { RunsOn (S.problem _subject.now) (R.space scan.old.runner) (R.order scan.old.runner) (R.ending scan.old.runner) }
-    ensures { IfOk result (Tallies (entries_in (At scan.old.cut) scan.old.upto (all_entries (S.problem _subject.now)))) }
+    requires runs_on { RunsOn (posed _prepared.now.problem) (C.space scan.old.candidates) (C.order scan.old.candidates) (C.ending scan.old.candidates) }
+    ensures { IfOk result (Tallies (entries_in (At scan.old.cut) scan.old.upto (all_entries (posed _prepared.now.problem)))) }
 {
     let mut valid: u64 = 0;
     loop {
         let ending = match scan.next(runs) {
-            Err(NoMemory) => return Err(NoMemory),
+            Err(why) => return Err(why),
             Ok(Next::End) => return Ok(Tally::Valid(valid)),
             Ok(Next::Found(ending)) => ending,
         };

@@ -81,6 +81,9 @@ module _ (problem : Problem) (w : IsWellFormed problem) (v : List ℕ) where
     number_at : get_or numbers k 0 ≡ heap_number problem (get_or (met problem v) k nobody)
     number_at = ap (λ (ns : List ℕ). get_or ns k 0) are ∙ get_map (heap_number problem) (met problem v) k nobody 0 inside
 
+    pub is_numbered : IsNumbered problem (get_or numbers k 0) (get_or (met problem v) k nobody)
+    is_numbered = let m = met_at k inside in record { domain = m.0; inside = m.1; is = sym number_at }
+
     pub found_is : (o : DomainObject) → IsNumbered problem (get_or numbers k 0) o → o ≡ get_or (met problem v) k nobody
     found_is o n = let m = met_at k inside in one_object problem w o.domain o.number (get_or (met problem v) k nobody).domain (get_or (met problem v) k nobody).number n.domain n.inside m.0 m.1 (n.is ∙ number_at)
 

@@ -5,11 +5,9 @@
 mod laws;
 mod names;
 mod parts;
+mod room;
 mod structure;
-mod structured;
 mod values;
 
 pub use laws::written_law;
-pub use names::Names;
-pub use structure::Room;
-pub use structured::{Kept, Structured};
+pub use room::Room;

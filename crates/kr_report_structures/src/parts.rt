@@ -7,15 +7,17 @@ ghost use Rattle.kr_mean.specs.Heaps.{value_at};
 ghost use Rattle.kr_mean.specs.Space.{IsVector, space_of};
 ghost use Rattle.kr_mean.specs.WellFormed.{IsWellFormed};
 ghost use Rattle.kr_space_layout.specs.Bounds.{bare, problem_with};
+ghost use Rattle.kr_space_problem.specs.Posed.{posed};
 ghost use Rattle.kr_report.specs.Texts.{field_names, joined_by, value_text};
 ghost use Rattle.kr_text.specs.Lines.{line_bytes};
 ghost use Rattle.kr_report_structures.specs.Written.{are_any, closing, object_written, opening, part_at, parts_written, separated};
 
-use crate::names::Names;
+use crate::names::object_field_name;
 use crate::values::{add, add_object_name, add_value};
 use kr_base::NoMemory;
 use kr_build::slots_of;
 use kr_iso::Object;
+use kr_judge_prepared::Prepared;
 use kr_space_layout::Layout;
 use kr_text::Line;
 use kr_value::{Class, SlotPlace, Spot};
@@ -29,11 +31,11 @@ pub(crate) fn add_between(line: &mut Line, between: &[u8], any: bool) -> Result<
 }
 
 /// The name of a field of the objects of a class.
-fn field_name<N: Names>(names: &N, class: Class, position: u32) -> &[u8]
-    ensures { result.now ≡ get_or (field_names (N.problem names.now).program.table class) position [] }
+fn field_name(prepared: &Prepared, class: Class, position: u32) -> &[u8]
+    ensures { result.now ≡ get_or (field_names (posed prepared.now.problem).program.table class) position [] }
 {
     match class {
-        Class::Object(number) => names.field(number, position),
+        Class::Object(number) => object_field_name(prepared, number, position),
         Class::Array(_) => b"",
         Class::Set => b"",
         Class::List => b"",
@@ -81,21 +83,21 @@ fn add_element(
 
 /// Adds what a structure has of a slot of an object of a class: of a field `f=value`, of an element the value, of a length
 /// nothing. Says whether something stands there by now.
-fn add_part<N: Names>(
+fn add_part(
     line: &mut Line,
-    names: &N,
+    prepared: &Prepared,
     layout: &Layout,
     vector: &Vector,
     class: Class,
     slot: u32,
     any: bool,
 ) -> Result<bool, NoMemory>
-    requires laid { N.problem names.now ≡ problem_with (N.problem names.now).program layout.now }
+    requires laid { posed prepared.now.problem ≡ problem_with (posed prepared.now.problem).program layout.now }
     requires well { IsWellFormed (bare layout.now) }
     requires vector { IsVector (space_of (bare layout.now)) vector.now }
     requires slot { slot < length (slots (bare layout.now)) }
-    ensures text { OnOk result (line_bytes line.new ≡ line_bytes line.old ++ separated (codes ",") any (part_at (N.problem names.now) vector.now class slot)) }
-    ensures any { IfOk result (λ now. now ≡ (any || are_any (part_at (N.problem names.now) vector.now class slot))) }
+    ensures text { OnOk result (line_bytes line.new ≡ line_bytes line.old ++ separated (codes ",") any (part_at (posed prepared.now.problem) vector.now class slot)) }
+    ensures any { IfOk result (λ now. now ≡ (any || are_any (part_at (posed prepared.now.problem) vector.now class slot))) }
 {
     match layout.place(slot) {
         SlotPlace::This => Ok(any),
@@ -103,7 +105,7 @@ fn add_part<N: Names>(
         SlotPlace::At(_, spot) => match spot {
             Spot::Length => Ok(any),
             Spot::Field(position) => {
-                let name = field_name(names, class, position);
+                let name = field_name(prepared, class, position);
                 add_field(line, name, layout, vector, slot, any)?;
                 Ok(true)
             }
@@ -116,20 +118,20 @@ fn add_part<N: Names>(
 }
 
 /// Adds what a structure has of an object, parted by commas.
-fn add_parts<N: Names>(
+fn add_parts(
     line: &mut Line,
-    names: &N,
+    prepared: &Prepared,
     layout: &Layout,
     vector: &Vector,
     object: Object,
 ) -> Result<(), NoMemory>
-    requires laid { N.problem names.now ≡ problem_with (N.problem names.now).program layout.now }
+    requires laid { posed prepared.now.problem ≡ problem_with (posed prepared.now.problem).program layout.now }
     requires well { IsWellFormed (bare layout.now) }
     requires vector { IsVector (space_of (bare layout.now)) vector.now }
     requires small { length (slots (bare layout.now)) < 2 ^ 31 }
     requires domain { object.domain < length layout.now.domains }
     requires number { object.number < (domain_at (bare layout.now) object.domain).count }
-    ensures { OnOk result (line_bytes line.new ≡ line_bytes line.old ++ joined_by (codes ",") (parts_written (N.problem names.now) vector.now (object_of object))) }
+    ensures { OnOk result (line_bytes line.new ≡ line_bytes line.old ++ joined_by (codes ",") (parts_written (posed prepared.now.problem) vector.now (object_of object))) }
 {
     let class = layout.class(object.domain);
     let stretch = slots_of(layout, vector, object);
@@ -137,7 +139,7 @@ fn add_parts<N: Names>(
     for number in 0..stretch.count {
         any = add_part(
             line,
-            names,
+            prepared,
             layout,
             vector,
             class,
@@ -171,25 +173,25 @@ fn add_closing(line: &mut Line, class: Class) -> Result<(), NoMemory>
 }
 
 /// Adds an object: `Class#k{f=value,f=value}`, or of an array `int[]#k[value,value]`.
-pub(crate) fn add_object<N: Names>(
+pub(crate) fn add_object(
     line: &mut Line,
-    names: &N,
+    prepared: &Prepared,
     layout: &Layout,
     vector: &Vector,
     object: Object,
 ) -> Result<(), NoMemory>
-    requires laid { N.problem names.now ≡ problem_with (N.problem names.now).program layout.now }
+    requires laid { posed prepared.now.problem ≡ problem_with (posed prepared.now.problem).program layout.now }
     requires well { IsWellFormed (bare layout.now) }
     requires vector { IsVector (space_of (bare layout.now)) vector.now }
     requires small { length (slots (bare layout.now)) < 2 ^ 31 }
     requires domain { object.domain < length layout.now.domains }
     requires number { object.number < (domain_at (bare layout.now) object.domain).count }
-    ensures { OnOk result (line_bytes line.new ≡ line_bytes line.old ++ object_written (N.problem names.now) vector.now (object_of object)) }
+    ensures { OnOk result (line_bytes line.new ≡ line_bytes line.old ++ object_written (posed prepared.now.problem) vector.now (object_of object)) }
 {
     let class = layout.class(object.domain);
     add_object_name(line, layout, object)?;
     add_opening(line, class)?;
-    add_parts(line, names, layout, vector, object)?;
+    add_parts(line, prepared, layout, vector, object)?;
     add_closing(line, class)?;
     Ok(())
 }

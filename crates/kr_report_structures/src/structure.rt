@@ -1,11 +1,13 @@
 // The structure of a candidate, put together in a line.
 ghost use Rattle.std.specs.Prelude.{◌≡◌, ◌<◌, ◌^◌, ◌++◌, [], codes, flat_map, length, map, IfOk, OnOk};
 ghost use Rattle.kr_mean.specs.Entries.{structure_of};
-ghost use Rattle.kr_mean.specs.Problem.{heap_number, slots, upto};
+ghost use Rattle.kr_mean.specs.declared.mode.Mode.TheVariants.{List as Listing};
+ghost use Rattle.kr_mean.specs.Problem.{DomainObject, heap_number, slots, upto};
 ghost use Rattle.kr_mean.specs.Readings.{AllBelow};
 ghost use Rattle.kr_mean.specs.Space.{IsVector, space_of};
 ghost use Rattle.kr_mean.specs.WellFormed.{IsWellFormed};
 ghost use Rattle.kr_space_layout.specs.Bounds.{bare, problem_with};
+ghost use Rattle.kr_space_problem.specs.Posed.{posed};
 ghost use Rattle.kr_iso.specs.Objects.{object_of};
 ghost use Rattle.kr_judge.specs.Places.{IsNumbered};
 ghost use Rattle.kr_judge.specs.Orders.{with_slots};
@@ -13,13 +15,14 @@ ghost use Rattle.kr_report.specs.Texts.{in_parentheses, joined_by, structure_tex
 ghost use Rattle.kr_text.specs.Lines.{line_bytes};
 ghost use Rattle.kr_report_structures.specs.Written.{met, numbers_at, object_written, parameter_written};
 
-use crate::names::Names;
+use crate::names::parameter_name;
 use crate::parts::{add_between, add_field, add_object};
 use crate::values::{add, object_at};
 use kr_base::NoMemory;
 use kr_build::Walk;
 use kr_iso::Object;
 use kr_judge::{Order, object_numbered};
+use kr_judge_prepared::Prepared;
 use kr_space_layout::Layout;
 use kr_text::Line;
 use kr_vector::Vector;
@@ -27,7 +30,7 @@ use std::alloc::Global;
 
 /// Room for the walks through candidates.
 #[derive(Drop)]
-pub struct Room {
+pub(crate) struct WalkRoom {
     walk: Walk,
     /// The objects that a structure names, by their numbers in the heap.
     named: Order,
@@ -63,17 +66,18 @@ fn name_all(
 }
 
 /// Adds the parameters of the method under test, where there are any.
-fn add_parameters<N: Names>(
+fn add_parameters(
     line: &mut Line,
-    names: &N,
+    prepared: &Prepared,
     layout: &Layout,
     vector: &Vector,
 ) -> Result<(), NoMemory>
-    requires laid { N.problem names.now ≡ problem_with (N.problem names.now).program layout.now }
+    requires mode { (posed prepared.now.problem).mode ≡ Listing }
+    requires laid { posed prepared.now.problem ≡ problem_with (posed prepared.now.problem).program layout.now }
     requires well { IsWellFormed (bare layout.now) }
     requires vector { IsVector (space_of (bare layout.now)) vector.now }
     requires small { length (slots (bare layout.now)) < 2 ^ 31 }
-    ensures { OnOk result (line_bytes line.new ≡ line_bytes line.old ++ in_parentheses (map (parameter_written (N.problem names.now) vector.now) (upto (length (N.problem names.now).parameters)))) }
+    ensures { OnOk result (line_bytes line.new ≡ line_bytes line.old ++ in_parentheses (map (parameter_written (posed prepared.now.problem) vector.now) (upto (length (posed prepared.now.problem).parameters)))) }
 {
     let count = layout.parameters() as u32;
     if count == 0 {
@@ -84,7 +88,7 @@ fn add_parameters<N: Names>(
     for number in 0..count {
         add_field(
             line,
-            names.parameter(number),
+            parameter_name(prepared, number),
             layout,
             vector,
             number + 1,
@@ -96,69 +100,71 @@ fn add_parameters<N: Names>(
     Ok(())
 }
 
-/// The object of a number, which an object has that is met.
+/// The object of a number that an object has.
 fn numbered(layout: &Layout, number: u32) -> Result<Object, NoMemory>
+    requires { (o : DomainObject) × IsNumbered (bare layout.now) number o }
     ensures { IfOk result (λ o. IsNumbered (bare layout.now) number (object_of o)) }
 {
     match object_numbered(layout, number)? {
         Some(object) => Ok(object),
-        None => Err(NoMemory),
+        None => unreachable!(),
     }
 }
 
 /// Adds objects, parted by spaces.
-fn add_objects<N: Names>(
+fn add_objects(
     line: &mut Line,
-    names: &N,
+    prepared: &Prepared,
     layout: &Layout,
     vector: &Vector,
     numbers: &[u32],
 ) -> Result<(), NoMemory>
-    requires laid { N.problem names.now ≡ problem_with (N.problem names.now).program layout.now }
+    requires laid { posed prepared.now.problem ≡ problem_with (posed prepared.now.problem).program layout.now }
     requires well { IsWellFormed (bare layout.now) }
     requires vector { IsVector (space_of (bare layout.now)) vector.now }
     requires small { length (slots (bare layout.now)) < 2 ^ 31 }
     requires numbers { numbers.now ≡ map (heap_number (bare layout.now)) (met (bare layout.now) vector.now) }
-    ensures { OnOk result (line_bytes line.new ≡ line_bytes line.old ++ joined_by (codes " ") (map (object_written (N.problem names.now) vector.now) (met (bare layout.now) vector.now))) }
+    ensures { OnOk result (line_bytes line.new ≡ line_bytes line.old ++ joined_by (codes " ") (map (object_written (posed prepared.now.problem) vector.now) (met (bare layout.now) vector.now))) }
 {
     let mut any = false;
     for number in numbers {
         let object = numbered(layout, *number)?;
         add_between(line, b" ", any)?;
-        add_object(line, names, layout, vector, object)?;
+        add_object(line, prepared, layout, vector, object)?;
         any = true;
     }
     Ok(())
 }
 
-impl Room {
+impl WalkRoom {
     /// No room yet. It takes no memory.
-    pub fn new(alloc: Global) -> Room {
-        Room {
+    pub(crate) fn new(alloc: Global) -> WalkRoom {
+        WalkRoom {
             walk: Walk::new(alloc),
             named: Order::new(alloc),
         }
     }
 
     /// Adds the structure of a candidate to a line. Once the room has grown it takes no memory but the line's.
-    pub fn add_structure<N: Names>(
+    pub(crate) fn add_structure(
         &mut self,
-        names: &N,
+        prepared: &Prepared,
         layout: &Layout,
         vector: &Vector,
         line: &mut Line,
     ) -> Result<(), NoMemory>
-        requires laid { N.problem names.now ≡ problem_with (N.problem names.now).program layout.now }
+        requires mode { (posed prepared.now.problem).mode ≡ Listing }
+        requires laid { posed prepared.now.problem ≡ problem_with (posed prepared.now.problem).program layout.now }
         requires well { IsWellFormed (bare layout.now) }
         requires vector { IsVector (space_of (bare layout.now)) vector.now }
         requires small { length (slots (bare layout.now)) < 2 ^ 31 }
-        ensures { OnOk result (line_bytes line.new ≡ line_bytes line.old ++ structure_text (N.problem names.now) (structure_of (N.problem names.now) vector.now)) }
+        ensures { OnOk result (line_bytes line.new ≡ line_bytes line.old ++ structure_text (posed prepared.now.problem) (structure_of (posed prepared.now.problem) vector.now)) }
     {
         self.walk.walk(layout, vector)?;
         self.named.clear();
         name_all(&mut self.named, layout, vector, self.walk.slots())?;
-        add_parameters(line, names, layout, vector)?;
-        add_objects(line, names, layout, vector, self.named.as_slice())?;
+        add_parameters(line, prepared, layout, vector)?;
+        add_objects(line, prepared, layout, vector, self.named.as_slice())?;
         Ok(())
     }
 }

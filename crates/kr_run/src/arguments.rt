@@ -1,5 +1,5 @@
 // Arguments, one after another, and then what is done with all of them.
-ghost use Rattle.std.specs.Prelude.{◌≡◌, ◌∷◌, List, drop, reverse, IfErr, IfOk, OnOk};
+ghost use Rattle.std.specs.Prelude.{◌≡◌, ◌∷◌, List, drop, reverse, IfOk, OnOk};
 ghost use Rattle.kr_value.specs.declared.value.Value.{Value as Argument};
 ghost use Rattle.kr_code.specs.Doing.{values_at};
 ghost use Rattle.kr_code.specs.Tables.{listed};
@@ -9,41 +9,35 @@ ghost use Rattle.kr_run_frames.specs.Frames.{applied, continued, onto, out_argum
 ghost use Rattle.kr_run_frames.specs.Kept.{values_on};
 ghost use Rattle.kr_run_frames.specs.Leads.{Leads, next_task};
 ghost use Rattle.kr_mean.specs.Steps.{bind, give};
-ghost use Rattle.kr_run_state.specs.declared.world.Halt.TheVariants.{Memory};
 ghost use Rattle.kr_run_state.specs.Worlds.{state_at};
 
 use crate::calls::apply;
-use crate::create::await_construct;
 use kr_code::{Code, Nodes};
 use kr_run_frames::{Goal, Stack, Task, UnitFrame, Up, Waiting};
 use kr_run_moves::{await_arguments, unit};
-use kr_run_state::{End, Halt, World};
+use kr_run_state::{End, Halt, NoMemory, World};
 use kr_value::Value;
 use std::alloc::Global;
 
 /// The topmost frame goes, with the values that it has.
-pub(crate) fn take_found(alloc: Global, stack: &mut Stack) -> Result<Vec<Value>, Halt>
+pub(crate) fn take_found(alloc: Global, stack: &mut Stack) -> Result<Vec<Value>, NoMemory>
     ensures rest { OnOk result (stack.new ≡ drop 1 stack.old) }
     ensures values { IfOk result (λ found. found.items ≡ values_on stack.old) }
-    ensures memory { IfErr result (λ halt. halt ≡ Memory) }
 {
     let mut found = Vec::new(alloc);
     match stack.take_values(&mut found) {
         Ok(()) => Ok(found),
-        Err(_) => Err(Halt::Memory),
+        Err(why) => Err(why),
     }
 }
 
 /// Values with one more.
 #[tactic(auto, using(kr_run_moves::proofs::Moves::one_more))]
-fn with_value(found: Vec<Value>, given: Value) -> Result<Vec<Value>, Halt>
+fn with_value(found: Vec<Value>, given: Value) -> Result<Vec<Value>, NoMemory>
     ensures more { IfOk result (λ values. reverse values.items ≡ given ∷ reverse found.items) }
-    ensures memory { IfErr result (λ halt. halt ≡ Memory) }
 {
     let mut values = found;
-    if values.push(given).is_err() {
-        return Err(Halt::Memory);
-    }
+    values.push(given)?;
     Ok(values)
 }
 
@@ -90,32 +84,16 @@ fn next_upwards(
                 stack,
                 UnitFrame::Behind(up.object, up.initialisers, up.body),
             )?;
-            await_construct(stack, up.line, up.object, found.as_slice())?;
+            stack.push_construct(up.line, up.object, found.as_slice())?;
             *task = Task::Done;
             return Ok(());
         }
         Some((node, others)) => {
-            await_upwards(stack, up, others, found.as_slice())?;
+            stack.push_up_arguments(up, others, found.as_slice())?;
             *task = Task::Evaluate(node);
             return Ok(());
         }
     }
-}
-
-/// Arguments of a superclass's constructor are awaited, behind those that are there.
-pub(crate) fn await_upwards(
-    stack: &mut Stack,
-    up: Up,
-    nodes: Nodes,
-    found: &[Value],
-) -> Result<(), Halt>
-    ensures pushed { OnOk result (stack.new ≡ frames.UpArguments up nodes found.now ∷ stack.old) }
-    ensures memory { IfErr result (λ halt. halt ≡ Memory) }
-{
-    if stack.push_up_arguments(up, nodes, found).is_err() {
-        return Err(Halt::Memory);
-    }
-    Ok(())
 }
 
 /// The arguments that are left come for the topmost frame, which has those that are there.
@@ -132,7 +110,7 @@ fn begin_arguments(
     ensures { Leads code.now (next_task result task.new) stack.new world.new world.old (λ d x. out_arguments code.now d stack.old (state_at world.old x)) }
 {
     match take_found(alloc, stack) {
-        Err(halt) => Err(halt),
+        Err(why) => Err(Halt::Memory(why)),
         Ok(found) => next_of(alloc, code, world, stack, goal, nodes, found, task),
     }
 }
@@ -151,7 +129,7 @@ fn begin_upwards(
     ensures { Leads code.now (next_task result task.new) stack.new world.now world.now (λ d x. out_arguments code.now d stack.old (state_at world.now x)) }
 {
     match take_found(alloc, stack) {
-        Err(halt) => Err(halt),
+        Err(why) => Err(Halt::Memory(why)),
         Ok(found) => next_upwards(code, world, stack, up, nodes, found, task),
     }
 }
@@ -197,7 +175,7 @@ fn take_next(
     ensures { Leads code.now (next_task result task.new) stack.new world.new world.old (λ d x. out_value code.now d stack.old (continued (bind (values_at d (listed code.now others)) (λ ws. give (given ∷ ws)) (state_at world.old x)) (λ ws. applied code.now d goal (onto (reverse found.items) ws)))) }
 {
     match with_value(found, given) {
-        Err(_) => return Err(Halt::Memory),
+        Err(why) => return Err(Halt::Memory(why)),
         Ok(values) => return next_of(alloc, code, world, stack, goal, others, values, task),
     }
 }
@@ -216,7 +194,7 @@ fn take_next_upwards(
     ensures { Leads code.now (next_task result task.new) stack.new world.now world.now (λ d x. out_unit code.now d stack.old (continued (bind (values_at d (listed code.now others)) (λ ws. give (given ∷ ws)) (state_at world.now x)) (λ ws. upwards code.now d up (onto (reverse found.items) ws)))) }
 {
     match with_value(found, given) {
-        Err(_) => return Err(Halt::Memory),
+        Err(why) => return Err(Halt::Memory(why)),
         Ok(values) => return next_upwards(code, world, stack, up, others, values, task),
     }
 }
@@ -236,7 +214,7 @@ pub(crate) fn take_argument(
     ensures { Leads code.now (next_task result task.new) stack.new world.new world.old (λ d x. out_value code.now d stack.old (give given (state_at world.old x))) }
 {
     match take_found(alloc, stack) {
-        Err(halt) => Err(halt),
+        Err(why) => Err(Halt::Memory(why)),
         Ok(found) => take_next(alloc, code, world, stack, goal, others, found, given, task),
     }
 }
@@ -256,7 +234,7 @@ pub(crate) fn take_up_argument(
     ensures { Leads code.now (next_task result task.new) stack.new world.now world.now (λ d x. out_value code.now d stack.old (give given (state_at world.now x))) }
 {
     match take_found(alloc, stack) {
-        Err(halt) => Err(halt),
+        Err(why) => Err(Halt::Memory(why)),
         Ok(found) => take_next_upwards(code, world, stack, up, others, found, given, task),
     }
 }

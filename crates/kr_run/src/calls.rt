@@ -1,12 +1,10 @@
 // Calls: a method's body comes next, on its arguments.
-ghost use Rattle.std.specs.Prelude.{◌≡◌, ◌∷◌, map, OnOk, IfErr};
+ghost use Rattle.std.specs.Prelude.{◌≡◌, ◌∷◌, map, OnOk};
 ghost use Rattle.kr_value.specs.declared.value.Value.TheVariants.{Null};
 ghost use Rattle.kr_mean.specs.Steps.{bind, class_of as class_step, plain_local, collect as collect_step};
 ghost use Rattle.kr_code.specs.Collections.{name_of, new_collection as collection_step};
 ghost use Rattle.kr_code.specs.Tables.{method_at};
 ghost use Rattle.kr_code.specs.Doing.{run_method as run_step, run_numbered as numbered_step, run_on as on_step};
-ghost use Rattle.kr_run_frames.specs.Frame as frames;
-ghost use Rattle.kr_run_state.specs.declared.world.Halt.TheVariants.{Memory};
 ghost use Rattle.kr_run_frames.specs.Frames.{out_value, applied};
 ghost use Rattle.kr_run_frames.specs.Leads.{Leads, next_task};
 ghost use Rattle.kr_run_state.specs.Shown.{local_of};
@@ -16,7 +14,7 @@ use crate::create::create;
 use kr_code::{Code, CollectionCall, MethodCode};
 use kr_mean::Kind;
 use kr_run_frames::{Goal, Stack, Task};
-use kr_run_state::{Action, End, Halt, Local, World, class_of, collect};
+use kr_run_state::{Action, End, Halt, Local, NoMemory, World, class_of, collect};
 use kr_value::{Class, Value};
 use std::alloc::Global;
 
@@ -30,26 +28,12 @@ fn plain(value: Value) -> Local
 }
 
 /// Arguments come as locals in place of these, in the room that is there.
-pub(crate) fn become_arguments(locals: &mut Vec<Local>, arguments: &[Value]) -> Result<(), Halt>
+pub(crate) fn become_arguments(locals: &mut Vec<Local>, arguments: &[Value]) -> Result<(), NoMemory>
     ensures locals { OnOk result (map local_of locals.new.items ≡ map plain_local arguments.now) }
-    ensures memory { IfErr result (λ halt. halt ≡ Memory) }
 {
     locals.clear();
     for argument in arguments {
-        if locals.push(plain(*argument)).is_err() {
-            return Err(Halt::Memory);
-        }
-    }
-    Ok(())
-}
-
-/// A method's body is entered, by a caller with this and these locals.
-fn await_end(stack: &mut Stack, is_void: bool, this: Value, locals: &[Local]) -> Result<(), Halt>
-    ensures pushed { OnOk result (stack.new ≡ frames.Leave is_void this locals.now ∷ stack.old) }
-    ensures memory { IfErr result (λ halt. halt ≡ Memory) }
-{
-    if stack.push_leave(is_void, this, locals).is_err() {
-        return Err(Halt::Memory);
+        locals.push(plain(*argument))?;
     }
     Ok(())
 }
@@ -75,7 +59,7 @@ fn run_method(
         *task = Task::Act(Action::End(End::Stuck));
         return Ok(());
     }
-    await_end(stack, found.is_void, world.this, world.locals.as_slice())?;
+    stack.push_leave(found.is_void, world.this, world.locals.as_slice())?;
     become_arguments(&mut world.locals, arguments.as_slice())?;
     world.this = receiver;
     *task = Task::All(found.body);

@@ -1,7 +1,5 @@
 // Creation: the constructors of a line of classes, and the initial values of fields.
-ghost use Rattle.std.specs.Prelude.{◌≡◌, ◌∷◌, [], map, OnOk, IfErr};
-ghost use Rattle.kr_run_frames.specs.Frame as frames;
-ghost use Rattle.kr_run_state.specs.declared.world.Halt.TheVariants.{Memory};
+ghost use Rattle.std.specs.Prelude.{◌≡◌, ◌∷◌, [], map};
 ghost use Rattle.kr_code.specs.Tables.{class_at, listed};
 ghost use Rattle.kr_code.specs.Doing.{create as create_step, constructed, constructed_in, super_values, initialised as initialised_step};
 ghost use Rattle.kr_run_frames.specs.Frames.{out_value, out_unit, done, upwards};
@@ -40,7 +38,7 @@ pub(crate) fn create(
             Err(halt) => return Err(halt),
             Ok(object) => {
                 push(stack, Waiting::Made(object))?;
-                await_construct(stack, found.line, object, arguments.as_slice())?;
+                stack.push_construct(found.line, object, arguments.as_slice())?;
                 *task = Task::Done;
                 return Ok(());
             }
@@ -63,33 +61,6 @@ pub(crate) fn stop_unit(
     Ok(())
 }
 
-/// The constructors of a line of classes come, on an object, with these arguments.
-pub(crate) fn await_construct(
-    stack: &mut Stack,
-    line: Nodes,
-    object: Value,
-    arguments: &[Value],
-) -> Result<(), Halt>
-    ensures pushed { OnOk result (stack.new ≡ frames.Construct line object arguments.now ∷ stack.old) }
-    ensures memory { IfErr result (λ halt. halt ≡ Memory) }
-{
-    if stack.push_construct(line, object, arguments).is_err() {
-        return Err(Halt::Memory);
-    }
-    Ok(())
-}
-
-/// Something is done on a new object, and then `this` and the locals are these again.
-fn await_back(stack: &mut Stack, this: Value, locals: &[Local]) -> Result<(), Halt>
-    ensures pushed { OnOk result (stack.new ≡ frames.Back this locals.now ∷ stack.old) }
-    ensures memory { IfErr result (λ halt. halt ≡ Memory) }
-{
-    if stack.push_back(this, locals).is_err() {
-        return Err(Halt::Memory);
-    }
-    Ok(())
-}
-
 /// The class's constructor, where it declares none.
 #[tactic(auto, using(crate::proofs::Machine::runs), unfolding(kr_mean::specs::Steps::bind))]
 fn construct_plain(
@@ -108,11 +79,11 @@ fn construct_plain(
     if arguments.len() != 0 {
         return stop_unit(code, world, stack, task);
     }
-    await_back(stack, world.this, world.locals.as_slice())?;
+    stack.push_back(world.this, world.locals.as_slice())?;
     become_arguments(&mut world.locals, arguments.as_slice())?;
     world.this = object;
     unit(stack, UnitFrame::Initialise(initialisers, object))?;
-    await_construct(stack, others, object, &[])?;
+    stack.push_construct(others, object, &[])?;
     *task = Task::Done;
     Ok(())
 }
@@ -134,7 +105,7 @@ fn construct_declared(
     if arguments.len() != constructor.parameters as usize {
         return stop_unit(code, world, stack, task);
     }
-    await_back(stack, world.this, world.locals.as_slice())?;
+    stack.push_back(world.this, world.locals.as_slice())?;
     become_arguments(&mut world.locals, arguments.as_slice())?;
     world.this = up.object;
     match constructor.call {
@@ -143,7 +114,7 @@ fn construct_declared(
                 stack,
                 UnitFrame::Behind(up.object, up.initialisers, up.body),
             )?;
-            await_construct(stack, up.line, up.object, &[])?;
+            stack.push_construct(up.line, up.object, &[])?;
             *task = Task::Done;
             Ok(())
         }
@@ -283,7 +254,7 @@ pub(crate) fn take_unit(
     match frame {
         UnitFrame::Behind(object, initialisers, body) => {
             unit(stack, UnitFrame::Body(body))?;
-            await_back(stack, world.this, world.locals.as_slice())?;
+            stack.push_back(world.this, world.locals.as_slice())?;
             world.locals.clear();
             world.this = object;
             *task = Task::Initialise(initialisers, object);

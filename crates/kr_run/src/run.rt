@@ -20,9 +20,7 @@ ghost use Rattle.kr_mean.specs.Steps.{bind, give, tick};
 ghost use Rattle.kr_run.specs.Answers.{StepsTo, Answers};
 ghost use Rattle.kr_run_state.specs.Worlds.{state_at};
 
-use crate::arguments::{
-    await_upwards, next_arguments, take_argument, take_found, take_up_argument,
-};
+use crate::arguments::{next_arguments, take_argument, take_found, take_up_argument};
 use crate::create::{construct, initialise, stop_unit, take_unit};
 use crate::steps::Step;
 use kr_ast::{BinaryOperator, StepOperator};
@@ -34,7 +32,7 @@ use kr_run_moves::{
     all, declare, enter_node, enter_statement, feed, repeat, take_flow, take_test, take_value,
     update, value, write,
 };
-use kr_run_state::{Action, Cell, End, Halt, Local, World, act, store_initial, tick};
+use kr_run_state::{Action, Cell, End, Halt, Local, NoMemory, World, act, store_initial, tick};
 use kr_value::Value;
 use std::alloc::Global;
 
@@ -248,7 +246,7 @@ fn value_frame(
         }
         Waiting::UpEnter(up, nodes) => {
             stack.drop_top();
-            await_upwards(stack, up, nodes, &[])?;
+            stack.push_up_arguments(up, nodes, &[])?;
             *task = Task::Arguments;
             return Ok(());
         }
@@ -274,9 +272,7 @@ fn leave(
     requires { (locals : List Local) × (fs : List Frame) × (stack.old ≡ frames.Leave is_void this locals ∷ fs) }
     ensures { Leads code.now (next_task result task.new) stack.new world.new world.old (λ d x. out_flow code.now d stack.old (give (flow_of flow) (state_at world.old x))) }
 {
-    if stack.take_locals(&mut world.locals).is_err() {
-        return Err(Halt::Memory);
-    }
+    stack.take_locals(&mut world.locals)?;
     world.this = this;
     match (is_void, flow) {
         (true, Flow::Next) => {
@@ -390,9 +386,7 @@ fn go_back(
     requires { (locals : List Local) × (fs : List Frame) × (stack.old ≡ frames.Back this locals ∷ fs) }
     ensures { Leads code.now (next_task result task.new) stack.new world.new world.old (λ d x. out_unit code.now d stack.old (give tt (state_at world.old x))) }
 {
-    if stack.take_locals(&mut world.locals).is_err() {
-        return Err(Halt::Memory);
-    }
+    stack.take_locals(&mut world.locals)?;
     world.this = this;
     *task = Task::Done;
     Ok(())
@@ -412,7 +406,7 @@ fn construct_on(
     ensures { Leads code.now (next_task result task.new) stack.new world.new world.old (λ d x. out_unit code.now d stack.old (give tt (state_at world.old x))) }
 {
     match take_found(alloc, stack) {
-        Err(halt) => Err(halt),
+        Err(why) => Err(Halt::Memory(why)),
         Ok(arguments) => construct(alloc, code, world, stack, line, object, &arguments, task),
     }
 }
@@ -640,10 +634,12 @@ pub fn advance(
 ) -> Result<Step, Halt>
     ensures { StepsTo code.now result task.new stack.new world.new world.old (λ d x. resumed code.now d stack.old task.old (state_at world.old x)) }
 {
-    'steps: for _ in 0..u64::MAX {
+    let mut taken: u64 = 0;
+    'steps: while taken < u64::MAX {
+        taken += 1;
         match step(alloc, code, world, stack, task) {
             Err(Halt::Ended(end)) => return Err(Halt::Ended(end)),
-            Err(Halt::Memory) => return Err(Halt::Memory),
+            Err(Halt::Memory(why)) => return Err(Halt::Memory(why)),
             Err(Halt::Written) => return Err(Halt::Written),
             Ok(Step::Finished(given)) => return Ok(Step::Finished(given)),
             Ok(Step::More) => {
@@ -653,7 +649,7 @@ pub fn advance(
             }
         }
     }
-    Err(Halt::Memory)
+    Err(Halt::Memory(NoMemory::at_limit(taken)))
 }
 
 /// Runs a node as an expression: what it gives, or how the run ends. The world is left as the run leaves it, and every
@@ -663,14 +659,16 @@ pub fn evaluate(alloc: Global, code: &Code, world: &mut World, node: u32) -> Res
 {
     let mut stack = Stack::new(alloc);
     let mut task = Task::Evaluate(node);
-    'steps: for _ in 0..u64::MAX {
+    let mut taken: u64 = 0;
+    'steps: while taken < u64::MAX {
+        taken += 1;
         match advance(alloc, code, world, &mut stack, &mut task) {
             Err(Halt::Ended(end)) => return Err(Halt::Ended(end)),
-            Err(Halt::Memory) => return Err(Halt::Memory),
+            Err(Halt::Memory(why)) => return Err(Halt::Memory(why)),
             Err(Halt::Written) => return Err(Halt::Written),
             Ok(Step::Finished(given)) => return Ok(given),
             Ok(Step::More) => {}
         }
     }
-    Err(Halt::Memory)
+    Err(Halt::Memory(NoMemory::at_limit(taken)))
 }

@@ -3,7 +3,7 @@
 use kr_value::Value;
 
 /// What a step gives.
-#[derive(Clone, Copy, Debug)]
+#[derive(Clone, Copy)]
 pub enum Step {
     /// A task comes next.
     More,

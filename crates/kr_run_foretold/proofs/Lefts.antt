@@ -9,7 +9,7 @@ use Rattle.kr_code.specs.declared.expression.Expression.{Expression}
 use Rattle.kr_code.specs.declared.expression.Expression.TheVariants as expressions
 use Rattle.kr_code.specs.declared.statement.Statement.{Statement}
 use Rattle.kr_code.specs.declared.statement.Statement.TheVariants as statements
-use Rattle.kr_code.specs.Doing.{Doing, IsMeaning, flow_of, statement_done, value_of}
+use Rattle.kr_code.specs.Doing.{Doing, IsMeaning, flow_of, statement_done, value_done}
 use Rattle.kr_code.specs.Tables.{expression_of, node_at, statement_of}
 use Rattle.kr_run_frames.specs.declared.task.Flow.{Flow}
 use Rattle.kr_run_frames.specs.declared.task.Flow.TheVariants as ways
@@ -64,7 +64,7 @@ unit_then m s n e = ap (λ (k : ℕ). go_on (tick_at k s).said (tick_at k s).aft
 pub literal_is : (code : Code) (d : Doing) (i n : ℕ) (u : v.Value) (s : State) → IsMeaning code d → expression_of (node_at code i) ≡ expressions.Literal u → s.fuel ≡ suc n → d.value i s ≡ give u (record s { fuel = n })
 literal_is code d i n u s m e f =
     m.value_is i s
-    ∙ (ap (λ (x : Expression). bind tick (λ t. value_of code d x) s) e
+    ∙ (ap (λ (x : Expression). bind tick (λ t. value_done code d x) s) e
     ∙ unit_then (give u) s n f)
 
 pub returned_is : (code : Code) (d : Doing) (i j n : ℕ) (u : v.Value) (s : State) → IsMeaning code d → statement_of (node_at code i) ≡ statements.Return j → s.fuel ≡ suc (suc n)

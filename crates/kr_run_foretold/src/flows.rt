@@ -16,7 +16,7 @@ use kr_run_state::World;
 use kr_value::Value;
 
 /// Where a statement leads, and the fuel that is left behind it.
-#[derive(Clone, Copy, Debug)]
+#[derive(Clone, Copy)]
 pub struct Led {
     pub flow: Flow,
     pub fuel: u64,

@@ -15,14 +15,14 @@ use kr_run_state::{alone, binary};
 use kr_value::Value;
 
 /// What comes to a frame: a value, or the value that a body gives.
-#[derive(Clone, Copy, Debug)]
+#[derive(Clone, Copy)]
 pub(crate) enum Point {
     Comes(Value),
     Gives(Value),
 }
 
 /// What comes, and the fuel that is left.
-#[derive(Clone, Copy, Debug)]
+#[derive(Clone, Copy)]
 pub(crate) struct Stand {
     pub(crate) point: Point,
     pub(crate) fuel: u64,

@@ -1,5 +1,5 @@
 // How a run goes on from a step that reads.
-ghost use Rattle.std.specs.Prelude.{◌≡◌, ◌∷◌, List, drop, IfSome};
+ghost use Rattle.std.specs.Prelude.{◌≡◌, ◌∷◌, List, drop, IfSome, Ok};
 ghost use Rattle.kr_code.specs.declared.code.Code.{Code};
 ghost use Rattle.kr_code.specs.Doing.{Doing, IsMeaning};
 ghost use Rattle.kr_run_frames.specs.Frame.{Frame};
@@ -16,7 +16,7 @@ use crate::leaving::left_ahead;
 use crate::passing::{flow_from, flow_onward, value_from};
 use kr_code::Code;
 use kr_run_frames::{Flow, FlowFrame, Stack, TestFrame, ValueFrame, Waiting};
-use kr_run_state::{Action, Halt, World, element, load_named};
+use kr_run_state::{Action, World, element, load_named};
 use kr_value::Value;
 
 /// A value passes a frame that makes a value of it.
@@ -142,17 +142,23 @@ fn value_ahead(code: &Code, world: &mut World, stack: &Stack, given: Value) -> O
     Some(value)
 }
 
-/// A value is read: of a field, or an element.
+/// A value is read, of a field or an element, if it can be.
 #[inline(always)]
 #[tactic(auto, unfolding(kr_mean::specs::Steps::bind))]
-fn read(code: &Code, world: &mut World, action: Action) -> Result<Value, Halt>
-    ensures agrees { Agrees result world.new world.old (λ x. acted code.now action (state_at world.old x)) }
+fn read(code: &Code, world: &mut World, action: Action) -> Option<Value>
+    ensures agrees { IfSome result (λ v. Agrees (Ok v) world.new world.old (λ x. acted code.now action (state_at world.old x))) }
     ensures only { OnlyReads world.old world.new }
 {
     match action {
-        Action::Load(name, object) => load_named(code, world, name, object),
-        Action::Element(array, index) => element(world, array, index),
-        _ => Err(Halt::Memory),
+        Action::Load(name, object) => match load_named(code, world, name, object) {
+            Ok(value) => Some(value),
+            Err(_) => None,
+        },
+        Action::Element(array, index) => match element(world, array, index) {
+            Ok(value) => Some(value),
+            Err(_) => None,
+        },
+        _ => None,
     }
 }
 
@@ -165,7 +171,7 @@ pub fn ahead(code: &Code, world: &mut World, stack: &Stack, action: Action) -> O
     ensures reads { Grows world.old.reads world.new.reads }
 {
     match read(code, world, action) {
-        Err(_) => None,
-        Ok(given) => value_ahead(code, world, stack, given),
+        None => None,
+        Some(given) => value_ahead(code, world, stack, given),
     }
 }

@@ -6,7 +6,7 @@ use kr_run_state::Cell;
 use kr_value::{Class, Value};
 
 /// What is done with arguments.
-#[derive(Clone, Copy, Debug)]
+#[derive(Clone, Copy)]
 pub enum Goal {
     /// Nothing that is known.
     Stop,
@@ -28,7 +28,7 @@ pub enum Goal {
 
 /// What is done once the arguments of a superclass's constructor are there: the line of classes and the object, and then
 /// initial values and body.
-#[derive(Clone, Copy, Debug)]
+#[derive(Clone, Copy)]
 pub struct Up {
     pub line: Nodes,
     pub object: Value,
@@ -37,14 +37,14 @@ pub struct Up {
 }
 
 /// How a variable changes: by one, or by an operator with an operand.
-#[derive(Clone, Copy, Debug)]
+#[derive(Clone, Copy)]
 pub enum Change {
     Step(StepOperator),
     Compound(BinaryOperator, u32),
 }
 
 /// A loop.
-#[derive(Clone, Copy, Debug)]
+#[derive(Clone, Copy)]
 pub enum Loop {
     While(u32, u32),
     /// Condition, updates and body.
@@ -52,7 +52,7 @@ pub enum Loop {
 }
 
 /// What writes a variable, from a value.
-#[derive(Clone, Copy, Debug)]
+#[derive(Clone, Copy)]
 pub enum WriteFrame {
     /// A variable gets the value.
     Put(Cell),
@@ -74,7 +74,7 @@ pub enum WriteFrame {
 }
 
 /// What makes a value of a value.
-#[derive(Clone, Copy, Debug)]
+#[derive(Clone, Copy)]
 pub enum ValueFrame {
     Load(u32),
     ElementOf(u32),
@@ -96,7 +96,7 @@ pub enum ValueFrame {
 }
 
 /// What leads on after a value.
-#[derive(Clone, Copy, Debug)]
+#[derive(Clone, Copy)]
 pub enum TestFrame {
     Then(u32),
     Branch(u32, u32),
@@ -114,7 +114,7 @@ pub enum TestFrame {
 }
 
 /// What leads on after a statement.
-#[derive(Clone, Copy, Debug)]
+#[derive(Clone, Copy)]
 pub enum FlowFrame {
     Rest(Nodes),
     Again(Loop),
@@ -123,7 +123,7 @@ pub enum FlowFrame {
 }
 
 /// What follows in a creation.
-#[derive(Clone, Copy, Debug)]
+#[derive(Clone, Copy)]
 pub enum UnitFrame {
     /// The superclass's constructor is done.
     Behind(Value, Nodes, Nodes),
@@ -133,7 +133,7 @@ pub enum UnitFrame {
 }
 
 /// A frame as the stack keeps it: in place of a list, where that begins among those of all frames.
-#[derive(Clone, Copy, Debug)]
+#[derive(Clone, Copy)]
 pub enum Waiting {
     Value(ValueFrame),
     Test(TestFrame),

@@ -10,9 +10,7 @@ fn append(frames: &mut Vec<Waiting>, frame: &Waiting) -> Result<(), NoMemory>
     ensures appended { OnOk result (frames.new.items ≡ frames.old.items ++ frame.now ∷ []) }
     ensures long { length frames.old.items ≤ length frames.new.items }
 {
-    if frames.push(*frame).is_err() {
-        return Err(NoMemory);
-    }
+    frames.push(*frame)?;
     Ok(())
 }
 

@@ -15,7 +15,7 @@ use std::marker::Model;
 
 /// A stack of frames. Contracts see the list of them, the top one first. Behind those there is room for others, and the values
 /// and the locals of all of them lie one behind another.
-#[derive(Debug, Drop)]
+#[derive(Drop)]
 pub struct Stack {
     frames: Vec<Waiting>,
     top: usize,

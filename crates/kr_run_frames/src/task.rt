@@ -6,7 +6,7 @@ use kr_run_state::{Action, Cell};
 use kr_value::Value;
 
 /// Where a statement leads: on, out of a loop or to its next round, or out of the body, which may give a value.
-#[derive(Clone, Copy, Debug)]
+#[derive(Clone, Copy)]
 pub enum Flow {
     Next,
     Broke,
@@ -16,7 +16,7 @@ pub enum Flow {
 }
 
 /// What comes next.
-#[derive(Clone, Copy, Debug)]
+#[derive(Clone, Copy)]
 pub enum Task {
     /// A node as an expression.
     Evaluate(u32),

@@ -9,7 +9,7 @@ use Rattle.kr_code.specs.declared.code.Code.{Code}
 use Rattle.kr_code.specs.declared.expression.Nodes.{Nodes}
 use Rattle.kr_code.specs.declared.expression.Expression.{Expression}
 use Rattle.kr_code.specs.Tables.{expression_of, listed, node_at}
-use Rattle.kr_code.specs.Doing.{Doing, value_of, values_at}
+use Rattle.kr_code.specs.Doing.{Doing, value_done, values_at}
 use Rattle.kr_run_state.specs.declared.world.World.{World}
 use Rattle.kr_run_state.specs.Noting.{noting, noted_once, with_read}
 use Rattle.kr_run_state.specs.Worlds.{Others}
@@ -75,19 +75,19 @@ only_value code w n (Some k) m f is i e h = λ x a d j.
     ∙ h x a d j
 
 -- an expression by its kind
-pub as_kind : (code : Code) (w : World) (n : ℕ) (r : Option Known) (e e' : Expression) → e ≡ e' → IfSome r (λ k. Knows code w n k (λ d. value_of code d e')) → IfSome r (λ k. Knows code w n k (λ d. value_of code d e))
-as_kind code w n r e e' is h = subst (λ (t : Expression). IfSome r (λ k. Knows code w n k (λ d. value_of code d t))) (sym is) h
+pub as_kind : (code : Code) (w : World) (n : ℕ) (r : Option Known) (e e' : Expression) → e ≡ e' → IfSome r (λ k. Knows code w n k (λ d. value_done code d e')) → IfSome r (λ k. Knows code w n k (λ d. value_done code d e))
+as_kind code w n r e e' is h = subst (λ (t : Expression). IfSome r (λ k. Knows code w n k (λ d. value_done code d t))) (sym is) h
 
 -- a node's unit
 ticks : (w : World) (n p : ℕ) (x : Others) → n ≡ suc p → noting w.reads (tick (fuelled w n x)) ≡ record { said = Ok tt; after = fuelled w p x; reads = w.reads }
 ticks w n p x e = ap (λ (m : ℕ). noting w.reads (tick_at m (fuelled w m x))) e
 
-pub node_known : (code : Code) (w : World) (n node : ℕ) (e : Expression) (r : Option Known) → 0 < n → e ≡ expression_of (node_at code node) → IfSome r (λ k. Knows code w (n - 1) k (λ d. value_of code d e)) → IfSome r (λ k. Knows code w n k (λ d. d.value node))
+pub node_known : (code : Code) (w : World) (n node : ℕ) (e : Expression) (r : Option Known) → 0 < n → e ≡ expression_of (node_at code node) → IfSome r (λ k. Knows code w (n - 1) k (λ d. value_done code d e)) → IfSome r (λ k. Knows code w n k (λ d. d.value node))
 node_known code w n node e None lt is h = tt
 node_known code w n node e (Some k) lt is h = λ x a d i.
     ap (λ (q : Outcome Value). noting w.reads q) (i.value_is node (fuelled w n x))
-    ∙ ap (λ (t : Expression). noting w.reads (bind tick (λ u. value_of code d t) (fuelled w n x))) (sym is)
-    ∙ noted_then tick (λ u. value_of code d e) (fuelled w n x) (fuelled w (n - 1) x) w.reads w.reads tt (ticks w n (n - 1) x (omega (arith, lt)))
+    ∙ ap (λ (t : Expression). noting w.reads (bind tick (λ u. value_done code d t) (fuelled w n x))) (sym is)
+    ∙ noted_then tick (λ u. value_done code d e) (fuelled w n x) (fuelled w (n - 1) x) w.reads w.reads tt (ticks w n (n - 1) x (omega (arith, lt)))
     ∙ h x a d i
 
 -- `this`, and then something

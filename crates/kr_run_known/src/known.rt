@@ -8,7 +8,7 @@ use kr_run_state::World;
 use kr_value::Value;
 
 /// An expression's value, and the fuel that is left behind it.
-#[derive(Clone, Copy, Debug)]
+#[derive(Clone, Copy)]
 pub struct Known {
     pub value: Value,
     pub fuel: u64,

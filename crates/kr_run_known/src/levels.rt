@@ -8,7 +8,7 @@ ghost use Rattle.kr_mean.specs.Meaning.{choose};
 ghost use Rattle.kr_mean.specs.Operators.{operated, operated_alone};
 ghost use Rattle.kr_code.specs.declared.code.Code.{Code};
 ghost use Rattle.kr_code.specs.Collections.{name_of};
-ghost use Rattle.kr_code.specs.Doing.{value_of, values_at};
+ghost use Rattle.kr_code.specs.Doing.{value_done, values_at};
 ghost use Rattle.kr_code.specs.Steps.{load_named};
 ghost use Rattle.kr_code.specs.Tables.{expression_of, listed, node_at, statement_of};
 ghost use Rattle.kr_run_state.specs.declared.world.World.{World};
@@ -296,7 +296,7 @@ fn parts_in<L: Look>(
     expression: &Expression,
     fuel: u64,
 ) -> Option<Known>
-    ensures { IfSome result (λ k. Knows code.now world.now fuel k (λ d. value_of code.now d expression.now)) }
+    ensures { IfSome result (λ k. Knows code.now world.now fuel k (λ d. value_done code.now d expression.now)) }
 {
     match expression {
         Expression::OwnField(name) => own_field(code, world, *name, fuel),
@@ -339,7 +339,7 @@ fn value_in<L: Look>(
     expression: &Expression,
     fuel: u64,
 ) -> Option<Known>
-    ensures { IfSome result (λ k. Knows code.now world.now fuel k (λ d. value_of code.now d expression.now)) }
+    ensures { IfSome result (λ k. Knows code.now world.now fuel k (λ d. value_done code.now d expression.now)) }
 {
     match expression {
         Expression::Literal(value) => Some(Known {

@@ -1,5 +1,5 @@
 -- What a run of a method costs.
-use Rattle.std.proofs.Common.{◌≡◌, ℕ, ◌+◌, ◌≤◌, Bool, true, false, List, [], ◌∷◌, Result, Ok, Err, refl, ap, ◌∙◌, arith}
+use Rattle.std.proofs.Common.{Option, ◌≡◌, ℕ, ◌+◌, ◌≤◌, Bool, true, false, List, [], ◌∷◌, Result, Ok, Err, refl, ap, ◌∙◌, arith}
 use Rattle.kr_value.specs.declared.value.Value.{Value}
 use Rattle.kr_value.specs.declared.value.Value.TheVariants.{Null}
 use Rattle.kr_value.specs.Heaps.{Heap}
@@ -9,18 +9,18 @@ use Rattle.kr_mean.specs.Program.{Program}
 use Rattle.kr_mean.specs.Steps.{Stop, Trapped, OutOfFuel, Stuck, State, Outcome, Run}
 use Rattle.kr_mean.specs.Meaning.{body_of}
 use Rattle.kr_laws_costs.specs.Laws.{IsSameWith}
-use Rattle.kr_laws_costs.proofs.Costs.{cost}
-use Rattle.kr_run_method.specs.declared.executed.Ending.{Ending}
-use Rattle.kr_run_method.specs.declared.executed.Ending.TheVariants.{Spent}
+use Rattle.kr_laws_costs.proofs.Costs.{body_cost}
+use Rattle.kr_run_state.specs.declared.world.End.{End}
+use Rattle.kr_run_state.specs.declared.world.End.TheVariants as ends
 use Rattle.kr_run_method.specs.declared.executed.Executed.{Executed}
 use Rattle.kr_run_method.specs.Executed.{begun, ending_of, executed, left_by, run_on}
 use Rattle.kr_run_method.specs.Costs.{HasCost}
 
-is_spent : (void : Bool) (r : Result Value Stop) → r ≡ Err OutOfFuel → ending_of void r ≡ Spent
+is_spent : (void : Bool) (r : Result Value Stop) → r ≡ Err OutOfFuel → ending_of void r ≡ Err ends.OutOfFuel
 is_spent true r e = ap (ending_of true) e
 is_spent false r e = ap (ending_of false) e
 
-was_spent : (void : Bool) (r : Result Value Stop) → ending_of void r ≡ Spent → r ≡ Err OutOfFuel
+was_spent : (void : Bool) (r : Result Value Stop) → ending_of void r ≡ Err ends.OutOfFuel → r ≡ Err OutOfFuel
 was_spent true (Err OutOfFuel) e = refl
 was_spent false (Err OutOfFuel) e = refl
 was_spent true (Ok v) e = cc (e)
@@ -35,7 +35,7 @@ same_left void more o o' x =
     ap (λ (r : Result Value Stop). of (ending_of void r) o'.after.heap o'.after.fuel) x.said
     ∙ ap (λ (t : State). of (ending_of void o.said) t.heap t.fuel) x.after
   where
-    of : Ending → Heap → ℕ → Executed
+    of : Result (Option Value) End → Heap → ℕ → Executed
     of end heap left = record { end = end; heap = heap; left = left }
 
 module _ (program : Program) (m : tables.Method) (heap : Heap) where
@@ -48,9 +48,9 @@ module _ (program : Program) (m : tables.Method) (heap : Heap) where
   abbrev Cost : Bool → List Value → ℕ → Type 0
   Cost b vs fuel = (c : ℕ) × (c ≤ fuel) × HasCost (run b vs) c
 
-  entered : (o : Value) (vs : List Value) (fuel : ℕ) → ((left_by (is_void m.result) (bodies o vs (begun heap fuel))).end ≡ Spent → ⊥) → (c : ℕ) × (c ≤ fuel) × HasCost (λ f. left_by (is_void m.result) (bodies o vs (begun heap f))) c
+  entered : (o : Value) (vs : List Value) (fuel : ℕ) → ((left_by (is_void m.result) (bodies o vs (begun heap fuel))).end ≡ Err ends.OutOfFuel → ⊥) → (c : ℕ) × (c ≤ fuel) × HasCost (λ f. left_by (is_void m.result) (bodies o vs (begun heap f))) c
   entered o vs fuel fine =
-      let found = cost program o vs m (begun heap 0) fuel (λ e. fine (is_spent (is_void m.result) (bodies o vs (begun heap fuel)).said e)) in (
+      let found = body_cost program o vs m (begun heap 0) fuel (λ e. fine (is_spent (is_void m.result) (bodies o vs (begun heap fuel)).said e)) in (
         found.0,
         found.1,
         record {
@@ -60,10 +60,10 @@ module _ (program : Program) (m : tables.Method) (heap : Heap) where
         },
       )
 
-  cost_on : (b : Bool) (vs : List Value) (fuel : ℕ) → ((run b vs fuel).end ≡ Spent → ⊥) → Cost b vs fuel
+  cost_on : (b : Bool) (vs : List Value) (fuel : ℕ) → ((run b vs fuel).end ≡ Err ends.OutOfFuel → ⊥) → Cost b vs fuel
   cost_on true vs fuel fine = entered Null vs fuel fine
   cost_on false (o ∷ vs) fuel fine = entered o vs fuel fine
   cost_on false [] fuel fine = (0, omega arith, record { below = λ f lt. absurd (omega (arith, lt)); enough = fine; above = λ more. refl })
 
-  pub has_cost : (values : List Value) (fuel : ℕ) → ((executed program m values heap fuel).end ≡ Spent → ⊥) → (c : ℕ) × (c ≤ fuel) × HasCost (executed program m values heap) c
+  pub has_cost : (values : List Value) (fuel : ℕ) → ((executed program m values heap fuel).end ≡ Err ends.OutOfFuel → ⊥) → (c : ℕ) × (c ≤ fuel) × HasCost (executed program m values heap) c
   has_cost values fuel fine = cost_on m.is_static values fuel fine

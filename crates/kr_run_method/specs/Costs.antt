@@ -1,19 +1,19 @@
 -- Between crates: what it costs to run a method on values.
-use Rattle.std.specs.Prelude.{◌≡◌, ℕ, ◌+◌, ◌<◌, ◌≤◌, List}
+use Rattle.std.specs.Prelude.{◌≡◌, ℕ, ◌+◌, ◌<◌, ◌≤◌, List, Err}
 use Rattle.kr_value.specs.declared.value.Value.{Value}
 use Rattle.kr_value.specs.Heaps.{Heap}
 use Rattle.kr_classes_table.specs.Table as tables
 use Rattle.kr_mean.specs.Program.{Program}
-use Rattle.kr_run_method.specs.declared.executed.Ending.TheVariants.{Spent}
+use Rattle.kr_run_state.specs.declared.world.End.TheVariants.{OutOfFuel}
 use Rattle.kr_run_method.specs.declared.executed.Executed.{Executed}
 use Rattle.kr_run_method.specs.Executed.{executed}
 
 -- A run by its fuel is spent exactly where its cost is above the fuel; more fuel than that changes nothing but what is left.
 pub record HasCost (run : ℕ → Executed) (cost : ℕ) : Type 0 where
-  pub below : (fuel : ℕ) → fuel < cost → (run fuel).end ≡ Spent
-  pub enough : (run cost).end ≡ Spent → ⊥
+  pub below : (fuel : ℕ) → fuel < cost → (run fuel).end ≡ Err OutOfFuel
+  pub enough : (run cost).end ≡ Err OutOfFuel → ⊥
   pub above : (more : ℕ) → run (cost + more) ≡ record (run cost) { left = (run cost).left + more }
 
 abbrev pub SpentLaw : Type 0
-SpentLaw = (program : Program) (m : tables.Method) (values : List Value) (heap : Heap) (fuel : ℕ) → ((executed program m values heap fuel).end ≡ Spent → ⊥)
+SpentLaw = (program : Program) (m : tables.Method) (values : List Value) (heap : Heap) (fuel : ℕ) → ((executed program m values heap fuel).end ≡ Err OutOfFuel → ⊥)
     → (cost : ℕ) × (cost ≤ fuel) × HasCost (executed program m values heap) cost

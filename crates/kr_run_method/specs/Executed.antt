@@ -14,8 +14,8 @@ use Rattle.kr_code.specs.declared.code.MethodCode.{MethodCode}
 use Rattle.kr_code.specs.Doing.{Doing, run_method}
 use Rattle.kr_code.specs.Resolved.{Numbering, IsMethod}
 use Rattle.kr_code.specs.Tables.{method_at}
-use Rattle.kr_run_method.specs.declared.executed.Ending.{Ending}
-use Rattle.kr_run_method.specs.declared.executed.Ending.TheVariants as endings
+use Rattle.kr_run_state.specs.declared.world.End.{End}
+use Rattle.kr_run_state.specs.declared.world.End.TheVariants as ends
 use Rattle.kr_run_method.specs.declared.executed.Executed.{Executed}
 use Rattle.kr_run_method.specs.declared.executed.Method.{Method}
 
@@ -42,12 +42,12 @@ run_on false body [] = stop Stuck
 -- ---- behind it
 
 -- A method without result gives no value.
-abbrev pub ending_of : Bool → Result Value Stop → Ending
-ending_of true (Ok v) = endings.Void
-ending_of false (Ok v) = endings.Value v
-ending_of void (Err (Trapped kind)) = endings.Trap kind
-ending_of void (Err OutOfFuel) = endings.Spent
-ending_of void (Err Stuck) = endings.Stuck
+abbrev pub ending_of : Bool → Result Value Stop → Result (Option Value) End
+ending_of true (Ok v) = Ok None
+ending_of false (Ok v) = Ok (Some v)
+ending_of void (Err (Trapped kind)) = Err (ends.Trapped kind)
+ending_of void (Err OutOfFuel) = Err ends.OutOfFuel
+ending_of void (Err Stuck) = Err ends.Stuck
 
 abbrev pub left_by : Bool → Outcome Value → Executed
 left_by void o = record { end = ending_of void o.said; heap = o.after.heap; left = o.after.fuel }

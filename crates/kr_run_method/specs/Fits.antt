@@ -1,5 +1,5 @@
 -- Between crates: when a call is one that typing accepts: then its run isn't stuck.
-use Rattle.std.specs.Prelude.{◌≡◌, ℕ, Bool, true, false, List, [], ◌∷◌, Some}
+use Rattle.std.specs.Prelude.{◌≡◌, ℕ, Bool, true, false, List, [], ◌∷◌, Some, Err}
 use Rattle.kr_value.specs.declared.value.Value.{Value}
 use Rattle.kr_value.specs.Heaps.{Heap}
 use Rattle.kr_classes_table.specs.Types.{JavaType}
@@ -11,7 +11,7 @@ use Rattle.kr_code.specs.Resolved.{Numbering, IsCodeOf}
 use Rattle.kr_laws_safety.specs.Fits.{AreOf, IsHeapOf}
 use Rattle.kr_laws_safety.specs.Triples.{IsThis}
 use Rattle.kr_laws_safety.specs.Typed.{IsTypedProgram, types_in}
-use Rattle.kr_run_method.specs.declared.executed.Ending.TheVariants.{Stuck}
+use Rattle.kr_run_state.specs.declared.world.End.TheVariants.{Stuck}
 use Rattle.kr_run_method.specs.declared.executed.Executed.{Executed}
 use Rattle.kr_run_method.specs.declared.executed.Method.{Method}
 use Rattle.kr_run_method.specs.Executed.{IsMethodOf}
@@ -22,7 +22,8 @@ AreGiven table types m true arguments = AreOf table types (types_in m.parameters
 AreGiven table types m false (receiver ∷ arguments) = IsThis table types (Some m.class) receiver × AreOf table types (types_in m.parameters) arguments
 AreGiven table types m false [] = ⊥
 
--- a method of the program, on a heap and values of their types
+-- a method of the program, on a heap and values of their types; of an array whose type the program doesn't number nothing is
+-- asked
 pub record IsCall (program : Program) (m : tables.Method) (values : List Value) (heap : Heap) : Type 0 where
   pub class : ℕ
   pub name : List ℕ
@@ -34,4 +35,4 @@ pub record IsCall (program : Program) (m : tables.Method) (values : List Value) 
 -- a run of a typed program's code doesn't end at a node without a meaning
 abbrev pub IsUnstuck : Code → Method → List Value → Heap → Executed → Type 0
 IsUnstuck code method values heap run =
-    (program : Program) (n : Numbering) (m : tables.Method) → IsCodeOf program code n → IsMethodOf code n m method → IsTypedProgram program → IsCall program m values heap → run.end ≡ Stuck → ⊥
+    (program : Program) (n : Numbering) (m : tables.Method) → IsCodeOf program code n → IsMethodOf code n m method → IsTypedProgram program → IsCall program m values heap → run.end ≡ Err Stuck → ⊥

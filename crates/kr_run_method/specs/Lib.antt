@@ -1,4 +1,3 @@
 pub mod Executed
-pub mod Answers
 pub mod Fits
 pub mod Costs

@@ -6,6 +6,6 @@ mod executed;
 mod laws;
 mod run;
 
-pub use executed::{Ending, Executed, Method};
+pub use executed::{Executed, Method};
 pub use laws::spent_law;
 pub use run::execute;

@@ -1,24 +1,27 @@
 // A method is run.
-ghost use Rattle.std.specs.Prelude.{◌≡◌, [], IfOk, true};
+ghost use Rattle.std.specs.Prelude.{◌≡◌, [], IfOk, Result, true};
 ghost use Rattle.kr_code.specs.Doing.{Doing, IsMeaning, run_method as run_step};
 ghost use Rattle.kr_code.specs.Resolved.{IsCodeOf, Numbering};
 ghost use Rattle.kr_code.specs.Tables.{method_at};
-ghost use Rattle.kr_run_method.specs.Answers.{IsEnding};
-ghost use Rattle.kr_run_method.specs.Executed.{IsMethodOf, begun, executed, executed_at, gives_nothing, left_by};
+ghost use Rattle.kr_run_method.specs.Executed.{IsMethodOf, begun, ending_of, executed, executed_at, gives_nothing, left_by};
 ghost use Rattle.kr_run_method.specs.Fits.{IsUnstuck};
 ghost use Rattle.kr_run_frames.specs.Frames.{resumed};
 ghost use Rattle.kr_mean.specs.Program.{Program};
 ghost use Rattle.kr_run.specs.Answers.{Answers};
 ghost use Rattle.kr_classes_table.specs.Table.{Method as TableMethod};
+ghost use Rattle.kr_mean.specs.Steps.{Stop};
+ghost use Rattle.kr_run_state.specs.Ends.{IsSaid};
 ghost use Rattle.kr_run_state.specs.Worlds.{state_at, state_of};
+ghost use Rattle.kr_value.specs.declared.value.Value.{Value as Given};
 
-use crate::executed::{Ending, Executed, Method};
+use crate::executed::{Executed, Method};
 use kr_base::NoMemory;
+use kr_classes_table::MethodId;
 use kr_code::{Code, Nodes};
 use kr_heap::Heap;
 use kr_run::{Step, advance};
 use kr_run_frames::{Goal, Stack, Task};
-use kr_run_state::{End, Halt, Reads, World};
+use kr_run_state::{End, Halt, Reads, World, ended};
 use kr_value::Value;
 use std::alloc::Global;
 
@@ -52,16 +55,18 @@ fn run(
     ensures { Answers code.now result world.new world.old (λ d x. resumed code.now d stack.old task (state_at world.old x)) }
 {
     let mut next = task;
-    'steps: for _ in 0..u64::MAX {
+    let mut taken: u64 = 0;
+    'steps: while taken < u64::MAX {
+        taken += 1;
         match advance(alloc, code, world, stack, &mut next) {
             Err(Halt::Ended(end)) => return Err(Halt::Ended(end)),
-            Err(Halt::Memory) => return Err(Halt::Memory),
+            Err(Halt::Memory(why)) => return Err(Halt::Memory(why)),
             Err(Halt::Written) => return Err(Halt::Written),
             Ok(Step::Finished(given)) => return Ok(given),
             Ok(Step::More) => {}
         }
     }
-    Err(Halt::Memory)
+    Err(Halt::Memory(NoMemory::at_limit(taken)))
 }
 
 /// Calls a method on a receiver and arguments: what it gives, or how the run ends.
@@ -69,7 +74,7 @@ fn call(
     alloc: Global,
     code: &Code,
     world: &mut World,
-    method: u32,
+    method: MethodId,
     receiver: Value,
     arguments: &[Value],
 ) -> Result<Value, Halt>
@@ -78,14 +83,12 @@ fn call(
     let mut stack = Stack::new(alloc);
     let goal = Goal::Run(receiver, Some(method));
     let none = Nodes { first: 0, count: 0 };
-    if stack.push_arguments(goal, none, arguments).is_err() {
-        return Err(Halt::Memory);
-    }
+    stack.push_arguments(goal, none, arguments)?;
     run(alloc, code, world, &mut stack, Task::Arguments)
 }
 
 /// Whether a method has no result.
-fn is_void(code: &Code, method: u32) -> bool
+fn is_void(code: &Code, method: MethodId) -> bool
     ensures { result ≡ gives_nothing (method_at code.now method) }
 {
     match code.method(method) {
@@ -94,24 +97,15 @@ fn is_void(code: &Code, method: u32) -> bool
     }
 }
 
-/// How a run has ended.
-fn ending_of(is_void: bool, said: Result<Value, Halt>) -> Result<Ending, NoMemory>
-    ensures { IsEnding is_void said result }
+/// What a run gives: nothing, where the method has no result.
+fn given(is_void: bool, end: Result<Value, End>) -> Result<Option<Value>, End>
+    ensures { (said : Result Given Stop) → IsSaid end said → result ≡ ending_of is_void said }
 {
-    match said {
-        Ok(value) => {
-            if is_void {
-                Ok(Ending::Void)
-            } else {
-                Ok(Ending::Value(value))
-            }
-        }
-        Err(Halt::Ended(End::Trapped(kind))) => Ok(Ending::Trap(kind)),
-        Err(Halt::Ended(End::OutOfFuel)) => Ok(Ending::Spent),
-        Err(Halt::Ended(End::Stuck)) => Ok(Ending::Stuck),
-        Err(Halt::Memory) => Err(NoMemory),
-        // no run ends so where there are no candidates
-        Err(Halt::Written) => Err(NoMemory),
+    match end {
+        Ok(value) => { if is_void { Ok(None) } else { Ok(Some(value)) } }
+        Err(End::Trapped(kind)) => Err(End::Trapped(kind)),
+        Err(End::OutOfFuel) => Err(End::OutOfFuel),
+        Err(End::Stuck) => Err(End::Stuck),
     }
 }
 
@@ -120,7 +114,7 @@ fn run_on(
     alloc: Global,
     code: &Code,
     heap: Heap,
-    method: u32,
+    method: MethodId,
     receiver: Value,
     arguments: &[Value],
     fuel: u64,
@@ -129,12 +123,15 @@ fn run_on(
 {
     let mut world = world_of(alloc, heap, fuel);
     let said = call(alloc, code, &mut world, method, receiver, arguments);
-    let end = ending_of(is_void(code, method), said)?;
-    Ok(Executed {
-        end,
-        heap: world.made,
-        left: world.fuel,
-    })
+    match ended(said)? {
+        Some(end) => Ok(Executed {
+            end: given(is_void(code, method), end),
+            heap: world.made,
+            left: world.fuel,
+        }),
+        // there are no candidates
+        None => unreachable!(),
+    }
 }
 
 /// Runs a method on values, the receiver first where it isn't static.
@@ -157,7 +154,7 @@ fn run_method(
             run_on(alloc, code, heap, number, *receiver, arguments, fuel)
         }
         None => Ok(Executed {
-            end: Ending::Stuck,
+            end: Err(End::Stuck),
             heap,
             left: fuel,
         }),

@@ -3,7 +3,7 @@ ghost use Rattle.std.specs.Prelude.{◌≡◌, [], ◌∷◌};
 ghost use Rattle.kr_mean.specs.Steps.{bind, collect as collect_step, element as element_step};
 ghost use Rattle.kr_code.specs.Collections.{name_of};
 ghost use Rattle.kr_code.specs.Steps.{load_named};
-ghost use Rattle.kr_code.specs.Doing.{value_of, call, assigned, changed, values_at};
+ghost use Rattle.kr_code.specs.Doing.{value_done, call, assigned, changed, values_at};
 ghost use Rattle.kr_run_frames.specs.Frames.{out_value, change_of};
 ghost use Rattle.kr_run_frames.specs.Leads.{Leads, next_task};
 ghost use Rattle.kr_run_state.specs.Worlds.{state_at};
@@ -308,7 +308,7 @@ fn enter_expression(
     expression: &Expression,
     task: &mut Task,
 ) -> Result<(), Halt>
-    ensures { Leads code.now (next_task result task.new) stack.new world.new world.old (λ d x. out_value code.now d stack.old (value_of code.now d expression.now (state_at world.old x))) }
+    ensures { Leads code.now (next_task result task.new) stack.new world.new world.old (λ d x. out_value code.now d stack.old (value_done code.now d expression.now (state_at world.old x))) }
 {
     match expression {
         Expression::Stuck => {
@@ -449,7 +449,7 @@ fn enter_ticked(
     node: u32,
     task: &mut Task,
 ) -> Result<(), Halt>
-    ensures { Leads code.now (next_task result task.new) stack.new world.new world.old (λ d x. out_value code.now d stack.old (value_of code.now d (expression_of (node_at code.now node)) (state_at world.old x))) }
+    ensures { Leads code.now (next_task result task.new) stack.new world.new world.old (λ d x. out_value code.now d stack.old (value_done code.now d (expression_of (node_at code.now node)) (state_at world.old x))) }
 {
     match expression_at(code, node) {
         None => {

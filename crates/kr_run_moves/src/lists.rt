@@ -1,11 +1,9 @@
 // Lists of nodes: statements, declarators, updates, arguments.
-ghost use Rattle.std.specs.Prelude.{◌≡◌, ◌∷◌, reverse, IfOk, IfErr, OnOk};
-ghost use Rattle.kr_run_frames.specs.Frame as frames;
-ghost use Rattle.kr_run_state.specs.declared.world.Halt.TheVariants.{Memory};
-ghost use Rattle.kr_mean.specs.Steps.{bind, give};
+ghost use Rattle.std.specs.Prelude.{◌≡◌, ◌∷◌};
+ghost use Rattle.kr_mean.specs.Steps.{bind};
 ghost use Rattle.kr_code.specs.Tables.{listed};
-ghost use Rattle.kr_code.specs.Doing.{all_at, all_declared, updates_at, values_at};
-ghost use Rattle.kr_run_frames.specs.Frames.{out_value, out_flow, out_unit, continued, applied, upwards, onto, repeated};
+ghost use Rattle.kr_code.specs.Doing.{all_at, all_declared, updates_at};
+ghost use Rattle.kr_run_frames.specs.Frames.{out_flow, repeated};
 ghost use Rattle.kr_run_frames.specs.Leads.{Leads, next_task};
 ghost use Rattle.kr_run_state.specs.Worlds.{state_at};
 

@@ -1,5 +1,5 @@
 // Frames that wait for what comes next.
-ghost use Rattle.std.specs.Prelude.{◌≡◌, ◌∷◌, [], OnOk, IfOk, IfErr};
+ghost use Rattle.std.specs.Prelude.{◌≡◌, ◌∷◌, [], OnOk};
 ghost use Rattle.kr_run_frames.specs.Frame as frames;
 ghost use Rattle.kr_run_frames.specs.Kept.{HasNoList, frame_of};
 ghost use Rattle.kr_run_frames.specs.declared.frame.ValueFrame.TheVariants as values;
@@ -9,65 +9,55 @@ ghost use Rattle.kr_code.specs.declared.code.Code.{Code};
 ghost use Rattle.kr_run_frames.specs.Frames.{out_value, got, wrote};
 ghost use Rattle.kr_run_frames.specs.Leads.{Leads, next_task};
 ghost use Rattle.kr_run_state.specs.declared.world.World.{World};
-ghost use Rattle.kr_run_state.specs.declared.world.Halt.TheVariants.{Memory};
 ghost use Rattle.kr_run_state.specs.Worlds.{state_at};
 
 use kr_code::Nodes;
 use kr_run_frames::{
     FlowFrame, Goal, Stack, Task, TestFrame, UnitFrame, ValueFrame, Waiting, WriteFrame,
 };
-use kr_run_state::Halt;
+use kr_run_state::{Halt, NoMemory};
 use kr_value::Value;
 
 /// A frame more, without lists.
 #[inline(always)]
-pub fn push(stack: &mut Stack, frame: Waiting) -> Result<(), Halt>
+pub fn push(stack: &mut Stack, frame: Waiting) -> Result<(), NoMemory>
     requires { HasNoList frame }
     ensures pushed { OnOk result (stack.new ≡ frame_of frame [] [] ∷ stack.old) }
-    ensures memory { IfErr result (λ halt. halt ≡ Memory) }
 {
-    if stack.push(frame).is_err() {
-        return Err(Halt::Memory);
-    }
-    Ok(())
+    stack.push(frame)
 }
 
 #[inline(always)]
-pub fn value(stack: &mut Stack, frame: ValueFrame) -> Result<(), Halt>
+pub fn value(stack: &mut Stack, frame: ValueFrame) -> Result<(), NoMemory>
     ensures pushed { OnOk result (stack.new ≡ frames.Value frame ∷ stack.old) }
-    ensures memory { IfErr result (λ halt. halt ≡ Memory) }
 {
     push(stack, Waiting::Value(frame))
 }
 
 #[inline(always)]
-pub fn write(stack: &mut Stack, frame: WriteFrame) -> Result<(), Halt>
+pub fn write(stack: &mut Stack, frame: WriteFrame) -> Result<(), NoMemory>
     ensures pushed { OnOk result (stack.new ≡ frames.Value (values.Write frame) ∷ stack.old) }
-    ensures memory { IfErr result (λ halt. halt ≡ Memory) }
 {
     value(stack, ValueFrame::Write(frame))
 }
 
 #[inline(always)]
-pub(crate) fn test(stack: &mut Stack, frame: TestFrame) -> Result<(), Halt>
+pub(crate) fn test(stack: &mut Stack, frame: TestFrame) -> Result<(), NoMemory>
     ensures pushed { OnOk result (stack.new ≡ frames.Test frame ∷ stack.old) }
-    ensures memory { IfErr result (λ halt. halt ≡ Memory) }
 {
     push(stack, Waiting::Test(frame))
 }
 
 #[inline(always)]
-pub fn flow(stack: &mut Stack, frame: FlowFrame) -> Result<(), Halt>
+pub fn flow(stack: &mut Stack, frame: FlowFrame) -> Result<(), NoMemory>
     ensures pushed { OnOk result (stack.new ≡ frames.Flow frame ∷ stack.old) }
-    ensures memory { IfErr result (λ halt. halt ≡ Memory) }
 {
     push(stack, Waiting::Flow(frame))
 }
 
 #[inline(always)]
-pub fn unit(stack: &mut Stack, frame: UnitFrame) -> Result<(), Halt>
+pub fn unit(stack: &mut Stack, frame: UnitFrame) -> Result<(), NoMemory>
     ensures pushed { OnOk result (stack.new ≡ frames.Unit frame ∷ stack.old) }
-    ensures memory { IfErr result (λ halt. halt ≡ Memory) }
 {
     push(stack, Waiting::Unit(frame))
 }
@@ -78,14 +68,10 @@ pub fn await_arguments(
     goal: Goal,
     nodes: Nodes,
     found: &[Value],
-) -> Result<(), Halt>
+) -> Result<(), NoMemory>
     ensures pushed { OnOk result (stack.new ≡ frames.Arguments goal nodes found.now ∷ stack.old) }
-    ensures memory { IfErr result (λ halt. halt ≡ Memory) }
 {
-    if stack.push_arguments(goal, nodes, found).is_err() {
-        return Err(Halt::Memory);
-    }
-    Ok(())
+    stack.push_arguments(goal, nodes, found)
 }
 
 /// A node's value comes next, and then the frame.

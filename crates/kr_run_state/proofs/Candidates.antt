@@ -3,8 +3,7 @@ use Rattle.std.proofs.Common.{◌≡◌, ℕ, ◌+◌, ◌-◌, ◌<◌, Bool, t
 use Rattle.std.specs.Prelude.{◌||◌, slice_set, Option, if◌then◌else◌, nat_lt}
 use Rattle.std.proofs.lemmas.List.{set-append_left, set-append_right, get_or_append_left, get_or-append-add, length-set}
 use Rattle.std.proofs.lemmas.Bool.{eq-eqb, lt-ltb, le-ltb, ltb-false, ltb-true}
-use Rattle.std.specs.Prelude.{◌&&◌, Result, Ok, Err, OnOk, ℤ, pos}
-use Rattle.std.specs.Result.{is_err}
+use Rattle.std.specs.Prelude.{◌&&◌, Result, Ok, Err, ℤ, pos}
 use Rattle.kr_value.specs.declared.value.Value.{Value}
 use Rattle.kr_value.specs.declared.value.Value.TheVariants.{Int, Ref as Reference, Null}
 use Rattle.kr_value.specs.declared.object.Class.TheVariants.{Object, Array, Set, List as Sequence}
@@ -18,7 +17,7 @@ use Rattle.kr_heap.specs.Objects.{found, with_value, with_values}
 use Rattle.kr_mean.specs.Places.{SlotPlace, At}
 use Rattle.kr_mean.specs.Runs.{is_same_place, is_same_spot}
 use Rattle.kr_run_state.specs.Noting.{is_read, with_read, noted_once, noting}
-use Rattle.kr_run_state.specs.Worlds.{Others, AreLike, candidates_of, is_fixed, IsArray, Allows, Agrees, Keeps}
+use Rattle.kr_run_state.specs.Worlds.{Others, AreLike, candidates_of, is_fixed, IsArray, Allows, Agrees, Keeps, HasFrozen}
 use Rattle.kr_run_state.specs.declared.world.World.{World}
 use Rattle.kr_run_state.specs.declared.world.Halt.{Halt}
 use Rattle.kr_run_state.specs.declared.world.Halt.TheVariants.{Ended, Memory, Written}
@@ -127,10 +126,6 @@ element_has r k h = go r.class h
     go (Array t) a = refl
     go Set a = absurd a
     go Sequence a = absurd a
-
-pub ok_is : {A E P : Type 0} (r : Result A E) → is_err r ≡ false → OnOk r P → P
-ok_is (Ok a) e p = p
-ok_is (Err x) e p = absurd (cc (e))
 
 module _ (frozen : Bool) (own : Heap) where
   -- what allows fewer reads
@@ -311,18 +306,25 @@ module _ (frozen : Bool) (own : Heap) where
   puts_candidate seen new made (Some others) o at v s free is lt a = absurd (cc (free, a.unwritten))
 
 pub kept_same : (w : World) (x : Others) → Allows w x → Keeps w w x
-kept_same w x a = record { allowed = a; frozen = λ e. e; same = λ e. refl }
+kept_same w x a = record { allowed = a; frozen = λ e. e; frozen_before = λ e. e; same = λ e. refl }
 
 pub kept_then : (before middle w : World) (x : Others) → Keeps before middle x → Keeps middle w x → Keeps before w x
 kept_then before middle w x k l = record {
   allowed = k.allowed;
   frozen = λ e. l.frozen (k.frozen e);
+  frozen_before = λ e. k.frozen_before (l.frozen_before e);
   same = λ e. l.same (k.frozen e) ∙ k.same e;
 }
+
+-- candidates that must not be written were there before
+pub frozen_then : (before middle : World) → Keeps before middle None → HasFrozen middle → HasFrozen before
+frozen_then before middle k f =
+    let frozen = k.frozen_before f.frozen in
+    record { frozen = frozen; some = subst (λ (own : Heap). 0 < length own) (k.same frozen) f.some }
 
 -- the same by another way, where that is allowed
 pub agrees_same : {A : Type 0} (r : Result A Halt) (w before : World) (o o' : Others → Outcome A) → ((x : Others) → Allows before x → o x ≡ o' x) → Agrees r w before o' → Agrees r w before o
 agrees_same {A} (Ok v) w before o o' e h = λ x a. let r = h x a in (r.0, ap (λ (q : Outcome A). noting before.reads q) (e x r.0.allowed) ∙ r.1)
 agrees_same {A} (Err (Ended end)) w before o o' e h = λ x a. let r = h x a in (r.0, ap (λ (q : Outcome A). noting before.reads q) (e x r.0.allowed) ∙ r.1)
-agrees_same (Err Memory) w before o o' e h = tt
-agrees_same (Err Written) w before o o' e h = tt
+agrees_same (Err (Memory why)) w before o o' e h = tt
+agrees_same (Err Written) w before o o' e h = h

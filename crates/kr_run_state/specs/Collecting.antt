@@ -12,5 +12,5 @@ Collects (Ok v) old new c = c ≡ gives v new
 Collects (Err (Ended (ends.Trapped k))) old new c = c ≡ Some (record { given = Err k; members = new })
 Collects (Err (Ended ends.Stuck)) old new c = (c ≡ None) × (new ≡ old)
 Collects (Err (Ended ends.OutOfFuel)) old new c = ⊥
-Collects (Err Memory) old new c = Unit {0}
-Collects (Err Written) old new c = Unit {0}
+Collects (Err (Memory why)) old new c = Unit {0}
+Collects (Err Written) old new c = ⊥

@@ -71,15 +71,22 @@ state_of w = state_at w None
 pub record Keeps (before w : World) (x : Others) : Type 0 where
   pub allowed : Allows before x
   pub frozen : before.is_frozen ≡ true → w.is_frozen ≡ true
+  pub frozen_before : w.is_frozen ≡ true → before.is_frozen ≡ true
   pub same : before.is_frozen ≡ true → w.candidates ≡ before.candidates
 
+-- It has candidates, and they aren't written.
+pub record HasFrozen (w : World) : Type 0 where
+  pub frozen : w.is_frozen ≡ true
+  pub some : 0 < length w.candidates
+
 -- The answer, the world and its reads are the outcome's, after what was read before: with all candidates that what was read
--- until then allows. Where memory ran out, or a candidate would have been written that must not be, nothing is said.
+-- until then allows. Where memory ran out nothing is said. That a candidate would have been written that must not be is
+-- answered only where there are such.
 abbrev pub Agrees : {A : Type 0} → Result A Halt → World → World → (Others → Outcome A) → Type 0
 Agrees (Ok a) w before o = (x : Others) → Allows w x → Keeps before w x × (noting before.reads (o x) ≡ record { said = Ok a; after = state_at w x; reads = w.reads })
 Agrees (Err (Ended e)) w before o = (x : Others) → Allows w x → Keeps before w x × (noting before.reads (o x) ≡ record { said = Err (stop_of e); after = state_at w x; reads = w.reads })
-Agrees (Err Memory) w before o = Unit {0}
-Agrees (Err Written) w before o = Unit {0}
+Agrees (Err (Memory why)) w before o = Unit {0}
+Agrees (Err Written) w before o = HasFrozen before
 
 -- whether an object is a candidate that must not be written
 abbrev pub IsKept : World → ℕ → Bool → Type 0

@@ -11,22 +11,23 @@ use crate::operators::{operated, operated_alone};
 use crate::{End, Halt, World};
 use kr_ast::{BinaryOperator, UnaryOperator};
 use kr_base::Place;
+use kr_classes_table::{FieldId, NameId, TypeId};
 use kr_code::Code;
 use kr_value::{Class, Value};
 use std::alloc::Global;
 
 /// A variable, with the values that say which one.
-#[derive(Clone, Copy, Debug)]
+#[derive(Clone, Copy)]
 pub enum Cell {
     Local(u32),
     /// Field and object.
-    Field(u32, Value),
+    Field(FieldId, Value),
     /// Array type, array and index.
-    Item(u32, Value, Value),
+    Item(TypeId, Value, Value),
 }
 
 /// A step, with the values that it works on.
-#[derive(Clone, Copy, Debug)]
+#[derive(Clone, Copy)]
 pub enum Action {
     Give(Value),
     This,
@@ -34,13 +35,13 @@ pub enum Action {
     Result,
     Old(Place),
     /// The field of a name, of an object.
-    Load(u32, Value),
+    Load(NameId, Value),
     /// Array and index.
     Element(Value, Value),
     Unary(UnaryOperator, Value),
     Binary(BinaryOperator, Value, Value),
-    Instance(u32, Value),
-    Cast(u32, Value),
+    Instance(TypeId, Value),
+    Cast(TypeId, Value),
     /// The array type's number, what an element begins with, and the length.
     NewArray(Option<u32>, Value, Value),
     /// Without members.

@@ -14,7 +14,7 @@ use kr_code::CollectionCall;
 use kr_coll::{ListObj, SetObj};
 use kr_heap::Members;
 use kr_mean::Kind;
-use kr_value::{Class, Value};
+use kr_value::{Class, Obj, Value};
 
 /// A size, which is at most the greatest int.
 #[inline(always)]
@@ -34,7 +34,7 @@ fn set_with(members: &mut Members, call: CollectionCall, member: Value) -> Resul
     match call {
         CollectionCall::Add => match set.add(member) {
             Ok(added) => Ok(Value::Bool(added)),
-            Err(_) => Err(Halt::Memory),
+            Err(why) => Err(Halt::Memory(why)),
         },
         CollectionCall::Contains => Ok(Value::Bool(set.contains(member))),
         CollectionCall::Remove => Ok(Value::Bool(set.remove(member))),
@@ -51,7 +51,7 @@ fn list_with(members: &mut Members, call: CollectionCall, member: Value) -> Resu
     match call {
         CollectionCall::Add => match list.add(member) {
             Ok(added) => Ok(Value::Bool(added)),
-            Err(_) => Err(Halt::Memory),
+            Err(why) => Err(Halt::Memory(why)),
         },
         CollectionCall::Contains => Ok(Value::Bool(list.contains(member))),
         CollectionCall::Remove => Ok(Value::Bool(list.remove(member))),
@@ -145,8 +145,8 @@ fn call_on(
 fn collect_made(
     world: &mut World,
     call: CollectionCall,
-    object: u32,
-    number: u32,
+    object: Obj,
+    number: Obj,
     arguments: &[Value],
 ) -> Result<Value, Halt>
     requires { object ≡ length world.old.candidates + number }
@@ -164,7 +164,7 @@ fn collect_made(
 fn collect_candidate(
     world: &mut World,
     call: CollectionCall,
-    object: u32,
+    object: Obj,
     arguments: &[Value],
 ) -> Result<Value, Halt>
     requires { object < length world.old.candidates }

@@ -12,10 +12,11 @@ mod world;
 
 pub use action::{Action, Cell, act};
 pub use collections::{collect, size_value};
+pub use kr_base::NoMemory;
 pub use memory::{
     class_of, element, index_below, load_named, made_number, new_object, store_initial,
 };
 pub use names::{declare, tick};
 pub use operators::{alone, binary, operated, operated_alone};
 pub use reads::Reads;
-pub use world::{End, Halt, Local, Old, World};
+pub use world::{End, Halt, Local, Old, World, ended};

@@ -1,5 +1,5 @@
 // Objects: what is read and written, and their classes.
-ghost use Rattle.std.specs.Prelude.{◌≡◌, [], ◌++◌, ◌+◌, ◌≤◌, ◌<◌, Ok, length, true, false, MatchOption};
+ghost use Rattle.std.specs.Prelude.{◌≡◌, [], ◌++◌, ◌+◌, ◌≤◌, ◌<◌, Ok, length, replicate, true, false, IfOk, MatchOption};
 ghost use Rattle.kr_value.specs.declared.value.Value.TheVariants.{Ref as Reference, Int};
 ghost use Rattle.kr_value.specs.declared.object.Class.TheVariants.{Object};
 ghost use Rattle.kr_value.specs.Heaps.{object_in};
@@ -11,14 +11,17 @@ ghost use Rattle.kr_run_state.specs.Reading.{OnlyReads};
 ghost use Rattle.kr_run_state.specs.Worlds.{state_at, Agrees, Allows, is_fixed, candidates_of, Others, IsKept, IsArray};
 
 use crate::{End, Halt, World};
+use kr_base::NoMemory;
+use kr_classes_table::{ClassId, FieldId, NameId, TypeId};
 use kr_code::{Code, Nodes};
+use kr_heap::too_many;
 use kr_mean::Kind;
-use kr_value::{Class, SlotPlace, Spot, Value};
+use kr_value::{Class, Obj, SlotPlace, Spot, Value};
 use std::alloc::Global;
 
 /// An object's number among those that the run has made; none where it is a candidate.
 #[inline(always)]
-pub fn made_number(world: &World, object: u32) -> Option<u32>
+pub fn made_number(world: &World, object: Obj) -> Option<u32>
     ensures { MatchOption result (object < length world.now.candidates) (λ k. object ≡ length world.now.candidates + k) }
 {
     let count = world.candidates.len();
@@ -31,7 +34,7 @@ pub fn made_number(world: &World, object: u32) -> Option<u32>
 
 /// What an object is of.
 #[inline(always)]
-pub fn class_of(world: &World, object: u32) -> Class
+pub fn class_of(world: &World, object: Obj) -> Class
     ensures own { result ≡ (object_in (world.now.candidates ++ world.now.made) object).class }
     ensures all { (x : Others) → Allows world.now x → result ≡ (object_in (candidates_of world.now.candidates x ++ world.now.made) object).class }
 {
@@ -43,7 +46,7 @@ pub fn class_of(world: &World, object: u32) -> Class
 
 /// A field or the length of what the run has made.
 #[inline(always)]
-fn load_made(world: &World, object: u32, number: u32, spot: Spot) -> Result<Value, Halt>
+fn load_made(world: &World, object: Obj, number: u32, spot: Spot) -> Result<Value, Halt>
     requires { object ≡ length world.now.candidates + number }
     ensures { Agrees result world.now world.now (λ x. load_step (Reference object) spot (state_at world.now x)) }
 {
@@ -55,7 +58,7 @@ fn load_made(world: &World, object: u32, number: u32, spot: Spot) -> Result<Valu
 
 /// A field or the length of a candidate, which is read.
 #[inline(always)]
-fn load_candidate(world: &mut World, object: u32, spot: Spot) -> Result<Value, Halt>
+fn load_candidate(world: &mut World, object: Obj, spot: Spot) -> Result<Value, Halt>
     requires candidate { object < length world.old.candidates }
     requires fixed { is_fixed spot ≡ true }
     ensures agrees { Agrees result world.new world.old (λ x. load_step (Reference object) spot (state_at world.old x)) }
@@ -64,15 +67,13 @@ fn load_candidate(world: &mut World, object: u32, spot: Spot) -> Result<Value, H
     let Some(value) = world.candidates.read(object, spot) else {
         return Err(Halt::Ended(End::Stuck));
     };
-    if world.reads.note(SlotPlace::At(object, spot)).is_err() {
-        return Err(Halt::Memory);
-    }
+    world.reads.note(SlotPlace::At(object, spot))?;
     Ok(value)
 }
 
 /// A field of an object, or an array's length.
 #[inline(always)]
-fn load(world: &mut World, object: u32, spot: Spot) -> Result<Value, Halt>
+fn load(world: &mut World, object: Obj, spot: Spot) -> Result<Value, Halt>
     requires { is_fixed spot ≡ true }
     ensures agrees { Agrees result world.new world.old (λ x. load_step (Reference object) spot (state_at world.old x)) }
     ensures only { OnlyReads world.old world.new }
@@ -85,7 +86,12 @@ fn load(world: &mut World, object: u32, spot: Spot) -> Result<Value, Halt>
 
 /// The field of a name, or an array's length.
 #[tactic(auto, unfolding(kr_mean::specs::Steps::bind))]
-pub fn load_named(code: &Code, world: &mut World, name: u32, object: Value) -> Result<Value, Halt>
+pub fn load_named(
+    code: &Code,
+    world: &mut World,
+    name: NameId,
+    object: Value,
+) -> Result<Value, Halt>
     ensures agrees { Agrees result world.new world.old (λ x. load_named_step code.now name object (state_at world.old x)) }
     ensures only { OnlyReads world.old world.new }
 {
@@ -127,7 +133,7 @@ pub fn index_below(index: i32, length: usize) -> Option<u32>
 }
 
 /// An element of an array that the run has made.
-fn element_made(world: &World, object: u32, number: u32, index: i32) -> Result<Value, Halt>
+fn element_made(world: &World, object: Obj, number: u32, index: i32) -> Result<Value, Halt>
     requires made { object ≡ length world.now.candidates + number }
     requires array { IsArray (object_in world.now.made number).class }
     ensures { Agrees result world.now world.now (λ x. element_step (Reference object) (Int index) (state_at world.now x)) }
@@ -142,31 +148,19 @@ fn element_made(world: &World, object: u32, number: u32, index: i32) -> Result<V
 }
 
 /// An element of a candidate: the length is read, and then the element.
-fn element_candidate(world: &mut World, object: u32, index: i32) -> Result<Value, Halt>
+fn element_candidate(world: &mut World, object: Obj, index: i32) -> Result<Value, Halt>
     requires candidate { object < length world.old.candidates }
     requires array { IsArray (object_in world.old.candidates object).class }
     ensures agrees { Agrees result world.new world.old (λ x. element_step (Reference object) (Int index) (state_at world.old x)) }
     ensures only { OnlyReads world.old world.new }
 {
-    if world
-        .reads
-        .note(SlotPlace::At(object, Spot::Length))
-        .is_err()
-    {
-        return Err(Halt::Memory);
-    }
+    world.reads.note(SlotPlace::At(object, Spot::Length))?;
     match index_below(index, world.candidates.size_of(object)) {
         None => Err(Halt::Ended(End::Trapped(Kind::ArrayIndexOutOfBoundsException))),
         Some(at) => match world.candidates.read(object, Spot::Element(at)) {
             None => Err(Halt::Ended(End::Stuck)),
             Some(value) => {
-                if world
-                    .reads
-                    .note(SlotPlace::At(object, Spot::Element(at)))
-                    .is_err()
-                {
-                    return Err(Halt::Memory);
-                }
+                world.reads.note(SlotPlace::At(object, Spot::Element(at)))?;
                 Ok(value)
             }
         },
@@ -194,7 +188,7 @@ pub fn element(world: &mut World, array: Value, index: Value) -> Result<Value, H
 }
 
 /// Gives an object another value in one of its fields or elements.
-fn put(world: &mut World, object: u32, at: u32, value: Value) -> Result<(), Halt>
+fn put(world: &mut World, object: Obj, at: u32, value: Value) -> Result<(), Halt>
     ensures { Agrees result world.new world.old (λ x. record { said = Ok tt; after = record (state_at world.old x) { heap = put_step (candidates_of world.old.candidates x ++ world.old.made) object at value }; reads = [] }) }
 {
     match made_number(world, object) {
@@ -215,7 +209,7 @@ fn put(world: &mut World, object: u32, at: u32, value: Value) -> Result<(), Halt
 /// Such a step, which gives what is to be given.
 fn put_and_give(
     world: &mut World,
-    object: u32,
+    object: Obj,
     at: u32,
     value: Value,
     given: Value,
@@ -233,7 +227,7 @@ fn put_and_give(
 pub fn store(
     code: &Code,
     world: &mut World,
-    field: u32,
+    field: FieldId,
     object: Value,
     value: Value,
     given: Value,
@@ -254,7 +248,7 @@ pub fn store(
 pub fn store_initial(
     code: &Code,
     world: &mut World,
-    field: u32,
+    field: FieldId,
     object: Value,
     value: Value,
 ) -> Result<(), Halt>
@@ -274,7 +268,7 @@ pub fn store_initial(
 
 /// How many values an object has.
 #[inline(always)]
-fn size_of(world: &World, object: u32) -> usize
+fn size_of(world: &World, object: Obj) -> usize
     ensures { result ≡ length (object_in (world.now.candidates ++ world.now.made) object).values }
 {
     match made_number(world, object) {
@@ -285,7 +279,7 @@ fn size_of(world: &World, object: u32) -> usize
 
 /// Whether an object is a candidate that isn't written.
 #[inline(always)]
-fn is_kept(world: &World, object: u32) -> bool
+fn is_kept(world: &World, object: Obj) -> bool
     ensures { IsKept world.now object result }
 {
     world.is_frozen && (object as usize) < world.candidates.len()
@@ -293,7 +287,7 @@ fn is_kept(world: &World, object: u32) -> bool
 
 fn put_element(
     world: &mut World,
-    object: u32,
+    object: Obj,
     index: i32,
     value: Value,
     given: Value,
@@ -314,7 +308,7 @@ fn put_element(
 pub(crate) fn store_item(
     code: &Code,
     world: &mut World,
-    class: u32,
+    class: TypeId,
     array: Value,
     index: Value,
     value: Value,
@@ -339,7 +333,12 @@ pub(crate) fn store_item(
 
 /// Whether a value is an instance of a type.
 #[tactic(auto, unfolding(kr_mean::specs::Steps::bind))]
-pub(crate) fn instance(code: &Code, world: &World, class: u32, value: Value) -> Result<Value, Halt>
+pub(crate) fn instance(
+    code: &Code,
+    world: &World,
+    class: TypeId,
+    value: Value,
+) -> Result<Value, Halt>
     ensures { Agrees result world.now world.now (λ x. bind (class_or_null value) (λ c. give (instance_of code.now class c)) (state_at world.now x)) }
 {
     match value {
@@ -351,7 +350,7 @@ pub(crate) fn instance(code: &Code, world: &World, class: u32, value: Value) -> 
 
 /// A value that has to be of a type.
 #[tactic(auto, unfolding(kr_mean::specs::Steps::bind))]
-pub(crate) fn cast(code: &Code, world: &World, class: u32, value: Value) -> Result<Value, Halt>
+pub(crate) fn cast(code: &Code, world: &World, class: TypeId, value: Value) -> Result<Value, Halt>
     ensures { Agrees result world.now world.now (λ x. bind (class_or_null value) (cast_to code.now class value) (state_at world.now x)) }
 {
     match value {
@@ -372,16 +371,27 @@ fn allocate(world: &mut World, class: Class, values: Vec<Value>) -> Result<Value
     requires { length values.items ≤ 2147483647 }
     ensures { Agrees result world.new world.old (λ x. make class values.items (state_at world.old x)) }
 {
-    let Ok(count) = u32::try_from(world.candidates.len()) else {
-        return Err(Halt::Memory);
+    let candidates = world.candidates.len();
+    let Ok(count) = u32::try_from(candidates) else {
+        return Err(Halt::Memory(NoMemory::at_limit(candidates as u64)));
     };
     match world.made.allocate(class, values) {
-        Err(_) => Err(Halt::Memory),
+        Err(why) => Err(Halt::Memory(why)),
         Ok(number) => match count.checked_add(number) {
-            None => Err(Halt::Memory),
+            None => {
+                let objects = count as u64 + number as u64;
+                Err(Halt::Memory(NoMemory::at_limit(objects)))
+            }
             Some(object) => Ok(Value::Ref(object)),
         },
     }
+}
+
+/// The elements of a new array.
+fn elements(alloc: Global, default: Value, length: usize) -> Result<Vec<Value>, NoMemory>
+    ensures { IfOk result (λ values. values.items ≡ replicate length default) }
+{
+    Ok(vec![in alloc; default; length]?)
 }
 
 fn fresh_array(
@@ -397,9 +407,7 @@ fn fresh_array(
     let Some(number) = class else {
         return Err(Halt::Ended(End::Stuck));
     };
-    let Ok(values) = vec![in alloc; default; length] else {
-        return Err(Halt::Memory);
-    };
+    let values = elements(alloc, default, length)?;
     allocate(world, Class::Array(number), values)
 }
 
@@ -432,17 +440,14 @@ pub fn new_object(
     alloc: Global,
     code: &Code,
     world: &mut World,
-    class: u32,
+    class: ClassId,
     defaults: Nodes,
 ) -> Result<Value, Halt>
     ensures { Agrees result world.new world.old (λ x. make (Object class) (values_in code.now defaults) (state_at world.old x)) }
 {
-    let values = match code.copy_values(alloc, defaults) {
-        Ok(values) => values,
-        Err(_) => return Err(Halt::Memory),
-    };
-    if values.len() > 64 {
-        return Err(Halt::Memory);
+    let values = code.copy_values(alloc, defaults)?;
+    if values.len() > 2147483647 {
+        return Err(Halt::Memory(too_many(values.as_slice())));
     }
     allocate(world, Class::Object(class), values)
 }

@@ -1,7 +1,7 @@
 // Fuel, `this`, locals, and what contracts name.
 ghost use Rattle.std.specs.Prelude.{◌≡◌};
 ghost use Rattle.std.specs.Prelude.{Ok, map, option_map, slice_get};
-ghost use Rattle.kr_classes_table.specs.Constants.{is_same_place};
+ghost use Rattle.kr_classes_table.specs.Constants.{is_at_place};
 ghost use Rattle.kr_mean.specs.Places.{Parameter};
 ghost use Rattle.kr_mean.specs.Steps.{give, bind, local_at, place_reads, tick as tick_step, declare as declare_step, assign as assign_step, read_local as read_step, get_result, get_old};
 ghost use Rattle.kr_run_state.specs.Shown.{local_of};
@@ -40,9 +40,7 @@ pub fn declare(world: &mut World, value: Value) -> Result<Value, Halt>
         value,
         parameter: None,
     };
-    if append(&mut world.locals, local).is_err() {
-        return Err(Halt::Memory);
-    }
+    append(&mut world.locals, local)?;
     Ok(Value::Null)
 }
 
@@ -88,9 +86,7 @@ fn note_parameter(world: &mut World, parameter: Option<u32>) -> Result<(), Halt>
     match parameter {
         None => Ok(()),
         Some(number) => {
-            if world.reads.note(SlotPlace::Parameter(number)).is_err() {
-                return Err(Halt::Memory);
-            }
+            world.reads.note(SlotPlace::Parameter(number))?;
             Ok(())
         }
     }
@@ -122,7 +118,7 @@ pub fn result(world: &World) -> Result<Value, Halt>
 }
 
 fn is_same_place(a: Place, b: Place) -> bool
-    ensures { result ≡ is_same_place a b }
+    ensures { result ≡ is_at_place a b }
 {
     a.file == b.file && a.line == b.line && a.col == b.col
 }

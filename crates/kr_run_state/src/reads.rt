@@ -13,7 +13,7 @@ use std::alloc::Global;
 use std::marker::Model;
 
 /// The places that were read, each once, in the order of their first reads. Contracts see the list.
-#[derive(Debug, Drop)]
+#[derive(Drop)]
 pub struct Reads {
     places: Vec<SlotPlace>,
     // at each position the greatest rank of the places up to it: one that ranks higher can only stand behind it
@@ -216,11 +216,13 @@ fn append_both(
     ensures untopped { OnErr result (tops.new.items ≡ tops.old.items) }
 {
     append(tops, top)?;
-    if append(places, place).is_err() {
-        let _ = tops.pop();
-        return Err(NoMemory);
+    match append(places, place) {
+        Ok(()) => Ok(()),
+        Err(why) => {
+            let _ = tops.pop();
+            Err(why)
+        }
     }
-    Ok(())
 }
 
 /// The greater of two ranks.

@@ -1,12 +1,16 @@
 // What a run changes.
+ghost use Rattle.std.specs.Prelude.{◌≡◌};
+ghost use Rattle.kr_run_state.specs.Ends.{IsEnd};
+ghost use Rattle.kr_run_state.specs.declared.world.Halt.TheVariants.{Memory};
+
 use crate::Reads;
-use kr_base::Place;
+use kr_base::{NoMemory, Place};
 use kr_heap::Heap;
 use kr_mean::Kind;
 use kr_value::Value;
 
 /// How a run ends early: it is stuck where code has no meaning.
-#[derive(Clone, Copy, Debug)]
+#[derive(Clone, Copy, PartialEq, Eq)]
 pub enum End {
     Trapped(Kind),
     OutOfFuel,
@@ -14,22 +18,42 @@ pub enum End {
 }
 
 /// Why a machine doesn't go on: the run has ended, memory ran out, or a candidate would have been written that must not be.
-#[derive(Clone, Copy, Debug)]
+#[derive(Clone, Copy)]
 pub enum Halt {
     Ended(End),
-    Memory,
+    Memory(NoMemory),
     Written,
 }
 
+impl From<NoMemory> for Halt {
+    ghost from_gives = { λ why halt. halt ≡ Memory why };
+
+    fn from(why: NoMemory) -> Halt {
+        Halt::Memory(why)
+    }
+}
+
+/// How a run has ended; none where a candidate would have been written that must not be.
+pub fn ended<T: Copy>(answer: Result<T, Halt>) -> Result<Option<Result<T, End>>, NoMemory>
+    ensures { IsEnd answer result }
+{
+    match answer {
+        Ok(value) => Ok(Some(Ok(value))),
+        Err(Halt::Ended(end)) => Ok(Some(Err(end))),
+        Err(Halt::Memory(why)) => Err(why),
+        Err(Halt::Written) => Ok(None),
+    }
+}
+
 /// A local's value, and of which parameter a candidate gives it, where it does.
-#[derive(Clone, Copy, Debug)]
+#[derive(Clone, Copy)]
 pub struct Local {
     pub value: Value,
     pub parameter: Option<u32>,
 }
 
 /// The value of an `\old`, by the place of its node.
-#[derive(Clone, Copy, Debug)]
+#[derive(Clone, Copy)]
 pub struct Old {
     pub place: Place,
     pub value: Value,
@@ -37,7 +61,7 @@ pub struct Old {
 
 /// The state of a run, and what was read. The heap's objects are the candidates, and behind them those that the run has made;
 /// frozen candidates aren't written.
-#[derive(Debug, Drop)]
+#[derive(Drop)]
 pub struct World {
     pub this: Value,
     pub locals: Vec<Local>,

@@ -6,6 +6,8 @@ use Rattle.kr_value.specs.declared.object.Spot.TheVariants.{Field, Length, Eleme
 use Rattle.kr_mean.specs.declared.mode.Mode.TheVariants.{List as Listing}
 use Rattle.kr_mean.specs.Problem.{Domain, Plain, Objects}
 use Rattle.kr_space_layout.specs.declared.classes.ClassDomain.{ClassDomain}
+use Rattle.kr_space_layout.specs.declared.item.DomainEntry.{DomainEntry}
+use Rattle.kr_space_layout.specs.declared.item.DomainEntry.TheVariants as items
 use Rattle.kr_space_layout.specs.Bounds.{Bounds}
 
 -- up to two elements, each 7
@@ -21,6 +23,10 @@ nodes = record { name = codes "N"; class = Object 0; count = 2; spots = record {
 
 abbrev pub arrays : ClassDomain
 arrays = record { name = codes "int[]"; class = Array 0; count = 1; spots = record { spot = Length; domain = 2 } ∷ record { spot = Element 0; domain = 3 } ∷ record { spot = Element 1; domain = 3 } ∷ [] }
+
+-- the domains as the code has them
+abbrev pub item_lists : List (List DomainEntry)
+item_lists = (items.Plain Null ∷ items.Objects 0 ∷ []) ∷ (items.Plain Null ∷ items.Objects 1 ∷ []) ∷ (items.Integers (pos 0) (pos 2) ∷ []) ∷ (items.Plain (Int (pos 7)) ∷ []) ∷ []
 
 -- nodes with another node and an array, or null
 abbrev pub two_nodes : Bounds

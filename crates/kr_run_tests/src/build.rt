@@ -1,99 +1,114 @@
 // A candidate of two nodes and an array, worked by hand.
-ghost use Rattle.std.specs.Prelude.{◌≡◌, ◌<◌, ◌^◌, IfOk, length};
+ghost use Rattle.std.specs.Prelude.{◌≡◌, ◌<◌, ◌^◌, ◌∷◌, [], IfOk, OnOk, length};
 ghost use Rattle.kr_mean.specs.Problem.{slots};
 ghost use Rattle.kr_mean.specs.Space.{IsVector, space_of};
 ghost use Rattle.kr_mean.specs.WellFormed.{IsWellFormed};
 ghost use Rattle.kr_space_layout.specs.Bounds.{bare};
-ghost use Rattle.kr_run_tests.specs.TwoNodes.{arrays as array_domain, from_second, nodes as node_domain, two_nodes};
+ghost use Rattle.kr_run_tests.specs.TwoNodes.{arrays as array_domain, from_second, item_lists, nodes as node_domain, two_nodes};
 
+use crate::problems::{class_domain, listed};
+use kr_base::NoMemory;
 use kr_build::{Walk, build};
 use kr_fin::Listed;
 use kr_heap::Heap;
 use kr_mean::Mode;
-use kr_space_layout::{ClassDomain, Item, Layout, Spotted};
+use kr_space_layout::{ClassDomain, DomainEntry, Layout, Spotted};
 use kr_value::{Class, Spot, Value};
 use kr_vector::{Slot, Vector};
 use std::alloc::Global;
 use std::test::Fail;
 
-fn spot(spot: Spot, domain: u32) -> Spotted
-    ensures { result ≡ record { spot = spot; domain = domain } }
-{
-    Spotted { spot, domain }
-}
-
 // Nodes with another node and an array, or null.
-fn nodes(alloc: Global) -> Result<ClassDomain, Fail>
+fn nodes(alloc: Global) -> Result<ClassDomain, NoMemory>
     ensures { IfOk result (λ domain. domain ≡ node_domain) }
 {
-    let mut spots = Listed::new(alloc);
-    spots.push(spot(Spot::Field(0), 0))?;
-    spots.push(spot(Spot::Field(1), 1))?;
-    Ok(ClassDomain {
-        name: Listed::from_vec(Vec::from_slice(alloc, b"N")?),
-        class: Class::Object(0),
-        count: 2,
-        spots,
-    })
+    let spots = [
+        Spotted {
+            spot: Spot::Field(0),
+            domain: 0,
+        },
+        Spotted {
+            spot: Spot::Field(1),
+            domain: 1,
+        },
+    ];
+    class_domain(
+        alloc,
+        b"N".as_slice(),
+        Class::Object(0),
+        2,
+        spots.as_slice(),
+    )
 }
 
 // An array of up to two elements.
-fn arrays(alloc: Global) -> Result<ClassDomain, Fail>
+fn arrays(alloc: Global) -> Result<ClassDomain, NoMemory>
     ensures { IfOk result (λ domain. domain ≡ array_domain) }
 {
-    let mut spots = Listed::new(alloc);
-    spots.push(spot(Spot::Length, 2))?;
-    spots.push(spot(Spot::Element(0), 3))?;
-    spots.push(spot(Spot::Element(1), 3))?;
-    Ok(ClassDomain {
-        name: Listed::from_vec(Vec::from_slice(alloc, b"int[]")?),
-        class: Class::Array(0),
-        count: 1,
-        spots,
-    })
+    let spots = [
+        Spotted {
+            spot: Spot::Length,
+            domain: 2,
+        },
+        Spotted {
+            spot: Spot::Element(0),
+            domain: 3,
+        },
+        Spotted {
+            spot: Spot::Element(1),
+            domain: 3,
+        },
+    ];
+    class_domain(
+        alloc,
+        b"int[]".as_slice(),
+        Class::Array(0),
+        1,
+        spots.as_slice(),
+    )
 }
 
-fn listed(alloc: Global, items: &[Item]) -> Result<Listed<Item>, Fail>
-    ensures { IfOk result (λ list. list ≡ items.now) }
+fn push_classes(alloc: Global, classes: &mut Listed<ClassDomain>) -> Result<(), NoMemory>
+    requires { classes.old ≡ [] }
+    ensures { OnOk result (classes.new ≡ node_domain ∷ array_domain ∷ []) }
 {
-    let mut list = Listed::new(alloc);
-    for item in items {
-        list.push(*item)?;
-    }
-    Ok(list)
+    classes.push(nodes(alloc)?)?;
+    classes.push(arrays(alloc)?)?;
+    Ok(())
 }
 
-fn layout(alloc: Global) -> Result<Layout, Fail>
+// A node or null, the array or null, up to two elements, and seven.
+fn push_domains(alloc: Global, domains: &mut Listed<Listed<DomainEntry>>) -> Result<(), NoMemory>
+    requires { domains.old ≡ [] }
+    ensures { OnOk result (domains.new ≡ item_lists) }
+{
+    let null = DomainEntry::Plain(Value::Null);
+    domains.push(listed(alloc, [null, DomainEntry::Objects(0)].as_slice())?)?;
+    domains.push(listed(alloc, [null, DomainEntry::Objects(1)].as_slice())?)?;
+    domains.push(listed(alloc, [DomainEntry::Integers(0, 2)].as_slice())?)?;
+    domains.push(listed(alloc, [DomainEntry::Plain(Value::Int(7))].as_slice())?)?;
+    Ok(())
+}
+
+fn layout_over(alloc: Global, domains: &[Listed<DomainEntry>]) -> Result<Layout, NoMemory>
+    requires { domains.now ≡ item_lists }
+    ensures { IfOk result (λ layout. layout ≡ two_nodes) }
+{
+    let mut classes = Listed::new(alloc);
+    push_classes(alloc, &mut classes)?;
+    let parameters = Listed::new(alloc);
+    Layout::new(alloc, 0, Mode::List, 9, parameters, classes, domains)
+}
+
+fn layout(alloc: Global) -> Result<Layout, NoMemory>
     ensures { IfOk result (λ layout. layout ≡ two_nodes) }
 {
     let mut domains = Listed::new(alloc);
-    domains.push(listed(
-        alloc,
-        [Item::Plain(Value::Null), Item::Objects(0)].as_slice(),
-    )?)?;
-    domains.push(listed(
-        alloc,
-        [Item::Plain(Value::Null), Item::Objects(1)].as_slice(),
-    )?)?;
-    domains.push(listed(alloc, [Item::Integers(0, 2)].as_slice())?)?;
-    domains.push(listed(alloc, [Item::Plain(Value::Int(7))].as_slice())?)?;
-    let mut classes = Listed::new(alloc);
-    classes.push(nodes(alloc)?)?;
-    classes.push(arrays(alloc)?)?;
-    let parameters = Listed::new(alloc);
-    let layout = Layout::new(
-        alloc,
-        0,
-        Mode::List,
-        9,
-        parameters,
-        classes,
-        domains.as_slice(),
-    )?;
-    Ok(layout)
+    push_domains(alloc, &mut domains)?;
+    layout_over(alloc, domains.as_slice())
 }
 
-fn candidate(alloc: Global) -> Result<Vector, Fail>
+fn candidate(alloc: Global) -> Result<Vector, NoMemory>
     ensures { IfOk result (λ vector. vector ≡ from_second) }
 {
     let mut vector = Vector::zero(alloc, 8)?;
@@ -106,7 +121,7 @@ fn candidate(alloc: Global) -> Result<Vector, Fail>
 }
 
 /// Whether a walk, made twice, meets the slots in this order.
-fn walks_alike(walk: &mut Walk, layout: &Layout, vector: &Vector) -> Result<bool, Fail>
+fn walks_alike(walk: &mut Walk, layout: &Layout, vector: &Vector) -> Result<bool, NoMemory>
     requires well { IsWellFormed (bare layout.now) }
     requires vector { IsVector (space_of (bare layout.now)) vector.now }
     requires small { length (slots (bare layout.now)) < 2 ^ 31 }
@@ -115,15 +130,6 @@ fn walks_alike(walk: &mut Walk, layout: &Layout, vector: &Vector) -> Result<bool
     let first = walk.slots() == [0, 3, 4, 1, 2, 5, 6].as_slice();
     walk.walk(layout, vector)?;
     Ok(first && walk.slots() == [0, 3, 4, 1, 2, 5, 6].as_slice())
-}
-
-#[test]
-fn walks(rt: HostRuntime) -> Result<(), Fail> {
-    let vector = candidate(rt.alloc())?;
-    let layout = layout(rt.alloc())?;
-    let mut walk = Walk::new(rt.alloc());
-    assert!(rt; walks_alike(&mut walk, &layout, &vector)?);
-    Ok(())
 }
 
 /// Whether the nodes and the array are there, with what their fields and elements have.
@@ -145,11 +151,37 @@ fn are_nodes(heap: &Heap) -> bool {
     heap.len() == 3 && heap.class_of(1) == Class::Object(0) && heap.class_of(2) == Class::Array(0)
 }
 
+fn walks(alloc: Global, layout: &Layout, vector: &Vector) -> bool
+    requires well { IsWellFormed (bare layout.now) }
+    requires vector { IsVector (space_of (bare layout.now)) vector.now }
+    requires small { length (slots (bare layout.now)) < 2 ^ 31 }
+{
+    let mut walk = Walk::new(alloc);
+    matches!(&walks_alike(&mut walk, layout, vector), Ok(true))
+}
+
+fn builds(alloc: Global, layout: &Layout, vector: &Vector) -> bool
+    requires well { IsWellFormed (bare layout.now) }
+    requires vector { IsVector (space_of (bare layout.now)) vector.now }
+    requires small { length (slots (bare layout.now)) < 2 ^ 31 }
+{
+    match build(alloc, layout, vector) {
+        Ok(heap) => are_nodes(&heap),
+        Err(_) => false,
+    }
+}
+
+/// Whether the candidate is walked and built.
+fn is_candidate(alloc: Global, layout: &Layout) -> Result<bool, NoMemory>
+    requires { layout.now ≡ two_nodes }
+{
+    let vector = candidate(alloc)?;
+    Ok(walks(alloc, layout, &vector) && builds(alloc, layout, &vector))
+}
+
 #[test]
-fn builds(rt: HostRuntime) -> Result<(), Fail> {
-    let vector = candidate(rt.alloc())?;
+fn from_the_second_node(rt: HostRuntime) -> Result<(), Fail> {
     let layout = layout(rt.alloc())?;
-    let heap = build(rt.alloc(), &layout, &vector)?;
-    assert!(rt; are_nodes(&heap));
+    assert!(rt; matches!(&is_candidate(rt.alloc(), &layout), Ok(true)));
     Ok(())
 }

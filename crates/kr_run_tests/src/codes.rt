@@ -1,7 +1,10 @@
-// Code that is put together from its lists.
+// Code that is written node by node.
 
+use kr_ast::BinaryOperator;
 use kr_base::NoMemory;
-use kr_code::{ClassCode, Code, MethodCode, Node, Nodes};
+use kr_code::{
+    Callee, ClassCode, Code, CollectionCall, Expression, MethodCode, Node, Nodes, Statement,
+};
 use kr_value::Value;
 use std::alloc::Global;
 
@@ -20,8 +23,16 @@ pub(crate) struct Parts {
     pub(crate) dispatch: Vec<Vec<Option<u32>>>,
 }
 
+/// A count as a number.
+fn numbered(count: usize) -> Result<u32, NoMemory> {
+    match u32::try_from(count) {
+        Ok(number) => Ok(number),
+        Err(_) => Err(NoMemory::at_limit(count as u64)),
+    }
+}
+
 impl Parts {
-    pub(crate) fn new(alloc: Global) -> Parts {
+    fn new(alloc: Global) -> Parts {
         Parts {
             nodes: Vec::new(alloc),
             links: Vec::new(alloc),
@@ -33,16 +44,101 @@ impl Parts {
             dispatch: Vec::new(alloc),
         }
     }
+
+    pub(crate) fn node(&mut self, node: Node) -> Result<u32, NoMemory> {
+        let number = numbered(self.nodes.len())?;
+        self.nodes.push(node)?;
+        Ok(number)
+    }
+
+    pub(crate) fn put(&mut self, expression: Expression) -> Result<u32, NoMemory> {
+        self.node(Node::Expression(expression))
+    }
+
+    pub(crate) fn statement(&mut self, statement: Statement) -> Result<u32, NoMemory> {
+        self.node(Node::Statement(statement))
+    }
+
+    pub(crate) fn int(&mut self, number: i32) -> Result<u32, NoMemory> {
+        self.put(Expression::Literal(Value::Int(number)))
+    }
+
+    pub(crate) fn binary(
+        &mut self,
+        operator: BinaryOperator,
+        left: u32,
+        right: u32,
+    ) -> Result<u32, NoMemory> {
+        self.put(Expression::Binary {
+            operator,
+            left,
+            right,
+        })
+    }
+
+    pub(crate) fn list(&mut self, nodes: &[u32]) -> Result<Nodes, NoMemory> {
+        let first = numbered(self.links.len())?;
+        let count = numbered(nodes.len())?;
+        self.links.extend_from_slice(nodes)?;
+        Ok(Nodes { first, count })
+    }
+
+    pub(crate) fn call(&mut self, method: u32, arguments: &[u32]) -> Result<u32, NoMemory> {
+        let listed = self.list(arguments)?;
+        self.put(Expression::Call {
+            callee: Callee::Own(method),
+            arguments: listed,
+        })
+    }
+
+    pub(crate) fn method(
+        &mut self,
+        parameters: u32,
+        is_void: bool,
+        body: &[u32],
+    ) -> Result<(), NoMemory> {
+        let listed = self.list(body)?;
+        self.methods.push(MethodCode {
+            parameters,
+            is_void,
+            body: listed,
+        })?;
+        Ok(())
+    }
+
+    /// A method that returns an expression's value.
+    pub(crate) fn returning(&mut self, parameters: u32, value: u32) -> Result<(), NoMemory> {
+        let node = self.statement(Statement::Return(value))?;
+        self.method(parameters, false, &[node])
+    }
+
+    pub(crate) fn collection(
+        &mut self,
+        object: u32,
+        call: CollectionCall,
+        arguments: &[u32],
+    ) -> Result<u32, NoMemory> {
+        let listed = self.list(arguments)?;
+        self.put(Expression::CallCollection {
+            object,
+            call,
+            arguments: listed,
+        })
+    }
 }
 
-/// The code of these lists.
-pub(crate) fn code_of(alloc: Global, parts: Parts) -> Result<Code, NoMemory> {
-    if parts.links.len() > 1000 {
-        return Err(NoMemory);
-    }
-    Ok(Code {
+/// What is written as code.
+pub(crate) trait Written {
+    fn write(alloc: Global, parts: &mut Parts) -> Result<(), NoMemory>;
+}
+
+/// The code of these lists; no test has as many links.
+fn finished(alloc: Global, parts: Parts) -> Code {
+    let mut links = parts.links;
+    links.truncate(1000);
+    Code {
         nodes: parts.nodes,
-        links: parts.links,
+        links,
         values: parts.values,
         methods: parts.methods,
         classes: parts.classes,
@@ -51,7 +147,14 @@ pub(crate) fn code_of(alloc: Global, parts: Parts) -> Result<Code, NoMemory> {
         dispatch: parts.dispatch,
         instances: Vec::new(alloc),
         array_instances: Vec::new(alloc),
-    })
+    }
+}
+
+/// The code that is written.
+pub(crate) fn code_of<W: Written>(alloc: Global) -> Result<Code, NoMemory> {
+    let mut parts = Parts::new(alloc);
+    W::write(alloc, &mut parts)?;
+    Ok(finished(alloc, parts))
 }
 
 /// Adds a row.

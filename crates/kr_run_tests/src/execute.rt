@@ -14,16 +14,17 @@
 //         boolean valid() { return repOk(); }
 //     }
 
-use crate::codes::{NONE, Parts, code_of, push_row};
+use crate::codes::{NONE, Parts, Written, code_of, push_row};
 use kr_ast::BinaryOperator;
 use kr_base::NoMemory;
 use kr_code::{
-    Callee, ClassCode, Code, CollectionCall, Declarator, Expression, MethodCode, Node, Nodes,
-    Statement, Variable,
+    Callee, ClassCode, Code, CollectionCall, Declarator, Expression, Node, Nodes, Statement,
+    Variable,
 };
 use kr_heap::Heap;
 use kr_mean::Kind;
-use kr_run_method::{Ending, Executed, Method, execute};
+use kr_run_method::{Executed, Method, execute};
+use kr_run_state::End;
 use kr_value::{Class, Spot, Value};
 use std::alloc::Global;
 use std::process::Abort;
@@ -69,124 +70,37 @@ const ABSENT: Method = Method {
     is_static: true,
 };
 
-/// Code as it is written, node by node.
-#[derive(Drop)]
-struct Writer {
-    parts: Parts,
-}
-
-impl Writer {
-    fn node(&mut self, node: Node) -> Result<u32, NoMemory> {
-        let Ok(number) = u32::try_from(self.parts.nodes.len()) else {
-            return Err(NoMemory);
-        };
-        self.parts.nodes.push(node)?;
-        Ok(number)
-    }
-
-    fn put(&mut self, expression: Expression) -> Result<u32, NoMemory> {
-        self.node(Node::Expression(expression))
-    }
-
-    fn statement(&mut self, statement: Statement) -> Result<u32, NoMemory> {
-        self.node(Node::Statement(statement))
-    }
-
-    fn int(&mut self, number: i32) -> Result<u32, NoMemory> {
-        self.put(Expression::Literal(Value::Int(number)))
-    }
-
-    fn binary(&mut self, operator: BinaryOperator, left: u32, right: u32) -> Result<u32, NoMemory> {
-        self.put(Expression::Binary {
-            operator,
-            left,
-            right,
-        })
-    }
-
-    fn list(&mut self, nodes: &[u32]) -> Result<Nodes, NoMemory> {
-        let (Ok(first), Ok(count)) = (
-            u32::try_from(self.parts.links.len()),
-            u32::try_from(nodes.len()),
-        ) else {
-            return Err(NoMemory);
-        };
-        for node in nodes {
-            self.parts.links.push(*node)?;
-        }
-        Ok(Nodes { first, count })
-    }
-
-    fn call(&mut self, method: u32, arguments: &[u32]) -> Result<u32, NoMemory> {
-        let listed = self.list(arguments)?;
-        self.put(Expression::Call {
-            callee: Callee::Own(method),
-            arguments: listed,
-        })
-    }
-
-    fn method(&mut self, parameters: u32, is_void: bool, body: &[u32]) -> Result<(), NoMemory> {
-        let listed = self.list(body)?;
-        self.parts.methods.push(MethodCode {
-            parameters,
-            is_void,
-            body: listed,
-        })?;
-        Ok(())
-    }
-
-    /// A method that returns an expression's value.
-    fn returning(&mut self, parameters: u32, value: u32) -> Result<(), NoMemory> {
-        let node = self.statement(Statement::Return(value))?;
-        self.method(parameters, false, &[node])
-    }
-
-    fn collection(
-        &mut self,
-        object: u32,
-        call: CollectionCall,
-        arguments: &[u32],
-    ) -> Result<u32, NoMemory> {
-        let listed = self.list(arguments)?;
-        self.put(Expression::CallCollection {
-            object,
-            call,
-            arguments: listed,
-        })
-    }
-}
-
-fn write_arithmetic(writer: &mut Writer) -> Result<(), NoMemory> {
-    let first = writer.put(Expression::Local(0))?;
-    let second = writer.put(Expression::Local(1))?;
-    let difference = writer.binary(BinaryOperator::Subtract, first, second)?;
-    writer.returning(2, difference)?;
-    let assigned = writer.put(Expression::Assign {
+fn write_arithmetic(parts: &mut Parts) -> Result<(), NoMemory> {
+    let first = parts.put(Expression::Local(0))?;
+    let second = parts.put(Expression::Local(1))?;
+    let difference = parts.binary(BinaryOperator::Subtract, first, second)?;
+    parts.returning(2, difference)?;
+    let assigned = parts.put(Expression::Assign {
         variable: Variable::Own { name: 1, field: 0 },
         value: first,
     })?;
-    let stored = writer.statement(Statement::Evaluate(assigned))?;
-    writer.method(1, true, &[stored])?;
-    let one = writer.int(1)?;
-    let quotient = writer.binary(BinaryOperator::Divide, one, first)?;
-    writer.returning(1, quotient)
+    let stored = parts.statement(Statement::Evaluate(assigned))?;
+    parts.method(1, true, &[stored])?;
+    let one = parts.int(1)?;
+    let quotient = parts.binary(BinaryOperator::Divide, one, first)?;
+    parts.returning(1, quotient)
 }
 
-fn write_copy(writer: &mut Writer) -> Result<(), NoMemory> {
-    let created = writer.put(Expression::Call {
+fn write_copy(parts: &mut Parts) -> Result<(), NoMemory> {
+    let created = parts.put(Expression::Call {
         callee: Callee::New(0),
         arguments: NONE,
     })?;
-    let declarator = writer.node(Node::Declarator(Declarator {
+    let declarator = parts.node(Node::Declarator(Declarator {
         local: 0,
         default: Value::Null,
         initial: Some(created),
     }))?;
-    let declarators = writer.list(&[declarator])?;
-    let declared = writer.statement(Statement::Declare(declarators))?;
-    let copy = writer.put(Expression::Local(0))?;
-    let field = writer.put(Expression::OwnField(1))?;
-    let assigned = writer.put(Expression::Assign {
+    let declarators = parts.list(&[declarator])?;
+    let declared = parts.statement(Statement::Declare(declarators))?;
+    let copy = parts.put(Expression::Local(0))?;
+    let field = parts.put(Expression::OwnField(1))?;
+    let assigned = parts.put(Expression::Assign {
         variable: Variable::Of {
             object: copy,
             name: 1,
@@ -194,62 +108,56 @@ fn write_copy(writer: &mut Writer) -> Result<(), NoMemory> {
         },
         value: field,
     })?;
-    let stored = writer.statement(Statement::Evaluate(assigned))?;
-    let returned = writer.statement(Statement::Return(copy))?;
-    writer.method(0, false, &[declared, stored, returned])
+    let stored = parts.statement(Statement::Evaluate(assigned))?;
+    let returned = parts.statement(Statement::Return(copy))?;
+    parts.method(0, false, &[declared, stored, returned])
 }
 
-fn write_fill(writer: &mut Writer) -> Result<(), NoMemory> {
-    let list = writer.put(Expression::Local(0))?;
-    let set = writer.put(Expression::Local(1))?;
-    let cell = writer.put(Expression::Local(2))?;
-    let to_list = writer.collection(list, CollectionCall::Add, &[cell])?;
-    let to_set = writer.collection(set, CollectionCall::Add, &[cell])?;
-    let listed = writer.statement(Statement::Evaluate(to_list))?;
-    let added = writer.statement(Statement::Evaluate(to_set))?;
-    let length = writer.collection(list, CollectionCall::Size, &[])?;
-    let size = writer.collection(set, CollectionCall::Size, &[])?;
-    let ten = writer.int(10)?;
-    let tens = writer.binary(BinaryOperator::Multiply, length, ten)?;
-    let sum = writer.binary(BinaryOperator::Add, tens, size)?;
-    let returned = writer.statement(Statement::Return(sum))?;
-    writer.method(3, false, &[listed, listed, added, added, returned])
+fn write_fill(parts: &mut Parts) -> Result<(), NoMemory> {
+    let list = parts.put(Expression::Local(0))?;
+    let set = parts.put(Expression::Local(1))?;
+    let cell = parts.put(Expression::Local(2))?;
+    let to_list = parts.collection(list, CollectionCall::Add, &[cell])?;
+    let to_set = parts.collection(set, CollectionCall::Add, &[cell])?;
+    let listed = parts.statement(Statement::Evaluate(to_list))?;
+    let added = parts.statement(Statement::Evaluate(to_set))?;
+    let length = parts.collection(list, CollectionCall::Size, &[])?;
+    let size = parts.collection(set, CollectionCall::Size, &[])?;
+    let ten = parts.int(10)?;
+    let tens = parts.binary(BinaryOperator::Multiply, length, ten)?;
+    let sum = parts.binary(BinaryOperator::Add, tens, size)?;
+    let returned = parts.statement(Statement::Return(sum))?;
+    parts.method(3, false, &[listed, listed, added, added, returned])
 }
 
-fn write_deep(writer: &mut Writer) -> Result<(), NoMemory> {
-    let number = writer.put(Expression::Local(0))?;
-    let zero = writer.int(0)?;
-    let one = writer.int(1)?;
-    let is_zero = writer.binary(BinaryOperator::Equal, number, zero)?;
-    let less = writer.binary(BinaryOperator::Subtract, number, one)?;
-    let again = writer.call(5, &[less])?;
-    let chosen = writer.put(Expression::Conditional {
+fn write_deep(parts: &mut Parts) -> Result<(), NoMemory> {
+    let number = parts.put(Expression::Local(0))?;
+    let zero = parts.int(0)?;
+    let one = parts.int(1)?;
+    let is_zero = parts.binary(BinaryOperator::Equal, number, zero)?;
+    let less = parts.binary(BinaryOperator::Subtract, number, one)?;
+    let again = parts.call(5, &[less])?;
+    let chosen = parts.put(Expression::Conditional {
         condition: is_zero,
         then: zero,
         otherwise: again,
     })?;
-    writer.returning(1, chosen)?;
-    let depth = writer.int(100000)?;
-    let called = writer.call(5, &[depth])?;
-    let holds = writer.binary(BinaryOperator::Equal, called, zero)?;
-    writer.returning(0, holds)?;
-    let valid = writer.call(6, &[])?;
-    writer.returning(0, valid)
+    parts.returning(1, chosen)?;
+    let depth = parts.int(100000)?;
+    let called = parts.call(5, &[depth])?;
+    let holds = parts.binary(BinaryOperator::Equal, called, zero)?;
+    parts.returning(0, holds)?;
+    let valid = parts.call(6, &[])?;
+    parts.returning(0, valid)
 }
 
 /// The class, the place of its field, and what its objects run: the method of that number itself.
 fn write_class(alloc: Global, parts: &mut Parts) -> Result<(), NoMemory> {
-    let Ok(class) = u32::try_from(parts.links.len()) else {
-        return Err(NoMemory);
-    };
-    parts.links.push(0)?;
+    let line = parts.list(&[0])?;
     parts.values.push(Value::Int(0))?;
     parts.classes.push(ClassCode {
         defaults: Nodes { first: 0, count: 1 },
-        line: Nodes {
-            first: class,
-            count: 1,
-        },
+        line,
         initialisers: NONE,
         constructor: None,
     })?;
@@ -262,20 +170,17 @@ fn write_class(alloc: Global, parts: &mut Parts) -> Result<(), NoMemory> {
     Ok(())
 }
 
-fn write_all(alloc: Global, writer: &mut Writer) -> Result<(), NoMemory> {
-    write_arithmetic(writer)?;
-    write_copy(writer)?;
-    write_fill(writer)?;
-    write_deep(writer)?;
-    write_class(alloc, &mut writer.parts)
-}
+/// The class that is worked here.
+struct Cells;
 
-fn code(alloc: Global) -> Result<Code, NoMemory> {
-    let mut writer = Writer {
-        parts: Parts::new(alloc),
-    };
-    write_all(alloc, &mut writer)?;
-    code_of(alloc, writer.parts)
+impl Written for Cells {
+    fn write(alloc: Global, parts: &mut Parts) -> Result<(), NoMemory> {
+        write_arithmetic(parts)?;
+        write_copy(parts)?;
+        write_fill(parts)?;
+        write_deep(parts)?;
+        write_class(alloc, parts)
+    }
 }
 
 /// Adds a cell whose field is 3, an empty list and an empty set.
@@ -304,6 +209,23 @@ fn executed(
     execute(alloc, code, heap, method, values, fuel)
 }
 
+/// How a run ends.
+type Ending = Result<Option<Value>, End>;
+
+const SPENT: Ending = Err(End::OutOfFuel);
+
+const STUCK: Ending = Err(End::Stuck);
+
+const VOID: Ending = Ok(None);
+
+fn gives(value: Value) -> Ending {
+    Ok(Some(value))
+}
+
+fn traps(kind: Kind) -> Ending {
+    Err(End::Trapped(kind))
+}
+
 /// Whether a run ends so, with so much fuel left.
 fn ends(
     alloc: Global,
@@ -326,40 +248,28 @@ fn run_all(rt: &impl Abort, alloc: Global, code: &Code) -> Result<(), Fail> {
     let null = [Value::Null, Value::Int(5)];
     let one = [cell, Value::Int(1)];
     for (method, values, fuel, end, left) in [
-        (MINUS, &seven[..], 1000, Ending::Value(Value::Int(4)), 996),
-        (MINUS, &seven[..], 4, Ending::Value(Value::Int(4)), 0),
-        (MINUS, &seven[..], 3, Ending::Spent, 0),
+        (MINUS, &seven[..], 1000, gives(Value::Int(4)), 996),
+        (MINUS, &seven[..], 4, gives(Value::Int(4)), 0),
+        (MINUS, &seven[..], 3, SPENT, 0),
         (
             MINUS,
             &seven[..],
             u64::MAX,
-            Ending::Value(Value::Int(4)),
+            gives(Value::Int(4)),
             u64::MAX - 4,
         ),
-        (SET, &receiver[..], 3, Ending::Void, 0),
-        (
-            SET,
-            &null[..],
-            10,
-            Ending::Trap(Kind::NullPointerException),
-            7,
-        ),
-        (
-            OVER,
-            &zero[..1],
-            4,
-            Ending::Trap(Kind::ArithmeticException),
-            0,
-        ),
-        (OVER, &zero[..1], 3, Ending::Spent, 0),
-        (COPY, &receiver[..1], 8, Ending::Value(Value::Ref(3)), 0),
-        (DEEP, &one[..], 15, Ending::Value(Value::Int(0)), 0),
-        (DEEP, &one[..], 14, Ending::Spent, 0),
+        (SET, &receiver[..], 3, VOID, 0),
+        (SET, &null[..], 10, traps(Kind::NullPointerException), 7),
+        (OVER, &zero[..1], 4, traps(Kind::ArithmeticException), 0),
+        (OVER, &zero[..1], 3, SPENT, 0),
+        (COPY, &receiver[..1], 8, gives(Value::Ref(3)), 0),
+        (DEEP, &one[..], 15, gives(Value::Int(0)), 0),
+        (DEEP, &one[..], 14, SPENT, 0),
         // not as many values as it takes, or no such method
-        (MINUS, &seven[..1], 10, Ending::Stuck, 10),
-        (COPY, &receiver[..], 10, Ending::Stuck, 10),
-        (COPY, &receiver[..0], 10, Ending::Stuck, 10),
-        (ABSENT, &seven[..0], 10, Ending::Stuck, 10),
+        (MINUS, &seven[..1], 10, STUCK, 10),
+        (COPY, &receiver[..], 10, STUCK, 10),
+        (COPY, &receiver[..0], 10, STUCK, 10),
+        (ABSENT, &seven[..0], 10, STUCK, 10),
     ] {
         assert!(rt;
             ends(alloc, code, method, values, fuel, end, left)?,
@@ -371,7 +281,7 @@ fn run_all(rt: &impl Abort, alloc: Global, code: &Code) -> Result<(), Fail> {
 
 #[test]
 fn values_and_ends(rt: HostRuntime) -> Result<(), Fail> {
-    let code = code(rt.alloc())?;
+    let code = code_of::<Cells>(rt.alloc())?;
     run_all(&rt, rt.alloc(), &code)
 }
 
@@ -400,16 +310,16 @@ fn copies(
 
 fn make_all(rt: &impl Abort, alloc: Global, code: &Code) -> Result<(), Fail> {
     assert!(rt; sets(alloc, code)?);
-    let made = Ending::Value(Value::Ref(3));
+    let made = gives(Value::Ref(3));
     assert!(rt; copies(alloc, code, 10, made, 3)?);
     // spent before the field of the new object is written
-    assert!(rt; copies(alloc, code, 5, Ending::Spent, 0)?);
+    assert!(rt; copies(alloc, code, 5, SPENT, 0)?);
     Ok(())
 }
 
 #[test]
 fn heaps(rt: HostRuntime) -> Result<(), Fail> {
-    let code = code(rt.alloc())?;
+    let code = code_of::<Cells>(rt.alloc())?;
     make_all(&rt, rt.alloc(), &code)
 }
 
@@ -418,7 +328,7 @@ fn fills(alloc: Global, code: &Code) -> Result<bool, NoMemory> {
     let values = [Value::Ref(1), Value::Ref(2), Value::Ref(0)];
     let run = executed(alloc, code, FILL, &values, 100)?;
     Ok(
-        run.end == Ending::Value(Value::Int(21))
+        run.end == gives(Value::Int(21))
             && run.left == 76
             && run.heap.size_of(1) == 2
             && run.heap.size_of(2) == 1,
@@ -427,7 +337,7 @@ fn fills(alloc: Global, code: &Code) -> Result<bool, NoMemory> {
 
 #[test]
 fn collections(rt: HostRuntime) -> Result<(), Fail> {
-    let code = code(rt.alloc())?;
+    let code = code_of::<Cells>(rt.alloc())?;
     let filled = fills(rt.alloc(), &code)?;
     assert!(rt; filled);
     Ok(())
@@ -437,9 +347,9 @@ fn collections(rt: HostRuntime) -> Result<(), Fail> {
 fn call_deep(rt: &impl Abort, alloc: Global, code: &Code) -> Result<(), Fail> {
     let receiver = [Value::Ref(0)];
     for (fuel, end, left) in [
-        (900_013, Ending::Value(Value::Bool(true)), 0),
-        (900_012, Ending::Spent, 0),
-        (1_000_000_000, Ending::Value(Value::Bool(true)), 999_099_987),
+        (900_013, gives(Value::Bool(true)), 0),
+        (900_012, SPENT, 0),
+        (1_000_000_000, gives(Value::Bool(true)), 999_099_987),
     ] {
         assert!(rt;
             ends(alloc, code, VALID, &receiver, fuel, end, left)?,
@@ -451,6 +361,6 @@ fn call_deep(rt: &impl Abort, alloc: Global, code: &Code) -> Result<(), Fail> {
 
 #[test]
 fn deep_calls(rt: HostRuntime) -> Result<(), Fail> {
-    let code = code(rt.alloc())?;
+    let code = code_of::<Cells>(rt.alloc())?;
     call_deep(&rt, rt.alloc(), &code)
 }

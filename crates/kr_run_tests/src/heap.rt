@@ -1,13 +1,14 @@
 // A heap, worked by hand.
 ghost use Rattle.std.specs.Prelude.{◌≡◌, []};
 
+use kr_base::NoMemory;
 use kr_heap::{Heap, Members};
 use kr_value::{Class, Spot, Value};
 use std::alloc::Global;
 use std::test::Fail;
 
 /// Adds an object of two fields and an array of two elements.
-fn push_two(alloc: Global, heap: &mut Heap) -> Result<bool, Fail> {
+fn push_two(alloc: Global, heap: &mut Heap) -> Result<bool, NoMemory> {
     let node = vec![in alloc; Value::Null, Value::Int(7)]?;
     let first = heap.allocate(Class::Object(2), node)?;
     let array = vec![in alloc; Value::Int(1), Value::Int(2)]?;
@@ -16,7 +17,7 @@ fn push_two(alloc: Global, heap: &mut Heap) -> Result<bool, Fail> {
 }
 
 /// Writes to both, and adds an element.
-fn write_both(heap: &mut Heap) -> Result<(), Fail> {
+fn write_both(heap: &mut Heap) -> Result<(), NoMemory> {
     heap.write(0, 0, Value::Ref(1));
     heap.write(1, 1, Value::Int(5));
     heap.push_value(1, Value::Int(6))?;
@@ -43,23 +44,21 @@ fn is_cut(heap: &mut Heap) -> bool {
     shorter && heap.len() == 1 && heap.class_of(1) == Class::Object(0)
 }
 
-fn holds_objects(alloc: Global) -> Result<bool, Fail> {
-    let mut heap = Heap::new(alloc);
-    let numbered = push_two(alloc, &mut heap)?;
-    write_both(&mut heap)?;
-    let written = has_both(&heap);
-    let cut = is_cut(&mut heap);
-    Ok(numbered && written && cut)
+fn holds_objects(alloc: Global, heap: &mut Heap) -> Result<bool, NoMemory> {
+    let numbered = push_two(alloc, heap)?;
+    write_both(heap)?;
+    Ok(numbered && has_both(heap) && is_cut(heap))
 }
 
 #[test]
 fn objects(rt: HostRuntime) -> Result<(), Fail> {
-    assert!(rt; holds_objects(rt.alloc())?);
+    let mut heap = Heap::new(rt.alloc());
+    assert!(rt; matches!(&holds_objects(rt.alloc(), &mut heap), Ok(true)));
     Ok(())
 }
 
 /// Adds members, takes them away and changes them: one is left.
-fn changes(members: &mut Members) -> Result<bool, Fail>
+fn changes(members: &mut Members) -> Result<bool, NoMemory>
     requires { members.old ≡ [] }
 {
     members.push(Value::Ref(0))?;
@@ -75,8 +74,9 @@ fn changes(members: &mut Members) -> Result<bool, Fail>
     Ok(first && second && members.get(1) == None)
 }
 
-fn holds_members(alloc: Global) -> Result<bool, Fail> {
-    let mut heap = Heap::new(alloc);
+fn holds_members(alloc: Global, heap: &mut Heap) -> Result<bool, NoMemory>
+    requires { heap.old ≡ [] }
+{
     let list = heap.allocate(Class::List, Vec::new(alloc))?;
     let changed = changes(heap.members_mut(list))?;
     Ok(changed && heap.members(list).len() == 1 && heap.read(list, Spot::Length) == None)
@@ -84,6 +84,7 @@ fn holds_members(alloc: Global) -> Result<bool, Fail> {
 
 #[test]
 fn members(rt: HostRuntime) -> Result<(), Fail> {
-    assert!(rt; holds_members(rt.alloc())?);
+    let mut heap = Heap::new(rt.alloc());
+    assert!(rt; matches!(&holds_members(rt.alloc(), &mut heap), Ok(true)));
     Ok(())
 }

@@ -1,15 +1,21 @@
 // A class of one field, `class Cell { int v; boolean repOk() { return v > 0; } }`, worked by hand.
-ghost use Rattle.std.specs.Prelude.{◌≡◌, ◌<◌, ◌∷◌, [], IfOk};
-ghost use Rattle.kr_run_tests.specs.OneCell.{cells as cell_domain, one_cell};
+ghost use Rattle.std.specs.Prelude.{◌≡◌, ◌<◌, ◌^◌, ◌∷◌, [], IfOk, length};
+ghost use Rattle.kr_mean.specs.Problem.{slots};
+ghost use Rattle.kr_mean.specs.Space.{IsVector, space_of};
+ghost use Rattle.kr_mean.specs.WellFormed.{IsWellFormed};
+ghost use Rattle.kr_space_layout.specs.Bounds.{bare};
+ghost use Rattle.kr_run_tests.specs.OneCell.{cells as cell_domain, item_lists, one_cell};
 
-use crate::codes::{NONE, Parts, code_of, push_row};
+use crate::codes::{NONE, Parts, Written, code_of, push_row};
+use crate::problems::{class_domain, listed};
 use kr_ast::BinaryOperator;
 use kr_base::{NoMemory, Steps};
-use kr_code::{Code, Expression, MethodCode, Node, Nodes, Statement};
+use kr_code::{Expression, MethodCode, Node, Nodes, Statement};
 use kr_fin::Listed;
-use kr_judge::{Judge, Judgement, Predicate};
+use kr_judge::{Judge, Predicate};
 use kr_mean::Mode;
-use kr_space_layout::{ClassDomain, Item, Layout, Spotted};
+use kr_run_state::End;
+use kr_space_layout::{ClassDomain, DomainEntry, Layout, Spotted};
 use kr_value::{Class, Spot, Value};
 use kr_vector::{Slot, Vector};
 use std::alloc::Global;
@@ -39,69 +45,68 @@ fn push_nodes(nodes: &mut Vec<Node>) -> Result<(), NoMemory> {
     Ok(())
 }
 
-/// The name of the number 1 is `v`, the method of the number 0 is `repOk`.
-fn push_all(alloc: Global, parts: &mut Parts) -> Result<(), NoMemory> {
-    push_nodes(&mut parts.nodes)?;
-    parts.links.push(3)?;
-    parts.methods.push(MethodCode {
-        parameters: 0,
-        is_void: false,
-        body: Nodes { first: 0, count: 1 },
-    })?;
-    push_row(alloc, &mut parts.positions, &[])?;
-    push_row(alloc, &mut parts.positions, &[Some(0)])?;
-    push_row(alloc, &mut parts.dispatch, &[Some(0)])
-}
+/// The class; the name of the number 1 is `v`, the method of the number 0 is `repOk`.
+struct OneField;
 
-fn code(alloc: Global) -> Result<Code, NoMemory> {
-    let mut parts = Parts::new(alloc);
-    push_all(alloc, &mut parts)?;
-    code_of(alloc, parts)
+impl Written for OneField {
+    fn write(alloc: Global, parts: &mut Parts) -> Result<(), NoMemory> {
+        push_nodes(&mut parts.nodes)?;
+        parts.links.push(3)?;
+        parts.methods.push(MethodCode {
+            parameters: 0,
+            is_void: false,
+            body: Nodes { first: 0, count: 1 },
+        })?;
+        push_row(alloc, &mut parts.positions, &[])?;
+        push_row(alloc, &mut parts.positions, &[Some(0)])?;
+        push_row(alloc, &mut parts.dispatch, &[Some(0)])
+    }
 }
 
 fn predicate(alloc: Global) -> Result<Predicate, NoMemory> {
     let conditions = vec![in alloc; 5]?;
-    let code = code(alloc)?;
+    let code = code_of::<OneField>(alloc)?;
     Ok(Predicate { code, conditions })
 }
 
-fn cells(alloc: Global) -> Result<ClassDomain, Fail>
+fn cells(alloc: Global) -> Result<ClassDomain, NoMemory>
     ensures { IfOk result (λ domain. domain ≡ cell_domain) }
 {
-    let mut spots = Listed::new(alloc);
-    spots.push(Spotted {
+    let spots = [Spotted {
         spot: Spot::Field(0),
         domain: 0,
-    })?;
-    Ok(ClassDomain {
-        name: Listed::from_vec(Vec::from_slice(alloc, b"Cell")?),
-        class: Class::Object(0),
-        count: 1,
-        spots,
-    })
+    }];
+    class_domain(
+        alloc,
+        b"Cell".as_slice(),
+        Class::Object(0),
+        1,
+        spots.as_slice(),
+    )
 }
 
-fn layout(alloc: Global, fuel: u64) -> Result<Layout, Fail>
+fn layout_over(
+    alloc: Global,
+    fuel: u64,
+    domains: &[Listed<DomainEntry>],
+) -> Result<Layout, NoMemory>
+    requires { domains.now ≡ item_lists }
     ensures { IfOk result (λ layout. layout ≡ one_cell fuel) }
 {
-    let mut items = Listed::new(alloc);
-    items.push(Item::Integers(0, 2))?;
     let mut classes = Listed::new(alloc);
     classes.push(cells(alloc)?)?;
     let parameters = Listed::new(alloc);
-    let layout = Layout::new(
-        alloc,
-        0,
-        Mode::List,
-        fuel,
-        parameters,
-        classes,
-        [items].as_slice(),
-    )?;
-    Ok(layout)
+    Layout::new(alloc, 0, Mode::List, fuel, parameters, classes, domains)
 }
 
-fn candidate(alloc: Global, value: u32) -> Result<Vector, Fail>
+fn layout(alloc: Global, fuel: u64) -> Result<Layout, NoMemory>
+    ensures { IfOk result (λ layout. layout ≡ one_cell fuel) }
+{
+    let items = listed(alloc, [DomainEntry::Integers(0, 2)].as_slice())?;
+    layout_over(alloc, fuel, [items].as_slice())
+}
+
+fn candidate(alloc: Global, value: u32) -> Result<Vector, NoMemory>
     ensures { IfOk result (λ vector. vector ≡ 0 ∷ value ∷ []) }
 {
     let mut vector = Vector::zero(alloc, 2)?;
@@ -111,59 +116,80 @@ fn candidate(alloc: Global, value: u32) -> Result<Vector, Fail>
 
 fn judged<L: Ledger>(
     blank: Blank,
-    alloc: Global,
+    judge: &mut Judge,
+    layout: &Layout,
     predicate: &Predicate,
-    fuel: u64,
-    value: u32,
-) -> Result<(Judgement, Judge), Fail>
+    vector: &Vector,
+) -> Result<Result<bool, End>, NoMemory>
     requires ledger { blank.name ≡ L.name }
     requires parts { blank.parts ≡ L.parts }
     requires some { 0 < L.parts }
-    requires value { value < 3 }
+    requires well { IsWellFormed (bare layout.now) }
+    requires vector { IsVector (space_of (bare layout.now)) vector.now }
+    requires small { length (slots (bare layout.now)) < 2 ^ 31 }
 {
-    let vector = candidate(alloc, value)?;
-    let layout = layout(alloc, fuel)?;
     let mut runs = Steps::<L>::start(blank);
-    let mut judge = Judge::new(alloc);
-    let end = judge.judge(&layout, predicate, &vector, &mut runs)?;
-    Ok((end, judge))
+    judge.judge(layout, predicate, vector, &mut runs)
 }
 
-/// Whether a run ends so, and reads so many of the two slots.
+/// Whether a run in this layout ends so, and reads these slots.
+fn ends_in(
+    alloc: Global,
+    predicate: &Predicate,
+    layout: &Layout,
+    fuel: u64,
+    value: u32,
+    wanted: Result<bool, End>,
+    order: &[u32],
+) -> Result<bool, NoMemory>
+    requires value { value < 3 }
+    requires layout { layout.now ≡ one_cell fuel }
+{
+    let vector = candidate(alloc, value)?;
+    let mut judge = Judge::new(alloc);
+    let said = judged::<Brand>(Blank::new(1), &mut judge, layout, predicate, &vector);
+    Ok(matches!(&said, Ok(end) if *end == wanted) && judge.order() == order)
+}
+
+/// Whether a run with so much fuel ends so, and reads these slots.
 fn ends(
     alloc: Global,
     predicate: &Predicate,
     fuel: u64,
     value: u32,
-    wanted: Judgement,
+    wanted: Result<bool, End>,
     order: &[u32],
-) -> Result<bool, Fail>
+) -> Result<bool, NoMemory>
     requires { value < 3 }
 {
-    let (end, judge) = judged::<Brand>(Blank::new(1), alloc, predicate, fuel, value)?;
-    Ok(end == wanted && judge.order() == order)
+    let layout = layout(alloc, fuel)?;
+    ends_in(alloc, predicate, &layout, fuel, value, wanted, order)
 }
 
+const HOLDS: Result<bool, End> = Ok(true);
+
+const FAILS: Result<bool, End> = Ok(false);
+
+const SPENT: Result<bool, End> = Err(End::OutOfFuel);
+
 // A run of this predicate takes six units: the call, `this`, `return`, `>`, `v` and `0`.
-fn judge_all(rt: &impl Abort, alloc: Global, predicate: &Predicate) -> Result<(), Fail> {
+fn judge_all(rt: &impl Abort, alloc: Global, predicate: &Predicate) {
     for (fuel, value, wanted, length) in [
-        (1000, 0, Judgement::False, 2),
-        (1000, 1, Judgement::True, 2),
-        (6, 2, Judgement::True, 2),
-        (5, 2, Judgement::Spent, 2),
-        (4, 2, Judgement::Spent, 1),
+        (1000, 0, FAILS, 2),
+        (1000, 1, HOLDS, 2),
+        (6, 2, HOLDS, 2),
+        (5, 2, SPENT, 2),
+        (4, 2, SPENT, 1),
     ] {
         let order = &[0, 1][..length];
-        assert!(rt;
-            ends(alloc, predicate, fuel, value, wanted, order)?,
-            "{fuel} {value}"
-        );
+        let said = ends(alloc, predicate, fuel, value, wanted, order);
+        assert!(rt; matches!(&said, Ok(true)), "{fuel} {value}");
     }
-    Ok(())
 }
 
 #[test]
 fn one_field(rt: HostRuntime) -> Result<(), Fail> {
     let predicate = predicate(rt.alloc())?;
-    judge_all(&rt, rt.alloc(), &predicate)
+    judge_all(&rt, rt.alloc(), &predicate);
+    Ok(())
 }

@@ -17,6 +17,8 @@ mod judge;
 #[cfg(test)]
 mod operators;
 #[cfg(test)]
+mod problems;
+#[cfg(test)]
 mod run;
 #[cfg(test)]
 mod vector;

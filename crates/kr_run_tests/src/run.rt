@@ -1,6 +1,6 @@
 // Small pieces of code, run by the machine.
 
-use crate::codes::{NONE, Parts, code_of, push_row};
+use crate::codes::{NONE, Parts, Written, code_of, push_row};
 use kr_ast::{BinaryOperator, StepOperator};
 use kr_base::NoMemory;
 use kr_code::{
@@ -13,7 +13,6 @@ use kr_run::evaluate;
 use kr_run_state::{End, Halt, Local, Reads, World};
 use kr_value::{Class, Value};
 use std::alloc::Global;
-use std::process::Abort;
 use std::test::Fail;
 
 fn int(number: i32) -> Node {
@@ -131,19 +130,18 @@ fn push_declarations(parts: &mut Parts) -> Result<(), NoMemory> {
     Ok(())
 }
 
-fn push_all(alloc: Global, parts: &mut Parts) -> Result<(), NoMemory> {
-    push_nodes(&mut parts.nodes)?;
-    push_declarations(parts)?;
-    push_row(alloc, &mut parts.positions, &[])?;
-    push_row(alloc, &mut parts.positions, &[Some(0)])?;
-    push_row(alloc, &mut parts.dispatch, &[])?;
-    push_row(alloc, &mut parts.dispatch, &[Some(1)])
-}
+/// The methods and the class that are worked here.
+struct Counting;
 
-fn code(alloc: Global) -> Result<Code, NoMemory> {
-    let mut parts = Parts::new(alloc);
-    push_all(alloc, &mut parts)?;
-    code_of(alloc, parts)
+impl Written for Counting {
+    fn write(alloc: Global, parts: &mut Parts) -> Result<(), NoMemory> {
+        push_nodes(&mut parts.nodes)?;
+        push_declarations(parts)?;
+        push_row(alloc, &mut parts.positions, &[])?;
+        push_row(alloc, &mut parts.positions, &[Some(0)])?;
+        push_row(alloc, &mut parts.dispatch, &[])?;
+        push_row(alloc, &mut parts.dispatch, &[Some(1)])
+    }
 }
 
 fn world(alloc: Global, this: Value, candidates: Heap, fuel: u64) -> World {
@@ -160,17 +158,12 @@ fn world(alloc: Global, this: Value, candidates: Heap, fuel: u64) -> World {
     }
 }
 
-#[test]
-fn loops(rt: HostRuntime) -> Result<(), Fail> {
-    let alloc = rt.alloc();
-    let code = code(alloc)?;
+/// Whether a loop runs, and spends its fuel.
+fn counts(alloc: Global, code: &Code) -> bool {
     let mut world = world(alloc, Value::Null, Heap::new(alloc), 1000);
-    let said = evaluate(alloc, &code, &mut world, 12);
-    assert!(rt; matches!(&said, Ok(Value::Bool(true))));
-    assert_eq!(rt; world.locals.len(), 0);
+    let said = evaluate(alloc, code, &mut world, 12);
     // the call and its argument 2, the declarator and its value 2, 8 tests of 4 units, 7 bodies of 2, the loop 1, return 4
-    assert_eq!(rt; world.fuel, 1000 - 55);
-    Ok(())
+    matches!(&said, Ok(Value::Bool(true))) && world.locals.len() == 0 && world.fuel == 1000 - 55
 }
 
 /// Adds objects, each with the one before it in its field.
@@ -194,33 +187,44 @@ fn chain(alloc: Global, count: u32) -> Result<Heap, NoMemory> {
     Ok(heap)
 }
 
-#[test]
-fn deep_calls(rt: HostRuntime) -> Result<(), Fail> {
-    let alloc = rt.alloc();
-    let heap = chain(alloc, 10000)?;
-    let code = code(alloc)?;
+/// Whether a list of ten thousand counts itself, and not without fuel.
+fn is_counted(alloc: Global, code: &Code, heap: Heap) -> bool {
     let mut world = world(alloc, Value::Ref(9999), heap, 1000000);
-    let said = evaluate(alloc, &code, &mut world, 21);
-    assert!(rt; matches!(&said, Ok(Value::Int(10000))));
+    let said = evaluate(alloc, code, &mut world, 21);
     world.fuel = 10;
-    let ended = evaluate(alloc, &code, &mut world, 21);
-    assert!(rt; matches!(&ended, Err(Halt::Ended(End::OutOfFuel))));
-    Ok(())
+    let ended = evaluate(alloc, code, &mut world, 21);
+    matches!(&said, Ok(Value::Int(10000))) && matches!(&ended, Err(Halt::Ended(End::OutOfFuel)))
+}
+
+fn calls_deep(alloc: Global, code: &Code) -> Result<bool, NoMemory> {
+    let heap = chain(alloc, 10000)?;
+    Ok(is_counted(alloc, code, heap))
+}
+
+/// Whether a field is read, an object is made, and null traps.
+fn is_read(alloc: Global, code: &Code, heap: Heap) -> bool {
+    let mut world = world(alloc, Value::Ref(0), heap, 100);
+    let said = evaluate(alloc, code, &mut world, 21);
+    let read = world.reads.as_slice().len() == 1;
+    let made = evaluate(alloc, code, &mut world, 23);
+    let trapped = evaluate(alloc, code, &mut world, 22);
+    read && matches!(&said, Ok(Value::Int(1)))
+        && matches!(&made, Ok(Value::Ref(1)))
+        && traps(&trapped, Kind::NullPointerException)
+}
+
+fn reads_and_traps(alloc: Global, code: &Code) -> Result<bool, NoMemory> {
+    let heap = chain(alloc, 1)?;
+    Ok(is_read(alloc, code, heap))
 }
 
 #[test]
-fn reads_and_traps(rt: HostRuntime) -> Result<(), Fail> {
+fn methods(rt: HostRuntime) -> Result<(), Fail> {
     let alloc = rt.alloc();
-    let heap = chain(alloc, 1)?;
-    let code = code(alloc)?;
-    let mut world = world(alloc, Value::Ref(0), heap, 100);
-    let said = evaluate(alloc, &code, &mut world, 21);
-    assert!(rt; matches!(&said, Ok(Value::Int(1))));
-    assert_eq!(rt; world.reads.as_slice().len(), 1);
-    let made = evaluate(alloc, &code, &mut world, 23);
-    assert!(rt; matches!(&made, Ok(Value::Ref(1))));
-    let trapped = evaluate(alloc, &code, &mut world, 22);
-    assert!(rt; traps(&trapped, Kind::NullPointerException));
+    let code = code_of::<Counting>(alloc)?;
+    assert!(rt; counts(alloc, &code));
+    assert!(rt; matches!(&calls_deep(alloc, &code), Ok(true)));
+    assert!(rt; matches!(&reads_and_traps(alloc, &code), Ok(true)));
     Ok(())
 }
 
@@ -246,16 +250,15 @@ fn push_collection_nodes(nodes: &mut Vec<Node>) -> Result<(), NoMemory> {
     Ok(())
 }
 
-fn push_collections(parts: &mut Parts) -> Result<(), NoMemory> {
-    push_collection_nodes(&mut parts.nodes)?;
-    parts.links.push(2)?;
-    Ok(())
-}
+/// The calls on collections that are worked here.
+struct Collecting;
 
-fn collection_code(alloc: Global) -> Result<Code, NoMemory> {
-    let mut parts = Parts::new(alloc);
-    push_collections(&mut parts)?;
-    code_of(alloc, parts)
+impl Written for Collecting {
+    fn write(_alloc: Global, parts: &mut Parts) -> Result<(), NoMemory> {
+        push_collection_nodes(&mut parts.nodes)?;
+        parts.links.push(2)?;
+        Ok(())
+    }
 }
 
 fn created(callee: Callee) -> Node {
@@ -281,8 +284,8 @@ fn traps(said: &Result<Value, Halt>, kind: Kind) -> bool {
     }
 }
 
-/// Evaluates the calls one after another; the first two values are the locals from then on.
-fn call_all(rt: &impl Abort, alloc: Global, code: &Code, world: &mut World) -> Result<(), Fail> {
+/// Whether the calls, one after another, give these values; the first two are the locals from then on.
+fn are_answered(alloc: Global, code: &Code, world: &mut World) -> Result<bool, NoMemory> {
     for (node, expected) in [
         (3, Value::Ref(0)),
         (4, Value::Ref(1)),
@@ -300,7 +303,9 @@ fn call_all(rt: &impl Abort, alloc: Global, code: &Code, world: &mut World) -> R
         (8, Value::Bool(false)),
     ] {
         let said = evaluate(alloc, code, world, node);
-        assert!(rt; matches!(&said, Ok(value) if *value == expected));
+        if !matches!(&said, Ok(value) if *value == expected) {
+            return Ok(false);
+        }
         if node < 5 {
             world.locals.push(Local {
                 value: expected,
@@ -308,23 +313,26 @@ fn call_all(rt: &impl Abort, alloc: Global, code: &Code, world: &mut World) -> R
             })?;
         }
     }
-    Ok(())
+    Ok(true)
 }
 
-/// Evaluates the calls that trap: of an empty list its first member, of null its size.
-fn trap_all(rt: &impl Abort, alloc: Global, code: &Code, world: &mut World) {
+/// Whether the calls trap that do: of an empty list its first member, of null its size.
+fn are_trapped(alloc: Global, code: &Code, world: &mut World) -> bool {
     let empty = evaluate(alloc, code, world, 9);
-    assert!(rt; traps(&empty, Kind::NoSuchElementException));
     let null = evaluate(alloc, code, world, 12);
-    assert!(rt; traps(&null, Kind::NullPointerException));
+    traps(&empty, Kind::NoSuchElementException) && traps(&null, Kind::NullPointerException)
+}
+
+fn calls_collections(alloc: Global, code: &Code) -> bool {
+    let mut world = world(alloc, Value::Null, Heap::new(alloc), 1000);
+    matches!(&are_answered(alloc, code, &mut world), Ok(true))
+        && are_trapped(alloc, code, &mut world)
 }
 
 #[test]
 fn collections(rt: HostRuntime) -> Result<(), Fail> {
     let alloc = rt.alloc();
-    let code = collection_code(alloc)?;
-    let mut world = world(alloc, Value::Null, Heap::new(alloc), 1000);
-    call_all(&rt, alloc, &code, &mut world)?;
-    trap_all(&rt, alloc, &code, &mut world);
+    let code = code_of::<Collecting>(alloc)?;
+    assert!(rt; calls_collections(alloc, &code));
     Ok(())
 }

@@ -1,2 +1,3 @@
-pub mod Carried
-pub mod Left
+pub mod Gathering
+pub mod Marks
+pub mod Rows

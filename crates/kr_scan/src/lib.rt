@@ -1,8 +1,11 @@
-//! The survey of a problem: the entries of its candidates in a span of keys, one after another.
+//! A prepared problem as a survey: its entries in order, of which scans walk parts.
 #![tactic(auto)]
 
-mod bounds;
+mod batch;
+mod row;
 mod scan;
+mod sharing;
 
-pub use kr_step::{Ending, Next, Runner};
-pub use scan::Scan;
+pub use kr_mean::Row;
+pub use scan::{Scan, Stopped};
+pub use sharing::may_be_shared;

@@ -1,92 +1,185 @@
-// A span of entries, walked by the search.
-ghost use Rattle.std.specs.Prelude.{◌≡◌, ◌≤◌, ◌+◌, length, replicate, IfOk, OnErr};
-ghost use Rattle.kr_mean.specs.Problem.{Problem};
-ghost use Rattle.kr_scan.specs.Scans.{RunsOn, Scans};
+// The survey of a prepared problem.
+ghost use Rattle.std.specs.Prelude.{◌≡◌, ◌<◌, ◌≤◌, ◌+◌, ◌↔◌, IfOk, IfSome, IsTrue, length};
+ghost use Rattle.kr_mean.specs.Entries.{all_entries};
+ghost use Rattle.kr_mean.specs.declared.mode.Mode.TheVariants.{List};
+ghost use Rattle.kr_step_span.specs.Scans.{RunsOn};
+ghost use Rattle.kr_space_problem.specs.Posed.{posed};
+ghost use Rattle.kr_survey.specs.Scans.{IsScan};
 
-use crate::bounds::{is_before, is_behind};
-use crate::{Next, Runner};
-use kr_base::{Bound, NoMemory, Steps};
+use crate::batch::collect;
+use kr_base::{Bound, Cut, NoMemory, Steps};
+use kr_iso::Slots;
+use kr_judge_again::Runner;
+use kr_judge_prepared::Prepared;
 use kr_laws_pruning::plain_law;
 use kr_mean::Row;
-use kr_step::{Search, first_law};
+use kr_space_problem::Problem;
+use kr_step::Search;
+use kr_step_span::{Candidates, SpanSearch};
+use kr_survey::{Part, Survey};
 use std::alloc::Global;
 use std::marker::Model;
+use std::mem;
 use std::sync::ledger::Ledger;
 
-/// The entries of candidates that a span still has: those above the cut of the search, up to its end.
+/// A prepared problem of the mode List, as a survey of its entries. Contracts see the problem.
 #[derive(Drop)]
-pub struct Scan<R: Runner> {
-    search: Search<R>,
-    upto: Bound,
+pub struct Scan<'p> {
+    alloc: Global,
+    prepared: &'p Prepared,
 }
 
-impl<R: Runner> Model for Scan<R> {
-    ghost use Rattle.kr_scan.specs.Scans.{Shown};
+impl<'p> Model for Scan<'p> {
+    ghost use Rattle.std.specs.Prelude.{◌≡◌};
+    ghost use Rattle.kr_mean.specs.declared.mode.Mode.TheVariants.{List};
+    ghost use Rattle.kr_space_problem.specs.Posed.{posed};
+    ghost use Rattle.kr_space_problem.specs.declared.problem.Problem.{Problem as ProblemOf};
 
-    ghost Value = { Shown R };
+    ghost Value = { ProblemOf };
 
-    ghost view = { λ s. record { runner = s.search.runner; cut = s.search.cut; upto = s.upto } };
+    ghost view = { λ s. s.prepared.now.problem };
+
+    ghost invariant = { λ s. (posed s.prepared.now.problem).mode ≡ List };
 }
 
-impl<R: Runner + Drop> Scan<R> {
-    /// A scan of the keys above `after` and not above `upto`. The candidate of index 0 in every slot has to stand.
-    pub fn new<L: Ledger>(
-        alloc: Global,
-        runner: R,
-        after: &[u32],
-        upto: Bound,
+/// Where a scan stopped: the search, its candidate and all that is kept of its runs; or nothing yet. It borrows the prepared
+/// problem, and nothing of its survey.
+#[derive(Drop)]
+pub struct Stopped<'p> {
+    pub(crate) search: Option<Search<Runner<'p>>>,
+}
+
+/// Whether a search looks above a cut.
+fn looks_above(cut: &[u32], after: &Cut) -> bool
+    ensures { IsTrue result ↔ (cut.now ≡ after.now) }
+{
+    cut == after.numbers()
+}
+
+impl<'p> Scan<'p> {
+    /// The survey of a problem's entries. It takes no memory before it is scanned.
+    pub fn new(alloc: Global, prepared: &'p Prepared) -> Scan<'p>
+        requires { (posed prepared.now.problem).mode ≡ List }
+        ensures { result ≡ prepared.now.problem }
+    {
+        Scan { alloc, prepared }
+    }
+
+    /// The problem whose entries are scanned.
+    pub fn problem(&self) -> &'p Problem
+        ensures { result.now ≡ self.now }
+    {
+        self.prepared.problem()
+    }
+
+    /// A search above a cut, from its beginning.
+    fn seek<L: Ledger>(
+        &self,
+        after: &Cut,
         runs: &mut Steps<L>,
-    ) -> Result<Scan<R>, NoMemory>
-        requires { R.vector runner ≡ replicate (R.space runner).slots 0 }
-        ensures space { IfOk result (λ scan. R.space scan.runner ≡ R.space runner) }
-        ensures order { IfOk result (λ scan. R.order scan.runner ≡ R.order runner) }
-        ensures ending { IfOk result (λ scan. R.ending scan.runner ≡ R.ending runner) }
-        ensures cut { IfOk result (λ scan. scan.cut ≡ after.now) }
-        ensures upto { IfOk result (λ scan. scan.upto ≡ upto) }
+    ) -> Result<Search<Runner<'p>>, NoMemory>
+        ensures cut { IfOk result (λ search. search.cut ≡ after.now) }
+        ensures runs_on { IfOk result (λ search. RunsOn (posed self.now) (⟦<Runner<'p> as Slots>⟧.space search.candidates) (⟦<Runner<'p> as Candidates>⟧.order search.candidates) (⟦<Runner<'p> as Candidates>⟧.ending search.candidates)) }
         ensures runs { runs.new ≤ runs.old + length after.now + 1 }
     {
-        let search = Search::seek(alloc, runner, after, runs)?;
-        Ok(Scan { search, upto })
+        match Runner::new(self.alloc, self.prepared) {
+            Ok(runner) => Search::seek(self.alloc, runner, after.numbers(), runs),
+            Err(why) => Err(why),
+        }
     }
 
-    /// The next entry of the span: its candidate stands then, and its key is the cut. A call makes at most one run.
-    pub fn next<L: Ledger>(&mut self, runs: &mut Steps<L>) -> Result<Next, NoMemory>
-        ensures space { R.space self.new.runner ≡ R.space self.old.runner }
-        ensures order { R.order self.new.runner ≡ R.order self.old.runner }
-        ensures ending { R.ending self.new.runner ≡ R.ending self.old.runner }
-        ensures upto { self.new.upto ≡ self.old.upto }
-        ensures found { IfOk result (λ next. (problem : Problem) → RunsOn problem (R.space self.old.runner) (R.order self.old.runner) (R.ending self.old.runner) →
-            Scans problem self.old.upto self.old.cut (R.vector self.new.runner) self.new.cut next) }
-        ensures runs { IfOk result (λ next. runs.new ≤ runs.old + 1) }
-        ensures err { OnErr result (self.new.cut ≡ self.old.cut) }
+    /// A search above a cut: the one that is kept, if it stopped there.
+    fn search_above<L: Ledger>(
+        &self,
+        kept: Option<Search<Runner<'p>>>,
+        after: &Cut,
+        runs: &mut Steps<L>,
+    ) -> Result<Search<Runner<'p>>, NoMemory>
+        requires { IfSome kept (λ search. RunsOn (posed self.now) (⟦<Runner<'p> as Slots>⟧.space search.candidates) (⟦<Runner<'p> as Candidates>⟧.order search.candidates) (⟦<Runner<'p> as Candidates>⟧.ending search.candidates)) }
+        ensures cut { IfOk result (λ search. search.cut ≡ after.now) }
+        ensures runs_on { IfOk result (λ search. RunsOn (posed self.now) (⟦<Runner<'p> as Slots>⟧.space search.candidates) (⟦<Runner<'p> as Candidates>⟧.order search.candidates) (⟦<Runner<'p> as Candidates>⟧.ending search.candidates)) }
+        ensures runs { runs.new ≤ runs.old + length after.now + 1 }
     {
-        plain_law();
-        first_law::<Row>();
-        if !is_before(self.search.cut(), &self.upto) {
-            return Ok(Next::End);
-        }
-        match self.search.next(runs)? {
-            Next::End => return Ok(Next::End),
-            Next::Found(ending) => {
-                if is_behind(self.search.cut(), &self.upto) {
-                    return Ok(Next::End);
+        match kept {
+            Some(search) => {
+                if looks_above(search.cut(), after) {
+                    return Ok(search);
                 }
-                return Ok(Next::Found(ending));
+                self.seek(after, runs)
             }
+            None => self.seek(after, runs),
+        }
+    }
+}
+
+impl<'p> Survey for Scan<'p> {
+    ghost use Rattle.std.specs.Prelude.{IfSome};
+    ghost use Rattle.kr_mean.specs.Entries.{all_entries};
+    ghost use Rattle.kr_step_span.specs.Scans.{RunsOn};
+    ghost use Rattle.kr_space_problem.specs.Posed.{posed};
+
+    type Row = Row;
+
+    type Scratch = Stopped<'p>;
+
+    ghost all = { λ s. all_entries (posed s) };
+
+    ghost made = { λ s stopped. IfSome stopped.search (λ search. RunsOn (posed s) (⟦<Runner<'p> as Slots>⟧.space search.candidates) (⟦<Runner<'p> as Candidates>⟧.order search.candidates) (⟦<Runner<'p> as Candidates>⟧.ending search.candidates)) };
+
+    fn scratch(&self) -> Result<Stopped<'p>, NoMemory> {
+        Ok(Stopped { search: None })
+    }
+
+    fn scan_with<L: Ledger>(
+        &self,
+        scratch: &mut Stopped<'p>,
+        after: &Cut,
+        upto: &Bound,
+        most: u32,
+        runs: &mut Steps<L>,
+    ) -> Result<Part<Row>, NoMemory>
+        requires some { 0 < most }
+        requires made { IfSome scratch.old.search (λ search. RunsOn (posed self.now) (⟦<Runner<'p> as Slots>⟧.space search.candidates) (⟦<Runner<'p> as Candidates>⟧.order search.candidates) (⟦<Runner<'p> as Candidates>⟧.ending search.candidates)) }
+        ensures part { IfOk result (IsScan (all_entries (posed self.now)) after.now upto.now most) }
+        ensures made { IfSome scratch.new.search (λ search. RunsOn (posed self.now) (⟦<Runner<'p> as Slots>⟧.space search.candidates) (⟦<Runner<'p> as Candidates>⟧.order search.candidates) (⟦<Runner<'p> as Candidates>⟧.ending search.candidates)) }
+        ensures runs { IfOk result (λ part. runs.new ≤ runs.old + part.tried + length after.now + 3) }
+    {
+        let end = match upto.try_clone() {
+            Ok(end) => end,
+            Err(why) => return Err(why),
+        };
+        let kept = mem::replace(&mut scratch.search, None);
+        let search = match self.search_above(kept, after, runs) {
+            Ok(search) => search,
+            Err(why) => return Err(why),
+        };
+        let mut span = SpanSearch::of(search, end);
+        match collect(self.alloc, self.prepared, &mut span, upto, most, runs) {
+            Ok(part) => {
+                scratch.search = Some(span.into_search());
+                Ok(part)
+            }
+            Err(why) => Err(why),
         }
     }
 
-    /// The key of the last entry found, once there is one.
-    pub fn cut(&self) -> &[u32]
-        ensures { result.now ≡ self.now.cut }
+    fn scan<L: Ledger>(
+        &self,
+        after: &Cut,
+        upto: &Bound,
+        most: u32,
+        runs: &mut Steps<L>,
+    ) -> Result<Part<Row>, NoMemory>
+        requires { 0 < most }
+        ensures part { IfOk result (IsScan (all_entries (posed self.now)) after.now upto.now most) }
+        ensures runs { IfOk result (λ part. runs.new ≤ runs.old + part.tried + length after.now + 3) }
     {
-        self.search.cut()
+        let mut scratch = Stopped { search: None };
+        self.scan_with(&mut scratch, after, upto, most, runs)
     }
 
-    /// The candidates.
-    pub fn runner(&self) -> &R
-        ensures { result.now ≡ self.now.runner }
-    {
-        self.search.runner()
+    fn ascends(&self) {
+        self.prepared.laws();
+        plain_law();
     }
 }

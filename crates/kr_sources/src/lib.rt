@@ -1,7 +1,9 @@
-//! Small sources for tests, read to trees and programs. Whatever is refused is told as want of memory.
+//! Small sources for tests, read to trees and programs.
 #![tactic(auto)]
 
-ghost use Rattle.std.specs.Prelude.{◌≡◌, ◌<◌, ◌^◌, IfOk, length};
+mod unread;
+
+ghost use Rattle.std.specs.Prelude.{◌≡◌, ◌<◌, ◌^◌, ◌∷◌, [], IfOk, length};
 ghost use Rattle.kr_ast.specs.Arena.{root};
 ghost use Rattle.kr_laws_shapes.specs.Shapes.{AreClasses};
 ghost use Rattle.kr_classes.specs.ClassTables.{IsClassTable};
@@ -16,40 +18,35 @@ use kr_lex::{Tokens, lex};
 use kr_parse::parse;
 use kr_types::{Program, check};
 use std::alloc::Global;
+pub use unread::Unread;
 
-fn tokens_of(alloc: Global, file: u32, source: &str) -> Result<Tokens, NoMemory>
+fn tokens_of(alloc: Global, file: u32, source: &str) -> Result<Tokens, Unread>
     requires { file < 64 }
     ensures { IfOk result (λ tokens. length tokens.list < 2 ^ 20) }
 {
     let bytes = source.as_bytes();
     if bytes.len() >= 1 << 20 {
-        return Err(NoMemory);
+        return Err(Unread::Refused);
     }
-    match lex(alloc, file, bytes) {
-        Err(_) => Err(NoMemory),
-        Ok(tokens) => {
-            if tokens.len() >= 1 << 20 {
-                return Err(NoMemory);
-            }
-            Ok(tokens)
-        }
+    let tokens = lex(alloc, file, bytes)?;
+    if tokens.len() >= 1 << 20 {
+        return Err(Unread::Refused);
     }
+    Ok(tokens)
 }
 
-fn parsed(alloc: Global, tokens: &Tokens) -> Result<Tree, NoMemory>
+fn parsed(alloc: Global, tokens: &Tokens) -> Result<Tree, Unread>
     requires { length tokens.now.list < 2 ^ 20 }
     ensures small { IfOk result (λ tree. length tree.entries < 2 ^ 22) }
     ensures shaped { IfOk result (λ tree. AreClasses (root tree)) }
 {
     shape_law();
-    match parse(alloc, tokens) {
-        Err(_) => Err(NoMemory),
-        Ok(tree) => Ok(tree),
-    }
+    let tree = parse(alloc, tokens)?;
+    Ok(tree)
 }
 
 /// The tree of a source, the file of that number.
-pub fn tree_of(alloc: Global, file: u32, source: &str) -> Result<Tree, NoMemory>
+pub fn tree_of(alloc: Global, file: u32, source: &str) -> Result<Tree, Unread>
     requires { file < 64 }
     ensures small { IfOk result (λ tree. length tree.entries < 2 ^ 22) }
     ensures shaped { IfOk result (λ tree. AreClasses (root tree)) }
@@ -58,33 +55,35 @@ pub fn tree_of(alloc: Global, file: u32, source: &str) -> Result<Tree, NoMemory>
     parsed(alloc, &tokens)
 }
 
-fn table_of(alloc: Global, trees: &[Tree]) -> Result<ClassTable, NoMemory>
+fn table_of(alloc: Global, trees: &[Tree]) -> Result<ClassTable, Unread>
     requires { length trees.now < 65 }
     ensures { IfOk result (IsClassTable trees.now) }
 {
-    match classes(alloc, trees) {
-        Err(_) => Err(NoMemory),
-        Ok(table) => Ok(table),
-    }
+    let table = classes(alloc, trees)?;
+    Ok(table)
 }
 
-fn typed(alloc: Global, tree: Tree) -> Result<Program, NoMemory>
+fn alone(alloc: Global, tree: Tree) -> Result<Vec<Tree>, NoMemory>
+    ensures { IfOk result (λ trees. trees.items ≡ tree ∷ []) }
+{
+    Ok(vec![in alloc; tree]?)
+}
+
+fn typed(alloc: Global, tree: Tree) -> Result<Program, Unread>
     requires small { length tree.entries < 2 ^ 22 }
     requires shaped { AreClasses (root tree) }
     ensures program { IfOk result IsProgram }
     ensures shaped { IfOk result AreShaped }
     ensures alone { IfOk result (λ program. length program.trees.items ≡ 1) }
 {
-    let trees = vec![in alloc; tree]?;
+    let trees = alone(alloc, tree)?;
     let table = table_of(alloc, trees.as_slice())?;
-    match check(alloc, trees, table) {
-        Err(_) => Err(NoMemory),
-        Ok(program) => Ok(program),
-    }
+    let program = check(alloc, trees, table)?;
+    Ok(program)
 }
 
 /// The program of one source.
-pub fn program_of(alloc: Global, source: &str) -> Result<Program, NoMemory>
+pub fn program_of(alloc: Global, source: &str) -> Result<Program, Unread>
     ensures program { IfOk result IsProgram }
     ensures shaped { IfOk result AreShaped }
     ensures alone { IfOk result (λ program. length program.trees.items ≡ 1) }

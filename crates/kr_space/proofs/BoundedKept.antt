@@ -9,15 +9,14 @@ use Rattle.kr_classes_types.specs.Types.{TypeList, Extends}
 use Rattle.kr_mean.specs.Problem.{Problem, Choice, Domain, choices_in}
 use Rattle.kr_fin.specs.declared.document.Item.{Item as FinItem}
 use Rattle.kr_fin.specs.declared.document.Item.TheVariants.{Number, Range, Truth, Name}
-use Rattle.kr_space_layout.specs.declared.item.Item.{Item}
+use Rattle.kr_space_layout.specs.declared.item.DomainEntry.{DomainEntry}
 use Rattle.kr_space_layout.specs.declared.stretch.Block.{Block}
 use Rattle.kr_space_layout.specs.Items.{domain_of}
 use Rattle.kr_space_layout.specs.Stretches.{all_choices, stretch_of}
-use Rattle.kr_space_meaning.specs.declared.refusal.Fault.{Fault}
 use Rattle.kr_space_meaning.specs.Bounds.{Setting, lengths_of, values_of}
 use Rattle.kr_space_meaning.specs.Faults.{number_faults}
 use Rattle.kr_space_meaning.specs.Limits.{AreLengths, IsInt, IsLength, IsSmall}
-use Rattle.kr_space_meaning.specs.Order.{lesser}
+use Rattle.kr_space_meaning.specs.Order.{Fault, lesser}
 use Rattle.kr_space_rules.proofs.Bounded.{bounds_kept}
 use Rattle.kr_space.specs.declared.bounded.Bounded.{Bounded}
 use Rattle.kr_space.specs.Bounded.{IsBounded, setting_in}
@@ -34,7 +33,7 @@ bounded_kept a b d e k = record {
 }
 
 -- the faults of entries are those of the domain that they are
-pub numbers_same : (problem : Problem) (blocks : List Block) (entries : List Item) (values : Domain) (item : List ℕ) (old new : Option Fault) → AreBlocks problem blocks → domain_of entries ≡ values
+pub numbers_same : (problem : Problem) (blocks : List Block) (entries : List DomainEntry) (values : Domain) (item : List ℕ) (old new : Option Fault) → AreBlocks problem blocks → domain_of entries ≡ values
     → new ≡ fold lesser old (number_faults item (all_choices (map (stretch_of blocks) entries))) → new ≡ fold lesser old (number_faults item (choices_in problem values))
 numbers_same problem blocks entries values item old new b d n =
     n ∙ ap (λ (cs : List Choice). fold lesser old (number_faults item cs)) (sym (b entries) ∙ ap (choices_in problem) d)

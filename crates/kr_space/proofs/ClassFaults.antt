@@ -5,10 +5,9 @@ use Rattle.std.proofs.lemmas.Bool.{lt-ltb, le-ltb, cond-true, cond-false}
 use Rattle.kr_ast.specs.Tree.{Tree}
 use Rattle.kr_classes_table.specs.Table.{Heading, Field, Table, fields_of, headings_of, table_of}
 use Rattle.kr_fin.specs.declared.document.FinDoc.{FinDoc}
-use Rattle.kr_space_meaning.specs.declared.refusal.Fault.{Fault}
 use Rattle.kr_space_meaning.specs.Bounds.{class_name, count_named, field_key, setting_of}
 use Rattle.kr_space_meaning.specs.Faults.{class_S2, no_domain}
-use Rattle.kr_space_meaning.specs.Order.{lesser}
+use Rattle.kr_space_meaning.specs.Order.{Fault, lesser}
 use Rattle.kr_space.specs.Headings.{heading_at}
 
 pub name_at : (hs : List Heading) (c : ℕ) → c < length hs → unwrap_or (option_map (λ h. h.name) (slice_get hs c)) [] ≡ (heading_at hs c).name

@@ -45,7 +45,7 @@ before_same [] (suc d) = refl
 before_same (x ∷ ds) zero = refl
 before_same (x ∷ ds) (suc d) = ap (λ (n : ℕ). x.count + n) (before_same ds d)
 
-item_same : (problem other : Problem) → other.domains ≡ map bare_domain (counts_of problem.domains) → (item : problems.Item) → item_choices problem item ≡ item_choices other item
+item_same : (problem other : Problem) → other.domains ≡ map bare_domain (counts_of problem.domains) → (item : problems.DomainItem) → item_choices problem item ≡ item_choices other item
 item_same problem other e (Plain v) = refl
 item_same problem other e (Objects d) =
     let count : (domain_at problem d).count ≡ (domain_at other d).count = count_same problem.domains d ∙ ap (λ (ds : List problems.ClassDomain). (get_or ds d no_objects).count) (sym e) in

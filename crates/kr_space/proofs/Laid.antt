@@ -18,7 +18,7 @@ use Rattle.kr_fin.specs.declared.document.ArrayBound.{ArrayBound}
 use Rattle.kr_fin.specs.declared.document.FinDoc.{FinDoc}
 use Rattle.kr_space_layout.specs.declared.classes.ClassDomain.{ClassDomain}
 use Rattle.kr_space_layout.specs.declared.classes.Spotted.{Spotted}
-use Rattle.kr_space_layout.specs.declared.item.Item.{Item}
+use Rattle.kr_space_layout.specs.declared.item.DomainEntry.{DomainEntry}
 use Rattle.kr_space_layout.specs.Bounds.{Bounds, bounds_of, spotted}
 use Rattle.kr_space_layout.specs.Bounds as shapes
 use Rattle.kr_space_layout.specs.Items.{domain_of}
@@ -138,7 +138,7 @@ domains_whole files document l first all bounds f a b =
     let setting = setting_of files document in
     a ∙ (ap (λ (ks : List problems.ClassDomain). ks ++ map (array_class_domain setting) (map (bound_shown l document.arrays) bounds)) f ∙ ap (λ (bs : List (JavaType × ArrayBound)). class_domains setting 0 (headings_of files) ++ map (array_class_domain setting) bs) b)
 
-pub layout_is : (files : List Tree) (document : FinDoc) (mode : Mode) (class : Option ℕ) (root : ℕ) (parameters : List ℕ) (all : List ClassDomain) (ds : List (List Item)) → map domain_of ds ≡ pool (setting_of files document) document
+pub layout_is : (files : List Tree) (document : FinDoc) (mode : Mode) (class : Option ℕ) (root : ℕ) (parameters : List ℕ) (all : List ClassDomain) (ds : List (List DomainEntry)) → map domain_of ds ≡ pool (setting_of files document) document
     → class ≡ root_of (setting_of files document) → root ≡ unwrap_or class 0
     → map (λ n. get_or (pool (setting_of files document) document) n []) parameters ≡ map (λ p. values_given (setting_of files document) document.params (parameter_key mode p)) (tested_parameters (setting_of files document) mode)
     → map (shapes.class_domain (pool (setting_of files document) document)) all ≡ domains_of (setting_of files document)

@@ -14,7 +14,7 @@ use Rattle.kr_space_layout.specs.Items.{integers_from, magnitude, width_between}
 use Rattle.kr_space_meaning.specs.Bounds.{Setting, greatest, item_values, lengths_in, lengths_of, values_of}
 use Rattle.kr_space_meaning.specs.Limits.{AreLengths}
 
-abbrev integer : ℤ → problems.Item
+abbrev integer : ℤ → problems.DomainItem
 integer z = Plain (Int z)
 
 -- ---- a range of natural numbers

@@ -12,11 +12,10 @@ use Rattle.kr_mean.specs.Problem as problems
 use Rattle.kr_mean.specs.Problem.{Problem, domain_at, no_objects, slots}
 use Rattle.kr_fin.specs.declared.document.ArrayBound.{ArrayBound}
 use Rattle.kr_fin.specs.declared.document.FinDoc.{FinDoc}
-use Rattle.kr_space_meaning.specs.declared.refusal.Fault.{Fault}
 use Rattle.kr_space_meaning.specs.declared.refusal.SpaceRule.TheVariants.{EmptyDomain, TooMany}
 use Rattle.kr_space_meaning.specs.Bounds.{Setting, array_class_domain, bounded, class_domains, count_named, domains_of, problem_in, problem_of, program_in, root_of, setting_of, tested_parameters}
 use Rattle.kr_space_meaning.specs.Faults.{S1, S2, S3_S5_S6, S4, S7, S8, S9, array_S2, classes_S2, faults_in, fields_unfit, no_fields, no_params, params_unfit, numbers_of, numbers_of_lengths, parameter_S2}
-use Rattle.kr_space_meaning.specs.Order.{break_if, lesser}
+use Rattle.kr_space_meaning.specs.Order.{Fault, break_if, lesser}
 use Rattle.kr_space.specs.Refusals.{after_S1}
 use Rattle.kr_space.specs.Sizes.{class_counts, counts_of}
 

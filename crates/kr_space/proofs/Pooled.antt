@@ -10,7 +10,7 @@ use Rattle.kr_fin.specs.declared.document.ArrayBound.{ArrayBound}
 use Rattle.kr_fin.specs.declared.document.FinDoc.{FinDoc}
 use Rattle.kr_fin.specs.declared.document.Item.{Item as FinItem}
 use Rattle.kr_fin.specs.declared.document.NamedDomain.{NamedDomain}
-use Rattle.kr_space_layout.specs.declared.item.Item.{Item}
+use Rattle.kr_space_layout.specs.declared.item.DomainEntry.{DomainEntry}
 use Rattle.kr_space_layout.specs.Items.{domain_of}
 use Rattle.kr_space_meaning.specs.Bounds.{Setting, given, lengths_of, setting_of, values_given, values_of}
 use Rattle.kr_space_meaning.specs.Limits.{AreLengths}
@@ -23,7 +23,7 @@ use Rattle.kr_space.proofs.Named.{given_none}
 
 -- ---- the pool
 
-pub lengths_added : (setting : Setting) (old new : List (List Item)) (items : List FinItem) → All AreLengths items → map domain_of new ≡ map domain_of old ++ values_of setting items ∷ [] → map domain_of new ≡ map domain_of old ++ lengths_of setting items ∷ []
+pub lengths_added : (setting : Setting) (old new : List (List DomainEntry)) (items : List FinItem) → All AreLengths items → map domain_of new ≡ map domain_of old ++ values_of setting items ∷ [] → map domain_of new ≡ map domain_of old ++ lengths_of setting items ∷ []
 lengths_added setting old new items h e = e ∙ ap (λ (d : Domain). map domain_of old ++ d ∷ []) (lengths_values setting items h)
 
 -- one domain more
@@ -33,7 +33,7 @@ domains_next {A = A} f all old new xs i x h e k n =
     ∙ (ap (λ (y : A). old ++ f y ∷ map f (drop (i + 1) xs)) (sym e)
     ∙ (sym (append_assoc old (f x ∷ []) (map f (drop (i + 1) xs))) ∙ ap (λ (ds : List Domain). ds ++ map f (drop (i + 1) xs)) (sym n))))
 
-pub pool_whole : (setting : Setting) (document : FinDoc) (old first second third : List (List Item)) → map domain_of first ≡ map domain_of old ++ all_values setting document.fields
+pub pool_whole : (setting : Setting) (document : FinDoc) (old first second third : List (List DomainEntry)) → map domain_of first ≡ map domain_of old ++ all_values setting document.fields
     → map domain_of second ≡ map domain_of first ++ all_values setting document.params → map domain_of third ≡ map domain_of second ++ all_lengths setting document.arrays → map domain_of third ≡ map domain_of old ++ pool setting document
 pool_whole setting document old first second third a b c =
     let fields = all_values setting document.fields in
@@ -42,8 +42,8 @@ pool_whole setting document old first second third a b c =
     c ∙ (ap (λ (ds : List Domain). ds ++ lengths) (b ∙ ap (λ (ds : List Domain). ds ++ params) a)
     ∙ (append_assoc (map domain_of old ++ fields) params lengths ∙ append_assoc (map domain_of old) fields (params ++ lengths)))
 
-pub pool_alone : (setting : Setting) (document : FinDoc) (none all : List (List Item)) → none ≡ [] → map domain_of all ≡ map domain_of none ++ pool setting document → map domain_of all ≡ pool setting document
-pool_alone setting document none all n a = a ∙ ap (λ (ds : List (List Item)). map domain_of ds ++ pool setting document) n
+pub pool_alone : (setting : Setting) (document : FinDoc) (none all : List (List DomainEntry)) → none ≡ [] → map domain_of all ≡ map domain_of none ++ pool setting document → map domain_of all ≡ pool setting document
+pool_alone setting document none all n a = a ∙ ap (λ (ds : List (List DomainEntry)). map domain_of ds ++ pool setting document) n
 
 -- ---- numbers
 

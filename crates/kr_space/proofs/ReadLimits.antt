@@ -3,7 +3,6 @@ use Rattle.std.proofs.Common.{◌≡◌, ℕ, ℤ, Bool, true, false, cond, List
 use Rattle.std.specs.Prelude.{IsTrue, MatchOption, option_and_then}
 use Rattle.std.specs.List.{AllByRecursion}
 use Rattle.toml.specs.Data.{Data, string, integer, float, boolean, datetime, array, table, Items, no_items, item, Members, no_members, member, get_member, as_integer, as_table}
-use Rattle.kr_fin.specs.declared.refusal.Fault.{Fault}
 use Rattle.kr_fin.specs.declared.refusal.FinRule.TheVariants.{OutOfLimit, TooLong}
 use Rattle.kr_fin.specs.declared.document.FinDoc.{FinDoc}
 use Rattle.kr_fin.specs.declared.document.Item.{Item}
@@ -16,10 +15,10 @@ use Rattle.kr_fin.specs.declared.shapes.Section.TheVariants.{Objects, Arrays, Fi
 use Rattle.kr_fin.specs.declared.shapes.Shape.TheVariants.{Document, Range, Array}
 use Rattle.kr_fin.specs.Document.{bound_of, bounds_of, document_of, domain_of, domains_of, item_of as item_in, items_of, members_of, range_in, range_of, table_of}
 use Rattle.kr_fin.specs.Faults.{bound, domain, entries, faults_in, fuel, keyed, number, of_kind, optional, range, required, root, section, unknown_keys, value, values, within}
-use Rattle.kr_fin.specs.Meaning.{is_short, judged, meaning, of_table, table_in, unless}
-use Rattle.kr_fin.specs.Order.{broken, least}
+use Rattle.kr_fin.specs.Meaning.{is_short, document_in, meaning, of_table, table_in, unless}
+use Rattle.kr_fin.specs.Order.{Fault, broken, least, rank_of}
 use Rattle.kr_fin.specs.Shapes.{have, item_of as item_at, limits_of, name_of}
-use Rattle.kr_fin.specs.Laws.{IsLeast}
+use Rattle.kr_fin.specs.Least.{IsLeast}
 use Rattle.kr_fin.proofs.Leasts.{least_of_all}
 use Rattle.kr_space_meaning.specs.Limits.{AreLengths, IsSmall, IsWithinLimits}
 use Rattle.kr_space_meaning.proofs.Each.{each_at}
@@ -185,10 +184,10 @@ of_members ms e =
     }
 
 unbroken : (fs : List Fault) → least fs ≡ None → fs ≡ []
-unbroken fs e = subst (λ (o : Option Fault). MatchOption o (fs ≡ []) (IsLeast fs)) e (least_of_all fs)
+unbroken fs e = subst (λ (o : Option Fault). MatchOption o (fs ≡ []) (IsLeast rank_of fs)) e (least_of_all rank_of fs)
 
-judged_limits : (ms : Members) (document : FinDoc) → judged ms ≡ Ok document → IsWithinLimits document
-unfolding judged
+judged_limits : (ms : Members) (document : FinDoc) → document_in ms ≡ Ok document → IsWithinLimits document
+unfolding document_in
 judged_limits ms document e = go (least (faults_in ms)) refl e
   where
     go : (o : Option Fault) → least (faults_in ms) ≡ o → unless o (document_of ms) ≡ Ok document → IsWithinLimits document

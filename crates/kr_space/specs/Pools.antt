@@ -5,7 +5,7 @@ use Rattle.kr_fin.specs.declared.document.ArrayBound.{ArrayBound}
 use Rattle.kr_fin.specs.declared.document.FinDoc.{FinDoc}
 use Rattle.kr_fin.specs.declared.document.NamedDomain.{NamedDomain}
 use Rattle.kr_space_layout.specs.declared.classes.ClassDomain.{ClassDomain}
-use Rattle.kr_space_layout.specs.declared.item.Item.{Item}
+use Rattle.kr_space_layout.specs.declared.item.DomainEntry.{DomainEntry}
 use Rattle.kr_space_layout.specs.Bounds.{class_domain as domain_shown}
 use Rattle.kr_space_layout.specs.Items.{domain_of}
 use Rattle.kr_space_meaning.specs.Bounds.{Setting, domains_of, lengths_of, values_of}
@@ -26,5 +26,5 @@ abbrev pub AreDomainsOn : Basis → List ClassDomain → Type 0
 AreDomainsOn b domains = map (domain_shown (pool (setting_on b) b.document.now)) domains ≡ domains_of (setting_on b)
 
 -- the entries of the domains in the pool
-abbrev pub AreValuesOn : Basis → List (List Item) → Type 0
+abbrev pub AreValuesOn : Basis → List (List DomainEntry) → Type 0
 AreValuesOn b values = map domain_of values ≡ pool (setting_on b) b.document.now

@@ -4,14 +4,15 @@ use Rattle.kr_mean.specs.declared.mode.Mode.{Mode}
 use Rattle.kr_mean.specs.Problem.{Problem}
 use Rattle.kr_space_meaning.specs.Bounds.{Setting}
 use Rattle.kr_space_meaning.specs.Faults.{S2, S3_S5_S6, S4, S7, S8, S9}
-use Rattle.kr_space_meaning.specs.declared.refusal.Fault.{Fault}
-use Rattle.kr_space_meaning.specs.declared.refusal.SpaceRefusal.{SpaceRefusal}
-use Rattle.kr_space_meaning.specs.declared.refusal.SpaceRefusal.TheVariants.{Broken, NoMemory}
+use Rattle.kr_space_meaning.specs.Order.{Fault}
+use Rattle.kr_base.specs.declared.refusal.RefusalOf.{RefusalOf}
+use Rattle.kr_base.specs.declared.refusal.RefusalOf.TheVariants.{Broken, NoMemory}
+use Rattle.kr_space_meaning.specs.declared.refusal.SpaceRule.{SpaceRule}
 
 -- the refusal is for want of memory, or for the fault that is wanted
-abbrev pub Refuses : Option Fault → SpaceRefusal → Type 0
+abbrev pub Refuses : Option Fault → RefusalOf SpaceRule → Type 0
 Refuses wanted (Broken fault) = wanted ≡ Some fault
-Refuses wanted NoMemory = Unit {0}
+Refuses wanted (NoMemory why) = Unit {0}
 
 -- what breaks the rules after the first
 unfoldable pub after_S1 : Problem → Setting → Mode → List Fault

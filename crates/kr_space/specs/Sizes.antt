@@ -4,7 +4,7 @@ use Rattle.kr_classes_table.specs.Table.{Heading}
 use Rattle.kr_value.specs.declared.object.Class.TheVariants.{Object}
 use Rattle.kr_mean.specs.Problem as problems
 use Rattle.kr_mean.specs.Problem.{Problem, choices_in}
-use Rattle.kr_space_layout.specs.declared.item.Item.{Item}
+use Rattle.kr_space_layout.specs.declared.item.DomainEntry.{DomainEntry}
 use Rattle.kr_space_layout.specs.declared.stretch.Block.{Block}
 use Rattle.kr_space_layout.specs.declared.classes.ClassDomain.{ClassDomain}
 use Rattle.kr_space_layout.specs.Items.{domain_of}
@@ -13,7 +13,7 @@ use Rattle.kr_space_meaning.specs.Bounds.{Setting, count_named}
 
 -- the values of each domain are those of its entries, where these are the objects
 abbrev pub AreBlocks : Problem → List Block → Type 0
-AreBlocks problem blocks = (items : List Item) → choices_in problem (domain_of items) ≡ all_choices (map (stretch_of blocks) items)
+AreBlocks problem blocks = (items : List DomainEntry) → choices_in problem (domain_of items) ≡ all_choices (map (stretch_of blocks) items)
 
 -- class domains of which only the counts matter
 abbrev pub bare_class : ℕ → ClassDomain

@@ -17,9 +17,9 @@ use kr_ast::tree_of;
 use kr_base::NoMemory;
 use kr_classes_names::Index;
 use kr_classes_types::Types;
-use kr_fin::{ArrayBound, FinDoc};
+use kr_fin::{ArrayBound, FinDoc, Least};
 use kr_mean::Mode;
-use kr_space_names::Least;
+use kr_space_meaning::SpaceRule;
 use kr_space_rules::{Bound, Classes, Parameter, parameters_of};
 
 /// The greatest of the lengths of an array type.
@@ -42,7 +42,7 @@ fn has_elements(count: u32, greatest: u32) -> bool
 /// The elements of an array type that has arrays with elements have a domain.
 #[tactic(auto, unfolding(kr_space_meaning::specs::Bounds::setting_of))]
 fn note_elements(
-    least: &mut Least,
+    least: &mut Least<SpaceRule>,
     classes: &Classes,
     types: &Types,
     fields: &Index,
@@ -73,7 +73,7 @@ fn note_elements(
 
 /// The elements of each array type that has arrays with elements have a domain.
 pub(crate) fn note_all_elements(
-    least: &mut Least,
+    least: &mut Least<SpaceRule>,
     classes: &Classes,
     types: &Types,
     fields: &Index,
@@ -94,7 +94,7 @@ pub(crate) fn note_all_elements(
 /// A parameter of the method under test has a domain.
 #[tactic(auto, unfolding(kr_space_meaning::specs::Bounds::setting_of))]
 fn note_parameter(
-    least: &mut Least,
+    least: &mut Least<SpaceRule>,
     classes: &Classes,
     params: &Index,
     document: &FinDoc,
@@ -119,7 +119,7 @@ fn note_parameter(
 
 /// Each of some parameters of the method under test has a domain.
 fn note_each_parameter(
-    least: &mut Least,
+    least: &mut Least<SpaceRule>,
     classes: &Classes,
     params: &Index,
     document: &FinDoc,
@@ -139,7 +139,7 @@ fn note_each_parameter(
 /// The parameters of the method under test have domains, where one is tested.
 #[tactic(auto, unfolding(kr_space_meaning::specs::Bounds::setting_of, kr_classes_table::specs::Table::table_of))]
 pub(crate) fn note_parameters(
-    least: &mut Least,
+    least: &mut Least<SpaceRule>,
     classes: &Classes,
     params: &Index,
     document: &FinDoc,

@@ -14,14 +14,14 @@ use crate::slots::root_number;
 use crate::undefined::note_undefined;
 use kr_base::NoMemory;
 use kr_classes_types::Types;
-use kr_fin::FinDoc;
+use kr_fin::{FinDoc, Least};
 use kr_mean::Mode;
-use kr_space_names::Least;
+use kr_space_meaning::SpaceRule;
 use kr_space_rules::{Bound, Classes};
 
 /// S2: each field, element and parameter that has slots has a domain.
 pub(crate) fn note_given(
-    least: &mut Least,
+    least: &mut Least<SpaceRule>,
     classes: &Classes,
     types: &Types,
     document: &FinDoc,

@@ -17,10 +17,10 @@ use crate::slots::root_number;
 use crate::whole::note_numbers;
 use kr_base::NoMemory;
 use kr_classes_types::Types;
-use kr_fin::FinDoc;
+use kr_fin::{FinDoc, Least};
 use kr_mean::Mode;
-use kr_space_meaning::SpaceRefusal;
-use kr_space_names::{Least, note_names};
+use kr_space_meaning::{SpaceRefusal, SpaceRule};
+use kr_space_names::note_names;
 use kr_space_rules::{
     Bound, Classes, bounds_of, note_method, note_predicate, note_slots, note_unfit,
 };
@@ -29,7 +29,7 @@ use std::alloc::Global;
 /// S8, where a method is tested.
 #[tactic(auto, unfolding(kr_space_meaning::specs::Bounds::setting_of, kr_classes_table::specs::Table::table_of))]
 fn note_tested(
-    least: &mut Least,
+    least: &mut Least<SpaceRule>,
     classes: &Classes,
     document: &FinDoc,
     mode: &Mode,
@@ -49,7 +49,7 @@ fn note_tested(
 #[tactic(auto, using(crate::proofs::Parts::types_are, kr_space_names::proofs::Growing::node_types_kept), unfolding(kr_space_meaning::specs::Bounds::setting_of))]
 /// The rules on types and methods: S4, S7, S8 and S9.
 fn note_types(
-    least: &mut Least,
+    least: &mut Least<SpaceRule>,
     classes: &Classes,
     types: &mut Types,
     document: &FinDoc,
@@ -72,7 +72,7 @@ fn note_types(
 /// Notes what the document breaks of the rules after that on names.
 #[tactic(auto, using(crate::proofs::Parts::after_names, kr_space_names::proofs::Growing::node_types_kept))]
 fn note_after_names(
-    least: &mut Least,
+    least: &mut Least<SpaceRule>,
     classes: &Classes,
     types: &mut Types,
     document: &FinDoc,
@@ -96,7 +96,7 @@ fn note_after_names(
 /// Notes all that the document breaks.
 #[tactic(auto, using(crate::proofs::Parts::faults_are, crate::proofs::Parts::arrays_are, kr_space_names::proofs::Growing::node_types_kept))]
 fn note_faults(
-    least: &mut Least,
+    least: &mut Least<SpaceRule>,
     classes: &Classes,
     types: &mut Types,
     document: &FinDoc,
@@ -134,7 +134,7 @@ pub fn judge_space(
 {
     let mut least = Least::new(alloc);
     match note_faults(&mut least, classes, types, document, mode) {
-        Err(_) => Err(SpaceRefusal::NoMemory),
+        Err(why) => Err(SpaceRefusal::NoMemory(why)),
         Ok(_) => match least.into_fault() {
             None => Ok(()),
             Some(fault) => Err(SpaceRefusal::Broken(fault)),

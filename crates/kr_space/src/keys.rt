@@ -25,7 +25,7 @@ pub(crate) fn count_index(alloc: Global, counts: &[Count]) -> Result<Index, NoMe
     ensures { IfOk result (λ index. IsIndexOf (map (λ c. c.name) counts.now) index) }
 {
     if counts.len() >= 0xffff_ffff {
-        return Err(NoMemory);
+        return Err(NoMemory::at_limit(counts.len() as u64));
     }
     let mut index = Index::new(alloc);
     for (at, count) in counts.iter().enumerate() {
@@ -39,7 +39,7 @@ pub(crate) fn domain_index(alloc: Global, domains: &[NamedDomain]) -> Result<Ind
     ensures { IfOk result (λ index. IsIndexOf (map (λ d. d.key) domains.now) index) }
 {
     if domains.len() >= 0xffff_ffff {
-        return Err(NoMemory);
+        return Err(NoMemory::at_limit(domains.len() as u64));
     }
     let mut index = Index::new(alloc);
     for (at, domain) in domains.iter().enumerate() {

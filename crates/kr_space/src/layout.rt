@@ -14,7 +14,7 @@ use kr_base::NoMemory;
 use kr_classes_types::Types;
 use kr_fin::Listed;
 use kr_mean::Mode;
-use kr_space_layout::{ClassDomain, Item, Layout};
+use kr_space_layout::{ClassDomain, DomainEntry, Layout};
 use std::alloc::Global;
 
 /// The number of a class; 0 where there is none.
@@ -50,7 +50,7 @@ fn layout_over(
     basis: &Basis,
     mode: Mode,
     domains: Listed<ClassDomain>,
-    values: &[Listed<Item>],
+    values: &[Listed<DomainEntry>],
 ) -> Result<Layout, NoMemory>
     requires basis { IsBasis basis.now }
     requires domains { AreDomainsOn basis.now domains }
@@ -77,7 +77,7 @@ fn layout_with(
     arrays: &[u32],
     basis: &Basis,
     mode: Mode,
-    values: &[Listed<Item>],
+    values: &[Listed<DomainEntry>],
 ) -> Result<Layout, NoMemory>
     requires basis { IsBasis basis.now }
     requires bounds { AreBoundsOn types.now basis.now }

@@ -11,14 +11,15 @@ ghost use Rattle.kr_space.specs.Bounded.{IsBounded, problem_in, setting_in};
 use crate::bounded::Bounded;
 use kr_base::NoMemory;
 use kr_classes_types::Types;
-use kr_fin::{ArrayBound, Item, NamedDomain};
-use kr_space_names::{Least, item_of};
+use kr_fin::{ArrayBound, Item, Least, NamedDomain};
+use kr_space_meaning::SpaceRule;
+use kr_space_names::item_of;
 use kr_space_rules::{entries_of, note_numbers};
 
 #[tactic(auto, using(crate::proofs::BoundedKept::numbers_same))]
 /// The numbers of the values of a domain, under its item.
 fn note_values(
-    least: &mut Least,
+    least: &mut Least<SpaceRule>,
     types: &mut Types,
     bounded: &Bounded,
     item: &str,
@@ -44,7 +45,7 @@ fn note_values(
 
 /// The numbers of the values of a field, of elements or of a parameter.
 fn note_domain(
-    least: &mut Least,
+    least: &mut Least<SpaceRule>,
     types: &mut Types,
     bounded: &Bounded,
     table: &str,
@@ -67,7 +68,7 @@ fn note_domain(
 
 /// The numbers of the values of the domains of a table.
 pub(crate) fn note_domains(
-    least: &mut Least,
+    least: &mut Least<SpaceRule>,
     types: &mut Types,
     bounded: &Bounded,
     table: &str,
@@ -87,7 +88,7 @@ pub(crate) fn note_domains(
 #[tactic(auto, using(crate::proofs::BoundedKept::lengths_small))]
 /// The numbers of the values of an array type's lengths.
 fn note_length_values(
-    least: &mut Least,
+    least: &mut Least<SpaceRule>,
     types: &mut Types,
     bounded: &Bounded,
     bound: &ArrayBound,
@@ -109,7 +110,7 @@ fn note_length_values(
 
 /// The numbers of the lengths of an array type.
 fn note_lengths(
-    least: &mut Least,
+    least: &mut Least<SpaceRule>,
     types: &mut Types,
     bounded: &Bounded,
     bound: &ArrayBound,
@@ -124,7 +125,7 @@ fn note_lengths(
 
 /// The numbers of the lengths of the array types that the document bounds.
 pub(crate) fn note_all_lengths(
-    least: &mut Least,
+    least: &mut Least<SpaceRule>,
     types: &mut Types,
     bounded: &Bounded,
     bounds: &[ArrayBound],

@@ -11,7 +11,7 @@ use crate::basis::Basis;
 use kr_base::NoMemory;
 use kr_classes_types::Types;
 use kr_fin::{ArrayBound, Item as FinItem, Listed, NamedDomain};
-use kr_space_layout::Item;
+use kr_space_layout::DomainEntry;
 use kr_space_rules::entries_of;
 use std::alloc::Global;
 
@@ -20,7 +20,7 @@ fn add_values(
     alloc: Global,
     types: &mut Types,
     basis: &Basis,
-    domains: &mut Vec<Listed<Item>>,
+    domains: &mut Vec<Listed<DomainEntry>>,
     items: &[FinItem],
 ) -> Result<(), NoMemory>
     requires basis { IsBasis basis.now }
@@ -48,7 +48,7 @@ fn add_domains(
     alloc: Global,
     types: &mut Types,
     basis: &Basis,
-    domains: &mut Vec<Listed<Item>>,
+    domains: &mut Vec<Listed<DomainEntry>>,
     named: &[NamedDomain],
 ) -> Result<(), NoMemory>
     requires basis { IsBasis basis.now }
@@ -69,7 +69,7 @@ fn add_length(
     alloc: Global,
     types: &mut Types,
     basis: &Basis,
-    domains: &mut Vec<Listed<Item>>,
+    domains: &mut Vec<Listed<DomainEntry>>,
     bound: &ArrayBound,
 ) -> Result<(), NoMemory>
     requires basis { IsBasis basis.now }
@@ -86,7 +86,7 @@ fn add_lengths(
     alloc: Global,
     types: &mut Types,
     basis: &Basis,
-    domains: &mut Vec<Listed<Item>>,
+    domains: &mut Vec<Listed<DomainEntry>>,
     arrays: &[ArrayBound],
 ) -> Result<(), NoMemory>
     requires basis { IsBasis basis.now }
@@ -107,7 +107,7 @@ fn add_pool(
     alloc: Global,
     types: &mut Types,
     basis: &Basis,
-    domains: &mut Vec<Listed<Item>>,
+    domains: &mut Vec<Listed<DomainEntry>>,
 ) -> Result<(), NoMemory>
     requires basis { IsBasis basis.now }
     requires bounds { AreBoundsOn types.old basis.now }
@@ -126,7 +126,7 @@ pub(crate) fn pool_of(
     alloc: Global,
     types: &mut Types,
     basis: &Basis,
-) -> Result<Vec<Listed<Item>>, NoMemory>
+) -> Result<Vec<Listed<DomainEntry>>, NoMemory>
     requires basis { IsBasis basis.now }
     requires bounds { AreBoundsOn types.old basis.now }
     ensures pool { IfOk result (λ domains. map domain_of domains.items ≡ pool (setting_on basis.now) basis.now.document.now) }

@@ -1,5 +1,5 @@
 // A program with a document beside it, posed as a problem.
-ghost use Rattle.std.specs.Prelude.{◌≡◌, IsTrue, ◌+◌, ◌^◌, ◌<◌, ◌≤◌, None, IfErr, IfOk, length, map, nat_lt};
+ghost use Rattle.std.specs.Prelude.{◌≡◌, ◌+◌, ◌^◌, ◌<◌, ◌≤◌, None, IfErr, IfOk, length, map};
 ghost use Rattle.kr_ast.specs.Arena.{root};
 ghost use Rattle.kr_classes_table.specs.Table.{headings_of};
 ghost use Rattle.kr_classes_types.specs.Types.{Extends};
@@ -34,28 +34,30 @@ use kr_space_rules::{Bound, Classes, bounds_of};
 use kr_types::Program;
 use std::alloc::Global;
 
-/// Whether a sum has 32 bits.
-fn is_counted(first: usize, second: usize) -> bool
-    ensures { result ≡ nat_lt (first + second) (2 ^ 32) }
+/// Asks that a sum has 32 bits.
+fn have_numbers(first: usize, second: usize) -> Result<(), NoMemory>
+    ensures { IfOk result (λ none. first + second < 2 ^ 32) }
 {
-    match first.checked_add(second) {
-        None => false,
-        Some(sum) => sum < 0x1_0000_0000,
+    let sum = first.saturating_add(second);
+    if sum < 0x1_0000_0000 {
+        Ok(())
+    } else {
+        Err(NoMemory::at_limit(sum as u64))
     }
 }
 
-/// Whether class domains and given domains have numbers of 32 bits.
-fn has_numbers(classes: &Classes, document: &FinDoc, bounds: &[Bound]) -> bool
+/// Asks that class domains and given domains have numbers of 32 bits.
+fn ask_numbers(classes: &Classes, document: &FinDoc, bounds: &[Bound]) -> Result<(), NoMemory>
     requires { AreClasses classes.now }
-    ensures classes { IsTrue result → length (headings_of (files_of classes.now)) + length bounds.now < 2 ^ 32 }
-    ensures domains { IsTrue result → HasFewDomains document.now }
+    ensures classes { IfOk result (λ none. length (headings_of (files_of classes.now)) + length bounds.now < 2 ^ 32) }
+    ensures domains { IfOk result (λ none. HasFewDomains document.now) }
 {
     let fields = document.fields.as_slice().len();
     let params = document.params.as_slice().len();
     let arrays = document.arrays.as_slice().len();
-    is_counted(classes.heads.len(), bounds.len())
-        && is_counted(params, arrays)
-        && is_counted(fields, params + arrays)
+    have_numbers(classes.heads.len(), bounds.len())?;
+    have_numbers(params, arrays)?;
+    have_numbers(fields, params + arrays)
 }
 
 /// What a document gives a program to be a problem.
@@ -101,9 +103,7 @@ fn laid_by(
     ensures layout { IfOk result (λ laid. laid.layout ≡ bounds_on (setting_of (files_of classes.now) document.now) mode) }
     ensures extends { Extends types.old types.new }
 {
-    if !has_numbers(classes, document, bounds) {
-        return Err(NoMemory);
-    }
+    ask_numbers(classes, document, bounds)?;
     let basis = Basis {
         classes,
         document,
@@ -159,7 +159,7 @@ fn judge_and_lay(
     judge_space(alloc, classes, types, document, &mode)?;
     match lay(alloc, classes, types, document, mode) {
         Ok(laid) => Ok(laid),
-        Err(NoMemory) => Err(SpaceRefusal::NoMemory),
+        Err(why) => Err(SpaceRefusal::NoMemory(why)),
     }
 }
 

@@ -83,7 +83,7 @@ fn further(number: u32, count: u32) -> Result<u32, NoMemory>
 {
     match number.checked_add(count) {
         Some(next) => Ok(next),
-        None => Err(NoMemory),
+        None => Err(NoMemory::at_limit(u64::from(number) + u64::from(count))),
     }
 }
 

@@ -15,15 +15,14 @@ use kr_ast::tree_of;
 use kr_base::NoMemory;
 use kr_classes_members::Field;
 use kr_classes_names::Index;
-use kr_fin::{FinDoc, NamedDomain};
+use kr_fin::{FinDoc, Least, NamedDomain};
 use kr_space_meaning::SpaceRule;
-use kr_space_names::Least;
 use kr_space_rules::Classes;
 use std::alloc::Global;
 
 /// Notes a key that no domain is given for.
 pub(crate) fn note_absent(
-    least: &mut Least,
+    least: &mut Least<SpaceRule>,
     table: &[u8],
     index: &Index,
     domains: &[NamedDomain],
@@ -65,7 +64,7 @@ pub(crate) fn field_key(alloc: Global, classes: &Classes, field: Field) -> Resul
 
 /// Each of some fields has a domain.
 fn note_fields(
-    least: &mut Least,
+    least: &mut Least<SpaceRule>,
     classes: &Classes,
     index: &Index,
     domains: &[NamedDomain],
@@ -86,7 +85,7 @@ fn note_fields(
 /// The fields of a class that has objects have domains.
 #[tactic(auto, using(crate::proofs::ClassFaults::class_none, crate::proofs::ClassFaults::class_some))]
 fn note_class(
-    least: &mut Least,
+    least: &mut Least<SpaceRule>,
     classes: &Classes,
     objects: &Index,
     fields: &Index,
@@ -109,7 +108,7 @@ fn note_class(
 
 /// The fields of classes that have objects have domains.
 pub(crate) fn note_undefined(
-    least: &mut Least,
+    least: &mut Least<SpaceRule>,
     classes: &Classes,
     objects: &Index,
     fields: &Index,

@@ -19,10 +19,9 @@ use crate::sizes::{blocks_of, counts_of};
 use crate::slots::{root_number, slot_count};
 use kr_base::NoMemory;
 use kr_classes_types::Types;
-use kr_fin::FinDoc;
+use kr_fin::{FinDoc, Least};
 use kr_mean::Mode;
 use kr_space_meaning::SpaceRule;
-use kr_space_names::Least;
 use kr_space_rules::{Bound, Classes, note_if};
 
 /// The count of a root's class domain; 0 where there is none.
@@ -39,7 +38,7 @@ fn count_of_root(counts: &[u32], root: Option<u32>) -> u32
 #[tactic(auto, using(crate::proofs::Parts::numbers_are, crate::proofs::BoundedKept::bounded_kept), unfolding(kr_space_meaning::specs::Bounds::setting_of))]
 /// S3, S5 and S6 of each domain that is given, of the root's objects and of the slots.
 fn note_numbers_of(
-    least: &mut Least,
+    least: &mut Least<SpaceRule>,
     types: &mut Types,
     bounded: &Bounded,
     is_rootless: bool,
@@ -63,7 +62,7 @@ fn note_numbers_of(
 /// S3, S5 and S6: each domain that is given has a value, none twice, and at most 65,536; the root has objects; and there
 /// are at most 4,096 slots.
 pub(crate) fn note_numbers(
-    least: &mut Least,
+    least: &mut Least<SpaceRule>,
     classes: &Classes,
     types: &mut Types,
     document: &FinDoc,
@@ -83,7 +82,7 @@ pub(crate) fn note_numbers(
     let slots = slot_count(alloc, classes, &*types, objects, document, mode, bounds)?;
     let counts = counts_of(alloc, classes, &*types, objects, document, bounds)?;
     if counts.len() >= 0xffff_ffff {
-        return Err(NoMemory);
+        return Err(NoMemory::at_limit(counts.len() as u64));
     }
     let blocks = blocks_of(alloc, &counts)?;
     let objects_of_root = count_of_root(&counts, root_number(classes, document));

@@ -9,8 +9,8 @@ use Rattle.kr_value.specs.declared.value.Value.TheVariants.{Int, Ref as Referenc
 use Rattle.kr_mean.specs.Problem as problems
 use Rattle.kr_mean.specs.Problem.{Problem, Domain, Choice, objects_before, item_choices, choices_in, domain_at, no_objects}
 use Rattle.kr_space_layout.specs.declared.classes.ClassDomain.{ClassDomain}
-use Rattle.kr_space_layout.specs.declared.item.Item.{Item}
-use Rattle.kr_space_layout.specs.declared.item.Item.TheVariants.{Plain, Integers, Objects}
+use Rattle.kr_space_layout.specs.declared.item.DomainEntry.{DomainEntry}
+use Rattle.kr_space_layout.specs.declared.item.DomainEntry.TheVariants.{Plain, Integers, Objects}
 use Rattle.kr_space_layout.specs.declared.stretch.Block.{Block}
 use Rattle.kr_space_layout.specs.Items as entries
 use Rattle.kr_space_layout.specs.Items.{integers}
@@ -52,7 +52,7 @@ module _ (problem : Problem) (domains : List Domain) (classes : List ClassDomain
   abbrev blocks : List Block
   blocks = blocks_from 0 0 classes
 
-  item_is : (item : Item) → flat_map (item_choices problem) (entries.meant item) ≡ choices_of (stretch_of blocks item)
+  item_is : (item : DomainEntry) → flat_map (item_choices problem) (entries.meant item) ≡ choices_of (stretch_of blocks item)
   item_is (Plain v) = refl
   item_is (Integers from to) = integers_are problem (integers from to)
   item_is (Objects d) = append-nil (item_choices problem (problems.Objects d)) ∙ go (cases_lt d (length problem.domains))
@@ -80,20 +80,20 @@ module _ (problem : Problem) (domains : List Domain) (classes : List ClassDomain
           let z : (domain_at problem d).count ≡ 0 = ap (λ (c : problems.ClassDomain). c.count) (get_or_past problem.domains d no_objects le) in
           none (domain_at problem d).count z ∙ ap (λ (n : ℕ). map (object_choice b) (range_with_len 0 n)) count
 
-  pub choices_are : (items : List Item) → choices_in problem (entries.domain_of items) ≡ all_choices (map (stretch_of blocks) items)
+  pub choices_are : (items : List DomainEntry) → choices_in problem (entries.domain_of items) ≡ all_choices (map (stretch_of blocks) items)
   choices_are [] = refl
   choices_are (i ∷ is) = flat_map-append (item_choices problem) (entries.meant i) (entries.domain_of is) ∙ ap2 (λ (x : List Choice) (y : List Choice). x ++ y) (item_is i) (choices_are is)
 
 -- the domain that stretches say is the one of their entries
-meant_is : (classes : List ClassDomain) (item : Item) → meant (stretch_of (blocks_from 0 0 classes) item) ≡ entries.meant item
+meant_is : (classes : List ClassDomain) (item : DomainEntry) → meant (stretch_of (blocks_from 0 0 classes) item) ≡ entries.meant item
 meant_is classes (Plain v) = refl
 meant_is classes (Integers from to) = refl
 meant_is classes (Objects d) = ap (λ (n : ℕ). problems.Objects n ∷ []) (let r = block_is [] 0 0 classes d d (omega arith) in omega (arith, r.domain))
 
-pub domain_is : (classes : List ClassDomain) (items : List Item) → domain_of (map (stretch_of (blocks_from 0 0 classes)) items) ≡ entries.domain_of items
+pub domain_is : (classes : List ClassDomain) (items : List DomainEntry) → domain_of (map (stretch_of (blocks_from 0 0 classes)) items) ≡ entries.domain_of items
 domain_is classes [] = refl
 domain_is classes (i ∷ is) = ap2 (λ (x : Domain) (y : Domain). x ++ y) (meant_is classes i) (domain_is classes is)
 
-pub domains_are : (classes : List ClassDomain) (lists : List (List Item)) → map domain_of (map (λ (l : List Item). map (stretch_of (blocks_from 0 0 classes)) l) lists) ≡ map entries.domain_of lists
+pub domains_are : (classes : List ClassDomain) (lists : List (List DomainEntry)) → map domain_of (map (λ (l : List DomainEntry). map (stretch_of (blocks_from 0 0 classes)) l) lists) ≡ map entries.domain_of lists
 domains_are classes [] = refl
 domains_are classes (l ∷ ls) = ap2 (λ (x : Domain) (xs : List Domain). x ∷ xs) (domain_is classes l) (domains_are classes ls)

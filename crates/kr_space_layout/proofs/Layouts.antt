@@ -5,8 +5,8 @@ use Rattle.std.proofs.lemmas.List.{get_or-map, length-map}
 use Rattle.kr_mean.specs.declared.mode.Mode.{Mode}
 use Rattle.kr_mean.specs.Problem.{Problem, Domain, Slot, Choice, choices_at, choices_in, slots, slot_at, no_slot}
 use Rattle.kr_space_layout.specs.declared.classes.ClassDomain.{ClassDomain}
-use Rattle.kr_space_layout.specs.declared.item.Item.{Item}
-use Rattle.kr_space_layout.specs.declared.item.Item.TheVariants.{Objects}
+use Rattle.kr_space_layout.specs.declared.item.DomainEntry.{DomainEntry}
+use Rattle.kr_space_layout.specs.declared.item.DomainEntry.TheVariants.{Objects}
 use Rattle.kr_space_layout.specs.declared.stretch.Block.{Block}
 use Rattle.kr_space_layout.specs.declared.stretch.Stretch.{Stretch}
 use Rattle.kr_space_layout.specs.declared.entry.Entry.{Entry}
@@ -57,10 +57,10 @@ module _ (root : ℕ) (mode : Mode) (fuel : ℕ) (parameters : List ℕ) (classe
   pub pool_values : (d : ℕ) → all_choices (get_or pool d []) ≡ choices_in problem (domain_with root domains (Some d))
   pool_values d = go pool laid.pool_is.0 (laid.pool_is.1 ∙ ap (λ (bs : List Block). map (stretches bs) laid.pool_is.0) laid.blocks_are) d
     where
-      go : (p : List (List Stretch)) (items : List (List Item)) → p ≡ map (stretches (blocks_from 0 0 classes)) items → (d : ℕ) → all_choices (get_or p d []) ≡ choices_in problem (get_or (map domain_of p) d [])
+      go : (p : List (List Stretch)) (items : List (List DomainEntry)) → p ≡ map (stretches (blocks_from 0 0 classes)) items → (d : ℕ) → all_choices (get_or p d []) ≡ choices_in problem (get_or (map domain_of p) d [])
       go p items e d = subst (λ (q : List (List Stretch)). all_choices (get_or q d []) ≡ choices_in problem (get_or (map domain_of q) d [])) (sym e) (at items d)
         where
-          at : (items : List (List Item)) (d : ℕ) → all_choices (get_or (map (stretches (blocks_from 0 0 classes)) items) d []) ≡ choices_in problem (get_or (map domain_of (map (stretches (blocks_from 0 0 classes)) items)) d [])
+          at : (items : List (List DomainEntry)) (d : ℕ) → all_choices (get_or (map (stretches (blocks_from 0 0 classes)) items) d []) ≡ choices_in problem (get_or (map domain_of (map (stretches (blocks_from 0 0 classes)) items)) d [])
           at [] d = refl
           at (i ∷ is) zero = sym (choices_are problem domains classes refl i) ∙ ap (choices_in problem) (sym (domain_is classes i))
           at (i ∷ is) (suc d) = at is d

@@ -3,8 +3,8 @@ use Rattle.std.specs.Prelude.{ℕ, zero, suc, ℤ, pos, negsuc, ◌+ℤ◌, ◌-
 use Rattle.kr_value.specs.declared.value.Value.TheVariants.{Int}
 use Rattle.kr_mean.specs.Problem as problems
 use Rattle.kr_mean.specs.Problem.{Domain}
-use Rattle.kr_space_layout.specs.declared.item.Item.{Item}
-use Rattle.kr_space_layout.specs.declared.item.Item.TheVariants.{Plain, Integers, Objects}
+use Rattle.kr_space_layout.specs.declared.item.DomainEntry.{DomainEntry}
+use Rattle.kr_space_layout.specs.declared.item.DomainEntry.TheVariants.{Plain, Integers, Objects}
 
 -- so many integers, the first of them and on
 abbrev pub integers_from : ℤ → ℕ → List ℤ
@@ -24,10 +24,10 @@ abbrev pub integers : ℤ → ℤ → List ℤ
 integers from to = integers_from from (width_between from to)
 
 -- what an entry is in a problem
-abbrev pub meant : Item → List problems.Item
+abbrev pub meant : DomainEntry → List problems.DomainItem
 meant (Plain v) = problems.Plain v ∷ []
 meant (Integers from to) = map (λ z. problems.Plain (Int z)) (integers from to)
 meant (Objects d) = problems.Objects d ∷ []
 
-abbrev pub domain_of : List Item → Domain
+abbrev pub domain_of : List DomainEntry → Domain
 domain_of items = flat_map meant items

@@ -5,8 +5,8 @@ use Rattle.kr_mean.specs.Problem.{DomainObject}
 use Rattle.kr_mean.specs.Problem.{Problem, slots, choices_at, domain_at}
 use Rattle.kr_mean.specs.Program.{Program}
 use Rattle.kr_mean.specs.Space.{space_of}
-use Rattle.kr_space_layout.specs.declared.item.Item.{Item}
-use Rattle.kr_space_layout.specs.declared.item.Item.TheVariants.{Objects}
+use Rattle.kr_space_layout.specs.declared.item.DomainEntry.{DomainEntry}
+use Rattle.kr_space_layout.specs.declared.item.DomainEntry.TheVariants.{Objects}
 use Rattle.kr_space_layout.specs.declared.classes.ClassDomain.{ClassDomain}
 use Rattle.kr_space_layout.specs.declared.stretch.Block.{Block}
 use Rattle.kr_space_layout.specs.declared.stretch.Stretch.{Stretch}
@@ -16,7 +16,7 @@ use Rattle.kr_space_layout.specs.Bounds.{Bounds, bare, problem_with}
 use Rattle.kr_space_layout.specs.Tables.{blocks_from, all_entries, starts_with}
 
 -- the stretches of some entries
-abbrev pub stretches : List Block → List Item → List Stretch
+abbrev pub stretches : List Block → List DomainEntry → List Stretch
 stretches blocks items = map (stretch_of blocks) items
 
 -- the tables of a root, of parameters and of class domains
@@ -28,7 +28,7 @@ pub record IsLaid (root : ℕ) (parameters : List ℕ) (classes : List ClassDoma
   pub counted : count ≡ length entries
   pub small : count < 2 ^ 32
   pub this_is : this ≡ stretches blocks (Objects root ∷ [])
-  pub pool_is : (items : List (List Item)) × (pool ≡ map (stretches blocks) items)
+  pub pool_is : (items : List (List DomainEntry)) × (pool ≡ map (stretches blocks) items)
 
 -- how many slots the class domains before one have
 abbrev pub slots_before : ℕ → List problems.ClassDomain → ℕ

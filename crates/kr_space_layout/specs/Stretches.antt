@@ -6,8 +6,8 @@ use Rattle.kr_value.specs.declared.value.Value.TheVariants.{Int, Ref as Referenc
 use Rattle.kr_mean.specs.Problem as problems
 use Rattle.kr_mean.specs.Problem.{Domain, Choice}
 use Rattle.kr_iso.specs.Objects.{shown}
-use Rattle.kr_space_layout.specs.declared.item.Item.{Item}
-use Rattle.kr_space_layout.specs.declared.item.Item.TheVariants as items
+use Rattle.kr_space_layout.specs.declared.item.DomainEntry.{DomainEntry}
+use Rattle.kr_space_layout.specs.declared.item.DomainEntry.TheVariants as items
 use Rattle.kr_space_layout.specs.declared.stretch.Block.{Block}
 use Rattle.kr_space_layout.specs.declared.stretch.Stretch.{Stretch}
 use Rattle.kr_space_layout.specs.declared.stretch.Stretch.TheVariants.{Plain, Integers, Objects}
@@ -36,7 +36,7 @@ abbrev pub all_choices : List Stretch → List Choice
 all_choices stretches = flat_map choices_of stretches
 
 -- what a stretch is in a problem
-abbrev pub meant : Stretch → List problems.Item
+abbrev pub meant : Stretch → List problems.DomainItem
 meant (Plain v) = problems.Plain v ∷ []
 meant (Integers from to) = map (λ z. problems.Plain (Int z)) (integers from to)
 meant (Objects b) = problems.Objects b.domain ∷ []
@@ -54,7 +54,7 @@ chosen c = record { value = c.value; object = shown c.object }
 abbrev pub no_block : ℕ → Block
 no_block d = record { domain = d; first = 0; count = 0 }
 
-abbrev pub stretch_of : List Block → Item → Stretch
+abbrev pub stretch_of : List Block → DomainEntry → Stretch
 stretch_of blocks (items.Plain v) = Plain v
 stretch_of blocks (items.Integers from to) = Integers from to
 stretch_of blocks (items.Objects d) = Objects (get_or blocks d (no_block d))

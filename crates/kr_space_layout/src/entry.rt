@@ -4,7 +4,7 @@ use kr_iso::Object;
 use kr_value::SlotPlace;
 
 /// A slot: where it stands, whose it is, and the number of its domain.
-#[derive(Clone, Copy, Debug, PartialEq, Eq)]
+#[derive(Clone, Copy, PartialEq, Eq)]
 pub(crate) struct Entry {
     pub(crate) place: SlotPlace,
     pub(crate) owner: Option<Object>,

@@ -3,8 +3,8 @@
 use kr_value::Value;
 
 /// An entry of a domain: a plain value, the integers from one to another, both included, or all objects of a class domain.
-#[derive(Clone, Copy, Debug, PartialEq, Eq)]
-pub enum Item {
+#[derive(Clone, Copy, PartialEq, Eq)]
+pub enum DomainEntry {
     Plain(Value),
     Integers(i32, i32),
     Objects(u32),

@@ -13,7 +13,7 @@ ghost use Rattle.kr_space_layout.specs.Layouts.{AnyProgramLaw, first_slot, stret
 
 use crate::classes::ClassDomain;
 use crate::entry::Entry;
-use crate::item::Item;
+use crate::item::DomainEntry;
 use crate::shape::Shape;
 use crate::stretch::{Block, Chosen};
 use crate::tables::{Tables, blocks_of, counted, tables_of};
@@ -61,7 +61,7 @@ impl Model for Layout {
 /// The values of these domains, where these are the objects of the class domains.
 fn pool_of(
     alloc: Global,
-    domains: &[Listed<Item>],
+    domains: &[Listed<DomainEntry>],
     blocks: &[Block],
 ) -> Result<Vec<Values>, NoMemory>
     requires { All IsNumbered blocks.now }
@@ -113,13 +113,13 @@ impl Layout {
         fuel: u64,
         parameters: Listed<u32>,
         classes: Listed<ClassDomain>,
-        domains: &[Listed<Item>],
+        domains: &[Listed<DomainEntry>],
     ) -> Result<Layout, NoMemory>
         ensures { IfOk result (λ layout. layout ≡ bounds_of root mode fuel parameters classes (map domain_of domains.now)) }
     {
         let blocks = blocks_of(alloc, classes.as_slice())?;
         let objects = blocks.as_slice();
-        let this = Values::of(alloc, [Item::Objects(root)].as_slice(), objects)?;
+        let this = Values::of(alloc, [DomainEntry::Objects(root)].as_slice(), objects)?;
         let pool = pool_of(alloc, domains, objects)?;
         let listed = classes.as_slice();
         let Tables { entries, starts } = tables_of(alloc, parameters.as_slice(), objects, listed)?;

@@ -12,7 +12,7 @@ mod tables;
 mod values;
 
 pub use classes::{ClassDomain, Spotted};
-pub use item::Item;
+pub use item::DomainEntry;
 pub use layout::{Layout, any_program_law};
 pub use stretch::{Block, Chosen, Stretch};
 pub use values::Values;

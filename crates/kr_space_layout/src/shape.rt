@@ -10,7 +10,7 @@ use kr_iso::Object;
 
 /// How many values a domain has. If it's simple, those from an index on are the objects of one class domain, in order, and
 /// those before it are no objects.
-#[derive(Clone, Copy, Debug, PartialEq, Eq)]
+#[derive(Clone, Copy, PartialEq, Eq)]
 pub(crate) struct Shape {
     pub(crate) size: u32,
     pub(crate) from: u32,

@@ -5,12 +5,12 @@ ghost use Rattle.kr_mean.specs.Space.{no_choice};
 ghost use Rattle.kr_space_layout.specs.Items.{width_between};
 ghost use Rattle.kr_space_layout.specs.Stretches.{Fits, choices_of, chosen, count_of, no_block, stretch_of};
 
-use crate::Item;
+use crate::DomainEntry;
 use kr_iso::Object;
 use kr_value::Value;
 
 /// The objects of a class domain: the domain's number, the first object's number in the heap, and how many there are.
-#[derive(Clone, Copy, Debug, PartialEq, Eq)]
+#[derive(Clone, Copy, PartialEq, Eq)]
 pub struct Block {
     pub domain: u32,
     pub first: u32,
@@ -19,7 +19,7 @@ pub struct Block {
 
 /// Some values of a domain that stand one after another: a plain value, the integers from one to another, both included,
 /// or the objects of a class domain.
-#[derive(Clone, Copy, Debug, PartialEq, Eq)]
+#[derive(Clone, Copy, PartialEq, Eq)]
 pub enum Stretch {
     Plain(Value),
     Integers(i32, i32),
@@ -27,7 +27,7 @@ pub enum Stretch {
 }
 
 /// A value of a domain, and the object that it is where it is one.
-#[derive(Clone, Copy, Debug, PartialEq, Eq)]
+#[derive(Clone, Copy, PartialEq, Eq)]
 pub struct Chosen {
     pub value: Value,
     pub object: Option<Object>,
@@ -55,13 +55,13 @@ fn integer_at(from: i32, to: i32, index: u32) -> i32
 
 impl Stretch {
     /// An entry, where these are the objects of the class domains.
-    pub fn of(item: Item, blocks: &[Block]) -> Stretch
+    pub fn of(item: DomainEntry, blocks: &[Block]) -> Stretch
         ensures { result ≡ stretch_of blocks.now item }
     {
         match item {
-            Item::Plain(value) => Stretch::Plain(value),
-            Item::Integers(from, to) => Stretch::Integers(from, to),
-            Item::Objects(domain) => Stretch::Objects(block_at(blocks, domain)),
+            DomainEntry::Plain(value) => Stretch::Plain(value),
+            DomainEntry::Integers(from, to) => Stretch::Integers(from, to),
+            DomainEntry::Objects(domain) => Stretch::Objects(block_at(blocks, domain)),
         }
     }
 

@@ -17,7 +17,7 @@ fn further(number: u32, count: u32) -> Result<u32, NoMemory>
 {
     match number.checked_add(count) {
         Some(next) => Ok(next),
-        None => Err(NoMemory),
+        None => Err(NoMemory::at_limit(u64::from(number) + u64::from(count))),
     }
 }
 
@@ -27,7 +27,7 @@ pub(crate) fn counted(count: usize) -> Result<u32, NoMemory>
 {
     match u32::try_from(count) {
         Ok(number) => Ok(number),
-        Err(_) => Err(NoMemory),
+        Err(_) => Err(NoMemory::at_limit(count as u64)),
     }
 }
 

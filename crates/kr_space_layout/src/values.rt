@@ -5,7 +5,7 @@ ghost use Rattle.kr_mean.specs.Space.{no_choice};
 ghost use Rattle.kr_space_layout.specs.Shapes.{IsShape};
 ghost use Rattle.kr_space_layout.specs.Stretches.{IsLast, IsNumbered, Fits, all_choices, chosen, no_piece, stretch_of};
 
-use crate::Item;
+use crate::DomainEntry;
 use crate::shape::Shape;
 use crate::stretch::{Block, Chosen, Stretch};
 use kr_base::NoMemory;
@@ -80,8 +80,9 @@ impl Values {
         requires { Fits stretch }
         ensures { OnOk result (self.new ≡ self.old ++ stretch ∷ []) }
     {
-        let Ok(size) = u32::try_from(u64::from(self.size) + stretch.count()) else {
-            return Err(NoMemory);
+        let total = u64::from(self.size) + stretch.count();
+        let Ok(size) = u32::try_from(total) else {
+            return Err(NoMemory::at_limit(total));
         };
         let start = self.size;
         let shape = self.shape.with(stretch, size);
@@ -92,7 +93,7 @@ impl Values {
     }
 
     /// The values of these entries, where these are the objects of the class domains.
-    pub fn of(alloc: Global, items: &[Item], blocks: &[Block]) -> Result<Values, NoMemory>
+    pub fn of(alloc: Global, items: &[DomainEntry], blocks: &[Block]) -> Result<Values, NoMemory>
         requires { All IsNumbered blocks.now }
         ensures { IfOk result (λ values. values ≡ map (stretch_of blocks.now) items.now) }
     {

@@ -18,9 +18,8 @@ use Rattle.kr_fin.specs.declared.document.Item.{Item as FinItem}
 use Rattle.kr_space_meaning.specs.Names.{array_type}
 use Rattle.kr_space_meaning.specs.Bounds.{Setting, setting_of, bounded, typed_bound, problem_in, program_in, root_of, given, values_of, lengths_of, values_given, field_spots, field_key, class_domain, class_domains, array_class_domain, element_spots, elements_key, greatest, domains_of, count_named, tested_parameters, parameter_key}
 use Rattle.kr_space_meaning.specs.Faults.{S1, S2, S3_S5_S6, number_faults, numbers_of, numbers_of_lengths, faults_in, classes_S2, class_S2, array_S2, parameter_S2, no_domain}
-use Rattle.kr_space_meaning.specs.declared.refusal.Fault.{Fault}
 use Rattle.kr_space_meaning.specs.declared.refusal.SpaceRule.TheVariants.{EmptyDomain, TooMany}
-use Rattle.kr_space_meaning.specs.Order.{break_if}
+use Rattle.kr_space_meaning.specs.Order.{Fault, break_if}
 use Rattle.kr_space_meaning.specs.Laws.{WellFormedLaw}
 use Rattle.kr_space_meaning.proofs.Each.{both_none, unbroken, none_each, each_of_both, each_mapped, each_flat, each_weaker, each_always, each_at, each_number}
 use Rattle.kr_space_meaning.proofs.Plain.{plain_values, plain_lengths, lengths_upto, length-element_spots, elements_in_order, fields_in_order}

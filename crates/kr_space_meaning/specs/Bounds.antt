@@ -11,7 +11,7 @@ use Rattle.kr_value.specs.declared.object.Spot.TheVariants.{Field as FieldSpot, 
 use Rattle.kr_mean.specs.declared.mode.Mode.{Mode}
 use Rattle.kr_mean.specs.declared.mode.Mode.TheVariants.{List as Listing, Method as Testing}
 use Rattle.kr_mean.specs.Program.{Program, program_with}
-use Rattle.kr_mean.specs.Problem.{Problem, ClassDomain, Domain, Item, Plain, Objects, Spotted}
+use Rattle.kr_mean.specs.Problem.{Problem, ClassDomain, Domain, DomainItem, Plain, Objects, Spotted}
 use Rattle.kr_space_layout.specs.Items.{integers}
 use Rattle.kr_fin.specs.declared.document.FinDoc.{FinDoc}
 use Rattle.kr_fin.specs.declared.document.Count.{Count}
@@ -71,18 +71,18 @@ class_name table c = unwrap_or (option_map (λ h. h.name) (slice_get table.headi
 -- ---- values
 
 -- the class domain of an array type that the document bounds, counted from d on
-abbrev pub array_domain : ℕ → List (JavaType × ArrayBound) → JavaType → List Item
+abbrev pub array_domain : ℕ → List (JavaType × ArrayBound) → JavaType → List DomainItem
 array_domain d [] t = []
 array_domain d (a ∷ more) t = if is_same a.0 t then Objects d ∷ [] else array_domain (d + 1) more t
 
 -- what a name stands for: null, or all objects of its class domain; an array type that isn't bounded has no objects
-abbrev pub meant_values : Setting → Meant → List Item
+abbrev pub meant_values : Setting → Meant → List DomainItem
 meant_values setting NoReference = Plain Null ∷ []
 meant_values setting (names.Objects c) = Objects c ∷ []
 meant_values setting (names.Arrays t) = array_domain (length setting.table.headings) setting.arrays t
 meant_values setting Unknown = []
 
-abbrev pub item_values : Setting → FinItem → List Item
+abbrev pub item_values : Setting → FinItem → List DomainItem
 item_values setting (Number z) = Plain (Int z) ∷ []
 item_values setting (Range from to) = map (λ z. Plain (Int z)) (integers from to)
 item_values setting (FinTruth b) = Plain (Truth b) ∷ []
@@ -93,7 +93,7 @@ abbrev pub values_of : Setting → List FinItem → Domain
 values_of setting items = flat_map (item_values setting) items
 
 -- the lengths of a domain: its natural numbers
-abbrev pub lengths_in : List Item → List Item
+abbrev pub lengths_in : List DomainItem → List DomainItem
 lengths_in [] = []
 lengths_in (Plain (Int (pos n)) ∷ items) = Plain (Int (pos n)) ∷ lengths_in items
 lengths_in (item ∷ items) = lengths_in items

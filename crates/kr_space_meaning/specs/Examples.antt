@@ -18,8 +18,7 @@ use Rattle.kr_fin.specs.declared.document.ArrayBound.{ArrayBound}
 use Rattle.kr_fin.specs.declared.document.NamedDomain.{NamedDomain}
 use Rattle.kr_fin.specs.declared.document.Item.{Item as FinItem}
 use Rattle.kr_fin.specs.declared.document.Item.TheVariants.{Number, Range, Truth, Name}
-use Rattle.kr_space_meaning.specs.declared.refusal.Fault.{Fault}
-use Rattle.kr_space_meaning.specs.Order.{least, rule_code}
+use Rattle.kr_space_meaning.specs.Order.{Fault, least, rule_code}
 use Rattle.kr_space_meaning.specs.Bounds.{problem_of}
 use Rattle.kr_space_meaning.specs.Meaning.{faults_of}
 

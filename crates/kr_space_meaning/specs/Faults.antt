@@ -8,6 +8,7 @@ use Rattle.kr_classes_table.specs.Types.{JavaType, IntType, BooleanType, ClassTy
 use Rattle.kr_classes_table.specs.Table.{Table, Heading, Field, Parameter, Method, own_fields, fields_of, number_of, is_assignable}
 use Rattle.kr_value.specs.declared.value.Value.{Value}
 use Rattle.kr_value.specs.declared.value.Value.TheVariants.{Int, Bool as Truth, Null, Ref as Reference}
+use Rattle.kr_mean.specs.Collections.{is_same_value}
 use Rattle.kr_mean.specs.declared.mode.Mode.{Mode}
 use Rattle.kr_mean.specs.declared.mode.Mode.TheVariants.{List as Listing, Method as Testing}
 use Rattle.kr_mean.specs.Problem.{Problem, Choice, Domain, slots, choices_in, domain_at}
@@ -17,11 +18,10 @@ use Rattle.kr_fin.specs.declared.document.NamedDomain.{NamedDomain}
 use Rattle.kr_fin.specs.declared.document.Item.{Item}
 use Rattle.kr_fin.specs.declared.document.Item.TheVariants.{Number, Range, Truth as FinTruth, Name}
 use Rattle.kr_fin.specs.Shapes.{is_dot}
-use Rattle.kr_space_meaning.specs.declared.refusal.Fault.{Fault}
 use Rattle.kr_space_meaning.specs.declared.refusal.SpaceRule.TheVariants.{UnknownName, NoDomain, EmptyDomain, UnfitValue, ValueTwice, TooMany, NoPredicate, NoMethod, NoSlot}
 use Rattle.kr_space_meaning.specs.Names.{Meant, NoReference, Objects, Arrays, Unknown, array_type, meant}
 use Rattle.kr_space_meaning.specs.Bounds.{Setting, root_of, method_at, parameters_of, tested_parameters, parameter_key, given, values_of, lengths_of, field_key, elements_key, count_named, greatest}
-use Rattle.kr_space_meaning.specs.Order.{break_if}
+use Rattle.kr_space_meaning.specs.Order.{Fault, break_if}
 
 abbrev Text : Type 0
 Text = List ℕ
@@ -149,13 +149,6 @@ S2 setting mode =
     ++ flat_map (parameter_S2 setting mode) (tested_parameters setting mode))
 
 -- ---- S3, S5, S6: how many values, and each once
-
-abbrev pub is_same_value : Value → Value → Bool
-is_same_value (Int a) (Int b) = int_eq a b
-is_same_value (Truth a) (Truth b) = if a then b else not b
-is_same_value Null Null = true
-is_same_value (Reference a) (Reference b) = nat_eq a b
-is_same_value a b = false
 
 abbrev pub has_twice : List Choice → Bool
 has_twice [] = false

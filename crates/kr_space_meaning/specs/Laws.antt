@@ -1,24 +1,19 @@
 -- Between crates: what holds of the problems of documents that break no rule, and of the rule that is named where some are
 -- broken.
-use Rattle.std.specs.Prelude.{◌≡◌, false, List, [], All, Contains, MatchOption}
+use Rattle.std.specs.Prelude.{◌≡◌, List, []}
 use Rattle.kr_ast.specs.Tree.{Tree}
 use Rattle.kr_mean.specs.declared.mode.Mode.{Mode}
 use Rattle.kr_mean.specs.WellFormed.{IsWellFormed}
 use Rattle.kr_fin.specs.declared.document.FinDoc.{FinDoc}
-use Rattle.kr_space_meaning.specs.declared.refusal.Fault.{Fault}
+use Rattle.kr_fin.specs.Least as by
 use Rattle.kr_space_meaning.specs.Bounds.{problem_of}
 use Rattle.kr_space_meaning.specs.Meaning.{faults_of}
-use Rattle.kr_space_meaning.specs.Order.{comes_before, least}
+use Rattle.kr_space_meaning.specs.Order.{rank_of}
 
 -- the problem of a document that breaks no rule is well formed
 abbrev pub WellFormedLaw : Type 0
 WellFormedLaw = (files : List Tree) (document : FinDoc) (mode : Mode) → faults_of files document mode ≡ [] → IsWellFormed (problem_of files document mode)
 
--- one of the faults, and none of them comes before it
-pub record IsLeast (faults : List Fault) (fault : Fault) : Type 0 where
-  pub is_one : Contains faults fault
-  pub is_first : All (λ other. comes_before other fault ≡ false) faults
-
 -- the least is there where there are faults, and is the least of them
 abbrev pub LeastLaw : Type 0
-LeastLaw = (faults : List Fault) → MatchOption (least faults) (faults ≡ []) (IsLeast faults)
+LeastLaw = by.LeastLaw rank_of

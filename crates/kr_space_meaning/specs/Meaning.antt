@@ -4,10 +4,9 @@ use Rattle.kr_ast.specs.Tree.{Tree}
 use Rattle.kr_mean.specs.declared.mode.Mode.{Mode}
 use Rattle.kr_mean.specs.Problem.{Problem}
 use Rattle.kr_fin.specs.declared.document.FinDoc.{FinDoc}
-use Rattle.kr_space_meaning.specs.declared.refusal.Fault.{Fault}
 use Rattle.kr_space_meaning.specs.Bounds.{setting_of, problem_of}
 use Rattle.kr_space_meaning.specs.Faults.{faults_in}
-use Rattle.kr_space_meaning.specs.Order.{least}
+use Rattle.kr_space_meaning.specs.Order.{Fault, least}
 
 -- all that is broken
 abbrev pub faults_of : List Tree → FinDoc → Mode → List Fault

@@ -1,10 +1,12 @@
--- To be believed: which of some broken rules is named: the least rule, and of one rule the least item in the order of bytes.
-use Rattle.std.specs.Prelude.{ℕ, Bool, List, [], ◌∷◌, fold, Option, Some, None, codes, if◌then◌else◌}
-use Rattle.std.specs.Ordering.{nat_cmp, is_lt}
-use Rattle.std.specs.Cmp.Lexicographic.{slice_cmp}
-use Rattle.kr_space_meaning.specs.declared.refusal.Fault.{Fault}
+-- To be believed: the rules of a document beside a program, their codes, and the order in which broken ones are named.
+use Rattle.std.specs.Prelude.{ℕ, Bool, List, [], ◌∷◌, Option, codes, if◌then◌else◌}
+use Rattle.kr_base.specs.declared.refusal.Fault.{Fault as FaultOf}
+use Rattle.kr_fin.specs.Least as by
 use Rattle.kr_space_meaning.specs.declared.refusal.SpaceRule.{SpaceRule}
 use Rattle.kr_space_meaning.specs.declared.refusal.SpaceRule.TheVariants.{UnknownName, NoDomain, EmptyDomain, UnfitValue, ValueTwice, TooMany, NoPredicate, NoMethod, NoSlot}
+
+abbrev pub Fault : Type 0
+Fault = FaultOf SpaceRule
 
 abbrev pub rule_code : SpaceRule → List ℕ
 rule_code UnknownName = codes "S1"
@@ -28,18 +30,13 @@ rank_of NoPredicate = 7
 rank_of NoMethod = 8
 rank_of NoSlot = 9
 
--- the first fault has the lesser rule, or the same one and the lesser item
-abbrev pub comes_before : Fault → Fault → Bool
-comes_before f g = is_lt (slice_cmp nat_cmp (rank_of f.rule ∷ f.item) (rank_of g.rule ∷ g.item))
-
--- the lesser of the fault so far, if there is one, and one more
+-- the lesser of the fault so far, if there is one, and one more: the lesser rule, and of one rule the lesser item
 abbrev pub lesser : Option Fault → Fault → Option Fault
-lesser None g = Some g
-lesser (Some f) g = if comes_before g f then Some g else Some f
+lesser = by.lesser rank_of
 
 -- the least of some faults, if there are any
 abbrev pub least : List Fault → Option Fault
-least faults = fold lesser None faults
+least = by.least rank_of
 
 abbrev pub break_if : Bool → SpaceRule → List ℕ → List Fault
 break_if broken rule item = if broken then record { rule = rule; item = item } ∷ [] else []

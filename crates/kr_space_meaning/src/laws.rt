@@ -9,7 +9,7 @@ pub fn well_formed_law()
 {}
 
 /// The fault that is named is the least of all: the least rule, and of one rule the least item.
-#[tactic(auto, using(crate::proofs::Leasts::least_of_all))]
+#[tactic(auto, using(kr_fin::proofs::Leasts::least_of_all))]
 pub fn least_law()
     ensures { LeastLaw }
 {}

@@ -2,10 +2,8 @@
 //! small problems worked by hand.
 #![tactic(auto)]
 
-mod item;
 mod laws;
 mod refusal;
 
-pub use item::ItemName;
 pub use laws::{least_law, well_formed_law, worked_problems, worked_refusals};
-pub use refusal::{Fault, SpaceRefusal, SpaceRule};
+pub use refusal::{SpaceRefusal, SpaceRule};

@@ -1,11 +1,12 @@
 // Why a document is none of a program.
 ghost use Rattle.std.specs.Prelude.{◌≡◌};
-ghost use Rattle.kr_space_meaning.specs.Order.{rule_code};
+ghost use Rattle.kr_space_meaning.specs.Order as order;
 
-use crate::item::ItemName;
+use kr_base::RefusalOf;
+use kr_fin::Ranked;
 
 /// A rule of documents beside a program, by what breaks it.
-#[derive(Clone, Copy, Debug, PartialEq, Eq)]
+#[derive(Clone, Copy, PartialEq, Eq)]
 pub enum SpaceRule {
     /// S1: a name that no class has, or that is no type's.
     UnknownName,
@@ -30,7 +31,7 @@ pub enum SpaceRule {
 impl SpaceRule {
     /// The rule's code, as `S1`.
     pub fn code(self) -> &'static str
-        ensures { result.now ≡ rule_code self }
+        ensures { result.now ≡ order.rule_code self }
     {
         match self {
             SpaceRule::UnknownName => "S1",
@@ -46,16 +47,23 @@ impl SpaceRule {
     }
 }
 
-/// A rule that is broken, and the item that breaks it.
-#[derive(Debug, Drop)]
-pub struct Fault {
-    pub rule: SpaceRule,
-    pub item: ItemName,
+impl Ranked for SpaceRule {
+    ghost rank_of = { order.rank_of };
+
+    fn rank(self) -> u32 {
+        match self {
+            SpaceRule::UnknownName => 1,
+            SpaceRule::NoDomain => 2,
+            SpaceRule::EmptyDomain => 3,
+            SpaceRule::UnfitValue => 4,
+            SpaceRule::ValueTwice => 5,
+            SpaceRule::TooMany => 6,
+            SpaceRule::NoPredicate => 7,
+            SpaceRule::NoMethod => 8,
+            SpaceRule::NoSlot => 9,
+        }
+    }
 }
 
 /// The document was refused: it breaks a rule, or memory was refused.
-#[derive(Debug, Drop)]
-pub enum SpaceRefusal {
-    Broken(Fault),
-    NoMemory,
-}
+pub type SpaceRefusal = RefusalOf<SpaceRule>;

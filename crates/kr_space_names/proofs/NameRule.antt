@@ -5,11 +5,10 @@ use Rattle.std.proofs.lemmas.List.Sums.{fold-append}
 use Rattle.kr_ast.specs.Tree.{Tree}
 use Rattle.kr_classes_table.specs.Table.{headings_of, number_of, table_of}
 use Rattle.kr_fin.specs.declared.document.FinDoc.{FinDoc}
-use Rattle.kr_space_meaning.specs.declared.refusal.Fault.{Fault}
 use Rattle.kr_space_meaning.specs.declared.refusal.SpaceRule.TheVariants.{UnknownName}
 use Rattle.kr_space_meaning.specs.Bounds.{setting_of}
 use Rattle.kr_space_meaning.specs.Faults.{S1, arrays_unknown, objects_unknown, owners_unknown, values_unknown}
-use Rattle.kr_space_meaning.specs.Order.{break_if, lesser}
+use Rattle.kr_space_meaning.specs.Order.{Fault, break_if, lesser}
 
 parts : (old : Option Fault) (root objects arrays owners fields params : List Fault) → fold lesser old (root ++ (objects ++ (arrays ++ (owners ++ (fields ++ params))))) ≡ fold lesser (fold lesser (fold lesser (fold lesser (fold lesser (fold lesser old root) objects) arrays) owners) fields) params
 parts old root objects arrays owners fields params =

@@ -10,7 +10,6 @@ ghost use Rattle.kr_space_meaning.specs.Order.{lesser};
 ghost use Rattle.kr_classes_types.specs.Types.{Extends};
 ghost use Rattle.kr_space_names.specs.Meanings.{is_nothing};
 
-use crate::least::Least;
 use crate::meaning::{Meaning, meaning_of};
 use crate::names::item_of;
 use crate::written::array_type;
@@ -18,7 +17,7 @@ use kr_ast::Tree;
 use kr_base::NoMemory;
 use kr_classes_names::Heads;
 use kr_classes_types::Types;
-use kr_fin::{Item, NamedDomain};
+use kr_fin::{Item, Least, NamedDomain};
 use kr_space_meaning::SpaceRule;
 use std::alloc::Global;
 
@@ -77,7 +76,7 @@ pub fn has_no_owner(
 
 /// Each domain is one of a class's or of an array type's.
 pub(crate) fn owner_names(
-    least: &mut Least,
+    least: &mut Least<SpaceRule>,
     types: &mut Types,
     trees: &[Tree],
     heads: &Heads,
@@ -163,7 +162,7 @@ fn has_unknown(
 
 /// No value of a domain is a name that stands for nothing.
 fn value_names_of(
-    least: &mut Least,
+    least: &mut Least<SpaceRule>,
     types: &mut Types,
     trees: &[Tree],
     heads: &Heads,
@@ -184,7 +183,7 @@ fn value_names_of(
 
 /// No value of a table's domains is a name that stands for nothing.
 pub(crate) fn value_names(
-    least: &mut Least,
+    least: &mut Least<SpaceRule>,
     types: &mut Types,
     trees: &[Tree],
     heads: &Heads,

@@ -5,7 +5,6 @@
 mod collected;
 mod domains;
 mod inside;
-mod least;
 mod list;
 mod meaning;
 mod named;
@@ -18,7 +17,6 @@ mod written;
 
 pub use domains::{has_no_owner, is_elements, name_part, owner_part};
 pub use inside::add_arrays_in;
-pub use least::Least;
 pub use list::Arrays;
 pub use meaning::{Meaning, meaning_of};
 pub use named::array_types;

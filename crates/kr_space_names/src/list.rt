@@ -1,5 +1,5 @@
 // The numbers of array types, each once, with a mark at each number that is there.
-ghost use Rattle.std.specs.Prelude.{◌≡◌, ◌≤◌, ℕ, [], false, OnErr, OnOk, length};
+ghost use Rattle.std.specs.Prelude.{◌≡◌, ◌≤◌, ◌++◌, ◌∷◌, ℕ, [], false, OnErr, OnOk, length};
 ghost use Rattle.std.proofs.Common.{get_or};
 ghost use Rattle.kr_space_names.specs.Numbers.{IsMarked, has_number, with_number};
 
@@ -55,6 +55,14 @@ fn mark(marks: &mut Vec<bool>, number: u32) -> Result<(), NoMemory>
     Ok(())
 }
 
+/// Adds a number at the end.
+fn put(numbers: &mut Vec<u32>, number: u32) -> Result<(), NoMemory>
+    ensures { OnOk result (numbers.new.items ≡ numbers.old.items ++ number ∷ []) }
+{
+    numbers.push(number)?;
+    Ok(())
+}
+
 impl Arrays {
     /// None. It takes no memory.
     pub(crate) fn new(alloc: Global) -> Arrays
@@ -82,12 +90,14 @@ impl Arrays {
             return Ok(());
         }
         mark(&mut self.marks, number)?;
-        if self.numbers.push(number).is_err() {
-            self.numbers.clear();
-            self.marks.clear();
-            return Err(NoMemory);
+        match put(&mut self.numbers, number) {
+            Ok(()) => Ok(()),
+            Err(why) => {
+                self.numbers.clear();
+                self.marks.clear();
+                Err(why)
+            }
         }
-        Ok(())
     }
 
     /// The numbers, in order.

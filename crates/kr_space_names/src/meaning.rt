@@ -14,7 +14,7 @@ use kr_classes_types::Types;
 use std::alloc::Global;
 
 /// What a name stands for: null, all objects of a class or of an array type, each by its number, or nothing.
-#[derive(Clone, Copy, Debug, PartialEq, Eq)]
+#[derive(Clone, Copy, PartialEq, Eq)]
 pub enum Meaning {
     Null,
     Objects(u32),

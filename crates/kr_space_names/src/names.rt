@@ -8,13 +8,12 @@ ghost use Rattle.kr_space_meaning.specs.Order.{break_if, lesser};
 ghost use Rattle.kr_space_meaning.specs.Faults.{arrays_unknown, objects_unknown};
 ghost use Rattle.kr_classes_types.specs.Types.{Extends};
 
-use crate::least::Least;
 use crate::written::array_type;
 use kr_ast::Tree;
 use kr_base::NoMemory;
 use kr_classes_names::Heads;
 use kr_classes_types::Types;
-use kr_fin::{ArrayBound, Count};
+use kr_fin::{ArrayBound, Count, Least};
 use kr_space_meaning::SpaceRule;
 use std::alloc::Global;
 
@@ -29,7 +28,7 @@ pub fn item_of(alloc: Global, table: &str, name: &str) -> Result<String, NoMemor
 
 /// The root is a class.
 pub(crate) fn root_name(
-    least: &mut Least,
+    least: &mut Least<SpaceRule>,
     trees: &[Tree],
     heads: &Heads,
     name: &str,
@@ -46,7 +45,7 @@ pub(crate) fn root_name(
 
 /// Each name that has objects is a class's.
 pub(crate) fn object_names(
-    least: &mut Least,
+    least: &mut Least<SpaceRule>,
     trees: &[Tree],
     heads: &Heads,
     counts: &[Count],
@@ -66,7 +65,7 @@ pub(crate) fn object_names(
 
 /// Each name that is bounded is an array type's.
 pub(crate) fn array_names(
-    least: &mut Least,
+    least: &mut Least<SpaceRule>,
     types: &mut Types,
     trees: &[Tree],
     heads: &Heads,

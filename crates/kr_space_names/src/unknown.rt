@@ -8,18 +8,18 @@ ghost use Rattle.kr_space_meaning.specs.Order.{lesser};
 ghost use Rattle.kr_classes_types.specs.Types.{Extends};
 
 use crate::domains::{owner_names, value_names};
-use crate::least::Least;
 use crate::names::{array_names, object_names, root_name};
 use kr_ast::Tree;
 use kr_base::NoMemory;
 use kr_classes_names::Heads;
 use kr_classes_types::Types;
-use kr_fin::FinDoc;
+use kr_fin::{FinDoc, Least};
+use kr_space_meaning::SpaceRule;
 
 #[tactic(auto, using(crate::proofs::NameRule::S1_is))]
 /// Notes what breaks rule S1: each name that no class and no array type has.
 pub fn note_names(
-    least: &mut Least,
+    least: &mut Least<SpaceRule>,
     types: &mut Types,
     trees: &[Tree],
     heads: &Heads,

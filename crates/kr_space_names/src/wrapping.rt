@@ -8,7 +8,7 @@ use kr_base::NoMemory;
 use kr_classes_types::{TypeForm, Types};
 
 /// An array type, or one of the two collections, of a type.
-#[derive(Clone, Copy, Debug, PartialEq, Eq)]
+#[derive(Clone, Copy, PartialEq, Eq)]
 pub(crate) enum Wrapping {
     Array,
     Set,

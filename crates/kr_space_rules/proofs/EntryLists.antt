@@ -5,11 +5,11 @@ use Rattle.std.proofs.lemmas.List.{append_assoc, drop_more}
 use Rattle.std.proofs.lemmas.List.Concat.{flat_map-append}
 use Rattle.kr_mean.specs.Problem.{Domain}
 use Rattle.kr_fin.specs.declared.document.Item.{Item as FinItem}
-use Rattle.kr_space_layout.specs.declared.item.Item.{Item}
+use Rattle.kr_space_layout.specs.declared.item.DomainEntry.{DomainEntry}
 use Rattle.kr_space_layout.specs.Items.{domain_of, meant}
 use Rattle.kr_space_meaning.specs.Bounds.{Setting, item_values, values_of}
 
-pub entries_more : (setting : Setting) (items : List FinItem) (all : Domain) (kept new : List Item) (found : Option Item) (i : ℕ) (x : FinItem) → i < length items
+pub entries_more : (setting : Setting) (items : List FinItem) (all : Domain) (kept new : List DomainEntry) (found : Option DomainEntry) (i : ℕ) (x : FinItem) → i < length items
     → all ≡ domain_of kept ++ values_of setting (drop i items) → new ≡ kept ++ option_to_list found → domain_of (option_to_list found) ≡ item_values setting (get_or items i x) → all ≡ domain_of new ++ values_of setting (drop (i + 1) items)
 entries_more setting items all kept new found i x h e n s =
     let rest = values_of setting (drop (i + 1) items) in

@@ -9,7 +9,8 @@ use Rattle.std.proofs.lemmas.List.{map-append}
 use Rattle.kr_value.specs.declared.value.Value.{Value}
 use Rattle.kr_value.specs.declared.value.Value.TheVariants.{Int, Bool as Truth, Null, Ref as Reference}
 use Rattle.kr_mean.specs.Problem.{Choice}
-use Rattle.kr_space_meaning.specs.Faults.{has_twice, is_same_value}
+use Rattle.kr_mean.specs.Collections.{is_same_value}
+use Rattle.kr_space_meaning.specs.Faults.{has_twice}
 use Rattle.kr_space_rules.specs.Spans.{IsHigh, IsTold, number_of, numbers_of, shifted}
 use Rattle.kr_space_rules.proofs.Copies.{has_copy}
 

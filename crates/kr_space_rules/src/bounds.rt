@@ -18,7 +18,7 @@ use kr_space_names::array_type;
 use std::alloc::Global;
 
 /// An array type that a document bounds: the number of its type, and its place among those that the document names.
-#[derive(Clone, Copy, Debug)]
+#[derive(Clone, Copy)]
 pub struct Bound {
     pub number: u32,
     pub at: u32,
@@ -60,7 +60,7 @@ pub fn bounds_of(
     ensures extends { Extends types.old types.new }
 {
     let Ok(count) = u32::try_from(all.len()) else {
-        return Err(NoMemory);
+        return Err(NoMemory::at_limit(all.len() as u64));
     };
     let mut bounds = Vec::new(alloc);
     for at in 0..count {

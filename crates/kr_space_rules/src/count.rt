@@ -6,12 +6,12 @@ ghost use Rattle.kr_space_meaning.specs.Order.{break_if, lesser};
 
 use crate::twice::has_twice;
 use kr_base::NoMemory;
-use kr_space_layout::{Block, Item, Stretch};
+use kr_fin::Least;
+use kr_space_layout::{Block, DomainEntry, Stretch};
 use kr_space_meaning::SpaceRule;
-use kr_space_names::Least;
 
 /// How many values these entries have, as far as the number goes.
-fn value_count(items: &[Item], blocks: &[Block]) -> u64
+fn value_count(items: &[DomainEntry], blocks: &[Block]) -> u64
     ensures { result ≡ min (length (all_choices (map (stretch_of blocks.now) items.now))) (2 ^ 64 - 1) }
 {
     let mut count: u64 = 0;
@@ -23,7 +23,7 @@ fn value_count(items: &[Item], blocks: &[Block]) -> u64
 
 /// Notes a rule at an item where it is broken.
 pub fn note_if(
-    least: &mut Least,
+    least: &mut Least<SpaceRule>,
     is_broken: bool,
     rule: SpaceRule,
     item: &str,
@@ -40,9 +40,9 @@ pub fn note_if(
 #[tactic(auto, using(crate::proofs::Numbers::number_parts, crate::proofs::Numbers::capped_zero, crate::proofs::Numbers::capped_many))]
 /// S3, S5 and S6 of a domain: it has a value, none twice, and at most 65,536.
 pub fn note_numbers(
-    least: &mut Least,
+    least: &mut Least<SpaceRule>,
     item: &str,
-    items: &[Item],
+    items: &[DomainEntry],
     blocks: &[Block],
 ) -> Result<(), NoMemory>
     requires { All IsNumbered blocks.now }

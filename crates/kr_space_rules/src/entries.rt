@@ -17,7 +17,7 @@ use kr_base::{NoMemory, add_found};
 use kr_classes_names::Heads;
 use kr_classes_types::Types;
 use kr_fin::{FinDoc, Item as FinItem};
-use kr_space_layout::Item;
+use kr_space_layout::DomainEntry;
 use kr_space_names::{Meaning, meaning_of};
 use kr_value::Value;
 use std::alloc::Global;
@@ -31,7 +31,7 @@ fn meant_entry(
     document: &FinDoc,
     bounds: &[Bound],
     meaning: Meaning,
-) -> Option<Item>
+) -> Option<DomainEntry>
     requires heads { AreHeads trees.now heads.now }
     requires few { length (headings_of (map root trees.now)) + length bounds.now < 2 ^ 32 }
     requires bounds { AreBounds types.now document.now.arrays bounds.now (setting_of (map root trees.now) document.now).arrays }
@@ -40,14 +40,14 @@ fn meant_entry(
 {
     let _ = trees;
     match meaning {
-        Meaning::Null => Some(Item::Plain(Value::Null)),
-        Meaning::Objects(class) => Some(Item::Objects(class)),
+        Meaning::Null => Some(DomainEntry::Plain(Value::Null)),
+        Meaning::Objects(class) => Some(DomainEntry::Objects(class)),
         Meaning::Arrays(number) => {
             let classes = heads.len() as u32;
             let all = document.arrays.as_slice();
             match array_domain_of(types, classes, bounds, all, number) {
                 None => None,
-                Some(domain) => Some(Item::Objects(domain)),
+                Some(domain) => Some(DomainEntry::Objects(domain)),
             }
         }
         Meaning::Unknown => None,
@@ -64,7 +64,7 @@ fn entry_of(
     document: &FinDoc,
     bounds: &[Bound],
     item: &FinItem,
-) -> Result<Option<Item>, NoMemory>
+) -> Result<Option<DomainEntry>, NoMemory>
     requires heads { AreHeads trees.now heads.now }
     requires small { IsSmall item.now }
     requires few { length (headings_of (map root trees.now)) + length bounds.now < 2 ^ 32 }
@@ -73,9 +73,9 @@ fn entry_of(
     ensures extends { Extends types.old types.new }
 {
     match item {
-        FinItem::Number(number) => Ok(Some(Item::Plain(Value::Int(*number as i32)))),
-        FinItem::Range(from, to) => Ok(Some(Item::Integers(*from as i32, *to as i32))),
-        FinItem::Truth(truth) => Ok(Some(Item::Plain(Value::Bool(*truth)))),
+        FinItem::Number(number) => Ok(Some(DomainEntry::Plain(Value::Int(*number as i32)))),
+        FinItem::Range(from, to) => Ok(Some(DomainEntry::Integers(*from as i32, *to as i32))),
+        FinItem::Truth(truth) => Ok(Some(DomainEntry::Plain(Value::Bool(*truth)))),
         FinItem::Name(name) => {
             let meaning = meaning_of(alloc, types, heads, name.as_str().as_bytes())?;
             Ok(meant_entry(&*types, trees, heads, document, bounds, meaning))
@@ -92,7 +92,7 @@ pub fn entries_of(
     document: &FinDoc,
     bounds: &[Bound],
     items: &[FinItem],
-) -> Result<Vec<Item>, NoMemory>
+) -> Result<Vec<DomainEntry>, NoMemory>
     requires heads { AreHeads trees.now heads.now }
     requires small { All IsSmall items.now }
     requires few { length (headings_of (map root trees.now)) + length bounds.now < 2 ^ 32 }

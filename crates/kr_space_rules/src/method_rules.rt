@@ -11,8 +11,8 @@ use crate::parameters::{method_at, parameters_of_method};
 use kr_base::NoMemory;
 use kr_classes_members::Method;
 use kr_classes_types::Types;
+use kr_fin::Least;
 use kr_space_meaning::SpaceRule;
-use kr_space_names::Least;
 use std::alloc::Global;
 
 /// Whether a method is `boolean` and has no parameters, and objects have it.
@@ -47,7 +47,7 @@ fn is_instance(classes: &Classes, found: Option<Method>) -> bool
 
 /// S7: the root has an instance method `boolean repOk()`.
 pub fn note_predicate(
-    least: &mut Least,
+    least: &mut Least<SpaceRule>,
     classes: &Classes,
     types: &Types,
     root: Option<u32>,
@@ -66,7 +66,7 @@ pub fn note_predicate(
 
 /// S8: the root has an instance method of the name asked for.
 pub fn note_method(
-    least: &mut Least,
+    least: &mut Least<SpaceRule>,
     classes: &Classes,
     root: Option<u32>,
     name: &[u8],

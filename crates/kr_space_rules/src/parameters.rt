@@ -16,7 +16,7 @@ use kr_classes_names::items;
 use std::alloc::Global;
 
 /// A parameter, with the node of its type.
-#[derive(Clone, Copy, Debug)]
+#[derive(Clone, Copy)]
 pub struct Parameter {
     pub file: u32,
     pub name: Name,

@@ -9,9 +9,9 @@ use crate::classes::Classes;
 use crate::key_types::{field_type, parameter_type};
 use kr_base::NoMemory;
 use kr_classes_types::Types;
-use kr_fin::NamedDomain;
+use kr_fin::{Least, NamedDomain};
 use kr_space_meaning::SpaceRule;
-use kr_space_names::{Least, has_no_owner, item_of};
+use kr_space_names::{has_no_owner, item_of};
 use std::alloc::Global;
 
 /// Whether a class has no such field of its own.
@@ -35,7 +35,7 @@ fn is_no_field(
 /// Each domain of a field or of elements is one's.
 #[tactic(auto, using(kr_space_names::proofs::Growing::node_types_kept))]
 fn note_fields(
-    least: &mut Least,
+    least: &mut Least<SpaceRule>,
     classes: &Classes,
     types: &mut Types,
     domains: &[NamedDomain],
@@ -61,7 +61,7 @@ fn note_fields(
 
 /// Each domain of a parameter is one's.
 fn note_params(
-    least: &mut Least,
+    least: &mut Least<SpaceRule>,
     classes: &Classes,
     types: &Types,
     root: Option<u32>,
@@ -83,7 +83,7 @@ fn note_params(
 
 /// S9: each domain is that of a field, of an array type's elements or of a parameter.
 pub fn note_slots(
-    least: &mut Least,
+    least: &mut Least<SpaceRule>,
     classes: &Classes,
     types: &mut Types,
     root: Option<u32>,

@@ -4,12 +4,12 @@ ghost use Rattle.kr_space_layout.specs.Stretches.{Fits, IsNumbered, all_choices,
 ghost use Rattle.kr_space_rules.specs.Spans.{AreTold, covered, number_of as number_in, numbers_of, shifted as shifted_to, start_of as first_number};
 
 use kr_base::NoMemory;
-use kr_space_layout::{Block, Item, Stretch};
+use kr_space_layout::{Block, DomainEntry, Stretch};
 use kr_value::Value;
 use std::alloc::Global;
 
 /// Numbers that follow each other.
-#[derive(Clone, Copy, Debug)]
+#[derive(Clone, Copy)]
 pub(crate) struct Span {
     pub(crate) start: u64,
     pub(crate) count: u64,
@@ -66,7 +66,7 @@ fn add_stretch(spans: &mut Vec<Span>, stretch: Stretch) -> Result<(), NoMemory>
 /// The numbers of the values of some entries, where these are the objects of the class domains.
 pub(crate) fn spans_of(
     alloc: Global,
-    items: &[Item],
+    items: &[DomainEntry],
     blocks: &[Block],
 ) -> Result<Vec<Span>, NoMemory>
     requires { All IsNumbered blocks.now }

@@ -7,7 +7,7 @@ ghost use Rattle.kr_space_rules.specs.Spans.{meet};
 
 use crate::spans::{Span, spans_of};
 use kr_base::NoMemory;
-use kr_space_layout::{Block, Item};
+use kr_space_layout::{Block, DomainEntry};
 use std::alloc::Global;
 
 /// Brings spans into the order of their starts.
@@ -33,7 +33,7 @@ fn spans_meet(spans: &[Span]) -> bool
 }
 
 /// Whether a value stands twice among these entries, where these are the objects of the class domains.
-pub fn has_twice(alloc: Global, items: &[Item], blocks: &[Block]) -> Result<bool, NoMemory>
+pub fn has_twice(alloc: Global, items: &[DomainEntry], blocks: &[Block]) -> Result<bool, NoMemory>
     requires { All IsNumbered blocks.now }
     ensures { IfOk result (λ b. b ≡ has_twice_in (all_choices (map (stretch_of blocks.now) items.now))) }
 {

@@ -13,9 +13,9 @@ use crate::fits::item_fits;
 use crate::key_types::{field_type, parameter_type};
 use kr_base::NoMemory;
 use kr_classes_types::Types;
-use kr_fin::{Item, NamedDomain};
+use kr_fin::{Item, Least, NamedDomain};
 use kr_space_meaning::SpaceRule;
-use kr_space_names::{Least, item_of};
+use kr_space_names::item_of;
 use std::alloc::Global;
 
 /// Whether one of the values doesn't fit the type.
@@ -61,7 +61,7 @@ fn is_unfit(
 /// The values of fields and elements fit.
 #[tactic(auto, using(kr_space_names::proofs::Growing::node_types_kept))]
 fn note_fields(
-    least: &mut Least,
+    least: &mut Least<SpaceRule>,
     classes: &Classes,
     types: &mut Types,
     domains: &[NamedDomain],
@@ -95,7 +95,7 @@ fn note_fields(
 /// The values of parameters fit.
 #[tactic(auto, using(kr_space_names::proofs::Growing::node_types_kept))]
 fn note_params(
-    least: &mut Least,
+    least: &mut Least<SpaceRule>,
     classes: &Classes,
     types: &mut Types,
     root: Option<u32>,
@@ -126,7 +126,7 @@ fn note_params(
 /// S4: the values of each domain fit the type that its key asks for, where it asks for one.
 #[tactic(auto, using(kr_space_names::proofs::Growing::node_types_kept))]
 pub fn note_unfit(
-    least: &mut Least,
+    least: &mut Least<SpaceRule>,
     classes: &Classes,
     types: &mut Types,
     root: Option<u32>,

@@ -10,7 +10,7 @@ use Rattle.kr_iso.specs.Choices.{PathIn, AllowedPath, IsAllowed, IsNextChoice}
 use Rattle.kr_step.specs.Steps.{path_of, indices_of, NextIs, IsFirst, IsStuck, IsMoved, IsFront, Advanced}
 use Rattle.kr_step.specs.declared.seeking.Lead.{Lead}
 use Rattle.kr_step.specs.Turns.{Turned, Leads}
-use Rattle.kr_step.specs.declared.runner.Ending.{Ending}
+use Rattle.kr_step.specs.declared.candidates.Ending.{Ending}
 use Rattle.kr_step.specs.declared.stage.Stage.{Stage}
 use Rattle.kr_step.specs.declared.stage.Stage.TheVariants.{Behind}
 use Rattle.kr_step.specs.Stages.{StandsAt}

@@ -1,8 +1,8 @@
 -- Between crates: a small search, worked by hand: fields x and y in P and Q, two objects of each, and one root.
 use Rattle.std.specs.Prelude.{ℕ, ◌-◌, ◌==◌, nat_lt, List, [], ◌∷◌, Some, None, if◌then◌else◌}
 use Rattle.kr_mean.specs.Space.{Space}
-use Rattle.kr_step.specs.declared.runner.Ending.{Ending}
-use Rattle.kr_step.specs.declared.runner.Ending.TheVariants.{Valid}
+use Rattle.kr_step.specs.declared.candidates.Ending.{Ending}
+use Rattle.kr_step.specs.declared.candidates.Ending.TheVariants.{Valid}
 
 abbrev pub bases : Space
 bases = record {

@@ -4,7 +4,7 @@ use Rattle.kr_base.specs.Cuts.{Before}
 use Rattle.kr_mean.specs.Space.{Space}
 use Rattle.kr_mean.specs.Runs.{key_along}
 use Rattle.kr_mean.specs.Entries.{IsListed}
-use Rattle.kr_step.specs.declared.runner.Ending.{Ending}
+use Rattle.kr_step.specs.declared.candidates.Ending.{Ending}
 use Rattle.kr_step.specs.Steps.{IsFirst, path_of}
 
 -- it stands, run; or there is none

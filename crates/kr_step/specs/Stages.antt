@@ -6,7 +6,7 @@ use Rattle.kr_base.specs.declared.entry.Mark.{Mark}
 use Rattle.kr_mean.specs.Space.{Space}
 use Rattle.kr_mean.specs.Runs.{key_along}
 use Rattle.kr_mean.specs.Entries.{IsListed, IsAll, entry_of}
-use Rattle.kr_step.specs.declared.runner.Ending.{Ending}
+use Rattle.kr_step.specs.declared.candidates.Ending.{Ending}
 use Rattle.kr_step.specs.declared.stage.Stage.{Stage}
 use Rattle.kr_step.specs.declared.stage.Stage.TheVariants.{Behind, Moved, Ahead}
 use Rattle.kr_step.specs.declared.stage.Next.{Next}
@@ -27,7 +27,7 @@ ahead_of (Ahead e) = 1
 
 -- The candidates, the cut above which the next entry is looked for, and how many runs the search is ahead.
 pub record Seen (R : Type 0) : Type 0 where
-  pub runner : R
+  pub candidates : R
   pub cut : List ℕ
   pub ahead : ℕ
 

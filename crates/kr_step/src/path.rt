@@ -4,23 +4,29 @@ ghost use Rattle.kr_mean.specs.Readings.{AllBelow};
 ghost use Rattle.kr_step.specs.Steps.{path_of, indices_of};
 ghost use Rattle.kr_step.specs.Keeps.{Keeps};
 
-use crate::Runner;
+use crate::Candidates;
 use kr_base::NoMemory;
 
 /// Adds the slots that the last order has behind a path, with their indices. Without memory the path stays as it was.
 #[inline(always)]
-pub(crate) fn extend<R: Runner>(runner: &R, path: &mut Vec<(u32, u32)>) -> Result<(), NoMemory>
-    requires { AllBelow (length (R.vector runner.now)) (R.last runner.now) }
-    ensures ok { OnOk result (path.new.items ≡ path.old.items ++ path_of (R.vector runner.now) (drop (length path.old.items) (R.last runner.now))) }
+pub(crate) fn extend<C: Candidates>(
+    candidates: &C,
+    path: &mut Vec<(u32, u32)>,
+) -> Result<(), NoMemory>
+    requires { AllBelow (length (C.vector candidates.now)) (C.last candidates.now) }
+    ensures ok { OnOk result (path.new.items ≡ path.old.items ++ path_of (C.vector candidates.now) (drop (length path.old.items) (C.last candidates.now))) }
     ensures err { OnErr result (path.new.items ≡ path.old.items) }
 {
     let start = path.as_slice().len();
-    let order = runner.last_order();
+    let order = candidates.last_order();
     for at in start..order.len() {
         let slot = order[at];
-        if path.push((slot, runner.index(slot))).is_err() {
-            path.truncate(start);
-            return Err(NoMemory);
+        match path.push((slot, candidates.index(slot))) {
+            Ok(()) => {}
+            Err(why) => {
+                path.truncate(start);
+                return Err(why.into());
+            }
         }
     }
     Ok(())

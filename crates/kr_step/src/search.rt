@@ -9,7 +9,7 @@ use crate::path::{extend, write_key};
 use crate::seeking::come_to;
 use crate::stage::Stage;
 use crate::turning::advance;
-use crate::{Ending, Next, Runner};
+use crate::{Candidates, Ending, Next};
 use kr_base::{NoMemory, Steps};
 use std::alloc::Global;
 use std::marker::Model;
@@ -17,66 +17,65 @@ use std::sync::ledger::Ledger;
 
 /// A search: the candidates, the cut above which it looks, and the path to where it stands.
 #[derive(Drop)]
-pub struct Search<R: Runner> {
-    runner: R,
+pub struct Search<C: Candidates> {
+    candidates: C,
     after: Vec<u32>,
     path: Vec<(u32, u32)>,
     stage: Stage,
 }
 
-impl<R: Runner> Model for Search<R> {
+impl<C: Candidates> Model for Search<C> {
     ghost use Rattle.kr_step.specs.Stages.{Seen, StandsAt, ahead_of};
 
-    ghost Value = { Seen R };
+    ghost Value = { Seen C };
 
-    ghost view = { λ s. record { runner = s.runner; cut = s.after.items; ahead = ahead_of s.stage } };
+    ghost view = { λ s. record { candidates = s.candidates; cut = s.after.items; ahead = ahead_of s.stage } };
 
-    ghost invariant = { λ s. StandsAt (R.space s.runner) (R.order s.runner) (R.ending s.runner) s.stage s.after.items (R.vector s.runner) s.path.items };
+    ghost invariant = { λ s. StandsAt (C.space s.candidates) (C.order s.candidates) (C.ending s.candidates) s.stage s.after.items (C.vector s.candidates) s.path.items };
 }
 
 /// Runs the candidate at which a search has come to stand, and writes its path down in full.
 #[inline(always)]
-fn arrive<R: Runner, L: Ledger>(
-    runner: &mut R,
+fn arrive<C: Candidates, L: Ledger>(
+    candidates: &mut C,
     path: &mut Vec<(u32, u32)>,
     runs: &mut Steps<L>,
 ) -> Result<Ending, NoMemory>
-    requires { (c : List ℕ) × IsMoved (R.space runner.old) (R.order runner.old) c (R.vector runner.old) path.old.items }
-    ensures space { R.space runner.new ≡ R.space runner.old }
-    ensures order { R.order runner.new ≡ R.order runner.old }
-    ensures ending { R.ending runner.new ≡ R.ending runner.old }
-    ensures vector { R.vector runner.new ≡ R.vector runner.old }
-    ensures ends { IfOk result (λ end. end ≡ R.ending runner.old (R.vector runner.old)) }
-    ensures path { OnOk result (path.new.items ≡ path_of (R.vector runner.old) (R.order runner.old (R.vector runner.old))) }
+    requires { (c : List ℕ) × IsMoved (C.space candidates.old) (C.order candidates.old) c (C.vector candidates.old) path.old.items }
+    ensures space { C.space candidates.new ≡ C.space candidates.old }
+    ensures order { C.order candidates.new ≡ C.order candidates.old }
+    ensures ending { C.ending candidates.new ≡ C.ending candidates.old }
+    ensures vector { C.vector candidates.new ≡ C.vector candidates.old }
+    ensures ends { IfOk result (λ end. end ≡ C.ending candidates.old (C.vector candidates.old)) }
+    ensures path { OnOk result (path.new.items ≡ path_of (C.vector candidates.old) (C.order candidates.old (C.vector candidates.old))) }
     ensures err { OnErr result (path.new.items ≡ path.old.items) }
     ensures runs { runs.new ≡ runs.old + 1 }
 {
-    runner.laws();
-    runs.tick();
-    let ending = runner.run()?;
-    extend(&*runner, path)?;
+    candidates.laws();
+    let ending = candidates.run(runs)?;
+    extend(&*candidates, path)?;
     Ok(ending)
 }
 
 /// Comes to stand at the next candidate, run, if there is one. Where memory is refused it stands as before, or at that
 /// candidate, not run yet. Says how many numbers of the cut are still on the path.
-fn find<R: Runner, L: Ledger>(
-    runner: &mut R,
+fn find<C: Candidates, L: Ledger>(
+    candidates: &mut C,
     path: &mut Vec<(u32, u32)>,
     stage: &mut Stage,
     kept: &mut usize,
     runs: &mut Steps<L>,
 ) -> Result<Option<Ending>, NoMemory>
     requires none { kept.old ≡ 0 }
-    requires stands { (c : List ℕ) × StandsAt (R.space runner.old) (R.order runner.old) (R.ending runner.old) stage.old c (R.vector runner.old) path.old.items }
-    ensures space { R.space runner.new ≡ R.space runner.old }
-    ensures order { R.order runner.new ≡ R.order runner.old }
-    ensures ending { R.ending runner.new ≡ R.ending runner.old }
-    ensures stands { (c : List ℕ) → StandsAt (R.space runner.old) (R.order runner.old) (R.ending runner.old) stage.old c (R.vector runner.old) path.old.items →
-        StandsAt (R.space runner.old) (R.order runner.old) (R.ending runner.old) stage.new c (R.vector runner.new) path.new.items }
-    ensures found { IfOk result (λ found. (c : List ℕ) → StandsAt (R.space runner.old) (R.order runner.old) (R.ending runner.old) stage.old c (R.vector runner.old) path.old.items →
-        Finds (R.space runner.old) (R.order runner.old) (R.ending runner.old) c found (R.vector runner.new) path.new.items) }
-    ensures kept { IfOk result (λ found. (c : List ℕ) → StandsAt (R.space runner.old) (R.order runner.old) (R.ending runner.old) stage.old c (R.vector runner.old) path.old.items →
+    requires stands { (c : List ℕ) × StandsAt (C.space candidates.old) (C.order candidates.old) (C.ending candidates.old) stage.old c (C.vector candidates.old) path.old.items }
+    ensures space { C.space candidates.new ≡ C.space candidates.old }
+    ensures order { C.order candidates.new ≡ C.order candidates.old }
+    ensures ending { C.ending candidates.new ≡ C.ending candidates.old }
+    ensures stands { (c : List ℕ) → StandsAt (C.space candidates.old) (C.order candidates.old) (C.ending candidates.old) stage.old c (C.vector candidates.old) path.old.items →
+        StandsAt (C.space candidates.old) (C.order candidates.old) (C.ending candidates.old) stage.new c (C.vector candidates.new) path.new.items }
+    ensures found { IfOk result (λ found. (c : List ℕ) → StandsAt (C.space candidates.old) (C.order candidates.old) (C.ending candidates.old) stage.old c (C.vector candidates.old) path.old.items →
+        Finds (C.space candidates.old) (C.order candidates.old) (C.ending candidates.old) c found (C.vector candidates.new) path.new.items) }
+    ensures kept { IfOk result (λ found. (c : List ℕ) → StandsAt (C.space candidates.old) (C.order candidates.old) (C.ending candidates.old) stage.old c (C.vector candidates.old) path.old.items →
         Keeps c path.new.items kept.new) }
     ensures runs { IfOk result (λ found. runs.new + ahead_of stage.old ≡ runs.old + ahead_of stage.new) }
     ensures ahead { IfOk result (λ found. Counts found (ahead_of stage.new)) }
@@ -84,47 +83,47 @@ fn find<R: Runner, L: Ledger>(
     match *stage {
         Stage::Ahead(ending) => Ok(Some(ending)),
         Stage::Moved => {
-            let ending = arrive(runner, path, runs)?;
+            let ending = arrive(candidates, path, runs)?;
             *stage = Stage::Ahead(ending);
             Ok(Some(ending))
         }
         Stage::Behind => {
-            if !advance(runner, path) {
+            if !advance(candidates, path) {
                 return Ok(None);
             }
             *kept = path.as_slice().len() - 1;
             *stage = Stage::Moved;
-            let ending = arrive(runner, path, runs)?;
+            let ending = arrive(candidates, path, runs)?;
             *stage = Stage::Ahead(ending);
             Ok(Some(ending))
         }
     }
 }
 
-impl<R: Runner + Drop> Search<R> {
+impl<C: Candidates + Drop> Search<C> {
     ghost use Rattle.kr_step.specs.Stages.{Answers, count_of};
 
     /// A search that stands at a cut. The candidate of index 0 in every slot has to stand.
     pub fn seek<L: Ledger>(
         alloc: Global,
-        runner: R,
+        candidates: C,
         after: &[u32],
         runs: &mut Steps<L>,
-    ) -> Result<Search<R>, NoMemory>
-        requires { R.vector runner ≡ replicate (R.space runner).slots 0 }
-        ensures space { IfOk result (λ search. R.space search.runner ≡ R.space runner) }
-        ensures order { IfOk result (λ search. R.order search.runner ≡ R.order runner) }
-        ensures ending { IfOk result (λ search. R.ending search.runner ≡ R.ending runner) }
+    ) -> Result<Search<C>, NoMemory>
+        requires { C.vector candidates ≡ replicate (C.space candidates).slots 0 }
+        ensures space { IfOk result (λ search. C.space search.candidates ≡ C.space candidates) }
+        ensures order { IfOk result (λ search. C.order search.candidates ≡ C.order candidates) }
+        ensures ending { IfOk result (λ search. C.ending search.candidates ≡ C.ending candidates) }
         ensures cut { IfOk result (λ search. search.cut ≡ after.now) }
         ensures first { IfOk result (λ search. after.now ≡ [] → runs.new ≡ runs.old + search.ahead) }
         ensures runs { runs.new ≤ runs.old + length after.now + 1 }
     {
-        let mut runner = runner;
+        let mut candidates = candidates;
         let cut = after.to_vec(alloc)?;
         let mut path = Vec::new(alloc);
-        let stage = come_to(&mut runner, &mut path, after, runs)?;
+        let stage = come_to(&mut candidates, &mut path, after, runs)?;
         Ok(Search {
-            runner,
+            candidates,
             after: cut,
             path,
             stage,
@@ -133,19 +132,19 @@ impl<R: Runner + Drop> Search<R> {
 
     /// The next entry above the cut: its candidate stands then, and its key is the cut.
     pub fn next<L: Ledger>(&mut self, runs: &mut Steps<L>) -> Result<Next, NoMemory>
-        ensures space { R.space self.new.runner ≡ R.space self.old.runner }
-        ensures order { R.order self.new.runner ≡ R.order self.old.runner }
-        ensures ending { R.ending self.new.runner ≡ R.ending self.old.runner }
-        ensures found { IfOk result (λ next. Answers (R.space self.old.runner) (R.order self.old.runner) (R.ending self.old.runner)
-            self.old.cut (R.vector self.new.runner) self.new.cut next) }
+        ensures space { C.space self.new.candidates ≡ C.space self.old.candidates }
+        ensures order { C.order self.new.candidates ≡ C.order self.old.candidates }
+        ensures ending { C.ending self.new.candidates ≡ C.ending self.old.candidates }
+        ensures found { IfOk result (λ next. Answers (C.space self.old.candidates) (C.order self.old.candidates) (C.ending self.old.candidates)
+            self.old.cut (C.vector self.new.candidates) self.new.cut next) }
         ensures runs { IfOk result (λ next. runs.new + self.old.ahead ≡ runs.old + count_of next + self.new.ahead) }
         ensures ahead { IfOk result (λ next. self.new.ahead ≡ 0) }
         ensures err { OnErr result (self.new.cut ≡ self.old.cut) }
     {
-        self.runner.laws();
+        self.candidates.laws();
         let mut kept = 0;
         match find(
-            &mut self.runner,
+            &mut self.candidates,
             &mut self.path,
             &mut self.stage,
             &mut kept,
@@ -168,9 +167,9 @@ impl<R: Runner + Drop> Search<R> {
     }
 
     /// The candidates.
-    pub fn runner(&self) -> &R
-        ensures { result.now ≡ self.now.runner }
+    pub fn candidates(&self) -> &C
+        ensures { result.now ≡ self.now.candidates }
     {
-        &self.runner
+        &self.candidates
     }
 }

@@ -4,7 +4,7 @@ use crate::Ending;
 
 /// Where a search stands: behind the last candidate found, where none is found yet behind its cut; at the next one,
 /// which wasn't run yet; or at one that was run, with how that ended.
-#[derive(Clone, Copy, Debug, PartialEq, Eq)]
+#[derive(Clone, Copy, PartialEq, Eq)]
 pub(crate) enum Stage {
     Behind,
     Moved,
@@ -12,7 +12,7 @@ pub(crate) enum Stage {
 }
 
 /// What the next step of a search finds.
-#[derive(Clone, Copy, Debug, PartialEq, Eq)]
+#[derive(Clone, Copy, PartialEq, Eq)]
 pub enum Next {
     Found(Ending),
     End,

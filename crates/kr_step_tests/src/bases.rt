@@ -1,15 +1,23 @@
 // Two subclasses, worked by hand: a root with two fields, each in two objects of one class and two of another.
 ghost use Rattle.std.specs.Prelude.{◌≡◌, [], ◌∷◌};
 
-use kr_base::NoMemory;
+use kr_base::{NoMemory, Steps};
 use kr_iso::{Object, Slots};
-use kr_step::{Ending, Runner};
+use kr_step::{Candidates, Ending};
+use std::sync::ledger::Ledger;
 
-/// The candidate that stands, and the order of the last run.
+/// The candidate that stands, the order of the last run, and how many runs were made.
 #[derive(Drop)]
 pub(crate) struct Bases {
     indices: [u32; 3],
     ran: [u32; 3],
+    count: u32,
+}
+
+impl Bases {
+    pub(crate) fn count(&self) -> u32 {
+        self.count
+    }
 }
 
 impl Slots for Bases {
@@ -45,7 +53,7 @@ impl Slots for Bases {
     }
 }
 
-impl Runner for Bases {
+impl Candidates for Bases {
     ghost use Rattle.kr_step.specs.Bases.{bases_order, bases_ending};
 
     ghost order = { λ _. bases_order };
@@ -60,7 +68,9 @@ impl Runner for Bases {
         self.indices[slot as usize] = index;
     }
 
-    fn run(&mut self) -> Result<Ending, NoMemory> {
+    fn run<L: Ledger>(&mut self, runs: &mut Steps<L>) -> Result<Ending, NoMemory> {
+        runs.tick();
+        self.count = self.count.saturating_add(1);
         self.ran = [0, 1, 2];
         Ok(Ending::Valid)
     }
@@ -82,5 +92,6 @@ pub(crate) fn start() -> Bases
     Bases {
         indices: [0; 3],
         ran: [0; 3],
+        count: 0,
     }
 }

@@ -3,8 +3,8 @@ ghost use Rattle.std.specs.Prelude.{◌≡◌, ◌<◌};
 
 use crate::bases::start;
 use kr_base::{Bound, Cut, Entry, Span, Steps};
-use kr_plain::{is_least, list_plain};
-use kr_step::Runner;
+use kr_plain::{is_least, list_keys};
+use kr_step::Candidates;
 use std::alloc::Global;
 use std::marker::Brand;
 use std::sync::ledger::{Blank, Ledger};
@@ -38,7 +38,7 @@ fn has_keys<L: Ledger>(
 {
     let mut runs = Steps::<L>::start(blank);
     let mut candidates = start();
-    let entries = list_plain(alloc, &mut candidates, span, &mut runs)?;
+    let entries = list_keys(alloc, &mut candidates, span, &mut runs)?;
     Ok(are_keys(entries.as_slice(), keys))
 }
 

@@ -67,3 +67,32 @@ fn two_subclasses(rt: HostRuntime) -> Result<(), Fail> {
     }
     Ok(())
 }
+
+/// How often the candidate is run where a search goes on to its end from a cut.
+fn runs_above<L: Ledger>(alloc: Global, blank: Blank, after: &[u32]) -> Result<u32, Fail>
+    requires ledger { blank.name ≡ L.name }
+    requires parts { blank.parts ≡ L.parts }
+    requires some { 0 < L.parts }
+{
+    let mut runs = Steps::<L>::start(blank);
+    let mut search = Search::seek(alloc, start(), after, &mut runs)?;
+    for _ in 0..10 {
+        if search.next(&mut runs)? == Next::End {
+            break;
+        }
+    }
+    Ok(search.candidates().count())
+}
+
+fn count_above(alloc: Global, after: &[u32]) -> Result<u32, Fail> {
+    runs_above::<Brand>(alloc, Blank::new(1), after)
+}
+
+// Of a whole search each of the six entries is run once. Above a cut of two numbers three entries are, and two runs more are made
+// on the way, one before each number is followed; the second leads past the cut at once.
+#[test]
+fn each_entry_is_run_once(rt: HostRuntime) -> Result<(), Fail> {
+    assert!(rt; count_above(rt.alloc(), &[])? == 6);
+    assert!(rt; count_above(rt.alloc(), &[0, 1])? == 5);
+    Ok(())
+}

@@ -11,7 +11,7 @@ use std::marker::Model;
 use std::sync::ledger::Ledger;
 
 /// A list of entries, whose rows are cuts as their keys. It runs no predicate. Contracts see the list.
-#[derive(Debug, Drop)]
+#[derive(Drop)]
 pub struct ListSurvey {
     alloc: Global,
     entries: Vec<Entry<Cut>>,
@@ -101,7 +101,33 @@ fn add_row(rows: &mut Vec<Cut>, mark: &Mark<Cut>) -> Result<(), NoMemory>
 impl Survey for ListSurvey {
     type Row = Cut;
 
+    type Scratch = ();
+
     ghost all = { λ s. s };
+
+    ghost made = { λ s scratch. Unit {0} };
+
+    fn scratch(&self) -> Result<(), NoMemory> {
+        Ok(())
+    }
+
+    fn scan_with<L: Ledger>(
+        &self,
+        scratch: &mut (),
+        after: &Cut,
+        upto: &Bound,
+        most: u32,
+        runs: &mut Steps<L>,
+    ) -> Result<Part<Cut>, NoMemory>
+        requires some { 0 < most }
+        requires made { Unit {0} }
+        ensures part { IfOk result (IsScan self.now after.now upto.now most) }
+        ensures made { Unit {0} }
+        ensures no_run { runs.new ≡ runs.old }
+    {
+        let _ = scratch;
+        self.scan(after, upto, most, runs)
+    }
 
     fn scan<L: Ledger>(
         &self,

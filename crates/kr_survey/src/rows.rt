@@ -5,7 +5,7 @@ ghost use Rattle.kr_survey.specs.Joins.{joined, lists};
 use std::marker::Model;
 
 /// Rows in one piece. Contracts see the list.
-#[derive(Debug, Drop)]
+#[derive(Drop)]
 pub struct RowList<R> {
     items: Vec<R>,
 }
@@ -53,7 +53,7 @@ impl<R> RowList<R> {
 }
 
 /// Rows in pieces, one after another. Contracts see one list.
-#[derive(Debug, Drop)]
+#[derive(Drop)]
 pub struct Rows<R> {
     pieces: Vec<Vec<R>>,
 }

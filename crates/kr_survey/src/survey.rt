@@ -13,8 +13,33 @@ pub trait Survey {
     /// What is listed of a valid entry.
     type Row;
 
+    /// What one scan leaves for the next, which needn't begin anew then. It borrows nothing of the survey.
+    type Scratch: Drop + Send;
+
     /// All entries.
     ghost all: { Self → List (Entry Self.Row) };
+
+    /// That a scratch is one of this survey's.
+    ghost made: { Self → Self.Scratch → Type 0 };
+
+    /// A scratch, as no scan has left it yet.
+    fn scratch(&self) -> Result<Self::Scratch, NoMemory>
+        ensures { IfOk result (λ scratch. made self.now scratch) };
+
+    /// What `scan` gives, whatever was scanned with the scratch before, and also where that was refused memory. A scan that
+    /// begins where the last one stopped goes on from there.
+    fn scan_with<L: Ledger>(
+        &self,
+        scratch: &mut Self::Scratch,
+        after: &Cut,
+        upto: &Bound,
+        most: u32,
+        runs: &mut Steps<L>,
+    ) -> Result<Part<Self::Row>, NoMemory>
+        requires some { 0 < most }
+        requires made { made self.now scratch.old }
+        ensures part { IfOk result (IsScan (all self.now) after.now upto.now most) }
+        ensures made { made self.now scratch.new };
 
     /// Walks the entries above `after` and not above `upto`, and stops after a spent one or after `most` entries. Each run
     /// of a predicate ticks once.

@@ -1,7 +1,7 @@
 // A line that is put together before it is put, so that it costs one write.
-ghost use Rattle.std.specs.Prelude.{◌≡◌, []};
+ghost use Rattle.std.specs.Prelude.{◌≡◌, ◌++◌, [], OnOk, OnErr};
 
-use kr_base::{Failed, Sink};
+use kr_base::{Failed, NoMemory, Sink};
 use std::alloc::Global;
 
 /// A sink that keeps what it takes. It fails, and counts that, where it is refused memory.
@@ -30,6 +30,16 @@ impl Line {
         ensures { result.now ≡ line_bytes self.now }
     {
         &self.bytes
+    }
+
+    /// Adds bytes. Without memory they are not added, and no fault is counted.
+    pub fn add(&mut self, bytes: &[u8]) -> Result<(), NoMemory>
+        ensures added { OnOk result (line_bytes self.new ≡ line_bytes self.old ++ bytes.now) }
+        ensures unchanged { OnErr result (line_bytes self.new ≡ line_bytes self.old) }
+        ensures faults { line_faults self.new ≡ line_faults self.old }
+    {
+        self.bytes.extend_from_slice(bytes)?;
+        Ok(())
     }
 
     /// Empties the line, and keeps its memory.

@@ -1,5 +1,7 @@
 -- Between crates: what a refusal says of the typing rules.
 use Rattle.std.specs.Prelude.{◌≡◌, ℕ, List, map, take, flat_map, Some}
+use Rattle.kr_base.specs.declared.refusal.RefusalAt.{RefusalAt}
+use Rattle.kr_base.specs.declared.refusal.RefusalAt.TheVariants.{Broken, NoMemory}
 use Rattle.kr_ast.specs.Arena.{Arena, root}
 use Rattle.kr_ast.specs.Tree.{Tree}
 use Rattle.kr_classes_table.specs.Rules.{Fault}
@@ -7,13 +9,12 @@ use Rattle.kr_types_meaning.specs.Typing.{judged, outside, type_fault}
 use Rattle.kr_ast.specs.Files.{file_at}
 use Rattle.kr_classes_members.specs.Shown.{table_in}
 use Rattle.kr_types_judging.specs.Numbers.{rule_number}
-use Rattle.kr_types.specs.declared.refusal.TypeRefusal.{TypeRefusal}
-use Rattle.kr_types.specs.declared.refusal.TypeRefusal.TheVariants.{Broken, NoMemory}
+use Rattle.kr_types_judging.specs.declared.rules.TypingRule.{TypingRule}
 
 -- the place and the rule are those of the first broken node; want of memory is free
-abbrev pub IsRefusal : List Arena → TypeRefusal → Type 0
+abbrev pub IsRefusal : List Arena → RefusalAt TypingRule → Type 0
 IsRefusal files (Broken p r) = type_fault (map root files) ≡ Some (record { place = p; rule = rule_number r })
-IsRefusal files NoMemory = Unit {0}
+IsRefusal files (NoMemory _) = Unit {0}
 
 -- the broken nodes of a tree that is one of these files
 abbrev pub tree_faults : List Arena → Tree → List Fault

@@ -11,6 +11,7 @@ ghost use Rattle.kr_types.specs.declared.program.TypedFile.{TypedFile as Typed};
 use kr_ast::Tree;
 use kr_base::Place;
 use kr_classes::ClassTable;
+use kr_classes_table::TypeId;
 use kr_types_expressions::{NoteList, part_type};
 use kr_types_scopes::Scopes;
 
@@ -57,7 +58,7 @@ impl Program {
     }
 
     /// The type of an expression, by its number among the table's types.
-    pub fn type_of(&self, file: u32, node: u32) -> Option<u32>
+    pub fn type_of(&self, file: u32, node: u32) -> Option<TypeId>
         requires program { IsProgram self.now }
         requires file { file < length self.now.trees.items }
         requires node { node < length (file_at self.now.trees.items file).entries }

@@ -17,6 +17,7 @@ use kr_ast::{Tree, tree_of};
 use kr_classes_constants::Values;
 use kr_classes_members::Members;
 use kr_classes_names::Heads;
+use kr_classes_table::ClassId;
 use kr_classes_types::{NodeTypes, Types};
 use kr_types_expressions::{NoteList, class_before, class_of};
 use kr_types_judging::Note;
@@ -53,7 +54,7 @@ impl<'a> Site<'a> {
     }
 
     /// The class whose code a scope is in; the first one outside of classes.
-    pub(crate) fn class(&self, here: Within) -> u32
+    pub(crate) fn class(&self, here: Within) -> ClassId
         requires heads { AreHeads self.now.trees.now self.now.heads.now }
         requires file { self.now.file < length self.now.trees.now }
         ensures { class_there (setting_in self.now.trees.now self.now.file) here.class ≡ result }
@@ -71,7 +72,7 @@ impl<'a> Site<'a> {
     }
 
     /// The class that an expression before a dot means, where a node stands.
-    pub(crate) fn class_before(&self, here: Within, at: u32, object: u32) -> Option<u32>
+    pub(crate) fn class_before(&self, here: Within, at: u32, object: u32) -> Option<ClassId>
         requires heads { AreHeads self.now.trees.now self.now.heads.now }
         requires members { AreMembers self.now.trees.now self.now.members.now }
         requires file { self.now.file < length self.now.trees.now }

@@ -22,8 +22,9 @@ use kr_ast::{Node, Tree, tree_of};
 use kr_base::Place;
 use kr_classes_members::Members;
 use kr_classes_names::Heads;
+use kr_classes_table::{ClassId, TypeId};
 use kr_classes_types::{NodeTypes, Types};
-use kr_types_judging::{Note, Verdict, access_rule, conclude, constant_rule};
+use kr_types_judging::{Judgement, Note, access_rule, conclude, constant_rule};
 use kr_types_scopes::{Scopes, Within};
 
 /// The class of a name that means no local, field or constant where a node stands.
@@ -34,9 +35,9 @@ fn class_if_unmeant(
     scopes: &Scopes,
     file: u32,
     node: u32,
-    class: u32,
+    class: ClassId,
     name: &[u8],
-) -> Option<u32>
+) -> Option<ClassId>
     requires heads { AreHeads trees.now heads.now }
     requires members { AreMembers trees.now members.now }
     requires file { file < length trees.now }
@@ -62,9 +63,9 @@ pub fn class_before(
     scopes: &Scopes,
     file: u32,
     node: u32,
-    class: u32,
+    class: ClassId,
     object: u32,
-) -> Option<u32>
+) -> Option<ClassId>
     requires heads { AreHeads trees.now heads.now }
     requires members { AreMembers trees.now members.now }
     requires file { file < length trees.now }
@@ -97,8 +98,8 @@ fn access_verdict(
     node_types: &NodeTypes,
     here: Within,
     name: &[u8],
-    object: Option<u32>,
-) -> Verdict
+    object: Option<TypeId>,
+) -> Judgement
     requires members { AreMembers trees.now members.now }
     requires numbers { AreNodeTypes trees.now types.now node_types.now }
     requires object { IfSome object (λ t. t < count types.now) }
@@ -106,7 +107,7 @@ fn access_verdict(
     ensures says { (g : Setting) (bs : List Binding) → g.table ≡ table_in trees.now → verdict_shown types.now result ≡ with_one (rules.access_rule (scope_in g bs here) name.now) (option_map (type_at types.now) object) }
 {
     match object {
-        None => Verdict::fine(),
+        None => Judgement::fine(),
         Some(object) => access_rule(trees, types, members, node_types, here, name, object),
     }
 }
@@ -120,7 +121,7 @@ pub fn field_note(
     here: Within,
     place: Place,
     name: &[u8],
-    before: Option<u32>,
+    before: Option<ClassId>,
     x: Note,
 ) -> Note
     requires members { AreMembers trees.now members.now }

@@ -20,9 +20,10 @@ use crate::parts::part_type;
 use kr_ast::Tree;
 use kr_base::{NoMemory, Place};
 use kr_classes_members::{Members, Method};
+use kr_classes_table::{ClassId, TypeId};
 use kr_classes_types::{NodeTypes, Types};
 use kr_types_judging::{
-    Note, Verdict, call_rule, conclude, earlier, method_meant, object_call_rule, static_rule,
+    Judgement, Note, call_rule, conclude, earlier, method_meant, object_call_rule, static_rule,
     super_rule,
 };
 use kr_types_scopes::Within;
@@ -36,8 +37,8 @@ fn call_verdict(
     node_types: &NodeTypes,
     here: Within,
     found: Option<Method>,
-    arguments: Option<Vec<u32>>,
-) -> Verdict
+    arguments: Option<Vec<TypeId>>,
+) -> Judgement
     requires members { AreMembers trees.now members.now }
     requires numbers { AreNodeTypes trees.now types.now node_types.now }
     requires found { IfSome found (IsMethod trees.now) }
@@ -46,7 +47,7 @@ fn call_verdict(
     ensures says { (g : Setting) (bs : List Binding) → g.table ≡ table_in trees.now → verdict_shown types.now result ≡ with_list (rules.call_rule (scope_in g bs here) (option_map (method_shown trees.now) found)) (option_map (λ ts. map (type_at types.now) ts.items) arguments) }
 {
     match arguments {
-        None => Verdict::fine(),
+        None => Judgement::fine(),
         Some(arguments) => call_rule(trees, types, members, node_types, here, found, &arguments),
     }
 }
@@ -61,7 +62,7 @@ pub fn call_note(
     notes: &NoteList,
     here: Within,
     place: Place,
-    class: u32,
+    class: ClassId,
     name: &[u8],
     x: Note,
 ) -> Result<Note, NoMemory>
@@ -87,10 +88,10 @@ fn super_call_verdict(
     members: &Members,
     node_types: &NodeTypes,
     here: Within,
-    class: u32,
+    class: ClassId,
     name: &[u8],
-    arguments: Option<Vec<u32>>,
-) -> Verdict
+    arguments: Option<Vec<TypeId>>,
+) -> Judgement
     requires members { AreMembers trees.now members.now }
     requires numbers { AreNodeTypes trees.now types.now node_types.now }
     requires arguments { IfSome arguments (λ ts. All (λ t. t < count types.now) ts.items) }
@@ -98,7 +99,7 @@ fn super_call_verdict(
     ensures says { (g : Setting) (bs : List Binding) → g.table ≡ table_in trees.now → class_there g here.class ≡ class → verdict_shown types.now result ≡ with_list (rules.super_rule (scope_in g bs here) name.now) (option_map (λ ts. map (type_at types.now) ts.items) arguments) }
 {
     match arguments {
-        None => Verdict::fine(),
+        None => Judgement::fine(),
         Some(arguments) => {
             super_rule(
                 trees, types, members, node_types, here, class, name, &arguments,
@@ -117,7 +118,7 @@ pub fn super_call_note(
     notes: &NoteList,
     here: Within,
     place: Place,
-    class: u32,
+    class: ClassId,
     name: &[u8],
     x: Note,
 ) -> Result<Note, NoMemory>
@@ -145,8 +146,8 @@ fn static_call_verdict(
     node_types: &NodeTypes,
     here: Within,
     found: Option<Method>,
-    arguments: Option<Vec<u32>>,
-) -> Verdict
+    arguments: Option<Vec<TypeId>>,
+) -> Judgement
     requires members { AreMembers trees.now members.now }
     requires numbers { AreNodeTypes trees.now types.now node_types.now }
     requires found { IfSome found (IsMethod trees.now) }
@@ -155,7 +156,7 @@ fn static_call_verdict(
     ensures says { (g : Setting) (bs : List Binding) → g.table ≡ table_in trees.now → verdict_shown types.now result ≡ with_list (rules.static_rule (scope_in g bs here) (option_map (method_shown trees.now) found)) (option_map (λ ts. map (type_at types.now) ts.items) arguments) }
 {
     match arguments {
-        None => Verdict::fine(),
+        None => Judgement::fine(),
         Some(arguments) => {
             static_rule(trees, types, members, node_types, here, found, &arguments)
         }
@@ -170,9 +171,9 @@ fn object_call_verdict(
     node_types: &NodeTypes,
     here: Within,
     name: &[u8],
-    object: Option<u32>,
-    arguments: Option<Vec<u32>>,
-) -> Verdict
+    object: Option<TypeId>,
+    arguments: Option<Vec<TypeId>>,
+) -> Judgement
     requires members { AreMembers trees.now members.now }
     requires numbers { AreNodeTypes trees.now types.now node_types.now }
     requires object { IfSome object (λ t. t < count types.now) }
@@ -181,9 +182,9 @@ fn object_call_verdict(
     ensures says { (g : Setting) (bs : List Binding) → g.table ≡ table_in trees.now → verdict_shown types.now result ≡ with_one_and_list (rules.object_call_rule (scope_in g bs here) name.now) (option_map (type_at types.now) object) (option_map (λ ts. map (type_at types.now) ts.items) arguments) }
 {
     match object {
-        None => Verdict::fine(),
+        None => Judgement::fine(),
         Some(object) => match arguments {
-            None => Verdict::fine(),
+            None => Judgement::fine(),
             Some(arguments) => {
                 object_call_rule(
                     trees, types, members, node_types, here, name, object, &arguments,
@@ -204,7 +205,7 @@ pub fn method_call_note(
     here: Within,
     place: Place,
     name: &[u8],
-    before: Option<u32>,
+    before: Option<ClassId>,
     x: Note,
     y: Note,
 ) -> Result<Note, NoMemory>

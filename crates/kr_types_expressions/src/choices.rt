@@ -15,18 +15,19 @@ ghost use Rattle.kr_types_expressions.specs.Parts.{with_one, with_three};
 use crate::parts::part_type;
 use kr_base::Place;
 use kr_classes_members::Members;
+use kr_classes_table::TypeId;
 use kr_classes_types::Types;
-use kr_types_judging::{Fault, Note, Verdict, choice_rule, conclude, condition_rule, earlier};
+use kr_types_judging::{Fault, Judgement, Note, choice_rule, conclude, condition_rule, earlier};
 use kr_types_scopes::Within;
 
 /// What T28 says where the condition has a type.
-fn condition_verdict(types: &Types, a: Option<u32>) -> Verdict
+fn condition_verdict(types: &Types, a: Option<TypeId>) -> Judgement
     requires { IfSome a (λ t. t < count types.now) }
     ensures within { IsVerdictWithin types.now result }
     ensures says { verdict_shown types.now result ≡ with_one rules.condition_rule (option_map (type_at types.now) a) }
 {
     match a {
-        None => Verdict::fine(),
+        None => Judgement::fine(),
         Some(a) => condition_rule(types, a),
     }
 }
@@ -47,10 +48,10 @@ fn choice_verdict(
     types: &Types,
     members: &Members,
     here: Within,
-    a: Option<u32>,
-    b: Option<u32>,
-    d: Option<u32>,
-) -> Verdict
+    a: Option<TypeId>,
+    b: Option<TypeId>,
+    d: Option<TypeId>,
+) -> Judgement
     requires first { IfSome a (λ t. t < count types.now) }
     requires second { IfSome b (λ t. t < count types.now) }
     requires third { IfSome d (λ t. t < count types.now) }
@@ -59,7 +60,7 @@ fn choice_verdict(
 {
     match (a, b, d) {
         (Some(a), Some(b), Some(d)) => choice_rule(types, members, here, a, b, d),
-        _ => Verdict::fine(),
+        _ => Judgement::fine(),
     }
 }
 

@@ -20,8 +20,9 @@ use crate::parts::part_type;
 use kr_ast::Tree;
 use kr_base::{NoMemory, Place};
 use kr_classes_members::Members;
+use kr_classes_table::{ClassId, TypeId};
 use kr_classes_types::{NodeTypes, Types};
-use kr_types_judging::{Note, Verdict, conclude, earlier};
+use kr_types_judging::{Judgement, Note, conclude, earlier};
 use kr_types_scopes::Within;
 use std::alloc::Global;
 
@@ -32,9 +33,9 @@ fn creation_verdict(
     members: &Members,
     node_types: &NodeTypes,
     here: Within,
-    created: Option<u32>,
-    arguments: Option<Vec<u32>>,
-) -> Verdict
+    created: Option<TypeId>,
+    arguments: Option<Vec<TypeId>>,
+) -> Judgement
     requires members { AreMembers trees.now members.now }
     requires numbers { AreNodeTypes trees.now types.now node_types.now }
     requires created { IfSome created (λ t. t < count types.now) }
@@ -43,9 +44,9 @@ fn creation_verdict(
     ensures says { (g : Setting) (bs : List Binding) → g.table ≡ table_in trees.now → AreSingle g.table → verdict_shown types.now result ≡ with_one_and_list (rules.creation_rule (scope_in g bs here)) (option_map (type_at types.now) created) (option_map (λ ts. map (type_at types.now) ts.items) arguments) }
 {
     match created {
-        None => Verdict::fine(),
+        None => Judgement::fine(),
         Some(created) => match arguments {
-            None => Verdict::fine(),
+            None => Judgement::fine(),
             Some(arguments) => {
                 creation_rule(trees, types, members, node_types, here, created, &arguments)
             }
@@ -86,9 +87,9 @@ pub fn creation_note(
 fn array_creation_verdict(
     types: &mut Types,
     here: Within,
-    a: Option<u32>,
-    b: Option<u32>,
-) -> Result<Verdict, NoMemory>
+    a: Option<TypeId>,
+    b: Option<TypeId>,
+) -> Result<Judgement, NoMemory>
     requires first { IfSome a (λ t. t < count types.old) }
     requires second { IfSome b (λ t. t < count types.old) }
     ensures extends { Extends types.old types.new }
@@ -97,7 +98,7 @@ fn array_creation_verdict(
 {
     match (a, b) {
         (Some(a), Some(b)) => array_creation_rule(types, here, a, b),
-        _ => Ok(Verdict::fine()),
+        _ => Ok(Judgement::fine()),
     }
 }
 
@@ -129,9 +130,9 @@ fn constructor_call_verdict(
     members: &Members,
     node_types: &NodeTypes,
     here: Within,
-    class: u32,
-    arguments: Option<Vec<u32>>,
-) -> Verdict
+    class: ClassId,
+    arguments: Option<Vec<TypeId>>,
+) -> Judgement
     requires members { AreMembers trees.now members.now }
     requires numbers { AreNodeTypes trees.now types.now node_types.now }
     requires arguments { IfSome arguments (λ ts. All (λ t. t < count types.now) ts.items) }
@@ -139,7 +140,7 @@ fn constructor_call_verdict(
     ensures says { (g : Setting) (bs : List Binding) → g.table ≡ table_in trees.now → AreSingle g.table → class_there g here.class ≡ class → verdict_shown types.now result ≡ with_list (rules.super_constructor_rule (scope_in g bs here)) (option_map (λ ts. map (type_at types.now) ts.items) arguments) }
 {
     match arguments {
-        None => Verdict::fine(),
+        None => Judgement::fine(),
         Some(arguments) => super_constructor_rule(
             trees, types, members, node_types, here, class, &arguments,
         ),
@@ -156,7 +157,7 @@ pub fn constructor_call_note(
     notes: &NoteList,
     here: Within,
     place: Place,
-    class: u32,
+    class: ClassId,
     x: Note,
 ) -> Result<Note, NoMemory>
     requires members { AreMembers trees.now members.now }

@@ -14,18 +14,19 @@ ghost use Rattle.kr_types_expressions.specs.Parts.{with_one};
 use crate::parts::part_type;
 use kr_base::Place;
 use kr_classes_members::Members;
+use kr_classes_table::TypeId;
 use kr_classes_types::Types;
-use kr_types_judging::{Note, Verdict, conclude, contract_rule, old_rule};
+use kr_types_judging::{Judgement, Note, conclude, contract_rule, old_rule};
 use kr_types_scopes::Within;
 
 /// What T38 says of `\old` where its part has a type.
-fn old_verdict(types: &Types, members: &Members, here: Within, a: Option<u32>) -> Verdict
+fn old_verdict(types: &Types, members: &Members, here: Within, a: Option<TypeId>) -> Judgement
     requires { IfSome a (λ t. t < count types.now) }
     ensures within { IsVerdictWithin types.now result }
     ensures says { (files : List Arena) (g : Setting) (bs : List Binding) → AreMembers files members.now → g.table ≡ table_in files → verdict_shown types.now result ≡ with_one (rules.old_rule (scope_in g bs here)) (option_map (type_at types.now) a) }
 {
     match a {
-        None => Verdict::fine(),
+        None => Judgement::fine(),
         Some(a) => old_rule(types, members, here, a),
     }
 }
@@ -42,13 +43,13 @@ pub fn old_note(types: &Types, members: &Members, here: Within, place: Place, x:
 }
 
 /// What T28 and T40 say where the condition has a type.
-fn contract_verdict(types: &Types, members: &Members, here: Within, a: Option<u32>) -> Verdict
+fn contract_verdict(types: &Types, members: &Members, here: Within, a: Option<TypeId>) -> Judgement
     requires { IfSome a (λ t. t < count types.now) }
     ensures within { IsVerdictWithin types.now result }
     ensures says { (files : List Arena) (g : Setting) (bs : List Binding) → AreMembers files members.now → g.table ≡ table_in files → verdict_shown types.now result ≡ with_one (rules.contract_rule (scope_in g bs here)) (option_map (type_at types.now) a) }
 {
     match a {
-        None => Verdict::fine(),
+        None => Judgement::fine(),
         Some(a) => contract_rule(types, members, here, a),
     }
 }

@@ -16,17 +16,18 @@ ghost use Rattle.kr_types_expressions.specs.Constructors.{AreSingle, IsSingle};
 use kr_ast::Tree;
 use kr_base::NoMemory;
 use kr_classes_members::{Constructor, Members};
+use kr_classes_table::{ClassId, TypeId};
 use kr_classes_types::{NodeTypes, TypeForm, Types};
-use kr_types_judging::{TypingRule, Verdict, arguments_fit, is_code, is_int};
+use kr_types_judging::{Judgement, TypingRule, arguments_fit, is_code, is_int};
 use kr_types_scopes::Within;
 
 /// T27: the length is an int; T39.
 pub(crate) fn array_creation_rule(
     types: &mut Types,
     here: Within,
-    element: u32,
-    length: u32,
-) -> Result<Verdict, NoMemory>
+    element: TypeId,
+    length: TypeId,
+) -> Result<Judgement, NoMemory>
     requires element { element < count types.old }
     requires length { length < count types.old }
     ensures extends { Extends types.old types.new }
@@ -35,10 +36,10 @@ pub(crate) fn array_creation_rule(
 {
     let is_length = is_int(types, length);
     let array = types.number(TypeForm::Array(element))?;
-    Ok(Verdict::ask(
+    Ok(Judgement::ask(
         is_length,
         TypingRule::ArrayLength,
-        Verdict::value_if(is_code(here.part), TypingRule::ContractWrite, array),
+        Judgement::value_if(is_code(here.part), TypingRule::ContractWrite, array),
     ))
 }
 
@@ -57,8 +58,8 @@ fn constructor_fits(
     types: &Types,
     members: &Members,
     node_types: &NodeTypes,
-    class: u32,
-    arguments: &[u32],
+    class: ClassId,
+    arguments: &[TypeId],
 ) -> bool
     requires members { AreMembers trees.now members.now }
     requires numbers { AreNodeTypes trees.now types.now node_types.now }
@@ -87,8 +88,8 @@ fn creation_fits(
     types: &Types,
     members: &Members,
     node_types: &NodeTypes,
-    created: u32,
-    arguments: &[u32],
+    created: TypeId,
+    arguments: &[TypeId],
 ) -> bool
     requires members { AreMembers trees.now members.now }
     requires numbers { AreNodeTypes trees.now types.now node_types.now }
@@ -113,9 +114,9 @@ pub(crate) fn creation_rule(
     members: &Members,
     node_types: &NodeTypes,
     here: Within,
-    created: u32,
-    arguments: &[u32],
-) -> Verdict
+    created: TypeId,
+    arguments: &[TypeId],
+) -> Judgement
     requires members { AreMembers trees.now members.now }
     requires numbers { AreNodeTypes trees.now types.now node_types.now }
     requires created { created < count types.now }
@@ -124,10 +125,10 @@ pub(crate) fn creation_rule(
     ensures says { (g : Setting) (bs : List Binding) → g.table ≡ table_in trees.now → AreSingle g.table → verdict_shown types.now result ≡ rules.creation_rule (scope_in g bs here) (type_at types.now created) (map (type_at types.now) arguments.now) }
 {
     let fits = creation_fits(trees, types, members, node_types, created, arguments);
-    Verdict::ask(
+    Judgement::ask(
         fits,
         TypingRule::Creation,
-        Verdict::value_if(is_code(here.part), TypingRule::ContractWrite, created),
+        Judgement::value_if(is_code(here.part), TypingRule::ContractWrite, created),
     )
 }
 
@@ -137,8 +138,8 @@ fn fits_above(
     types: &Types,
     members: &Members,
     node_types: &NodeTypes,
-    class: u32,
-    arguments: &[u32],
+    class: ClassId,
+    arguments: &[TypeId],
 ) -> bool
     requires members { AreMembers trees.now members.now }
     requires numbers { AreNodeTypes trees.now types.now node_types.now }
@@ -157,15 +158,15 @@ pub fn implied_rule(
     types: &Types,
     members: &Members,
     node_types: &NodeTypes,
-    class: u32,
-) -> Verdict
+    class: ClassId,
+) -> Judgement
     requires members { AreMembers trees.now members.now }
     requires numbers { AreNodeTypes trees.now types.now node_types.now }
     ensures within { IsVerdictWithin types.now result }
     ensures says { (s : Scope) → s.table ≡ table_in trees.now → AreSingle s.table → s.class ≡ class → verdict_shown types.now result ≡ rules.implied_rule s }
 {
     let fits = fits_above(trees, types, members, node_types, class, &[]);
-    Verdict::fine_if(fits, TypingRule::SuperConstructor)
+    Judgement::fine_if(fits, TypingRule::SuperConstructor)
 }
 
 /// T34: `super(..)` fits the superclass's constructor.
@@ -175,9 +176,9 @@ pub(crate) fn super_constructor_rule(
     members: &Members,
     node_types: &NodeTypes,
     here: Within,
-    class: u32,
-    arguments: &[u32],
-) -> Verdict
+    class: ClassId,
+    arguments: &[TypeId],
+) -> Judgement
     requires members { AreMembers trees.now members.now }
     requires numbers { AreNodeTypes trees.now types.now node_types.now }
     requires arguments { All (λ t. t < count types.now) arguments.now }
@@ -185,5 +186,5 @@ pub(crate) fn super_constructor_rule(
     ensures says { (g : Setting) (bs : List Binding) → g.table ≡ table_in trees.now → AreSingle g.table → class_there g here.class ≡ class → verdict_shown types.now result ≡ rules.super_constructor_rule (scope_in g bs here) (map (type_at types.now) arguments.now) }
 {
     let fits = fits_above(trees, types, members, node_types, class, arguments);
-    Verdict::fine_if(fits, TypingRule::SuperConstructor)
+    Judgement::fine_if(fits, TypingRule::SuperConstructor)
 }

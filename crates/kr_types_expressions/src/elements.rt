@@ -8,11 +8,12 @@ ghost use Rattle.kr_types_expressions.specs.Parts.{with_two};
 
 use crate::parts::part_type;
 use kr_base::Place;
+use kr_classes_table::TypeId;
 use kr_classes_types::Types;
-use kr_types_judging::{Note, Verdict, conclude, earlier, element_rule};
+use kr_types_judging::{Judgement, Note, conclude, earlier, element_rule};
 
 /// What T23 says where both parts have types.
-fn element_verdict(types: &Types, a: Option<u32>, b: Option<u32>) -> Verdict
+fn element_verdict(types: &Types, a: Option<TypeId>, b: Option<TypeId>) -> Judgement
     requires first { IfSome a (λ t. t < count types.now) }
     requires second { IfSome b (λ t. t < count types.now) }
     ensures within { IsVerdictWithin types.now result }
@@ -20,7 +21,7 @@ fn element_verdict(types: &Types, a: Option<u32>, b: Option<u32>) -> Verdict
 {
     match (a, b) {
         (Some(a), Some(b)) => element_rule(types, a, b),
-        _ => Verdict::fine(),
+        _ => Judgement::fine(),
     }
 }
 

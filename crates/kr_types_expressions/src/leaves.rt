@@ -13,7 +13,7 @@ ghost use Rattle.kr_types_judging.specs.Shown.{HasNoRest, IsNoteWithin, note_sho
 use kr_base::Place;
 use kr_classes_members::Members;
 use kr_classes_types::Types;
-use kr_types_judging::{Note, Verdict, conclude, jump_rule, number_rule};
+use kr_types_judging::{Judgement, Note, conclude, jump_rule, number_rule};
 use kr_types_scopes::Within;
 
 /// A number.
@@ -32,7 +32,7 @@ pub fn truth_note(types: &Types, place: Place) -> Note
     ensures no_rest { HasNoRest result.known }
     ensures shown { (look : ℕ → rules.Typed) → note_shown types.now look result ≡ leaf place (rules.Fits (rules.Value BooleanType)) }
 {
-    let verdict = Verdict::value(types.boolean());
+    let verdict = Judgement::value(types.boolean());
     conclude(place, verdict, None)
 }
 
@@ -42,7 +42,7 @@ pub fn null_note(types: &Types, place: Place) -> Note
     ensures no_rest { HasNoRest result.known }
     ensures shown { (look : ℕ → rules.Typed) → note_shown types.now look result ≡ leaf place (rules.Fits (rules.Value NullType)) }
 {
-    let verdict = Verdict::value(types.null());
+    let verdict = Judgement::value(types.null());
     conclude(place, verdict, None)
 }
 

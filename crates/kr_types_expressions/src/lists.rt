@@ -12,6 +12,7 @@ ghost use Rattle.kr_types_expressions.specs.Parts.{values_in};
 use crate::note_list::NoteList;
 use crate::parts::part_type;
 use kr_base::NoMemory;
+use kr_classes_table::TypeId;
 use kr_classes_types::Types;
 use kr_types_judging::{Known, Note, Typed, earlier};
 use std::alloc::Global;
@@ -29,7 +30,7 @@ pub fn absent_note() -> Note
 }
 
 /// What is known of a list whose first part has this type, and of whose rest this is known.
-fn list_known(first: Option<u32>, rest: u32, behind: Known) -> Known
+fn list_known(first: Option<TypeId>, rest: u32, behind: Known) -> Known
     ensures within { (l : TypeList) → IfSome first (λ t. t < count l) → IsKnownWithin l result }
     ensures below { (i : ℕ) → rest < i → IsRestBelow i result }
     ensures shown { (l : TypeList) (look : ℕ → rules.Typed) (x : rules.Typed) → option_map (type_at l) first ≡ type_in x → look rest ≡ known_shown l look behind → known_shown l look result ≡ joined x (known_shown l look behind) }
@@ -66,7 +67,7 @@ pub fn value_types(
     types: &Types,
     notes: &NoteList,
     list: Known,
-) -> Result<Option<Vec<u32>>, NoMemory>
+) -> Result<Option<Vec<TypeId>>, NoMemory>
     requires notes { AreNotesWithin types.now notes.now }
     requires list { IsKnownWithin types.now list }
     requires below { IsRestBelow (length notes.now) list }

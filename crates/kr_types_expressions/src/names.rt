@@ -19,14 +19,15 @@ use kr_ast::{Node, Tree, tree_of};
 use kr_base::{NoMemory, Place};
 use kr_classes_members::Members;
 use kr_classes_names::Heads;
+use kr_classes_table::ClassId;
 use kr_classes_types::{NodeTypes, TypeForm, Types};
 use kr_types_judging::{
-    Note, TypingRule, Verdict, conclude, field_name_rule, type_of_node, variable_of,
+    Judgement, Note, TypingRule, conclude, field_name_rule, type_of_node, variable_of,
 };
 use kr_types_scopes::{Scopes, Within};
 
 /// The class whose code a scope is in; the first one outside of classes.
-pub fn class_of(trees: &[Tree], heads: &Heads, file: u32, node: Option<u32>) -> u32
+pub fn class_of(trees: &[Tree], heads: &Heads, file: u32, node: Option<u32>) -> ClassId
     requires heads { AreHeads trees.now heads.now }
     requires file { file < length trees.now }
     requires node { IfSome node (λ k. k < length (file_at trees.now file).entries) }
@@ -56,9 +57,9 @@ pub fn variable_rule(
     scopes: &Scopes,
     file: u32,
     node: u32,
-    class: u32,
+    class: ClassId,
     name: &[u8],
-) -> Verdict
+) -> Judgement
     requires members { AreMembers trees.now members.now }
     requires numbers { AreNodeTypes trees.now types.now node_types.now }
     requires file { file < length trees.now }
@@ -74,7 +75,7 @@ pub fn variable_rule(
             variable_of(types, number)
         }
         None => match members.field_meant(class, name) {
-            None => Verdict::Breaks(TypingRule::UnknownName),
+            None => Judgement::Breaks(TypingRule::UnknownName),
             Some(field) => {
                 let here = scopes.at(node);
                 field_name_rule(trees, types, node_types, here, field)
@@ -93,7 +94,7 @@ pub fn variable_note(
     file: u32,
     node: u32,
     place: Place,
-    class: u32,
+    class: ClassId,
     name: &[u8],
 ) -> Note
     requires members { AreMembers trees.now members.now }
@@ -112,13 +113,13 @@ pub fn variable_note(
 }
 
 /// T5: `this` isn't used in static code.
-fn this_rule(types: &mut Types, here: Within, class: u32) -> Result<Verdict, NoMemory>
+fn this_rule(types: &mut Types, here: Within, class: ClassId) -> Result<Judgement, NoMemory>
     ensures extends { Extends types.old types.new }
     ensures within { IfOk result (λ v. IsVerdictWithin types.new v) }
     ensures says { IfOk result (λ v. (g : Setting) (bs : List Binding) → class_there g here.class ≡ class → verdict_shown types.new v ≡ rules.this_rule (scope_in g bs here)) }
 {
     let number = types.number(TypeForm::Class(class))?;
-    Ok(Verdict::value_if(!here.is_static, TypingRule::StaticCode, number))
+    Ok(Judgement::value_if(!here.is_static, TypingRule::StaticCode, number))
 }
 
 /// `this`
@@ -126,7 +127,7 @@ pub fn this_note(
     types: &mut Types,
     here: Within,
     place: Place,
-    class: u32,
+    class: ClassId,
 ) -> Result<Note, NoMemory>
     ensures extends { Extends types.old types.new }
     ensures within { IfOk result (λ n. IsNoteWithin types.new n) }

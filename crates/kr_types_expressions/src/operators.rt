@@ -15,20 +15,21 @@ use crate::parts::part_type;
 use kr_ast::{BinaryOperator, UnaryOperator};
 use kr_base::Place;
 use kr_classes_members::Members;
+use kr_classes_table::TypeId;
 use kr_classes_types::Types;
 use kr_types_judging::{
-    Note, Verdict, cast_rule, conclude, earlier, instance_rule, operator_rule, unary_rule,
+    Judgement, Note, cast_rule, conclude, earlier, instance_rule, operator_rule, unary_rule,
 };
 use kr_types_scopes::Within;
 
 /// What T13 and T14 say where the operand has a type.
-fn unary_verdict(types: &Types, operator: UnaryOperator, a: Option<u32>) -> Verdict
+fn unary_verdict(types: &Types, operator: UnaryOperator, a: Option<TypeId>) -> Judgement
     requires { IfSome a (λ t. t < count types.now) }
     ensures within { IsVerdictWithin types.now result }
     ensures says { verdict_shown types.now result ≡ with_one (rules.unary_rule operator) (option_map (type_at types.now) a) }
 {
     match a {
-        None => Verdict::fine(),
+        None => Judgement::fine(),
         Some(a) => unary_rule(types, operator, a),
     }
 }
@@ -50,9 +51,9 @@ fn binary_verdict(
     members: &Members,
     here: Within,
     operator: BinaryOperator,
-    a: Option<u32>,
-    b: Option<u32>,
-) -> Verdict
+    a: Option<TypeId>,
+    b: Option<TypeId>,
+) -> Judgement
     requires first { IfSome a (λ t. t < count types.now) }
     requires second { IfSome b (λ t. t < count types.now) }
     ensures within { IsVerdictWithin types.now result }
@@ -60,7 +61,7 @@ fn binary_verdict(
 {
     match (a, b) {
         (Some(a), Some(b)) => operator_rule(types, members, here, operator, a, b),
-        _ => Verdict::fine(),
+        _ => Judgement::fine(),
     }
 }
 
@@ -91,9 +92,9 @@ fn instance_verdict(
     types: &Types,
     members: &Members,
     here: Within,
-    a: Option<u32>,
-    b: Option<u32>,
-) -> Verdict
+    a: Option<TypeId>,
+    b: Option<TypeId>,
+) -> Judgement
     requires first { IfSome a (λ t. t < count types.now) }
     requires second { IfSome b (λ t. t < count types.now) }
     ensures within { IsVerdictWithin types.now result }
@@ -101,7 +102,7 @@ fn instance_verdict(
 {
     match (a, b) {
         (Some(a), Some(b)) => instance_rule(types, members, here, a, b),
-        _ => Verdict::fine(),
+        _ => Judgement::fine(),
     }
 }
 
@@ -131,9 +132,9 @@ fn cast_verdict(
     types: &Types,
     members: &Members,
     here: Within,
-    a: Option<u32>,
-    b: Option<u32>,
-) -> Verdict
+    a: Option<TypeId>,
+    b: Option<TypeId>,
+) -> Judgement
     requires first { IfSome a (λ t. t < count types.now) }
     requires second { IfSome b (λ t. t < count types.now) }
     ensures within { IsVerdictWithin types.now result }
@@ -141,7 +142,7 @@ fn cast_verdict(
 {
     match (a, b) {
         (Some(a), Some(b)) => cast_rule(types, members, here, a, b),
-        _ => Verdict::fine(),
+        _ => Judgement::fine(),
     }
 }
 

@@ -5,10 +5,11 @@ ghost use Rattle.kr_types_meaning.specs.Typing.{type_in};
 ghost use Rattle.kr_classes_types.specs.Types.{TypeList, count, type_at};
 ghost use Rattle.kr_types_judging.specs.Shown.{IsKnownWithin, known_shown};
 
+use kr_classes_table::TypeId;
 use kr_types_judging::{Known, Typed};
 
 /// The type of a part, if it has one.
-pub fn part_type(known: Known) -> Option<u32>
+pub fn part_type(known: Known) -> Option<TypeId>
     ensures within { (l : TypeList) → IsKnownWithin l known → IfSome result (λ t. t < count l) }
     ensures shown { (l : TypeList) (look : ℕ → rules.Typed) → option_map (type_at l) result ≡ type_in (known_shown l look known) }
 {

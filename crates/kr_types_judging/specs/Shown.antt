@@ -20,8 +20,8 @@ use Rattle.kr_types_judging.specs.declared.known.Typed.{Typed}
 use Rattle.kr_types_judging.specs.declared.known.Typed.TheVariants as typed
 use Rattle.kr_types_judging.specs.declared.known.Known.{Known}
 use Rattle.kr_types_judging.specs.declared.known.Known.TheVariants as known
-use Rattle.kr_types_judging.specs.declared.known.Verdict.{Verdict}
-use Rattle.kr_types_judging.specs.declared.known.Verdict.TheVariants as verdicts
+use Rattle.kr_types_judging.specs.declared.known.Judgement.{Judgement}
+use Rattle.kr_types_judging.specs.declared.known.Judgement.TheVariants as verdicts
 use Rattle.kr_types_judging.specs.declared.notes.Fault.{Fault}
 use Rattle.kr_types_judging.specs.declared.notes.Note.{Note}
 
@@ -30,7 +30,7 @@ typed_shown l typed.Untyped = rules.Untyped
 typed_shown l (typed.Value n) = rules.Value (type_at l n)
 typed_shown l (typed.Variable n) = rules.Variable (type_at l n)
 
-abbrev pub verdict_shown : TypeList → Verdict → rules.Verdict
+abbrev pub verdict_shown : TypeList → Judgement → rules.Judgement
 verdict_shown l (verdicts.Fits t) = rules.Fits (typed_shown l t)
 verdict_shown l (verdicts.Breaks r) = rules.Breaks (rule_number r)
 
@@ -56,7 +56,7 @@ IsTypedWithin l typed.Untyped = Unit {0}
 IsTypedWithin l (typed.Value n) = n < count l
 IsTypedWithin l (typed.Variable n) = n < count l
 
-abbrev pub IsVerdictWithin : TypeList → Verdict → Type 0
+abbrev pub IsVerdictWithin : TypeList → Judgement → Type 0
 IsVerdictWithin l (verdicts.Fits t) = IsTypedWithin l t
 IsVerdictWithin l (verdicts.Breaks r) = Unit {0}
 
@@ -74,7 +74,7 @@ HasNoRest (known.More first rest) = ⊥
 HasNoRest k = Unit {0}
 
 -- in every scope of the program, the verdict is what the rule says
-abbrev pub Says : Members → TypeList → Within → Verdict → (Scope → rules.Verdict) → Type 0
+abbrev pub Says : Members → TypeList → Within → Judgement → (Scope → rules.Judgement) → Type 0
 Says members l here v rule = (files : List Arena) (g : Setting) (bs : List Binding) → AreMembers files members → g.table ≡ table_in files → verdict_shown l v ≡ rule (scope_in g bs here)
 
 -- a variable takes a value
@@ -101,6 +101,6 @@ returned t to None = is_void to || not (is_known to)
 returned t to (Some from) = goes_into t to from
 
 -- of a constant of this type
-abbrev pub constant_says : Table → JavaType → Bool → Bool → Option JavaType → rules.Verdict
+abbrev pub constant_says : Table → JavaType → Bool → Bool → Option JavaType → rules.Judgement
 constant_says t to is_final has_value from =
     if is_known to then rules.ask (initial_goes_into t to from) 35 (rules.ask has_value 36 (rules.ask (is_final && rules.is_simple to) 37 rules.fine)) else rules.fine

@@ -12,6 +12,7 @@ ghost use Rattle.kr_types_judging.specs.Arguments.{arguments_go_into, listed_typ
 use crate::relations::takes;
 use kr_ast::{Node, Tree, tree_of};
 use kr_classes_members::Members;
+use kr_classes_table::TypeId;
 use kr_classes_types::{NodeTypes, Types};
 
 /// A parameter's type by its node, and the list behind it.
@@ -67,7 +68,7 @@ pub fn arguments_fit(
     types: &Types,
     members: &Members,
     node_types: &NodeTypes,
-    arguments: &[u32],
+    arguments: &[TypeId],
     file: u32,
     parameters: u32,
 ) -> bool

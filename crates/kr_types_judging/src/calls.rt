@@ -11,12 +11,13 @@ ghost use Rattle.kr_classes_types.specs.Numbers.{AreNodeTypes};
 ghost use Rattle.kr_types_judging.specs.Shown.{IsVerdictWithin, verdict_shown};
 
 use crate::arguments::arguments_fit;
-use crate::known::Verdict;
+use crate::known::Judgement;
 use crate::members::value_of;
 use crate::relations::is_void;
 use crate::rules::TypingRule;
 use kr_ast::Tree;
 use kr_classes_members::{Members, Method};
+use kr_classes_table::TypeId;
 use kr_classes_types::{NodeTypes, Types};
 use kr_types_scopes::{Role, Within};
 
@@ -31,7 +32,7 @@ fn is_statement(role: Role) -> bool
 }
 
 /// Whether a call of this result may stand there: one without a result stands only as a statement.
-fn may_stand(types: &Types, number: u32, here: Within) -> bool
+fn may_stand(types: &Types, number: TypeId, here: Within) -> bool
     requires { number < count types.now }
     ensures { result ≡ (not (is_void (type_at types.now number)) || rules.is_statement (role_of here.role)) }
 {
@@ -39,7 +40,7 @@ fn may_stand(types: &Types, number: u32, here: Within) -> bool
 }
 
 /// The type of a method's result.
-fn result_type(trees: &[Tree], types: &Types, node_types: &NodeTypes, method: Method) -> u32
+fn result_type(trees: &[Tree], types: &Types, node_types: &NodeTypes, method: Method) -> TypeId
     requires { AreNodeTypes trees.now types.now node_types.now }
     ensures { IsTypeNumber types.now result (method_shown trees.now method).result }
 {
@@ -53,13 +54,13 @@ fn result_rule(
     node_types: &NodeTypes,
     here: Within,
     method: Method,
-) -> Verdict
+) -> Judgement
     requires { AreNodeTypes trees.now types.now node_types.now }
     ensures within { IsVerdictWithin types.now result }
     ensures says { (g : Setting) (bs : List Binding) → verdict_shown types.now result ≡ rules.result_rule (scope_in g bs here) (method_shown trees.now method) }
 {
     let number = result_type(trees, types, node_types, method);
-    Verdict::ask(
+    Judgement::ask(
         may_stand(types, number, here),
         TypingRule::NoResult,
         value_of(types, number),
@@ -74,8 +75,8 @@ fn arguments_rule(
     node_types: &NodeTypes,
     here: Within,
     method: Method,
-    arguments: &[u32],
-) -> Verdict
+    arguments: &[TypeId],
+) -> Judgement
     requires members { AreMembers trees.now members.now }
     requires numbers { AreNodeTypes trees.now types.now node_types.now }
     requires method { IsMethod trees.now method }
@@ -92,7 +93,7 @@ fn arguments_rule(
         method.file,
         method.parameters,
     );
-    Verdict::ask(
+    Judgement::ask(
         fit,
         TypingRule::Call,
         result_rule(trees, types, node_types, here, method),
@@ -107,8 +108,8 @@ pub fn call_rule(
     node_types: &NodeTypes,
     here: Within,
     found: Option<Method>,
-    arguments: &[u32],
-) -> Verdict
+    arguments: &[TypeId],
+) -> Judgement
     requires members { AreMembers trees.now members.now }
     requires numbers { AreNodeTypes trees.now types.now node_types.now }
     requires found { IfSome found (IsMethod trees.now) }
@@ -117,8 +118,8 @@ pub fn call_rule(
     ensures says { (g : Setting) (bs : List Binding) → g.table ≡ table_in trees.now → verdict_shown types.now result ≡ rules.call_rule (scope_in g bs here) (option_map (method_shown trees.now) found) (map (type_at types.now) arguments.now) }
 {
     match found {
-        None => Verdict::Breaks(TypingRule::Call),
-        Some(method) => Verdict::ask(
+        None => Judgement::Breaks(TypingRule::Call),
+        Some(method) => Judgement::ask(
             method.is_static || !here.is_static,
             TypingRule::StaticCode,
             arguments_rule(trees, types, members, node_types, here, method, arguments),
@@ -134,8 +135,8 @@ pub fn static_rule(
     node_types: &NodeTypes,
     here: Within,
     found: Option<Method>,
-    arguments: &[u32],
-) -> Verdict
+    arguments: &[TypeId],
+) -> Judgement
     requires members { AreMembers trees.now members.now }
     requires numbers { AreNodeTypes trees.now types.now node_types.now }
     requires found { IfSome found (IsMethod trees.now) }
@@ -144,8 +145,8 @@ pub fn static_rule(
     ensures says { (g : Setting) (bs : List Binding) → g.table ≡ table_in trees.now → verdict_shown types.now result ≡ rules.static_rule (scope_in g bs here) (option_map (method_shown trees.now) found) (map (type_at types.now) arguments.now) }
 {
     match found {
-        None => Verdict::Breaks(TypingRule::Call),
-        Some(method) => Verdict::ask(
+        None => Judgement::Breaks(TypingRule::Call),
+        Some(method) => Judgement::ask(
             method.is_static,
             TypingRule::Call,
             arguments_rule(trees, types, members, node_types, here, method, arguments),
@@ -161,8 +162,8 @@ pub(crate) fn above_rule(
     node_types: &NodeTypes,
     here: Within,
     found: Option<Method>,
-    arguments: &[u32],
-) -> Verdict
+    arguments: &[TypeId],
+) -> Judgement
     requires members { AreMembers trees.now members.now }
     requires numbers { AreNodeTypes trees.now types.now node_types.now }
     requires found { IfSome found (IsMethod trees.now) }
@@ -171,10 +172,10 @@ pub(crate) fn above_rule(
     ensures says { (g : Setting) (bs : List Binding) → g.table ≡ table_in trees.now → verdict_shown types.now result ≡ rules.above_rule (scope_in g bs here) (option_map (method_shown trees.now) found) (map (type_at types.now) arguments.now) }
 {
     match found {
-        None => Verdict::Breaks(TypingRule::SuperCall),
+        None => Judgement::Breaks(TypingRule::SuperCall),
         Some(method) => {
             if method.is_static {
-                return Verdict::Breaks(TypingRule::SuperCall);
+                return Judgement::Breaks(TypingRule::SuperCall);
             }
             arguments_rule(trees, types, members, node_types, here, method, arguments)
         }
@@ -189,8 +190,8 @@ pub(crate) fn method_rule(
     node_types: &NodeTypes,
     here: Within,
     found: Option<Method>,
-    arguments: &[u32],
-) -> Verdict
+    arguments: &[TypeId],
+) -> Judgement
     requires members { AreMembers trees.now members.now }
     requires numbers { AreNodeTypes trees.now types.now node_types.now }
     requires found { IfSome found (IsMethod trees.now) }
@@ -199,7 +200,7 @@ pub(crate) fn method_rule(
     ensures says { (g : Setting) (bs : List Binding) → g.table ≡ table_in trees.now → verdict_shown types.now result ≡ rules.method_rule (scope_in g bs here) (option_map (method_shown trees.now) found) (map (type_at types.now) arguments.now) }
 {
     match found {
-        None => Verdict::Breaks(TypingRule::Call),
+        None => Judgement::Breaks(TypingRule::Call),
         Some(method) => arguments_rule(trees, types, members, node_types, here, method, arguments),
     }
 }

@@ -10,15 +10,16 @@ ghost use Rattle.kr_classes_members.specs.Kept.{AreMembers};
 ghost use Rattle.kr_classes_types.specs.Types.{count, type_at};
 ghost use Rattle.kr_types_judging.specs.Shown.{IsVerdictWithin, Says, verdict_shown};
 
-use crate::known::Verdict;
+use crate::known::Judgement;
 use crate::relations::is_assignable;
 use crate::rules::TypingRule;
 use kr_classes_members::Members;
+use kr_classes_table::TypeId;
 use kr_classes_types::Types;
 use kr_types_scopes::Within;
 
 /// Whether it takes the first member of a list.
-fn removes_first(types: &Types, is_list: bool, member: u32, name: &[u8]) -> bool
+fn removes_first(types: &Types, is_list: bool, member: TypeId, name: &[u8]) -> bool
     requires { member < count types.now }
     ensures { result ≡ (bytes_eq name.now (codes "removeFirst") && is_list && is_element (type_at types.now member)) }
 {
@@ -26,18 +27,18 @@ fn removes_first(types: &Types, is_list: bool, member: u32, name: &[u8]) -> bool
 }
 
 /// T25: what a collection has without arguments.
-fn plain_call_rule(types: &Types, is_list: bool, member: u32, name: &[u8]) -> Verdict
+fn plain_call_rule(types: &Types, is_list: bool, member: TypeId, name: &[u8]) -> Judgement
     requires { member < count types.now }
     ensures within { IsVerdictWithin types.now result }
     ensures says { verdict_shown types.now result ≡ rules.plain_call_rule is_list (type_at types.now member) name.now }
 {
     if name == b"size".as_slice() {
-        return Verdict::value(types.int());
+        return Judgement::value(types.int());
     }
     if name == b"isEmpty".as_slice() {
-        return Verdict::value(types.boolean());
+        return Judgement::value(types.boolean());
     }
-    Verdict::value_if(
+    Judgement::value_if(
         removes_first(types, is_list, member, name),
         TypingRule::CollectionCall,
         member,
@@ -45,7 +46,7 @@ fn plain_call_rule(types: &Types, is_list: bool, member: u32, name: &[u8]) -> Ve
 }
 
 /// Whether it looks for a member, which may be null or of any class or array type.
-fn looks_for(types: &Types, name: &[u8], argument: u32) -> bool
+fn looks_for(types: &Types, name: &[u8], argument: TypeId) -> bool
     requires { argument < count types.now }
     ensures { result ≡ ((bytes_eq name.now (codes "contains") || bytes_eq name.now (codes "remove")) && is_reference (type_at types.now argument) && not (is_collection (type_at types.now argument))) }
 {
@@ -59,23 +60,23 @@ fn member_call_rule(
     types: &Types,
     members: &Members,
     here: Within,
-    member: u32,
+    member: TypeId,
     name: &[u8],
-    argument: u32,
-) -> Verdict
+    argument: TypeId,
+) -> Judgement
     requires member { member < count types.now }
     requires argument { argument < count types.now }
     ensures within { IsVerdictWithin types.now result }
     ensures says { Says members.now types.now here result (λ s. rules.member_call_rule s (type_at types.now member) name.now (type_at types.now argument)) }
 {
     if name == b"add".as_slice() {
-        return Verdict::value_if(
+        return Judgement::value_if(
             is_assignable(types, members, argument, member),
             TypingRule::CollectionCall,
             types.boolean(),
         );
     }
-    Verdict::value_if(
+    Judgement::value_if(
         looks_for(types, name, argument),
         TypingRule::CollectionCall,
         types.boolean(),
@@ -88,10 +89,10 @@ pub(crate) fn collection_rule(
     members: &Members,
     here: Within,
     is_list: bool,
-    member: u32,
+    member: TypeId,
     name: &[u8],
-    arguments: &[u32],
-) -> Verdict
+    arguments: &[TypeId],
+) -> Judgement
     requires member { member < count types.now }
     requires arguments { All (λ t. t < count types.now) arguments.now }
     ensures within { IsVerdictWithin types.now result }
@@ -100,6 +101,6 @@ pub(crate) fn collection_rule(
     match arguments {
         [] => plain_call_rule(types, is_list, member, name),
         [argument] => member_call_rule(types, members, here, member, name, *argument),
-        _ => Verdict::Breaks(TypingRule::CollectionCall),
+        _ => Judgement::Breaks(TypingRule::CollectionCall),
     }
 }

@@ -12,13 +12,14 @@ ghost use Rattle.kr_classes_types.specs.Types.{IsTypeNumber, count, type_at};
 ghost use Rattle.kr_classes_types.specs.Numbers.{AreNodeTypes};
 ghost use Rattle.kr_types_judging.specs.Shown.{IsVerdictWithin, constant_says, initial_goes_into, returned, verdict_shown};
 
-use crate::known::Verdict;
+use crate::known::Judgement;
 use crate::members::value_of;
 use crate::relations::{is_boolean, is_int, is_void, takes};
 use crate::rules::TypingRule;
 use crate::statements::is_ensuring;
 use kr_ast::Tree;
 use kr_classes_members::Members;
+use kr_classes_table::TypeId;
 use kr_classes_types::{NodeTypes, Types};
 use kr_types_scopes::Within;
 
@@ -29,7 +30,7 @@ pub fn type_of_node(
     node_types: &NodeTypes,
     file: u32,
     node: Option<u32>,
-) -> u32
+) -> TypeId
     requires { AreNodeTypes trees.now types.now node_types.now }
     ensures { (g : Setting) → g.table ≡ table_in trees.now → g.tree ≡ file_at trees.now file → IsTypeNumber types.now result (type_there g node) }
 {
@@ -40,7 +41,7 @@ pub fn type_of_node(
 }
 
 /// Whether an initial value, if there is one, goes into what is declared.
-fn initial_fits(types: &Types, members: &Members, declared: u32, initial: Option<u32>) -> bool
+fn initial_fits(types: &Types, members: &Members, declared: TypeId, initial: Option<TypeId>) -> bool
     requires declared { declared < count types.now }
     requires initial { IfSome initial (λ t. t < count types.now) }
     ensures { (files : List Arena) → AreMembers files members.now → result ≡ initial_goes_into (table_in files) (type_at types.now declared) (option_map (type_at types.now) initial) }
@@ -55,19 +56,19 @@ fn initial_fits(types: &Types, members: &Members, declared: u32, initial: Option
 pub fn local_rule(
     types: &Types,
     members: &Members,
-    declared: u32,
+    declared: TypeId,
     is_new: bool,
-    initial: Option<u32>,
-) -> Verdict
+    initial: Option<TypeId>,
+) -> Judgement
     requires declared { declared < count types.now }
     requires initial { IfSome initial (λ t. t < count types.now) }
     ensures within { IsVerdictWithin types.now result }
     ensures says { (files : List Arena) → AreMembers files members.now → verdict_shown types.now result ≡ rules.ask is_new 4 (rules.ask (initial_goes_into (table_in files) (type_at types.now declared) (option_map (type_at types.now) initial)) 29 rules.fine) }
 {
-    Verdict::ask(
+    Judgement::ask(
         is_new,
         TypingRule::RepeatedLocal,
-        Verdict::fine_if(
+        Judgement::fine_if(
             initial_fits(types, members, declared, initial),
             TypingRule::LocalValue,
         ),
@@ -78,22 +79,22 @@ pub fn local_rule(
 pub fn field_initial_rule(
     types: &Types,
     members: &Members,
-    declared: u32,
-    initial: Option<u32>,
-) -> Verdict
+    declared: TypeId,
+    initial: Option<TypeId>,
+) -> Judgement
     requires declared { declared < count types.now }
     requires initial { IfSome initial (λ t. t < count types.now) }
     ensures within { IsVerdictWithin types.now result }
     ensures says { (files : List Arena) → AreMembers files members.now → verdict_shown types.now result ≡ rules.ask (initial_goes_into (table_in files) (type_at types.now declared) (option_map (type_at types.now) initial)) 35 rules.fine }
 {
-    Verdict::fine_if(
+    Judgement::fine_if(
         initial_fits(types, members, declared, initial),
         TypingRule::FieldValue,
     )
 }
 
 /// Whether it is `int` or `boolean`.
-fn is_simple(types: &Types, number: u32) -> bool
+fn is_simple(types: &Types, number: TypeId) -> bool
     requires { number < count types.now }
     ensures { result ≡ rules.is_simple (type_at types.now number) }
 {
@@ -105,25 +106,25 @@ fn is_simple(types: &Types, number: u32) -> bool
 pub fn constant_initial_rule(
     types: &Types,
     members: &Members,
-    declared: u32,
+    declared: TypeId,
     is_final: bool,
     has_value: bool,
-    initial: Option<u32>,
-) -> Verdict
+    initial: Option<TypeId>,
+) -> Judgement
     requires declared { declared < count types.now }
     requires initial { IfSome initial (λ t. t < count types.now) }
     ensures within { IsVerdictWithin types.now result }
     ensures says { (files : List Arena) → AreMembers files members.now → verdict_shown types.now result ≡ constant_says (table_in files) (type_at types.now declared) is_final has_value (option_map (type_at types.now) initial) }
 {
     if !types.is_known(declared) {
-        return Verdict::fine();
+        return Judgement::fine();
     }
-    let kind = Verdict::fine_if(
+    let kind = Judgement::fine_if(
         is_final && is_simple(types, declared),
         TypingRule::StaticField,
     );
-    let valued = Verdict::ask(has_value, TypingRule::ConstantValue, kind);
-    Verdict::ask(
+    let valued = Judgement::ask(has_value, TypingRule::ConstantValue, kind);
+    Judgement::ask(
         initial_fits(types, members, declared, initial),
         TypingRule::FieldValue,
         valued,
@@ -131,7 +132,7 @@ pub fn constant_initial_rule(
 }
 
 /// Whether a method may return without a value: it has none, or a result type of which rule T1 is broken.
-fn returns_nothing(types: &Types, result_type: u32) -> bool
+fn returns_nothing(types: &Types, result_type: TypeId) -> bool
     requires { result_type < count types.now }
     ensures { result ≡ (is_void (type_at types.now result_type) || not (is_known (type_at types.now result_type))) }
 {
@@ -142,17 +143,17 @@ fn returns_nothing(types: &Types, result_type: u32) -> bool
 pub fn return_rule(
     types: &Types,
     members: &Members,
-    result_type: u32,
-    value: Option<u32>,
-) -> Verdict
+    result_type: TypeId,
+    value: Option<TypeId>,
+) -> Judgement
     requires result_type { result_type < count types.now }
     requires value { IfSome value (λ t. t < count types.now) }
     ensures within { IsVerdictWithin types.now result }
     ensures says { (files : List Arena) → AreMembers files members.now → verdict_shown types.now result ≡ rules.ask (returned (table_in files) (type_at types.now result_type) (option_map (type_at types.now) value)) 30 rules.fine }
 {
     match value {
-        None => Verdict::fine_if(returns_nothing(types, result_type), TypingRule::Return),
-        Some(from) => Verdict::fine_if(
+        None => Judgement::fine_if(returns_nothing(types, result_type), TypingRule::Return),
+        Some(from) => Judgement::fine_if(
             takes(types, members, result_type, from),
             TypingRule::Return,
         ),
@@ -160,7 +161,7 @@ pub fn return_rule(
 }
 
 /// Whether a result may be spoken of: in `ensures` of a method with a result, and not in `\old`.
-fn has_result(types: &Types, here: Within, result_type: u32) -> bool
+fn has_result(types: &Types, here: Within, result_type: TypeId) -> bool
     requires { result_type < count types.now }
     ensures { result ≡ (rules.is_ensuring (part_of here.part) && not (is_void (type_at types.now result_type)) && not here.is_in_old) }
 {
@@ -168,12 +169,12 @@ fn has_result(types: &Types, here: Within, result_type: u32) -> bool
 }
 
 /// T38: `\result` only in `ensures` of a method with a result, and not in `\old`.
-pub fn result_value_rule(types: &Types, here: Within, result_type: u32) -> Verdict
+pub fn result_value_rule(types: &Types, here: Within, result_type: TypeId) -> Judgement
     requires { result_type < count types.now }
     ensures within { IsVerdictWithin types.now result }
     ensures says { (g : Setting) (bs : List Binding) → type_at types.now result_type ≡ type_there g here.result → verdict_shown types.now result ≡ rules.result_value_rule (scope_in g bs here) }
 {
-    Verdict::ask(
+    Judgement::ask(
         has_result(types, here, result_type),
         TypingRule::ContractValue,
         value_of(types, result_type),

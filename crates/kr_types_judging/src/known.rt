@@ -6,77 +6,78 @@ ghost use Rattle.kr_types_judging.specs.Numbers.{rule_number};
 ghost use Rattle.kr_types_judging.specs.Shown.{IsVerdictWithin, verdict_shown};
 
 use crate::rules::TypingRule;
+use kr_classes_table::TypeId;
 
 /// What is known of an expression: nothing, a value of a type, or a variable of a type; by the type's number.
-#[derive(Clone, Copy, Debug, PartialEq, Eq)]
+#[derive(Clone, Copy, PartialEq, Eq)]
 pub enum Typed {
     Untyped,
-    Value(u32),
-    Variable(u32),
+    Value(TypeId),
+    Variable(TypeId),
 }
 
 /// What is known of a node: of an expression; that it is absent, or an empty list; or that it is a list of values, by the
 /// type of the first and the node of the rest.
-#[derive(Clone, Copy, Debug, PartialEq, Eq)]
+#[derive(Clone, Copy, PartialEq, Eq)]
 pub enum Known {
     One(Typed),
     Absent,
-    More { first: u32, rest: u32 },
+    More { first: TypeId, rest: u32 },
 }
 
 /// What a rule says: what is known of the node, or the rule that it breaks.
-#[derive(Clone, Copy, Debug, PartialEq, Eq)]
-pub enum Verdict {
+#[derive(Clone, Copy, PartialEq, Eq)]
+pub enum Judgement {
     Fits(Typed),
     Breaks(TypingRule),
 }
 
-impl Verdict {
+impl Judgement {
     /// No rule is broken, and there is no type.
-    pub fn fine() -> Verdict
+    pub fn fine() -> Judgement
         ensures within { (l : TypeList) → IsVerdictWithin l result }
         ensures says { (l : TypeList) → verdict_shown l result ≡ rules.fine }
     {
-        Verdict::Fits(Typed::Untyped)
+        Judgement::Fits(Typed::Untyped)
     }
 
     /// A value of a type.
-    pub fn value(number: u32) -> Verdict
+    pub fn value(number: TypeId) -> Judgement
         ensures within { (l : TypeList) → number < count l → IsVerdictWithin l result }
         ensures says { (l : TypeList) → verdict_shown l result ≡ rules.Fits (rules.Value (type_at l number)) }
     {
-        Verdict::Fits(Typed::Value(number))
+        Judgement::Fits(Typed::Value(number))
     }
 
     /// What is left, where the test holds; else this rule is broken.
-    pub fn ask(test: bool, rule: TypingRule, rest: Verdict) -> Verdict
+    pub fn ask(test: bool, rule: TypingRule, rest: Judgement) -> Judgement
         ensures within { (l : TypeList) → IsVerdictWithin l rest → IsVerdictWithin l result }
         ensures says { (l : TypeList) → verdict_shown l result ≡ rules.ask test (rule_number rule) (verdict_shown l rest) }
     {
-        if test { rest } else { Verdict::Breaks(rule) }
+        if test { rest } else { Judgement::Breaks(rule) }
     }
 
     /// A value of a type where the test holds; else this rule is broken.
-    pub fn value_if(test: bool, rule: TypingRule, number: u32) -> Verdict
+    pub fn value_if(test: bool, rule: TypingRule, number: TypeId) -> Judgement
         ensures within { (l : TypeList) → number < count l → IsVerdictWithin l result }
         ensures says { (l : TypeList) → verdict_shown l result ≡ rules.ask test (rule_number rule) (rules.Fits (rules.Value (type_at l number))) }
     {
         if test {
-            Verdict::Fits(Typed::Value(number))
+            Judgement::Fits(Typed::Value(number))
         } else {
-            Verdict::Breaks(rule)
+            Judgement::Breaks(rule)
         }
     }
 
     /// Nothing where the test holds; else this rule is broken.
-    pub fn fine_if(test: bool, rule: TypingRule) -> Verdict
+    pub fn fine_if(test: bool, rule: TypingRule) -> Judgement
         ensures within { (l : TypeList) → IsVerdictWithin l result }
         ensures says { (l : TypeList) → verdict_shown l result ≡ rules.ask test (rule_number rule) rules.fine }
     {
         if test {
-            Verdict::Fits(Typed::Untyped)
+            Judgement::Fits(Typed::Untyped)
         } else {
-            Verdict::Breaks(rule)
+            Judgement::Breaks(rule)
         }
     }
 }

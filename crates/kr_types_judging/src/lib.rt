@@ -21,7 +21,7 @@ pub use declarations::{
     constant_initial_rule, field_initial_rule, local_rule, result_value_rule, return_rule,
     type_of_node,
 };
-pub use known::{Known, Typed, Verdict};
+pub use known::{Judgement, Known, Typed};
 pub use members::{
     access_rule, constant_rule, element_rule, field_name_rule, field_type, value_of, variable_of,
 };

@@ -10,42 +10,43 @@ ghost use Rattle.kr_classes_types.specs.Types.{IsTypeNumber, count, type_at};
 ghost use Rattle.kr_classes_types.specs.Numbers.{AreNodeTypes};
 ghost use Rattle.kr_types_judging.specs.Shown.{IsVerdictWithin, verdict_shown};
 
-use crate::known::{Typed, Verdict};
+use crate::known::{Judgement, Typed};
 use crate::relations::is_int;
 use crate::rules::TypingRule;
 use kr_ast::Tree;
 use kr_classes_members::{Field, Members};
+use kr_classes_table::TypeId;
 use kr_classes_types::{NodeTypes, TypeForm, Types};
 use kr_types_scopes::Within;
 
 /// The value of a type; none where rule T1 is broken of it.
-pub fn value_of(types: &Types, number: u32) -> Verdict
+pub fn value_of(types: &Types, number: TypeId) -> Judgement
     requires { number < count types.now }
     ensures within { IsVerdictWithin types.now result }
     ensures says { verdict_shown types.now result ≡ rules.gives (type_at types.now number) }
 {
     if types.is_known(number) {
-        Verdict::Fits(Typed::Value(number))
+        Judgement::Fits(Typed::Value(number))
     } else {
-        Verdict::Fits(Typed::Untyped)
+        Judgement::Fits(Typed::Untyped)
     }
 }
 
 /// A variable of a type; none where rule T1 is broken of it.
-pub fn variable_of(types: &Types, number: u32) -> Verdict
+pub fn variable_of(types: &Types, number: TypeId) -> Judgement
     requires { number < count types.now }
     ensures within { IsVerdictWithin types.now result }
     ensures says { verdict_shown types.now result ≡ rules.Fits (rules.variable_of (type_at types.now number)) }
 {
     if types.is_known(number) {
-        Verdict::Fits(Typed::Variable(number))
+        Judgement::Fits(Typed::Variable(number))
     } else {
-        Verdict::Fits(Typed::Untyped)
+        Judgement::Fits(Typed::Untyped)
     }
 }
 
 /// The type of a field or constant.
-pub fn field_type(trees: &[Tree], types: &Types, node_types: &NodeTypes, field: Field) -> u32
+pub fn field_type(trees: &[Tree], types: &Types, node_types: &NodeTypes, field: Field) -> TypeId
     requires { AreNodeTypes trees.now types.now node_types.now }
     ensures { IsTypeNumber types.now result (field_shown trees.now field).type }
 {
@@ -59,7 +60,7 @@ pub fn field_name_rule(
     node_types: &NodeTypes,
     here: Within,
     field: Field,
-) -> Verdict
+) -> Judgement
     requires { AreNodeTypes trees.now types.now node_types.now }
     ensures within { IsVerdictWithin types.now result }
     ensures says { (g : Setting) (bs : List Binding) → verdict_shown types.now result ≡ rules.name_rule (scope_in g bs here) (FieldName (field_shown trees.now field)) }
@@ -68,7 +69,7 @@ pub fn field_name_rule(
     if field.is_static {
         return value_of(types, number);
     }
-    Verdict::ask(
+    Judgement::ask(
         !here.is_static,
         TypingRule::StaticCode,
         variable_of(types, number),
@@ -81,16 +82,16 @@ fn field_rule(
     types: &Types,
     node_types: &NodeTypes,
     found: Option<Field>,
-) -> Verdict
+) -> Judgement
     requires { AreNodeTypes trees.now types.now node_types.now }
     ensures within { IsVerdictWithin types.now result }
     ensures says { verdict_shown types.now result ≡ rules.field_rule (option_map (field_shown trees.now) found) }
 {
     match found {
-        None => Verdict::Breaks(TypingRule::FieldAccess),
+        None => Judgement::Breaks(TypingRule::FieldAccess),
         Some(field) => {
             let number = field_type(trees, types, node_types, field);
-            Verdict::ask(
+            Judgement::ask(
                 !field.is_static,
                 TypingRule::FieldAccess,
                 variable_of(types, number),
@@ -105,16 +106,16 @@ pub fn constant_rule(
     types: &Types,
     node_types: &NodeTypes,
     found: Option<Field>,
-) -> Verdict
+) -> Judgement
     requires { AreNodeTypes trees.now types.now node_types.now }
     ensures within { IsVerdictWithin types.now result }
     ensures says { verdict_shown types.now result ≡ rules.constant_rule (option_map (field_shown trees.now) found) }
 {
     match found {
-        None => Verdict::Breaks(TypingRule::FieldAccess),
+        None => Judgement::Breaks(TypingRule::FieldAccess),
         Some(field) => {
             let number = field_type(trees, types, node_types, field);
-            Verdict::ask(
+            Judgement::ask(
                 field.is_static,
                 TypingRule::FieldAccess,
                 value_of(types, number),
@@ -131,8 +132,8 @@ pub fn access_rule(
     node_types: &NodeTypes,
     here: Within,
     name: &[u8],
-    object: u32,
-) -> Verdict
+    object: TypeId,
+) -> Judgement
     requires members { AreMembers trees.now members.now }
     requires numbers { AreNodeTypes trees.now types.now node_types.now }
     requires object { object < count types.now }
@@ -145,29 +146,29 @@ pub fn access_rule(
             field_rule(trees, types, node_types, found)
         }
         TypeForm::Array(_) => {
-            Verdict::value_if(
+            Judgement::value_if(
                 name == b"length".as_slice(),
                 TypingRule::FieldAccess,
                 types.int(),
             )
         }
-        _ => Verdict::Breaks(TypingRule::FieldAccess),
+        _ => Judgement::Breaks(TypingRule::FieldAccess),
     }
 }
 
 /// T23: an array and an int.
-pub fn element_rule(types: &Types, array: u32, index: u32) -> Verdict
+pub fn element_rule(types: &Types, array: TypeId, index: TypeId) -> Judgement
     requires array { array < count types.now }
     requires index { index < count types.now }
     ensures within { IsVerdictWithin types.now result }
     ensures says { verdict_shown types.now result ≡ rules.element_rule (type_at types.now array) (type_at types.now index) }
 {
     match types.form(array) {
-        TypeForm::Array(element) => Verdict::ask(
+        TypeForm::Array(element) => Judgement::ask(
             is_int(types, index),
             TypingRule::ElementAccess,
-            Verdict::Fits(Typed::Variable(element)),
+            Judgement::Fits(Typed::Variable(element)),
         ),
-        _ => Verdict::Breaks(TypingRule::ElementAccess),
+        _ => Judgement::Breaks(TypingRule::ElementAccess),
     }
 }

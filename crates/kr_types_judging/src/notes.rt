@@ -6,19 +6,19 @@ ghost use Rattle.kr_types_meaning.specs.Noting.{concluded, plain};
 ghost use Rattle.kr_classes_types.specs.Types.{TypeList};
 ghost use Rattle.kr_types_judging.specs.Shown.{HasNoRest, IsNoteWithin, IsVerdictWithin, fault_shown, least_shown, note_shown, verdict_shown};
 
-use crate::known::{Known, Typed, Verdict};
+use crate::known::{Judgement, Known, Typed};
 use crate::rules::TypingRule;
 use kr_base::Place;
 
 /// A broken rule and its place.
-#[derive(Clone, Copy, Debug, PartialEq, Eq)]
+#[derive(Clone, Copy, PartialEq, Eq)]
 pub struct Fault {
     pub place: Place,
     pub rule: TypingRule,
 }
 
 /// What is kept of a node.
-#[derive(Clone, Copy, Debug)]
+#[derive(Clone, Copy)]
 pub struct Note {
     pub known: Known,
     pub least: Option<Fault>,
@@ -52,17 +52,17 @@ pub fn earlier(a: Option<Fault>, b: Option<Fault>) -> Option<Fault>
 }
 
 /// A node of which a rule says this, with the first broken node in its parts.
-pub fn conclude(place: Place, verdict: Verdict, least: Option<Fault>) -> Note
+pub fn conclude(place: Place, verdict: Judgement, least: Option<Fault>) -> Note
     ensures within { (l : TypeList) → IsVerdictWithin l verdict → IsNoteWithin l result }
     ensures no_rest { HasNoRest result.known }
     ensures shown { (l : TypeList) (look : ℕ → rules.Typed) → note_shown l look result ≡ concluded place (verdict_shown l verdict) (least_shown least) }
 {
     match verdict {
-        Verdict::Fits(typed) => Note {
+        Judgement::Fits(typed) => Note {
             known: Known::One(typed),
             least,
         },
-        Verdict::Breaks(rule) => Note {
+        Judgement::Breaks(rule) => Note {
             known: Known::One(Typed::Untyped),
             least: earlier(least, Some(Fault { place, rule })),
         },

@@ -14,16 +14,17 @@ ghost use Rattle.kr_types_judging.specs.Shown.{IsVerdictWithin, verdict_shown};
 
 use crate::calls::{above_rule, method_rule};
 use crate::collections::collection_rule;
-use crate::known::Verdict;
+use crate::known::Judgement;
 use crate::rules::TypingRule;
 use kr_ast::Tree;
 use kr_classes_members::{Members, Method};
+use kr_classes_table::{ClassId, TypeId};
 use kr_classes_types::{NodeTypes, TypeForm, Types};
 use kr_types_scopes::Within;
 
 /// The method that a call without object means in the code of a class: one of the class or an ancestor, else a static one of
 /// the outer class.
-pub fn method_meant(members: &Members, class: u32, name: &[u8]) -> Option<Method>
+pub fn method_meant(members: &Members, class: ClassId, name: &[u8]) -> Option<Method>
     ensures stands { (files : List Arena) → AreMembers files members.now → IfSome result (IsMethod files) }
     ensures shown { (files : List Arena) (s : scopes.Scope) → AreMembers files members.now → s.table ≡ table_in files → s.class ≡ class → option_map (method_shown files) result ≡ scopes.method_meant s name.now }
 {
@@ -37,7 +38,7 @@ pub fn method_meant(members: &Members, class: u32, name: &[u8]) -> Option<Method
 }
 
 /// The method of a name that a class's superclass has.
-fn method_above(members: &Members, class: u32, name: &[u8]) -> Option<Method>
+fn method_above(members: &Members, class: ClassId, name: &[u8]) -> Option<Method>
     ensures stands { (files : List Arena) → AreMembers files members.now → IfSome result (IsMethod files) }
     ensures shown { (files : List Arena) → AreMembers files members.now → option_map (method_shown files) result ≡ option_and_then (λ c. method_named (table_in files) c name.now) (super_of (table_in files) class) }
 {
@@ -54,10 +55,10 @@ pub fn super_rule(
     members: &Members,
     node_types: &NodeTypes,
     here: Within,
-    class: u32,
+    class: ClassId,
     name: &[u8],
-    arguments: &[u32],
-) -> Verdict
+    arguments: &[TypeId],
+) -> Judgement
     requires members { AreMembers trees.now members.now }
     requires numbers { AreNodeTypes trees.now types.now node_types.now }
     requires arguments { All (λ t. t < count types.now) arguments.now }
@@ -65,7 +66,7 @@ pub fn super_rule(
     ensures says { (g : Setting) (bs : List Binding) → g.table ≡ table_in trees.now → class_there g here.class ≡ class → verdict_shown types.now result ≡ rules.super_rule (scope_in g bs here) name.now (map (type_at types.now) arguments.now) }
 {
     let found = method_above(members, class, name);
-    Verdict::ask(
+    Judgement::ask(
         !here.is_static,
         TypingRule::StaticCode,
         above_rule(trees, types, members, node_types, here, found, arguments),
@@ -80,9 +81,9 @@ pub fn object_call_rule(
     node_types: &NodeTypes,
     here: Within,
     name: &[u8],
-    object: u32,
-    arguments: &[u32],
-) -> Verdict
+    object: TypeId,
+    arguments: &[TypeId],
+) -> Judgement
     requires members { AreMembers trees.now members.now }
     requires numbers { AreNodeTypes trees.now types.now node_types.now }
     requires object { object < count types.now }
@@ -101,6 +102,6 @@ pub fn object_call_rule(
         TypeForm::List(member) => {
             collection_rule(types, members, here, true, member, name, arguments)
         }
-        _ => Verdict::Breaks(TypingRule::Call),
+        _ => Judgement::Breaks(TypingRule::Call),
     }
 }

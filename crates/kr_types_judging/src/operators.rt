@@ -4,7 +4,7 @@ ghost use Rattle.kr_types_meaning.specs.Rules as rules;
 ghost use Rattle.kr_classes_types.specs.Types.{count, type_at};
 ghost use Rattle.kr_types_judging.specs.Shown.{IsVerdictWithin, Says, verdict_shown};
 
-use crate::known::Verdict;
+use crate::known::Judgement;
 use crate::relations::{
     are_comparable, both_boolean, both_int, cast_fits, choice_fits, instance_fits, is_boolean,
     is_int, wider,
@@ -12,37 +12,38 @@ use crate::relations::{
 use crate::rules::TypingRule;
 use kr_ast::{BinaryOperator, UnaryOperator};
 use kr_classes_members::Members;
+use kr_classes_table::TypeId;
 use kr_classes_types::{TypeForm, Types};
 use kr_types_scopes::{Role, Within};
 
 /// T1: the type's names are known, and it has the argument that it takes.
-pub fn type_rule(types: &Types, number: u32) -> Verdict
+pub fn type_rule(types: &Types, number: TypeId) -> Judgement
     requires { number < count types.now }
     ensures within { IsVerdictWithin types.now result }
     ensures says { verdict_shown types.now result ≡ rules.type_rule (type_at types.now number) }
 {
-    Verdict::value_if(types.is_known(number), TypingRule::UnknownType, number)
+    Judgement::value_if(types.is_known(number), TypingRule::UnknownType, number)
 }
 
 /// T1 of `C<>`.
-pub fn diamond_rule(types: &Types, number: u32) -> Verdict
+pub fn diamond_rule(types: &Types, number: TypeId) -> Judgement
     requires { number < count types.now }
     ensures within { IsVerdictWithin types.now result }
     ensures says { verdict_shown types.now result ≡ rules.diamond_rule (type_at types.now number) }
 {
     match types.form(number) {
-        TypeForm::Set(_) => Verdict::value(number),
-        TypeForm::List(_) => Verdict::value(number),
+        TypeForm::Set(_) => Judgement::value(number),
+        TypeForm::List(_) => Judgement::value(number),
         TypeForm::Applied(head, _) => match types.form(head) {
-            TypeForm::Class(_) => Verdict::value(number),
-            _ => Verdict::Breaks(TypingRule::UnknownType),
+            TypeForm::Class(_) => Judgement::value(number),
+            _ => Judgement::Breaks(TypingRule::UnknownType),
         },
-        _ => Verdict::Breaks(TypingRule::UnknownType),
+        _ => Judgement::Breaks(TypingRule::UnknownType),
     }
 }
 
 /// T6: 2147483648 stands only under a unary minus.
-pub fn number_rule(types: &Types, members: &Members, here: Within, value: u32) -> Verdict
+pub fn number_rule(types: &Types, members: &Members, here: Within, value: u32) -> Judgement
     ensures within { IsVerdictWithin types.now result }
     ensures says { Says members.now types.now here result (λ s. rules.number_rule s value) }
 {
@@ -50,7 +51,7 @@ pub fn number_rule(types: &Types, members: &Members, here: Within, value: u32) -
         Role::UnderMinus => true,
         _ => false,
     };
-    Verdict::value_if(
+    Judgement::value_if(
         value < 2147483648 || under_minus,
         TypingRule::NumberTooLarge,
         types.int(),
@@ -58,20 +59,24 @@ pub fn number_rule(types: &Types, members: &Members, here: Within, value: u32) -
 }
 
 /// T13, T14.
-pub fn unary_rule(types: &Types, operator: UnaryOperator, a: u32) -> Verdict
+pub fn unary_rule(types: &Types, operator: UnaryOperator, a: TypeId) -> Judgement
     requires { a < count types.now }
     ensures within { IsVerdictWithin types.now result }
     ensures says { verdict_shown types.now result ≡ rules.unary_rule operator (type_at types.now a) }
 {
     match operator {
-        UnaryOperator::Not => Verdict::value_if(
+        UnaryOperator::Not => Judgement::value_if(
             is_boolean(types, a),
             TypingRule::Negation,
             types.boolean(),
         ),
-        UnaryOperator::Plus => Verdict::value_if(is_int(types, a), TypingRule::Sign, types.int()),
-        UnaryOperator::Minus => Verdict::value_if(is_int(types, a), TypingRule::Sign, types.int()),
-        UnaryOperator::Complement => Verdict::value_if(
+        UnaryOperator::Plus => Judgement::value_if(is_int(types, a), TypingRule::Sign, types.int()),
+        UnaryOperator::Minus => Judgement::value_if(
+            is_int(types, a),
+            TypingRule::Sign,
+            types.int(),
+        ),
+        UnaryOperator::Complement => Judgement::value_if(
             is_int(types, a),
             TypingRule::Sign,
             types.int(),
@@ -85,118 +90,118 @@ pub fn operator_rule(
     members: &Members,
     here: Within,
     operator: BinaryOperator,
-    a: u32,
-    b: u32,
-) -> Verdict
+    a: TypeId,
+    b: TypeId,
+) -> Judgement
     requires first { a < count types.now }
     requires second { b < count types.now }
     ensures within { IsVerdictWithin types.now result }
     ensures says { Says members.now types.now here result (λ s. rules.operator_rule s operator (type_at types.now a) (type_at types.now b)) }
 {
     match operator {
-        BinaryOperator::Multiply => Verdict::value_if(
+        BinaryOperator::Multiply => Judgement::value_if(
             both_int(types, a, b),
             TypingRule::Arithmetic,
             types.int(),
         ),
-        BinaryOperator::Divide => Verdict::value_if(
+        BinaryOperator::Divide => Judgement::value_if(
             both_int(types, a, b),
             TypingRule::Arithmetic,
             types.int(),
         ),
-        BinaryOperator::Remainder => Verdict::value_if(
+        BinaryOperator::Remainder => Judgement::value_if(
             both_int(types, a, b),
             TypingRule::Arithmetic,
             types.int(),
         ),
-        BinaryOperator::Add => Verdict::value_if(
+        BinaryOperator::Add => Judgement::value_if(
             both_int(types, a, b),
             TypingRule::Arithmetic,
             types.int(),
         ),
-        BinaryOperator::Subtract => Verdict::value_if(
+        BinaryOperator::Subtract => Judgement::value_if(
             both_int(types, a, b),
             TypingRule::Arithmetic,
             types.int(),
         ),
-        BinaryOperator::ShiftLeft => Verdict::value_if(
+        BinaryOperator::ShiftLeft => Judgement::value_if(
             both_int(types, a, b),
             TypingRule::Shift,
             types.int(),
         ),
-        BinaryOperator::ShiftRight => Verdict::value_if(
+        BinaryOperator::ShiftRight => Judgement::value_if(
             both_int(types, a, b),
             TypingRule::Shift,
             types.int(),
         ),
         BinaryOperator::ShiftRightUnsigned => {
-            Verdict::value_if(both_int(types, a, b), TypingRule::Shift, types.int())
+            Judgement::value_if(both_int(types, a, b), TypingRule::Shift, types.int())
         }
-        BinaryOperator::Less => Verdict::value_if(
+        BinaryOperator::Less => Judgement::value_if(
             both_int(types, a, b),
             TypingRule::Comparison,
             types.boolean(),
         ),
-        BinaryOperator::Greater => Verdict::value_if(
+        BinaryOperator::Greater => Judgement::value_if(
             both_int(types, a, b),
             TypingRule::Comparison,
             types.boolean(),
         ),
         BinaryOperator::LessOrEqual => {
-            Verdict::value_if(
+            Judgement::value_if(
                 both_int(types, a, b),
                 TypingRule::Comparison,
                 types.boolean(),
             )
         }
         BinaryOperator::GreaterOrEqual => {
-            Verdict::value_if(
+            Judgement::value_if(
                 both_int(types, a, b),
                 TypingRule::Comparison,
                 types.boolean(),
             )
         }
         BinaryOperator::Equal => {
-            Verdict::value_if(
+            Judgement::value_if(
                 are_comparable(types, members, a, b),
                 TypingRule::Equality,
                 types.boolean(),
             )
         }
         BinaryOperator::NotEqual => {
-            Verdict::value_if(
+            Judgement::value_if(
                 are_comparable(types, members, a, b),
                 TypingRule::Equality,
                 types.boolean(),
             )
         }
         BinaryOperator::BitAnd => {
-            Verdict::value_if(
+            Judgement::value_if(
                 both_int(types, a, b) || both_boolean(types, a, b),
                 TypingRule::Bitwise,
                 a,
             )
         }
         BinaryOperator::BitXor => {
-            Verdict::value_if(
+            Judgement::value_if(
                 both_int(types, a, b) || both_boolean(types, a, b),
                 TypingRule::Bitwise,
                 a,
             )
         }
         BinaryOperator::BitOr => {
-            Verdict::value_if(
+            Judgement::value_if(
                 both_int(types, a, b) || both_boolean(types, a, b),
                 TypingRule::Bitwise,
                 a,
             )
         }
-        BinaryOperator::And => Verdict::value_if(
+        BinaryOperator::And => Judgement::value_if(
             both_boolean(types, a, b),
             TypingRule::Logical,
             types.boolean(),
         ),
-        BinaryOperator::Or => Verdict::value_if(
+        BinaryOperator::Or => Judgement::value_if(
             both_boolean(types, a, b),
             TypingRule::Logical,
             types.boolean(),
@@ -209,10 +214,10 @@ pub fn choice_rule(
     types: &Types,
     members: &Members,
     here: Within,
-    test: u32,
-    a: u32,
-    b: u32,
-) -> Verdict
+    test: TypeId,
+    a: TypeId,
+    b: TypeId,
+) -> Judgement
     requires test { test < count types.now }
     requires first { a < count types.now }
     requires second { b < count types.now }
@@ -220,27 +225,39 @@ pub fn choice_rule(
     ensures says { Says members.now types.now here result (λ s. rules.choice_rule s (type_at types.now test) (type_at types.now a) (type_at types.now b)) }
 {
     let fits = choice_fits(types, members, test, a, b);
-    Verdict::value_if(fits, TypingRule::Conditional, wider(types, members, a, b))
+    Judgement::value_if(fits, TypingRule::Conditional, wider(types, members, a, b))
 }
 
 /// T20: int to int, boolean to boolean, or related references that are no collections.
-pub fn cast_rule(types: &Types, members: &Members, here: Within, to: u32, from: u32) -> Verdict
+pub fn cast_rule(
+    types: &Types,
+    members: &Members,
+    here: Within,
+    to: TypeId,
+    from: TypeId,
+) -> Judgement
     requires to { to < count types.now }
     requires from { from < count types.now }
     ensures within { IsVerdictWithin types.now result }
     ensures says { Says members.now types.now here result (λ s. rules.cast_rule s (type_at types.now to) (type_at types.now from)) }
 {
     let fits = cast_fits(types, members, to, from);
-    Verdict::value_if(fits, TypingRule::Cast, to)
+    Judgement::value_if(fits, TypingRule::Cast, to)
 }
 
 /// T21: a reference, and a related class or array type.
-pub fn instance_rule(types: &Types, members: &Members, here: Within, from: u32, to: u32) -> Verdict
+pub fn instance_rule(
+    types: &Types,
+    members: &Members,
+    here: Within,
+    from: TypeId,
+    to: TypeId,
+) -> Judgement
     requires from { from < count types.now }
     requires to { to < count types.now }
     ensures within { IsVerdictWithin types.now result }
     ensures says { Says members.now types.now here result (λ s. rules.instance_rule s (type_at types.now from) (type_at types.now to)) }
 {
     let fits = instance_fits(types, members, from, to);
-    Verdict::value_if(fits, TypingRule::InstanceOf, types.boolean())
+    Judgement::value_if(fits, TypingRule::InstanceOf, types.boolean())
 }

@@ -10,10 +10,11 @@ ghost use Rattle.kr_classes_types.specs.Types.{count, type_at};
 ghost use Rattle.kr_types_judging.specs.Shown.{are_comparable, are_related_references, cast_fits, goes_into};
 
 use kr_classes_members::Members;
+use kr_classes_table::{ClassId, TypeId};
 use kr_classes_types::{TypeForm, Types};
 
 /// Whether it is `int`.
-pub fn is_int(types: &Types, number: u32) -> bool
+pub fn is_int(types: &Types, number: TypeId) -> bool
     requires { number < count types.now }
     ensures { result ≡ rules.is_int (type_at types.now number) }
 {
@@ -24,7 +25,7 @@ pub fn is_int(types: &Types, number: u32) -> bool
 }
 
 /// Whether it is `boolean`.
-pub(crate) fn is_boolean(types: &Types, number: u32) -> bool
+pub(crate) fn is_boolean(types: &Types, number: TypeId) -> bool
     requires { number < count types.now }
     ensures { result ≡ rules.is_boolean (type_at types.now number) }
 {
@@ -35,7 +36,7 @@ pub(crate) fn is_boolean(types: &Types, number: u32) -> bool
 }
 
 /// Whether it is no value's type.
-pub fn is_void(types: &Types, number: u32) -> bool
+pub fn is_void(types: &Types, number: TypeId) -> bool
     requires { number < count types.now }
     ensures { result ≡ is_void (type_at types.now number) }
 {
@@ -46,7 +47,7 @@ pub fn is_void(types: &Types, number: u32) -> bool
 }
 
 /// Whether it is what stands between the brackets of `new HashSet<>()`.
-fn is_inferred(types: &Types, number: u32) -> bool
+fn is_inferred(types: &Types, number: TypeId) -> bool
     requires { number < count types.now }
     ensures { result ≡ is_same (type_at types.now number) InferredType }
 {
@@ -57,7 +58,7 @@ fn is_inferred(types: &Types, number: u32) -> bool
 }
 
 /// Whether a class goes into a type.
-fn class_goes_into(types: &Types, members: &Members, class: u32, to: u32) -> bool
+fn class_goes_into(types: &Types, members: &Members, class: ClassId, to: TypeId) -> bool
     requires { to < count types.now }
     ensures { (files : List Arena) → AreMembers files members.now → result ≡ table.is_assignable (table_in files) (ClassType class) (type_at types.now to) }
 {
@@ -68,7 +69,7 @@ fn class_goes_into(types: &Types, members: &Members, class: u32, to: u32) -> boo
 }
 
 /// Whether a set of these members goes into a type.
-fn set_goes_into(types: &Types, member: u32, to: u32) -> bool
+fn set_goes_into(types: &Types, member: TypeId, to: TypeId) -> bool
     requires member { member < count types.now }
     requires to { to < count types.now }
     ensures { (t : table.Table) → result ≡ table.is_assignable t (SetType (type_at types.now member)) (type_at types.now to) }
@@ -80,7 +81,7 @@ fn set_goes_into(types: &Types, member: u32, to: u32) -> bool
 }
 
 /// Whether a list of these members goes into a type.
-fn list_goes_into(types: &Types, member: u32, to: u32) -> bool
+fn list_goes_into(types: &Types, member: TypeId, to: TypeId) -> bool
     requires member { member < count types.now }
     requires to { to < count types.now }
     ensures { (t : table.Table) → result ≡ table.is_assignable t (ListType (type_at types.now member)) (type_at types.now to) }
@@ -92,7 +93,7 @@ fn list_goes_into(types: &Types, member: u32, to: u32) -> bool
 }
 
 /// Whether a value of a type may be assigned to a variable of another.
-pub fn is_assignable(types: &Types, members: &Members, from: u32, to: u32) -> bool
+pub fn is_assignable(types: &Types, members: &Members, from: TypeId, to: TypeId) -> bool
     requires from { from < count types.now }
     requires to { to < count types.now }
     ensures { (files : List Arena) → AreMembers files members.now → result ≡ table.is_assignable (table_in files) (type_at types.now from) (type_at types.now to) }
@@ -107,7 +108,7 @@ pub fn is_assignable(types: &Types, members: &Members, from: u32, to: u32) -> bo
 }
 
 /// Whether one of two types may be assigned to the other.
-pub fn are_related(types: &Types, members: &Members, a: u32, b: u32) -> bool
+pub fn are_related(types: &Types, members: &Members, a: TypeId, b: TypeId) -> bool
     requires first { a < count types.now }
     requires second { b < count types.now }
     ensures { (files : List Arena) → AreMembers files members.now → result ≡ table.are_related (table_in files) (type_at types.now a) (type_at types.now b) }
@@ -116,7 +117,7 @@ pub fn are_related(types: &Types, members: &Members, a: u32, b: u32) -> bool
 }
 
 /// Whether a value of a type goes into a variable: one whose type breaks rule T1 takes everything.
-pub(crate) fn takes(types: &Types, members: &Members, to: u32, from: u32) -> bool
+pub(crate) fn takes(types: &Types, members: &Members, to: TypeId, from: TypeId) -> bool
     requires from { from < count types.now }
     requires to { to < count types.now }
     ensures { (files : List Arena) → AreMembers files members.now → result ≡ goes_into (table_in files) (type_at types.now to) (type_at types.now from) }
@@ -125,7 +126,7 @@ pub(crate) fn takes(types: &Types, members: &Members, to: u32, from: u32) -> boo
 }
 
 /// Whether both are reference types, and related.
-pub(crate) fn related_references(types: &Types, members: &Members, a: u32, b: u32) -> bool
+pub(crate) fn related_references(types: &Types, members: &Members, a: TypeId, b: TypeId) -> bool
     requires first { a < count types.now }
     requires second { b < count types.now }
     ensures { (files : List Arena) → AreMembers files members.now → result ≡ are_related_references (table_in files) (type_at types.now a) (type_at types.now b) }
@@ -134,7 +135,7 @@ pub(crate) fn related_references(types: &Types, members: &Members, a: u32, b: u3
 }
 
 /// Whether both are `int`.
-pub(crate) fn both_int(types: &Types, a: u32, b: u32) -> bool
+pub(crate) fn both_int(types: &Types, a: TypeId, b: TypeId) -> bool
     requires first { a < count types.now }
     requires second { b < count types.now }
     ensures { result ≡ rules.both_int (type_at types.now a) (type_at types.now b) }
@@ -143,7 +144,7 @@ pub(crate) fn both_int(types: &Types, a: u32, b: u32) -> bool
 }
 
 /// Whether both are `boolean`.
-pub(crate) fn both_boolean(types: &Types, a: u32, b: u32) -> bool
+pub(crate) fn both_boolean(types: &Types, a: TypeId, b: TypeId) -> bool
     requires first { a < count types.now }
     requires second { b < count types.now }
     ensures { result ≡ rules.both_boolean (type_at types.now a) (type_at types.now b) }
@@ -152,7 +153,7 @@ pub(crate) fn both_boolean(types: &Types, a: u32, b: u32) -> bool
 }
 
 /// Whether they may be compared by `==`: both int, both boolean, or related references.
-pub(crate) fn are_comparable(types: &Types, members: &Members, a: u32, b: u32) -> bool
+pub(crate) fn are_comparable(types: &Types, members: &Members, a: TypeId, b: TypeId) -> bool
     requires first { a < count types.now }
     requires second { b < count types.now }
     ensures { (files : List Arena) → AreMembers files members.now → result ≡ are_comparable (table_in files) (type_at types.now a) (type_at types.now b) }
@@ -161,7 +162,7 @@ pub(crate) fn are_comparable(types: &Types, members: &Members, a: u32, b: u32) -
 }
 
 /// Whether neither is a collection.
-fn no_collections(types: &Types, a: u32, b: u32) -> bool
+fn no_collections(types: &Types, a: TypeId, b: TypeId) -> bool
     requires first { a < count types.now }
     requires second { b < count types.now }
     ensures { result ≡ (not (is_collection (type_at types.now a)) && not (is_collection (type_at types.now b))) }
@@ -170,7 +171,7 @@ fn no_collections(types: &Types, a: u32, b: u32) -> bool
 }
 
 /// Whether a value of a type may be cast: int to int, boolean to boolean, or related references that are no collections.
-pub(crate) fn cast_fits(types: &Types, members: &Members, to: u32, from: u32) -> bool
+pub(crate) fn cast_fits(types: &Types, members: &Members, to: TypeId, from: TypeId) -> bool
     requires to { to < count types.now }
     requires from { from < count types.now }
     ensures { (files : List Arena) → AreMembers files members.now → result ≡ cast_fits (table_in files) (type_at types.now to) (type_at types.now from) }
@@ -181,7 +182,7 @@ pub(crate) fn cast_fits(types: &Types, members: &Members, to: u32, from: u32) ->
 }
 
 /// Whether it is a class or array type, related to a reference.
-pub(crate) fn instance_fits(types: &Types, members: &Members, from: u32, to: u32) -> bool
+pub(crate) fn instance_fits(types: &Types, members: &Members, from: TypeId, to: TypeId) -> bool
     requires from { from < count types.now }
     requires to { to < count types.now }
     ensures { (files : List Arena) → AreMembers files members.now → result ≡ (is_element (type_at types.now to) && are_related_references (table_in files) (type_at types.now from) (type_at types.now to)) }
@@ -190,7 +191,13 @@ pub(crate) fn instance_fits(types: &Types, members: &Members, from: u32, to: u32
 }
 
 /// Whether it is boolean, and two others are related.
-pub(crate) fn choice_fits(types: &Types, members: &Members, test: u32, a: u32, b: u32) -> bool
+pub(crate) fn choice_fits(
+    types: &Types,
+    members: &Members,
+    test: TypeId,
+    a: TypeId,
+    b: TypeId,
+) -> bool
     requires test { test < count types.now }
     requires first { a < count types.now }
     requires second { b < count types.now }
@@ -200,7 +207,7 @@ pub(crate) fn choice_fits(types: &Types, members: &Members, test: u32, a: u32, b
 }
 
 /// Of two types that are related the one that is assigned to.
-pub(crate) fn wider(types: &Types, members: &Members, a: u32, b: u32) -> u32
+pub(crate) fn wider(types: &Types, members: &Members, a: TypeId, b: TypeId) -> TypeId
     requires first { a < count types.now }
     requires second { b < count types.now }
     ensures within { result < count types.now }

@@ -3,7 +3,7 @@ ghost use Rattle.std.specs.Prelude.{◌≡◌};
 ghost use Rattle.kr_types_judging.specs.Numbers.{rule_number};
 
 /// A typing rule (T1 to T40, docs/LANGUAGE.md), by what it asks. The grammar leaves nothing for T2.
-#[derive(Clone, Copy, Debug, PartialEq, Eq)]
+#[derive(Clone, Copy, PartialEq, Eq)]
 pub enum TypingRule {
     /// T1: a type names a class, or a collection of one.
     UnknownType,

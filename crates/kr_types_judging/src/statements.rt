@@ -5,10 +5,11 @@ ghost use Rattle.kr_types_scopes.specs.Settings.{part_of};
 ghost use Rattle.kr_classes_types.specs.Types.{count, type_at};
 ghost use Rattle.kr_types_judging.specs.Shown.{IsVerdictWithin, Says, verdict_shown};
 
-use crate::known::Verdict;
+use crate::known::Judgement;
 use crate::relations::is_boolean;
 use crate::rules::TypingRule;
 use kr_classes_members::Members;
+use kr_classes_table::TypeId;
 use kr_classes_types::Types;
 use kr_types_scopes::{Part, Within};
 
@@ -23,42 +24,42 @@ pub(crate) fn is_ensuring(part: Part) -> bool
 }
 
 /// T28: a condition is boolean.
-pub fn condition_rule(types: &Types, test: u32) -> Verdict
+pub fn condition_rule(types: &Types, test: TypeId) -> Judgement
     requires { test < count types.now }
     ensures within { IsVerdictWithin types.now result }
     ensures says { verdict_shown types.now result ≡ rules.condition_rule (type_at types.now test) }
 {
-    Verdict::fine_if(is_boolean(types, test), TypingRule::Condition)
+    Judgement::fine_if(is_boolean(types, test), TypingRule::Condition)
 }
 
 /// T28: boolean; T40: before instance methods only.
-pub fn contract_rule(types: &Types, members: &Members, here: Within, test: u32) -> Verdict
+pub fn contract_rule(types: &Types, members: &Members, here: Within, test: TypeId) -> Judgement
     requires { test < count types.now }
     ensures within { IsVerdictWithin types.now result }
     ensures says { Says members.now types.now here result (λ s. rules.contract_rule s (type_at types.now test)) }
 {
-    Verdict::ask(
+    Judgement::ask(
         is_boolean(types, test),
         TypingRule::Condition,
-        Verdict::fine_if(!here.is_static, TypingRule::ContractPlace),
+        Judgement::fine_if(!here.is_static, TypingRule::ContractPlace),
     )
 }
 
 /// T31: in a loop.
-pub fn jump_rule(types: &Types, members: &Members, here: Within) -> Verdict
+pub fn jump_rule(types: &Types, members: &Members, here: Within) -> Judgement
     ensures within { IsVerdictWithin types.now result }
     ensures says { Says members.now types.now here result (λ s. rules.jump_rule s) }
 {
-    Verdict::fine_if(here.is_in_loop, TypingRule::Jump)
+    Judgement::fine_if(here.is_in_loop, TypingRule::Jump)
 }
 
 /// T38: `\old` only in `ensures`, and not in `\old`.
-pub fn old_rule(types: &Types, members: &Members, here: Within, whole: u32) -> Verdict
+pub fn old_rule(types: &Types, members: &Members, here: Within, whole: TypeId) -> Judgement
     requires { whole < count types.now }
     ensures within { IsVerdictWithin types.now result }
     ensures says { Says members.now types.now here result (λ s. rules.old_rule s (type_at types.now whole)) }
 {
-    Verdict::value_if(
+    Judgement::value_if(
         is_ensuring(here.part) && !here.is_in_old,
         TypingRule::ContractValue,
         whole,

@@ -5,12 +5,13 @@ ghost use Rattle.kr_types_scopes.specs.Settings.{part_of};
 ghost use Rattle.kr_classes_types.specs.Types.{count, type_at};
 ghost use Rattle.kr_types_judging.specs.Shown.{IsVerdictWithin, Says, typed_shown, verdict_shown};
 
-use crate::known::{Typed, Verdict};
+use crate::known::{Judgement, Typed};
 use crate::operators::operator_rule;
 use crate::relations::{is_assignable, is_int};
 use crate::rules::TypingRule;
 use kr_ast::BinaryOperator;
 use kr_classes_members::Members;
+use kr_classes_table::TypeId;
 use kr_classes_types::Types;
 use kr_types_scopes::{Part, Within};
 
@@ -35,26 +36,32 @@ pub fn is_code(part: Part) -> bool
 }
 
 /// Whether a rule is broken.
-fn is_broken(types: &Types, verdict: Verdict) -> bool
+fn is_broken(types: &Types, verdict: Judgement) -> bool
     ensures { result ≡ rules.is_broken (verdict_shown types.now verdict) }
 {
     match verdict {
-        Verdict::Breaks(_) => true,
-        Verdict::Fits(_) => false,
+        Judgement::Breaks(_) => true,
+        Judgement::Fits(_) => false,
     }
 }
 
 /// T19: it writes a variable; T39: not in a contract.
-fn written_rule(types: &Types, members: &Members, here: Within, target: Typed, to: u32) -> Verdict
+fn written_rule(
+    types: &Types,
+    members: &Members,
+    here: Within,
+    target: Typed,
+    to: TypeId,
+) -> Judgement
     requires { to < count types.now }
     ensures within { IsVerdictWithin types.now result }
     ensures says { Says members.now types.now here result (λ s. rules.written_rule s (typed_shown types.now target) (type_at types.now to)) }
 {
     let in_code = is_code(here.part);
-    Verdict::ask(
+    Judgement::ask(
         is_variable(types, target),
         TypingRule::Target,
-        Verdict::ask(in_code, TypingRule::ContractWrite, Verdict::value(to)),
+        Judgement::ask(in_code, TypingRule::ContractWrite, Judgement::value(to)),
     )
 }
 
@@ -64,15 +71,15 @@ pub fn assignment_rule(
     members: &Members,
     here: Within,
     target: Typed,
-    to: u32,
-    from: u32,
-) -> Verdict
+    to: TypeId,
+    from: TypeId,
+) -> Judgement
     requires to { to < count types.now }
     requires from { from < count types.now }
     ensures within { IsVerdictWithin types.now result }
     ensures says { Says members.now types.now here result (λ s. rules.assignment_rule s (typed_shown types.now target) (type_at types.now to) (type_at types.now from)) }
 {
-    Verdict::ask(
+    Judgement::ask(
         is_assignable(types, members, from, to),
         TypingRule::Assignment,
         written_rule(types, members, here, target, to),
@@ -86,16 +93,16 @@ pub fn compound_rule(
     here: Within,
     operator: BinaryOperator,
     target: Typed,
-    to: u32,
-    from: u32,
-) -> Verdict
+    to: TypeId,
+    from: TypeId,
+) -> Judgement
     requires to { to < count types.now }
     requires from { from < count types.now }
     ensures within { IsVerdictWithin types.now result }
     ensures says { Says members.now types.now here result (λ s. rules.compound_rule s operator (typed_shown types.now target) (type_at types.now to) (type_at types.now from)) }
 {
     let operated = operator_rule(types, members, here, operator, to, from);
-    Verdict::ask(
+    Judgement::ask(
         !is_broken(types, operated),
         TypingRule::CompoundAssignment,
         written_rule(types, members, here, target, to),
@@ -103,12 +110,18 @@ pub fn compound_rule(
 }
 
 /// T18.
-pub fn step_rule(types: &Types, members: &Members, here: Within, target: Typed, to: u32) -> Verdict
+pub fn step_rule(
+    types: &Types,
+    members: &Members,
+    here: Within,
+    target: Typed,
+    to: TypeId,
+) -> Judgement
     requires { to < count types.now }
     ensures within { IsVerdictWithin types.now result }
     ensures says { Says members.now types.now here result (λ s. rules.step_rule s (typed_shown types.now target) (type_at types.now to)) }
 {
-    Verdict::ask(
+    Judgement::ask(
         is_int(types, to),
         TypingRule::Step,
         written_rule(types, members, here, target, to),

@@ -8,7 +8,7 @@ use Rattle.kr_classes_table.specs.Table.{applied}
 use Rattle.kr_types_meaning.specs.Scopes.{written}
 use Rattle.kr_base.specs.declared.place.Place.{Place}
 use Rattle.kr_classes_table.specs.Rules.{Fault}
-use Rattle.kr_types_meaning.specs.Rules.{Untyped, Value, Fits, ask, value_of, type_rule, array_rule}
+use Rattle.kr_types_meaning.specs.Rules.{Untyped, Value, Fits, ask, typed_as, type_rule, array_rule}
 use Rattle.kr_types_meaning.specs.Typing.{judged, judge, on_one}
 use Rattle.kr_types_meaning.specs.Laws.{TypesLaw}
 
@@ -32,7 +32,7 @@ of_array : (p : Place) (t : JavaType) (fs : List Fault) (b : Bool) → (judge p 
 of_array p t fs true = refl
 of_array p t fs false = refl
 
-of_argument : (p : Place) (h t : JavaType) (fs : List Fault) (b : Bool) → is_known t ≡ b → (judge p (on_one (λ u. type_rule (applied h u)) (if b then Value t else Untyped)) fs).typed ≡ value_of (applied h t)
+of_argument : (p : Place) (h t : JavaType) (fs : List Fault) (b : Bool) → is_known t ≡ b → (judge p (on_one (λ u. type_rule (applied h u)) (if b then Value t else Untyped)) fs).typed ≡ typed_as (applied h t)
 of_argument p h t fs true e = by_rule p (applied h t) fs (is_known (applied h t))
 of_argument p h t fs false e = ap (λ c. if c then Value (applied h t) else Untyped) (sym (unknown_argument h t e))
 

@@ -3,7 +3,7 @@ use Rattle.std.specs.Prelude.{◌≡◌, ◌↔◌, List, None}
 use Rattle.kr_ast.specs.Tree as trees
 use Rattle.kr_ast.specs.Tree.{Tree}
 use Rattle.kr_types_meaning.specs.Scopes.{Scope, written}
-use Rattle.kr_types_meaning.specs.Rules.{value_of}
+use Rattle.kr_types_meaning.specs.Rules.{typed_as}
 use Rattle.kr_types_meaning.specs.Typing.{judged, type_fault, IsWellTyped}
 
 -- a program is well typed exactly where no node is the first broken one
@@ -26,4 +26,4 @@ IsType _ = ⊥
 
 -- the type that a type's node hands up is the one that the class table gives its tree, and none where rule T1 is broken
 abbrev pub TypesLaw : Type 0
-TypesLaw = (s : Scope) (t : Tree) → IsType t → (judged s t).typed ≡ value_of (written s t)
+TypesLaw = (s : Scope) (t : Tree) → IsType t → (judged s t).typed ≡ typed_as (written s t)

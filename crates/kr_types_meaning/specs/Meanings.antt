@@ -13,7 +13,7 @@ use Rattle.kr_classes_table.specs.Rules.{C6}
 use Rattle.kr_classes_table.specs.Nodes.{nodes}
 use Rattle.kr_classes_table.specs.Arrays.{array_types_of, array_number}
 use Rattle.kr_classes_table.specs.Constants.{Whole, Truth, values_of}
-use Rattle.kr_types_meaning.specs.Scopes.{Scope, LocalName, NoName, scope_of, under_minus, meant, meant_by, class_before, bind, method_meant}
+use Rattle.kr_types_meaning.specs.Scopes.{Scope, LocalName, NoName, scope_of, under_minus, meant, meant_by, class_before, bind_local, method_meant}
 use Rattle.kr_types_meaning.specs.Typing.{type_of, refusal, IsWellTyped}
 use Rattle.kr_types_meaning.specs.Texts.{at, list_of, class_rule_at, type_rule_at}
 use Rattle.kr_types_meaning.specs.Examples.{family}
@@ -23,7 +23,7 @@ table = table_of family
 
 -- in the code of the class C, where x is an int and b a boolean
 abbrev pub scope : Scope
-scope = bind (codes "b") BooleanType (bind (codes "x") IntType (scope_of table (values_of table) 3))
+scope = bind_local (codes "b") BooleanType (bind_local (codes "x") IntType (scope_of table (values_of table) 3))
 
 -- the same in N
 abbrev pub nested : Scope

@@ -8,7 +8,7 @@ use Rattle.kr_classes_table.specs.Types.{JavaType, BooleanType, NullType, Inferr
 use Rattle.kr_classes_table.specs.Table.{applied, field_named, method_named}
 use Rattle.kr_classes_table.specs.Rules.{Fault, least, sooner}
 use Rattle.kr_types_meaning.specs.Scopes.{Scope, written, in_class, meant, class_before, method_meant}
-use Rattle.kr_types_meaning.specs.Rules.{Typed, Untyped, Value, Values, Verdict, Fits, Breaks, type_rule, diamond_rule, array_rule, number_rule, this_rule, name_rule, unary_rule, operator_rule, choice_rule, cast_rule, instance_rule, assignment_rule, compound_rule, step_rule, access_rule, constant_rule, element_rule, call_rule, static_rule, super_rule, object_call_rule, creation_rule, array_creation_rule, result_value_rule, old_rule, contract_rule, condition_rule, return_rule, jump_rule, declaration_rule, parameter_rule, super_constructor_rule, implied_rule}
+use Rattle.kr_types_meaning.specs.Rules.{Typed, Untyped, Value, Values, Judgement, Fits, Breaks, type_rule, diamond_rule, array_rule, number_rule, this_rule, name_rule, unary_rule, operator_rule, choice_rule, cast_rule, instance_rule, assignment_rule, compound_rule, step_rule, access_rule, constant_rule, element_rule, call_rule, static_rule, super_rule, object_call_rule, creation_rule, array_creation_rule, result_value_rule, old_rule, contract_rule, condition_rule, return_rule, jump_rule, declaration_rule, parameter_rule, super_constructor_rule, implied_rule}
 use Rattle.kr_types_meaning.specs.Typing.{Judged, judged, on_one, on_two, on_list, on_maybe, joined, has_constructor, class_rule}
 use Rattle.kr_ast.specs.declared.node.Node.{Node}
 use Rattle.kr_ast.specs.Arena.{parts}
@@ -23,29 +23,29 @@ note t l = record { typed = t; least = l }
 abbrev pub kept : Judged → Note
 kept j = note j.typed (least j.faults)
 
-abbrev pub concluded : Place → Verdict → Option Fault → Note
+abbrev pub concluded : Place → Judgement → Option Fault → Note
 concluded p (Fits t) l = note t l
 concluded p (Breaks r) l = note Untyped (sooner l (Some (record { place = p; rule = r })))
 
-abbrev pub leaf : Place → Verdict → Note
+abbrev pub leaf : Place → Judgement → Note
 leaf p v = concluded p v None
 
-abbrev pub one : Place → (JavaType → Verdict) → Note → Note
+abbrev pub one : Place → (JavaType → Judgement) → Note → Note
 one p f x = concluded p (on_one f x.typed) x.least
 
-abbrev pub two : Place → (JavaType → JavaType → Verdict) → Note → Note → Note
+abbrev pub two : Place → (JavaType → JavaType → Judgement) → Note → Note → Note
 two p f x y = concluded p (on_two f x.typed y.typed) (sooner x.least y.least)
 
-abbrev pub three : Place → (JavaType → JavaType → JavaType → Verdict) → Note → Note → Note → Note
+abbrev pub three : Place → (JavaType → JavaType → JavaType → Judgement) → Note → Note → Note → Note
 three p f x y z = concluded p (on_one (λ a. on_two (f a) y.typed z.typed) x.typed) (sooner (sooner x.least y.least) z.least)
 
-abbrev pub one_and_list : Place → (JavaType → List JavaType → Verdict) → Note → Note → Note
+abbrev pub one_and_list : Place → (JavaType → List JavaType → Judgement) → Note → Note → Note
 one_and_list p f x ys = concluded p (on_one (λ a. on_list (f a) ys.typed) x.typed) (sooner x.least ys.least)
 
-abbrev pub list : Place → (List JavaType → Verdict) → Note → Note
+abbrev pub list : Place → (List JavaType → Judgement) → Note → Note
 list p f xs = concluded p (on_list f xs.typed) xs.least
 
-abbrev pub maybe : Place → (Option JavaType → Verdict) → Note → Note
+abbrev pub maybe : Place → (Option JavaType → Judgement) → Note → Note
 maybe p f x = concluded p (on_maybe f x.typed) x.least
 
 abbrev pub plain : Option Fault → Note

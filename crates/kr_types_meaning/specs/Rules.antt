@@ -22,26 +22,26 @@ pub data Typed : Type 0 where
   Values : List JavaType → Typed
 
 -- what a rule says of a node: its type, or that it is broken
-pub data Verdict : Type 0 where
-  Fits : Typed → Verdict
-  Breaks : ℕ → Verdict
+pub data Judgement : Type 0 where
+  Fits : Typed → Judgement
+  Breaks : ℕ → Judgement
 
 -- where the test fails the rule of this number is broken; of several the least is written first
-abbrev pub ask : Bool → ℕ → Verdict → Verdict
+abbrev pub ask : Bool → ℕ → Judgement → Judgement
 ask true r v = v
 ask false r v = Breaks r
 
 -- a type of which rule T1 is broken is none
-abbrev pub value_of : JavaType → Typed
-value_of t = if is_known t then Value t else Untyped
+abbrev pub typed_as : JavaType → Typed
+typed_as t = if is_known t then Value t else Untyped
 
 abbrev pub variable_of : JavaType → Typed
 variable_of t = if is_known t then Variable t else Untyped
 
-abbrev pub gives : JavaType → Verdict
-gives t = Fits (value_of t)
+abbrev pub gives : JavaType → Judgement
+gives t = Fits (typed_as t)
 
-abbrev pub fine : Verdict
+abbrev pub fine : Judgement
 fine = Fits Untyped
 
 -- a type into which everything goes where rule T1 is broken of it
@@ -92,45 +92,45 @@ is_none_of (x ∷ xs) = false
 -- ---- types
 
 -- T1: the type's names are known, and it has the argument that it takes
-abbrev pub type_rule : JavaType → Verdict
+abbrev pub type_rule : JavaType → Judgement
 type_rule t = ask (is_known t) 1 (Fits (Value t))
 
 -- T1 of `C<>`
-abbrev pub diamond_rule : JavaType → Verdict
+abbrev pub diamond_rule : JavaType → Judgement
 diamond_rule (SetType t) = Fits (Value (SetType t))
 diamond_rule (ListType t) = Fits (Value (ListType t))
 diamond_rule (AppliedType (ClassType c) t) = Fits (Value (AppliedType (ClassType c) t))
 diamond_rule t = Breaks 1
 
-abbrev pub array_rule : JavaType → Verdict
+abbrev pub array_rule : JavaType → Judgement
 array_rule t = Fits (Value (ArrayType t))
 
 -- ---- names, literals, operators
 
 -- T6: 2147483648 stands only under a unary minus
-abbrev pub number_rule : Scope → ℕ → Verdict
+abbrev pub number_rule : Scope → ℕ → Judgement
 number_rule s n = ask (nat_lt n 2147483648 || is_under_minus s.role) 6 (Fits (Value IntType))
 
 -- T5: `this` isn't used in static code
-abbrev pub this_rule : Scope → Verdict
+abbrev pub this_rule : Scope → Judgement
 this_rule s = ask (not s.is_static) 5 (Fits (Value (ClassType s.class)))
 
 -- T3: a name means something; T5: no instance field in static code
-abbrev pub name_rule : Scope → Meant → Verdict
+abbrev pub name_rule : Scope → Meant → Judgement
 name_rule s (LocalName k t) = Fits (variable_of t)
 name_rule s (FieldName f) = if f.is_static then gives f.type else ask (not s.is_static) 5 (Fits (variable_of f.type))
 name_rule s NoName = Breaks 3
 
 -- T13, T14
-abbrev pub unary_rule : UnaryOperator → JavaType → Verdict
+abbrev pub unary_rule : UnaryOperator → JavaType → Judgement
 unary_rule Not a = ask (is_boolean a) 13 (Fits (Value BooleanType))
 unary_rule o a = ask (is_int a) 14 (Fits (Value IntType))
 
-abbrev pub of_ints : Bool → ℕ → JavaType → Verdict
+abbrev pub of_ints : Bool → ℕ → JavaType → Judgement
 of_ints test r t = ask test r (Fits (Value t))
 
 -- T7 to T12
-abbrev pub operator_rule : Scope → BinaryOperator → JavaType → JavaType → Verdict
+abbrev pub operator_rule : Scope → BinaryOperator → JavaType → JavaType → Judgement
 operator_rule s Multiply a b = of_ints (both_int a b) 7 IntType
 operator_rule s Divide a b = of_ints (both_int a b) 7 IntType
 operator_rule s Remainder a b = of_ints (both_int a b) 7 IntType
@@ -152,15 +152,15 @@ operator_rule s And a b = of_ints (both_boolean a b) 12 BooleanType
 operator_rule s Or a b = of_ints (both_boolean a b) 12 BooleanType
 
 -- T15: a boolean, and arms that are equal or related; the type is the one that is assigned to
-abbrev pub choice_rule : Scope → JavaType → JavaType → JavaType → Verdict
+abbrev pub choice_rule : Scope → JavaType → JavaType → JavaType → Judgement
 choice_rule s c a b = ask (is_boolean c && are_related s.table a b) 15 (Fits (Value (if is_assignable s.table a b then b else a)))
 
 -- T20: int to int, boolean to boolean, or related references that are no collections
-abbrev pub cast_rule : Scope → JavaType → JavaType → Verdict
+abbrev pub cast_rule : Scope → JavaType → JavaType → Judgement
 cast_rule s to from = ask (both_int to from || both_boolean to from || (related_references s from to && not (is_collection to) && not (is_collection from))) 20 (Fits (Value to))
 
 -- T21: a reference, and a related class or array type
-abbrev pub instance_rule : Scope → JavaType → JavaType → Verdict
+abbrev pub instance_rule : Scope → JavaType → JavaType → Judgement
 instance_rule s from to = ask (is_element to && related_references s from to) 21 (Fits (Value BooleanType))
 
 -- ---- writes
@@ -170,99 +170,99 @@ is_variable (Variable t) = true
 is_variable x = false
 
 -- T19: it writes a variable; T39: not in a contract
-abbrev pub written_rule : Scope → Typed → JavaType → Verdict
+abbrev pub written_rule : Scope → Typed → JavaType → Judgement
 written_rule s target t = ask (is_variable target) 19 (ask (is_code s.part) 39 (Fits (Value t)))
 
 -- T16: the right side is assignable to the left one
-abbrev pub assignment_rule : Scope → Typed → JavaType → JavaType → Verdict
+abbrev pub assignment_rule : Scope → Typed → JavaType → JavaType → Judgement
 assignment_rule s target to from = ask (is_assignable s.table from to) 16 (written_rule s target to)
 
-abbrev pub is_broken : Verdict → Bool
+abbrev pub is_broken : Judgement → Bool
 is_broken (Breaks r) = true
 is_broken v = false
 
 -- T17: the operator takes both sides
-abbrev pub compound_rule : Scope → BinaryOperator → Typed → JavaType → JavaType → Verdict
+abbrev pub compound_rule : Scope → BinaryOperator → Typed → JavaType → JavaType → Judgement
 compound_rule s o target to from = ask (not (is_broken (operator_rule s o to from))) 17 (written_rule s target to)
 
 -- T18
-abbrev pub step_rule : Scope → Typed → JavaType → Verdict
+abbrev pub step_rule : Scope → Typed → JavaType → Judgement
 step_rule s target to = ask (is_int to) 18 (written_rule s target to)
 
 -- ---- parts of objects and arrays
 
-abbrev pub field_rule : Option Field → Verdict
+abbrev pub field_rule : Option Field → Judgement
 field_rule None = Breaks 22
 field_rule (Some f) = ask (not f.is_static) 22 (Fits (variable_of f.type))
 
 -- T22: an instance field of a class, or the length of an array
-abbrev pub access_rule : Scope → List ℕ → JavaType → Verdict
+abbrev pub access_rule : Scope → List ℕ → JavaType → Judgement
 access_rule s n (ClassType c) = field_rule (field_named s.table c n)
 access_rule s n (ArrayType t) = ask (bytes_eq n (codes "length")) 22 (Fits (Value IntType))
 access_rule s n t = Breaks 22
 
 -- T22: a constant of a class
-abbrev pub constant_rule : Option Field → Verdict
+abbrev pub constant_rule : Option Field → Judgement
 constant_rule None = Breaks 22
 constant_rule (Some f) = ask f.is_static 22 (gives f.type)
 
 -- T23: an array and an int
-abbrev pub element_rule : JavaType → JavaType → Verdict
+abbrev pub element_rule : JavaType → JavaType → Judgement
 element_rule (ArrayType t) i = ask (is_int i) 23 (Fits (Variable t))
 element_rule t i = Breaks 23
 
 -- ---- calls
 
 -- T32: a call of a method without result stands only as a statement
-abbrev pub result_rule : Scope → Method → Verdict
+abbrev pub result_rule : Scope → Method → Judgement
 result_rule s m = ask (not (is_void m.result) || is_statement s.role) 32 (gives m.result)
 
 -- T24: the arguments fit
-abbrev pub arguments_rule : Scope → List JavaType → Method → Verdict
+abbrev pub arguments_rule : Scope → List JavaType → Method → Judgement
 arguments_rule s ts m = ask (arguments_fit s ts m.parameters) 24 (result_rule s m)
 
 -- T24: there is the method; T5: no instance method in static code
-abbrev pub call_rule : Scope → Option Method → List JavaType → Verdict
+abbrev pub call_rule : Scope → Option Method → List JavaType → Judgement
 call_rule s None ts = Breaks 24
 call_rule s (Some m) ts = ask (m.is_static || not s.is_static) 5 (arguments_rule s ts m)
 
 -- T24 behind a class's name
-abbrev pub static_rule : Scope → Option Method → List JavaType → Verdict
+abbrev pub static_rule : Scope → Option Method → List JavaType → Judgement
 static_rule s None ts = Breaks 24
 static_rule s (Some m) ts = ask m.is_static 24 (arguments_rule s ts m)
 
-abbrev pub above_rule : Scope → Option Method → List JavaType → Verdict
+abbrev pub above_rule : Scope → Option Method → List JavaType → Judgement
 above_rule s None ts = Breaks 33
 above_rule s (Some m) ts = if m.is_static then Breaks 33 else arguments_rule s ts m
 
 -- T5: not in static code; T33: `super.m` is an instance method of an ancestor; T24
-abbrev pub super_rule : Scope → List ℕ → List JavaType → Verdict
+abbrev pub super_rule : Scope → List ℕ → List JavaType → Judgement
 super_rule s n ts = ask (not s.is_static) 5 (above_rule s (option_and_then (λ c. method_named s.table c n) (super_class s)) ts)
 
 -- T25: what a collection of a type has without arguments
-abbrev pub plain_call_rule : Bool → JavaType → List ℕ → Verdict
+abbrev pub plain_call_rule : Bool → JavaType → List ℕ → Judgement
 plain_call_rule is_list t n =
     if bytes_eq n (codes "size") then Fits (Value IntType)
     else if bytes_eq n (codes "isEmpty") then Fits (Value BooleanType)
     else ask (bytes_eq n (codes "removeFirst") && is_list && is_element t) 25 (Fits (Value t))
 
 -- T25: and with one: `add` takes what is assignable to the type, `contains` and `remove` null and every class or array type
-abbrev pub member_call_rule : Scope → JavaType → List ℕ → JavaType → Verdict
+abbrev pub member_call_rule : Scope → JavaType → List ℕ → JavaType → Judgement
 member_call_rule s t n x =
     if bytes_eq n (codes "add") then ask (is_assignable s.table x t) 25 (Fits (Value BooleanType))
     else ask ((bytes_eq n (codes "contains") || bytes_eq n (codes "remove")) && is_reference x && not (is_collection x)) 25 (Fits (Value BooleanType))
 
-abbrev pub collection_rule : Scope → Bool → JavaType → List ℕ → List JavaType → Verdict
+abbrev pub collection_rule : Scope → Bool → JavaType → List ℕ → List JavaType → Judgement
 collection_rule s is_list t n [] = plain_call_rule is_list t n
 collection_rule s is_list t n (x ∷ []) = member_call_rule s t n x
 collection_rule s is_list t n xs = Breaks 25
 
-abbrev pub method_rule : Scope → Option Method → List JavaType → Verdict
+abbrev pub method_rule : Scope → Option Method → List JavaType → Judgement
 method_rule s None ts = Breaks 24
 method_rule s (Some m) ts = arguments_rule s ts m
 
 -- T24, T25: a call through an object
-abbrev pub object_call_rule : Scope → List ℕ → JavaType → List JavaType → Verdict
+abbrev pub object_call_rule : Scope → List ℕ → JavaType → List JavaType → Judgement
 object_call_rule s n (ClassType c) ts = method_rule s (method_named s.table c n) ts
 object_call_rule s n (SetType t) ts = collection_rule s false t n ts
 object_call_rule s n (ListType t) ts = collection_rule s true t n ts
@@ -275,31 +275,31 @@ creation_fits s (ListType t) ts = is_none_of ts
 creation_fits s t ts = false
 
 -- T26: the arguments fit the constructor, and a collection takes none; `<>` only on collections; T39
-abbrev pub creation_rule : Scope → JavaType → List JavaType → Verdict
+abbrev pub creation_rule : Scope → JavaType → List JavaType → Judgement
 creation_rule s t ts = ask (creation_fits s t ts) 26 (ask (is_code s.part) 39 (Fits (Value t)))
 
 -- T27: the length is an int; T39
-abbrev pub array_creation_rule : Scope → JavaType → JavaType → Verdict
+abbrev pub array_creation_rule : Scope → JavaType → JavaType → Judgement
 array_creation_rule s t n = ask (is_int n) 27 (ask (is_code s.part) 39 (Fits (Value (ArrayType t))))
 
 -- ---- contracts
 
 -- T38: `\result` only in `ensures` of a method with a result, and not in `\old`
-abbrev pub result_value_rule : Scope → Verdict
+abbrev pub result_value_rule : Scope → Judgement
 result_value_rule s = ask (is_ensuring s.part && not (is_void s.result) && not s.is_in_old) 38 (gives s.result)
 
 -- T38: `\old` only in `ensures`, and not in `\old`
-abbrev pub old_rule : Scope → JavaType → Verdict
+abbrev pub old_rule : Scope → JavaType → Judgement
 old_rule s t = ask (is_ensuring s.part && not s.is_in_old) 38 (Fits (Value t))
 
 -- T28: boolean; T40: before instance methods only
-abbrev pub contract_rule : Scope → JavaType → Verdict
+abbrev pub contract_rule : Scope → JavaType → Judgement
 contract_rule s t = ask (is_boolean t) 28 (ask (not s.is_static) 40 fine)
 
 -- ---- statements and declarations
 
 -- T28: a condition is boolean
-abbrev pub condition_rule : JavaType → Verdict
+abbrev pub condition_rule : JavaType → Judgement
 condition_rule t = ask (is_boolean t) 28 fine
 
 abbrev pub is_new : Scope → List ℕ → Meant → Bool
@@ -307,12 +307,12 @@ is_new s n (LocalName k t) = false
 is_new s n m = true
 
 -- T30: a value exactly in a method with a result, and it is assignable
-abbrev pub return_rule : Scope → Option JavaType → Verdict
+abbrev pub return_rule : Scope → Option JavaType → Judgement
 return_rule s None = ask (is_void s.result || not (is_known s.result)) 30 fine
 return_rule s (Some t) = ask (takes s s.result t) 30 fine
 
 -- T31: in a loop
-abbrev pub jump_rule : Scope → Verdict
+abbrev pub jump_rule : Scope → Judgement
 jump_rule s = ask s.is_in_loop 31 fine
 
 abbrev pub initial_fits : Scope → Option JavaType → Bool
@@ -324,20 +324,20 @@ is_simple t = is_int t || is_boolean t
 
 -- T4: no other local or parameter in scope has the name; T29, T35: the initial value is assignable; T36: a constant has
 -- a value; T37: a static field is `static final int` or `boolean`
-abbrev pub declaration_rule : Scope → Declaring → Place → List ℕ → Option JavaType → Verdict
+abbrev pub declaration_rule : Scope → Declaring → Place → List ℕ → Option JavaType → Judgement
 declaration_rule s Locals p n t = ask (is_new s n (meant s n)) 4 (ask (initial_fits s t) 29 fine)
 declaration_rule s Fields p n t = ask (initial_fits s t) 35 fine
 declaration_rule s (Constants is_final) p n t =
     if is_known s.declared then ask (initial_fits s t) 35 (ask (is_some (value_at s.values p)) 36 (ask (is_final && is_simple s.declared) 37 fine)) else fine
 
 -- T4
-abbrev pub parameter_rule : Scope → List ℕ → Verdict
+abbrev pub parameter_rule : Scope → List ℕ → Judgement
 parameter_rule s n = ask (is_new s n (meant s n)) 4 fine
 
 -- T34: `super(..)` fits the superclass's constructor
-abbrev pub super_constructor_rule : Scope → List JavaType → Verdict
+abbrev pub super_constructor_rule : Scope → List JavaType → Judgement
 super_constructor_rule s ts = ask (arguments_fit s ts (super_parameters s)) 34 fine
 
 -- T34: where it is absent that one takes no arguments
-abbrev pub implied_rule : Scope → Verdict
+abbrev pub implied_rule : Scope → Judgement
 implied_rule s = ask (is_none_of (super_parameters s)) 34 fine

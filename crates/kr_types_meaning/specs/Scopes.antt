@@ -100,11 +100,11 @@ abbrev pub field_kind : Bool → Bool → Declaring
 field_kind true is_final = Constants is_final
 field_kind false is_final = Fields
 
-abbrev pub bind : List ℕ → JavaType → Scope → Scope
-bind n type s = record s { locals = record { name = n; type = type } ∷ s.locals }
+abbrev pub bind_local : List ℕ → JavaType → Scope → Scope
+bind_local n type s = record s { locals = record { name = n; type = type } ∷ s.locals }
 
 abbrev pub bind_as : Declaring → List ℕ → Scope → Scope
-bind_as Locals n s = bind n s.declared s
+bind_as Locals n s = bind_local n s.declared s
 bind_as what n s = s
 
 -- the scope behind a node: a local is in scope from its declarator to its block's end, a parameter in the whole method
@@ -112,7 +112,7 @@ abbrev pub after : Scope → Tree → Scope
 after s (trees.Cons a b) = after (after s a) b
 after s (trees.Local p t ds) = after (declaring Locals t s) ds
 after s (trees.Declarator p n e) = bind_as s.declaring n s
-after s (trees.Parameter p t n) = bind n (written s t) s
+after s (trees.Parameter p t n) = bind_local n (written s t) s
 after s (trees.Signature p r ps cs) = record (after s ps) { result = written s r }
 after s _ = s
 

@@ -11,7 +11,7 @@ use Rattle.kr_classes_table.specs.Table.{Table, applied, class_at, table_of, fie
 use Rattle.kr_classes_table.specs.Rules.{Fault, least, class_fault}
 use Rattle.kr_classes_table.specs.Constants.{values_of}
 use Rattle.kr_types_meaning.specs.Scopes.{Scope, Requiring, Ensuring, Locals, scope_of, written, in_class, static_if, value, statement, under_minus, in_loop, in_contract, in_old, declaring, field_kind, bind_as, after, meant, class_before, method_meant}
-use Rattle.kr_types_meaning.specs.Rules.{Typed, Untyped, Value, Variable, Values, Verdict, Fits, Breaks, fine, type_rule, diamond_rule, array_rule, number_rule, this_rule, name_rule, unary_rule, operator_rule, choice_rule, cast_rule, instance_rule, assignment_rule, compound_rule, step_rule, access_rule, constant_rule, element_rule, call_rule, static_rule, super_rule, object_call_rule, creation_rule, array_creation_rule, result_value_rule, old_rule, contract_rule, condition_rule, return_rule, jump_rule, declaration_rule, parameter_rule, super_constructor_rule, implied_rule}
+use Rattle.kr_types_meaning.specs.Rules.{Typed, Untyped, Value, Variable, Values, Judgement, Fits, Breaks, fine, type_rule, diamond_rule, array_rule, number_rule, this_rule, name_rule, unary_rule, operator_rule, choice_rule, cast_rule, instance_rule, assignment_rule, compound_rule, step_rule, access_rule, constant_rule, element_rule, call_rule, static_rule, super_rule, object_call_rule, creation_rule, array_creation_rule, result_value_rule, old_rule, contract_rule, condition_rule, return_rule, jump_rule, declaration_rule, parameter_rule, super_constructor_rule, implied_rule}
 
 -- what is known of a node, and the broken nodes in it
 pub record Judged : Type 0 where
@@ -19,51 +19,51 @@ pub record Judged : Type 0 where
   pub faults : List Fault
 
 -- a node by its own rule, after its parts
-abbrev pub judge : Place → Verdict → List Fault → Judged
+abbrev pub judge : Place → Judgement → List Fault → Judged
 judge p (Fits t) below = record { typed = t; faults = below }
 judge p (Breaks r) below = record { typed = Untyped; faults = below ++ record { place = p; rule = r } ∷ [] }
 
 -- a rule on the types of parts is looked at where these have types
 
-abbrev pub on_one : (JavaType → Verdict) → Typed → Verdict
+abbrev pub on_one : (JavaType → Judgement) → Typed → Judgement
 on_one f (Value t) = f t
 on_one f (Variable t) = f t
 on_one f x = fine
 
-abbrev pub on_two : (JavaType → JavaType → Verdict) → Typed → Typed → Verdict
+abbrev pub on_two : (JavaType → JavaType → Judgement) → Typed → Typed → Judgement
 on_two f x y = on_one (λ a. on_one (f a) y) x
 
-abbrev pub on_list : (List JavaType → Verdict) → Typed → Verdict
+abbrev pub on_list : (List JavaType → Judgement) → Typed → Judgement
 on_list f (Values ts) = f ts
 on_list f x = fine
 
 -- a part that may be absent
-abbrev pub on_maybe : (Option JavaType → Verdict) → Typed → Verdict
+abbrev pub on_maybe : (Option JavaType → Judgement) → Typed → Judgement
 on_maybe f (Value t) = f (Some t)
 on_maybe f (Variable t) = f (Some t)
 on_maybe f (Values ts) = f None
 on_maybe f Untyped = fine
 
-abbrev pub leaf : Place → Verdict → Judged
+abbrev pub leaf : Place → Judgement → Judged
 leaf p v = judge p v []
 
-abbrev pub one : Place → (JavaType → Verdict) → Judged → Judged
+abbrev pub one : Place → (JavaType → Judgement) → Judged → Judged
 one p f x = judge p (on_one f x.typed) x.faults
 
-abbrev pub two : Place → (JavaType → JavaType → Verdict) → Judged → Judged → Judged
+abbrev pub two : Place → (JavaType → JavaType → Judgement) → Judged → Judged → Judged
 two p f x y = judge p (on_two f x.typed y.typed) (x.faults ++ y.faults)
 
-abbrev pub three : Place → (JavaType → JavaType → JavaType → Verdict) → Judged → Judged → Judged → Judged
+abbrev pub three : Place → (JavaType → JavaType → JavaType → Judgement) → Judged → Judged → Judged → Judged
 three p f x y z = judge p (on_one (λ a. on_two (f a) y.typed z.typed) x.typed) (x.faults ++ y.faults ++ z.faults)
 
 -- a part and a list of arguments
-abbrev pub one_and_list : Place → (JavaType → List JavaType → Verdict) → Judged → Judged → Judged
+abbrev pub one_and_list : Place → (JavaType → List JavaType → Judgement) → Judged → Judged → Judged
 one_and_list p f x ys = judge p (on_one (λ a. on_list (f a) ys.typed) x.typed) (x.faults ++ ys.faults)
 
-abbrev pub list : Place → (List JavaType → Verdict) → Judged → Judged
+abbrev pub list : Place → (List JavaType → Judgement) → Judged → Judged
 list p f xs = judge p (on_list f xs.typed) xs.faults
 
-abbrev pub maybe : Place → (Option JavaType → Verdict) → Judged → Judged
+abbrev pub maybe : Place → (Option JavaType → Judgement) → Judged → Judged
 maybe p f x = judge p (on_maybe f x.typed) x.faults
 
 -- a statement without a rule of its own, and one with a condition
@@ -98,7 +98,7 @@ operand o s = value s
 abbrev pub has_constructor : Scope → Bool
 has_constructor s = elim (flat_map (λ d. d.constructors) (option_to_list (class_at s.table.classes s.class))) [ [] ↦ false | _ ∷ _ ↦ true ]
 
-abbrev pub class_rule : Bool → Scope → Verdict
+abbrev pub class_rule : Bool → Scope → Judgement
 class_rule true s = fine
 class_rule false s = implied_rule s
 

@@ -5,7 +5,7 @@ use Rattle.std.proofs.lemmas.Option.{slice_get_read}
 use Rattle.kr_ast.specs.declared.node.Name.{Name}
 use Rattle.kr_ast.specs.Arena.{Arena, name_in, AreNamesIn}
 use Rattle.kr_classes_table.specs.Types.{JavaType}
-use Rattle.kr_types_meaning.specs.Scopes.{Scope, Local, bind, bind_as}
+use Rattle.kr_types_meaning.specs.Scopes.{Scope, Local, bind_local, bind_as}
 use Rattle.kr_types_scopes.specs.declared.within.Declaring.{Declaring}
 use Rattle.kr_types_scopes.specs.declared.within.Declaring.TheVariants as declarings
 use Rattle.kr_types_scopes.specs.declared.within.Binding.{Binding}
@@ -36,7 +36,7 @@ with g w ls = record {
 
 -- the scope of the binding
 bound_scope : (g : Setting) (old : List Binding) (b : Binding) (from : Within) (name : Name) (declared : Option ℕ) → b.name ≡ name → b.declared ≡ declared → b.below ≡ from.top
-    → scope_in g (old ++ b ∷ []) (record from { top = length old + 1 }) ≡ bind (name_in g.tree.text name) (type_there g declared) (scope_in g old from)
+    → scope_in g (old ++ b ∷ []) (record from { top = length old + 1 }) ≡ bind_local (name_in g.tree.text name) (type_there g declared) (scope_in g old from)
 bound_scope g old b from name declared n d below =
     let first : local_of g b ≡ local_named (name_in g.tree.text name) (type_there g declared) =
     ap (λ x. local_named (name_in g.tree.text x) (type_there g b.declared)) n ∙ ap (λ x. local_named (name_in g.tree.text name) (type_there g x)) d in
@@ -51,18 +51,18 @@ named_push tree bs b n h k c is = elim (slice_get_push bs b k c is) [
 ]
 
 pub bound_step : (tree : Arena) (name : Name) (declared : Option ℕ) (from made : Within) (old new : List Binding) → IsChain old → AreNamesIn tree.text (name ∷ []) → IsBound name declared from old new made
-    → IsStep tree old new made (λ g. bind (name_in g.tree.text name) (type_there g declared) (scope_in g old from))
+    → IsStep tree old new made (λ g. bind_local (name_in g.tree.text name) (type_there g declared) (scope_in g old from))
 bound_step tree name declared from made old new chain in_text h =
     let b = h.binding in
-    let step : IsStep tree old (old ++ b ∷ []) (record from { top = length old + 1 }) (λ g. bind (name_in g.tree.text name) (type_there g declared) (scope_in g old from)) = record {
+    let step : IsStep tree old (old ++ b ∷ []) (record from { top = length old + 1 }) (λ g. bind_local (name_in g.tree.text name) (type_there g declared) (scope_in g old from)) = record {
       top = omega (arith, length-append old (b ∷ []));
       scope_is = λ t v. bound_scope (setting t v tree) old b from name declared h.name_is h.declared_is h.below_is;
       keeps = λ t v. keeps_push (setting t v tree) old b;
       chain = chain_push old b chain h.link;
       named = named_push tree old b (subst (λ (n : Name). AreNamesIn tree.text (n ∷ [])) (sym h.name_is) in_text);
     } in
-    subst (λ (x : List Binding). IsStep tree old x made (λ g. bind (name_in g.tree.text name) (type_there g declared) (scope_in g old from))) (sym h.items)
-    (subst (λ (w : Within). IsStep tree old (old ++ b ∷ []) w (λ g. bind (name_in g.tree.text name) (type_there g declared) (scope_in g old from))) (sym h.made_is) step)
+    subst (λ (x : List Binding). IsStep tree old x made (λ g. bind_local (name_in g.tree.text name) (type_there g declared) (scope_in g old from))) (sym h.items)
+    (subst (λ (w : Within). IsStep tree old (old ++ b ∷ []) w (λ g. bind_local (name_in g.tree.text name) (type_there g declared) (scope_in g old from))) (sym h.made_is) step)
 
 -- its link
 read : (bs : List Binding) (top : ℕ) (b : Binding) → top ≤ length bs → 0 < top → b ≡ get_or bs (top - 1) b → slice_get bs (top - 1) ≡ Some b

@@ -9,7 +9,7 @@ use Rattle.kr_classes_table.specs.Types.{JavaType}
 use Rattle.kr_classes_table.specs.Rules.{Fault, is_before, sooner, least}
 use Rattle.kr_classes_table.specs.Table.{applied, method_named}
 use Rattle.kr_types_meaning.specs.Scopes.{Scope, written, class_before, method_meant}
-use Rattle.kr_types_meaning.specs.Rules.{Typed, Untyped, Verdict, Fits, Breaks, type_rule, array_rule, unary_rule, operator_rule, choice_rule, cast_rule, instance_rule, assignment_rule, compound_rule, step_rule, access_rule, element_rule, call_rule, static_rule, super_rule, object_call_rule, creation_rule, array_creation_rule, old_rule, contract_rule, condition_rule, return_rule, declaration_rule, super_constructor_rule, implied_rule}
+use Rattle.kr_types_meaning.specs.Rules.{Typed, Untyped, Judgement, Fits, Breaks, type_rule, array_rule, unary_rule, operator_rule, choice_rule, cast_rule, instance_rule, assignment_rule, compound_rule, step_rule, access_rule, element_rule, call_rule, static_rule, super_rule, object_call_rule, creation_rule, array_creation_rule, old_rule, contract_rule, condition_rule, return_rule, declaration_rule, super_constructor_rule, implied_rule}
 use Rattle.kr_types_meaning.specs.Typing as typing
 use Rattle.kr_types_meaning.specs.Typing.{Judged, judge, judged, on_one, on_two, on_list, on_maybe}
 use Rattle.kr_types_meaning.specs.Noting.{Note, note, kept, concluded, one, two, three, one_and_list, list, maybe, plain, test, both, field_of, method_of, noted, parts_of}
@@ -42,7 +42,7 @@ pub least-append : (fs gs : List Fault) → least (fs ++ gs) ≡ sooner (least f
 least-append [] gs = refl
 least-append (f ∷ fs) gs = ap (sooner (Some f)) (least-append fs gs) ∙ sym (sooner_assoc (Some f) (least fs) (least gs))
 
-kept_judge : (p : Place) (v : Verdict) (below : List Fault) → kept (judge p v below) ≡ concluded p v (least below)
+kept_judge : (p : Place) (v : Judgement) (below : List Fault) → kept (judge p v below) ≡ concluded p v (least below)
 kept_judge p (Fits t) below = refl
 kept_judge p (Breaks r) below = ap (note Untyped) (least-append below (record { place = p; rule = r } ∷ []))
 
@@ -59,31 +59,31 @@ only e = record { is = ap (λ (f : Note). f.least) e.is }
 beside : {fs gs : List Fault} {l m : Option Fault} → Least fs l → Least gs m → Least (fs ++ gs) (sooner l m)
 beside {fs} {gs} {l} {m} e g = record { is = ap (λ l. sooner l m) e.is ∙ (ap (sooner (least fs)) g.is ∙ sym (least-append fs gs)) }
 
-judge_is : (p : Place) {v w : Verdict} {fs : List Fault} {l : Option Fault} → v ≡ w → Least fs l → kept (judge p v fs) ≡ concluded p w l
+judge_is : (p : Place) {v w : Judgement} {fs : List Fault} {l : Option Fault} → v ≡ w → Least fs l → kept (judge p v fs) ≡ concluded p w l
 judge_is p {v} {w} {fs} {l} e g = kept_judge p v fs ∙ (ap (λ x. concluded p x (least fs)) e ∙ ap (concluded p w) (sym g.is))
 
 typed_is : {x : Judged} {a : Note} → Kept x a → x.typed ≡ a.typed
 typed_is e = sym (ap (λ (f : Note). f.typed) e.is)
 
-one_is : (p : Place) (f : JavaType → Verdict) {x : Judged} {a : Note} → Kept x a → kept (typing.one p f x) ≡ one p f a
+one_is : (p : Place) (f : JavaType → Judgement) {x : Judged} {a : Note} → Kept x a → kept (typing.one p f x) ≡ one p f a
 one_is p f e = judge_is p (ap (on_one f) (typed_is e)) (only e)
 
-two_is : (p : Place) (f : JavaType → JavaType → Verdict) {x y : Judged} {a b : Note} → Kept x a → Kept y b → kept (typing.two p f x y) ≡ two p f a b
+two_is : (p : Place) (f : JavaType → JavaType → Judgement) {x y : Judged} {a b : Note} → Kept x a → Kept y b → kept (typing.two p f x y) ≡ two p f a b
 two_is p f {x} {y} {a} {b} e g = judge_is p (ap (λ t. on_two f t y.typed) (typed_is e) ∙ ap (on_two f a.typed) (typed_is g)) (beside (only e) (only g))
 
-three_is : (p : Place) (f : JavaType → JavaType → JavaType → Verdict) {x y z : Judged} {a b c : Note} → Kept x a → Kept y b → Kept z c → kept (typing.three p f x y z) ≡ three p f a b c
+three_is : (p : Place) (f : JavaType → JavaType → JavaType → Judgement) {x y z : Judged} {a b c : Note} → Kept x a → Kept y b → Kept z c → kept (typing.three p f x y z) ≡ three p f a b c
 three_is p f {x} {y} {z} {a} {b} {c} e g h =
     judge_is p (ap (on_one (λ t. on_two (f t) y.typed z.typed)) (typed_is e) ∙ (ap (λ u. on_one (λ t. on_two (f t) u z.typed) a.typed) (typed_is g) ∙ ap (λ u. on_one (λ t. on_two (f t) b.typed u) a.typed) (typed_is h)))
     (beside (beside (only e) (only g)) (only h))
 
-one_and_list_is : (p : Place) (f : JavaType → List JavaType → Verdict) {x y : Judged} {a b : Note} → Kept x a → Kept y b → kept (typing.one_and_list p f x y) ≡ one_and_list p f a b
+one_and_list_is : (p : Place) (f : JavaType → List JavaType → Judgement) {x y : Judged} {a b : Note} → Kept x a → Kept y b → kept (typing.one_and_list p f x y) ≡ one_and_list p f a b
 one_and_list_is p f {x} {y} {a} {b} e g =
     judge_is p (ap (on_one (λ t. on_list (f t) y.typed)) (typed_is e) ∙ ap (λ u. on_one (λ t. on_list (f t) u) a.typed) (typed_is g)) (beside (only e) (only g))
 
-list_is : (p : Place) (f : List JavaType → Verdict) {x : Judged} {a : Note} → Kept x a → kept (typing.list p f x) ≡ list p f a
+list_is : (p : Place) (f : List JavaType → Judgement) {x : Judged} {a : Note} → Kept x a → kept (typing.list p f x) ≡ list p f a
 list_is p f e = judge_is p (ap (on_list f) (typed_is e)) (only e)
 
-maybe_is : (p : Place) (f : Option JavaType → Verdict) {x : Judged} {a : Note} → Kept x a → kept (typing.maybe p f x) ≡ maybe p f a
+maybe_is : (p : Place) (f : Option JavaType → Judgement) {x : Judged} {a : Note} → Kept x a → kept (typing.maybe p f x) ≡ maybe p f a
 maybe_is p f e = judge_is p (ap (on_maybe f) (typed_is e)) (only e)
 
 test_is : (p : Place) {x : Judged} {a : Note} {fs : List Fault} {l : Option Fault} → Kept x a → Least fs l → kept (typing.test p x fs) ≡ test p a l
@@ -99,10 +99,10 @@ both_is {x} {y} {a} {b} e g =
     ∙ ap (note (typing.joined a.typed b.typed)) (sym (beside (only e) (only g)).is))
 
 -- a rule that also reads how the first part is typed
-step_is : (p : Place) (f : Typed → JavaType → Verdict) {x : Judged} {a : Note} → Kept x a → kept (typing.one p (f x.typed) x) ≡ one p (f a.typed) a
+step_is : (p : Place) (f : Typed → JavaType → Judgement) {x : Judged} {a : Note} → Kept x a → kept (typing.one p (f x.typed) x) ≡ one p (f a.typed) a
 step_is p f {x} {a} e = ap (λ t. kept (typing.one p (f t) x)) (typed_is e) ∙ one_is p (f a.typed) e
 
-write_is : (p : Place) (f : Typed → JavaType → JavaType → Verdict) {x y : Judged} {a b : Note} → Kept x a → Kept y b → kept (typing.two p (f x.typed) x y) ≡ two p (f a.typed) a b
+write_is : (p : Place) (f : Typed → JavaType → JavaType → Judgement) {x y : Judged} {a b : Note} → Kept x a → Kept y b → kept (typing.two p (f x.typed) x y) ≡ two p (f a.typed) a b
 write_is p f {x} {y} {a} {b} e g = ap (λ t. kept (typing.two p (f t) x y)) (typed_is e) ∙ two_is p (f a.typed) e g
 
 field_is : (s : Scope) (p : Place) (n : List ℕ) (c : Option ℕ) {x : Judged} {a : Note} → Kept x a → kept (typing.field_of s p n c x) ≡ field_of s p n c a

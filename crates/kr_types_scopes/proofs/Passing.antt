@@ -13,7 +13,7 @@ use Rattle.kr_ast.specs.declared.node.Entry.{Entry}
 use Rattle.kr_ast.specs.declared.node.Name.{Name}
 use Rattle.kr_ast.specs.declared.node.Node.{Node}
 use Rattle.kr_ast.specs.declared.node.Node.TheVariants as nodes
-use Rattle.kr_types_meaning.specs.Scopes.{bind, bind_as}
+use Rattle.kr_types_meaning.specs.Scopes.{bind_local, bind_as}
 use Rattle.kr_types_scopes.specs.declared.within.Declaring.TheVariants as declarings
 use Rattle.kr_types_scopes.specs.Settings.{Setting, setting, type_there, scope_in, IsChain}
 use Rattle.kr_types_scopes.specs.Tasks.{behind, behind_all, weights, AreWithin, IsStep, IsPassed}
@@ -120,7 +120,7 @@ module _ (tree : Arena) (i : ℕ) (e : Entry) (h : IsEntryThere tree i e) (bs : 
   declarator_is x a is t v = sym (ap (after (scope_in (setting t v tree) bs from)) (tree_is (nodes.Declarator x a) is))
 
   pub parameter_is : (a : ℕ) (x : Name) → e.node ≡ nodes.Parameter a x → (t : Table) (v : List Known)
-      → bind (name_in tree.text x) (type_there (setting t v tree) (Some a)) (scope_in (setting t v tree) bs from) ≡ after (scope_in (setting t v tree) bs from) (tree_in tree i)
+      → bind_local (name_in tree.text x) (type_there (setting t v tree) (Some a)) (scope_in (setting t v tree) bs from) ≡ after (scope_in (setting t v tree) bs from) (tree_in tree i)
   parameter_is a x is t v = sym (ap (after (scope_in (setting t v tree) bs from)) (tree_is (nodes.Parameter a x) is))
 
 pub passed_result : (tree : Arena) (bs : List Binding) (from : Within) (before : List Task) → IsChain bs → from.top ≤ length bs → (r : ℕ) (w : Within) → w ≡ record from { result = Some r }

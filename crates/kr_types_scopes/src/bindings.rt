@@ -1,7 +1,7 @@
 // Locals and parameters as they come into scope.
 ghost use Rattle.std.specs.Prelude.{◌≤◌, ◌∷◌, [], length, IfOk};
 ghost use Rattle.kr_ast.specs.Arena.{name_in, AreNamesIn};
-ghost use Rattle.kr_types_meaning.specs.Scopes.{bind, bind_as};
+ghost use Rattle.kr_types_meaning.specs.Scopes.{bind_local, bind_as};
 ghost use Rattle.kr_types_scopes.specs.Settings.{IsChain, type_there, scope_in};
 ghost use Rattle.kr_types_scopes.specs.Tasks.{IsBound, IsStep};
 
@@ -48,7 +48,7 @@ pub fn bind(
     requires top { from.top ≤ length bindings.old.items }
     requires chain { IsChain bindings.old.items }
     requires named { AreNamesIn _tree.now.text (name ∷ []) }
-    ensures { IfOk result (λ w. IsStep _tree.now bindings.old.items bindings.new.items w (λ g. bind (name_in g.tree.text name) (type_there g declared) (scope_in g bindings.old.items from))) }
+    ensures { IfOk result (λ w. IsStep _tree.now bindings.old.items bindings.new.items w (λ g. bind_local (name_in g.tree.text name) (type_there g declared) (scope_in g bindings.old.items from))) }
 {
     push_local(bindings, from, name, declared)
 }

@@ -13,7 +13,7 @@ use crate::{Declaring, Part, Within};
 use kr_ast::{Node, UnaryOperator};
 
 /// What is different in the scope of a part.
-#[derive(Clone, Copy, Debug)]
+#[derive(Clone, Copy)]
 pub enum Change {
     Same,
     Value,

@@ -7,7 +7,7 @@ use crate::Binding;
 use kr_ast::Tree;
 
 /// A local or parameter: its number, which is how many of those in scope are declared before it, and the node of its type.
-#[derive(Clone, Copy, Debug)]
+#[derive(Clone, Copy)]
 pub struct LocalFound {
     pub number: usize,
     pub declared: Option<u32>,

@@ -8,7 +8,7 @@ ghost use Rattle.kr_types_scopes.specs.Scoped.{nowhere};
 use kr_ast::Name;
 
 /// Whether a node stands in code, or in a contract of one kind.
-#[derive(Clone, Copy, Debug, PartialEq, Eq)]
+#[derive(Clone, Copy, PartialEq, Eq)]
 pub enum Part {
     Code,
     Requiring,
@@ -16,7 +16,7 @@ pub enum Part {
 }
 
 /// What an expression stands for: a value, a statement, or the operand of a unary minus.
-#[derive(Clone, Copy, Debug, PartialEq, Eq)]
+#[derive(Clone, Copy, PartialEq, Eq)]
 pub enum Role {
     AsValue,
     AsStatement,
@@ -24,7 +24,7 @@ pub enum Role {
 }
 
 /// What a declarator declares; of constants whether they are `final`.
-#[derive(Clone, Copy, Debug, PartialEq, Eq)]
+#[derive(Clone, Copy, PartialEq, Eq)]
 pub enum Declaring {
     Locals,
     Fields,
@@ -32,7 +32,7 @@ pub enum Declaring {
 }
 
 /// A local or parameter: its name, the node of its type, the bindings below it, and how many locals these are.
-#[derive(Clone, Copy, Debug)]
+#[derive(Clone, Copy)]
 pub struct Binding {
     pub name: Name,
     pub declared: Option<u32>,
@@ -43,7 +43,7 @@ pub struct Binding {
 /// A scope: the node of the class, whether the code is static, the node of the method's result type, the bindings in
 /// scope by their top, and what the typing rules ask of a node's surroundings. Fields lie in memory in this order: the wide
 /// ones stand first, which saves room and time.
-#[derive(Clone, Copy, Debug)]
+#[derive(Clone, Copy)]
 pub struct Within {
     pub top: usize,
     pub class: Option<u32>,

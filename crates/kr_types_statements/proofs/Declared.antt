@@ -7,7 +7,7 @@ use Rattle.kr_classes_operators.specs.Shown.{shown}
 use Rattle.kr_classes_table.specs.Types.{JavaType, is_known}
 use Rattle.kr_classes_table.specs.Table.{Table}
 use Rattle.kr_classes_table.specs.Constants.{value_at}
-use Rattle.kr_types_meaning.specs.Rules.{Typed, Untyped, Value, Variable, Values, Verdict, ask, declaration_rule, fine, initial_fits, is_new, is_simple}
+use Rattle.kr_types_meaning.specs.Rules.{Typed, Untyped, Value, Variable, Values, Judgement, ask, declaration_rule, fine, initial_fits, is_new, is_simple}
 use Rattle.kr_types_meaning.specs.Scopes.{Scope, Declaring, Locals, Fields, Constants, meant}
 use Rattle.kr_types_meaning.specs.Typing.{on_maybe}
 use Rattle.kr_types_judging.specs.Shown.{initial_goes_into}
@@ -24,14 +24,14 @@ declares_is s Fields p n t = ap (λ (b : Bool). ask b 35 fine) (fits_is s t)
 declares_is s (Constants f) p n t =
     ap (λ (b : Bool). if is_known s.declared then ask b 35 (ask (is_some (value_at s.values p)) 36 (ask (f && is_simple s.declared) 37 fine)) else fine) (fits_is s t)
 
-pub maybe_same : (f g : Option JavaType → Verdict) → ((t : Option JavaType) → f t ≡ g t) → (x : Typed) → on_maybe f x ≡ on_maybe g x
+pub maybe_same : (f g : Option JavaType → Judgement) → ((t : Option JavaType) → f t ≡ g t) → (x : Typed) → on_maybe f x ≡ on_maybe g x
 maybe_same f g h Untyped = refl
 maybe_same f g h (Value t) = h (Some t)
 maybe_same f g h (Variable t) = h (Some t)
 maybe_same f g h (Values ts) = h None
 
 -- it may be said with what is equal
-pub said_likewise : (t : Table) (o : Option (Option JavaType)) (v : Verdict) (d e : Declaring) (x y : JavaType) (new old has had : Bool) → v ≡ with_maybe (declares t d x new has) o → d ≡ e → x ≡ y → new ≡ old → has ≡ had → v ≡ with_maybe (declares t e y old had) o
+pub said_likewise : (t : Table) (o : Option (Option JavaType)) (v : Judgement) (d e : Declaring) (x y : JavaType) (new old has had : Bool) → v ≡ with_maybe (declares t d x new has) o → d ≡ e → x ≡ y → new ≡ old → has ≡ had → v ≡ with_maybe (declares t e y old had) o
 said_likewise t o v d e x y new old has had said a b f g =
     said
     ∙ ap (λ (w : Declaring). with_maybe (declares t w x new has) o) a

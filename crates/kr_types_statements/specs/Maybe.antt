@@ -5,7 +5,7 @@ use Rattle.kr_types_meaning.specs.Rules as rules
 use Rattle.kr_classes_types.specs.Types.{TypeList, type_at}
 
 -- it is looked at where the part is absent or has a type
-abbrev pub with_maybe : (Option JavaType → rules.Verdict) → Option (Option JavaType) → rules.Verdict
+abbrev pub with_maybe : (Option JavaType → rules.Judgement) → Option (Option JavaType) → rules.Judgement
 with_maybe f (Some a) = f a
 with_maybe f None = rules.fine
 

@@ -19,12 +19,13 @@ use kr_ast::Tree;
 use kr_base::Place;
 use kr_classes_members::Members;
 use kr_classes_names::Heads;
+use kr_classes_table::ClassId;
 use kr_classes_types::{NodeTypes, Types};
 use kr_types_expressions::implied_rule;
-use kr_types_judging::{Note, Verdict, conclude, earlier};
+use kr_types_judging::{Judgement, Note, conclude, earlier};
 
 /// The class of a name; the first one where no class has it.
-fn class_named(trees: &[Tree], heads: &Heads, name: &[u8]) -> u32
+fn class_named(trees: &[Tree], heads: &Heads, name: &[u8]) -> ClassId
     requires { AreHeads trees.now heads.now }
     ensures { (s : Scope) → s.table ≡ table_in trees.now → (in_class name.now s).class ≡ result }
 {
@@ -40,8 +41,8 @@ fn class_verdict(
     types: &Types,
     members: &Members,
     node_types: &NodeTypes,
-    class: u32,
-) -> Verdict
+    class: ClassId,
+) -> Judgement
     requires members { AreMembers trees.now members.now }
     requires numbers { AreNodeTypes trees.now types.now node_types.now }
     ensures within { IsVerdictWithin types.now result }
@@ -50,7 +51,7 @@ fn class_verdict(
     if members.constructors(class).is_empty() {
         return implied_rule(trees, types, members, node_types, class);
     }
-    Verdict::fine()
+    Judgement::fine()
 }
 
 /// A class, from what is kept of its members (Java Language Specification 8.8.9).
@@ -82,16 +83,16 @@ fn constructor_verdict(
     types: &Types,
     members: &Members,
     node_types: &NodeTypes,
-    class: u32,
+    class: ClassId,
     call: Note,
-) -> Verdict
+) -> Judgement
     requires members { AreMembers trees.now members.now }
     requires numbers { AreNodeTypes trees.now types.now node_types.now }
     ensures within { IsVerdictWithin types.now result }
     ensures says { (s : Scope) (look : ℕ → rules.Typed) → s.table ≡ table_in trees.now → AreSingle s.table → s.class ≡ class → IsLinked look call.known → verdict_shown types.now result ≡ on_maybe (λ t. rules.implied_rule s) (note_shown types.now look call).typed }
 {
     match maybe_type(call.known) {
-        None => Verdict::fine(),
+        None => Judgement::fine(),
         Some(_) => implied_rule(trees, types, members, node_types, class),
     }
 }
@@ -103,7 +104,7 @@ pub fn constructor_note(
     types: &Types,
     members: &Members,
     node_types: &NodeTypes,
-    class: u32,
+    class: ClassId,
     place: Place,
     parameters: Note,
     call: Note,

@@ -24,9 +24,10 @@ use kr_ast::{Tree, tree_of};
 use kr_base::Place;
 use kr_classes_constants::Values;
 use kr_classes_members::Members;
+use kr_classes_table::TypeId;
 use kr_classes_types::{NodeTypes, Types};
 use kr_types_judging::{
-    Note, TypingRule, Verdict, conclude, constant_initial_rule, field_initial_rule, local_rule,
+    Judgement, Note, TypingRule, conclude, constant_initial_rule, field_initial_rule, local_rule,
     type_of_node,
 };
 use kr_types_scopes::{Declaring, Scopes};
@@ -47,11 +48,11 @@ fn declared_rule(
     types: &Types,
     members: &Members,
     declaring: Declaring,
-    declared: u32,
+    declared: TypeId,
     is_new: bool,
     has_value: bool,
-    initial: Option<u32>,
-) -> Verdict
+    initial: Option<TypeId>,
+) -> Judgement
     requires declared { declared < count types.now }
     requires initial { IfSome initial (λ t. t < count types.now) }
     ensures within { IsVerdictWithin types.now result }
@@ -71,18 +72,18 @@ fn declarator_verdict(
     types: &Types,
     members: &Members,
     declaring: Declaring,
-    declared: u32,
+    declared: TypeId,
     is_new: bool,
     has_value: bool,
-    initial: Option<Option<u32>>,
-) -> Verdict
+    initial: Option<Option<TypeId>>,
+) -> Judgement
     requires declared { declared < count types.now }
     requires initial { IfSome initial (λ o. IfSome o (λ t. t < count types.now)) }
     ensures within { IsVerdictWithin types.now result }
     ensures says { (files : List Arena) → AreMembers files members.now → verdict_shown types.now result ≡ with_maybe (declares (table_in files) (declaring_of declaring) (type_at types.now declared) is_new has_value) (types_in types.now initial) }
 {
     match initial {
-        None => Verdict::fine(),
+        None => Judgement::fine(),
         Some(initial) => declared_rule(
             types, members, declaring, declared, is_new, has_value, initial,
         ),
@@ -149,7 +150,7 @@ pub fn parameter_note(
     ensures no_rest { HasNoRest result.known }
     ensures shown { (known : List Known) (look : ℕ → rules.Typed) → let s = scope_at (setting (table_in trees.now) known (file_at trees.now file)) scopes.now.bindings.items scopes.now.within.items node in note_shown types.now look result ≡ concluded place (rules.parameter_rule s name.now) (note_shown types.now look x).least }
 {
-    let verdict = Verdict::fine_if(
+    let verdict = Judgement::fine_if(
         is_new(trees, scopes, file, node, name),
         TypingRule::RepeatedLocal,
     );

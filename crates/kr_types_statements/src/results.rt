@@ -18,8 +18,9 @@ use crate::parts::maybe_type;
 use kr_ast::Tree;
 use kr_base::Place;
 use kr_classes_members::Members;
+use kr_classes_table::TypeId;
 use kr_classes_types::{NodeTypes, Types};
-use kr_types_judging::{Note, Verdict, conclude, result_value_rule, return_rule, type_of_node};
+use kr_types_judging::{Judgement, Note, conclude, result_value_rule, return_rule, type_of_node};
 use kr_types_scopes::Within;
 
 /// `\result`
@@ -46,16 +47,16 @@ fn return_verdict(
     types: &Types,
     members: &Members,
     here: Within,
-    result_type: u32,
-    value: Option<Option<u32>>,
-) -> Verdict
+    result_type: TypeId,
+    value: Option<Option<TypeId>>,
+) -> Judgement
     requires result_type { result_type < count types.now }
     requires value { IfSome value (λ o. IfSome o (λ t. t < count types.now)) }
     ensures within { IsVerdictWithin types.now result }
     ensures says { (files : List Arena) (g : Setting) (bs : List Binding) → AreMembers files members.now → g.table ≡ table_in files → type_at types.now result_type ≡ type_there g here.result → verdict_shown types.now result ≡ with_maybe (rules.return_rule (scope_in g bs here)) (types_in types.now value) }
 {
     match value {
-        None => Verdict::fine(),
+        None => Judgement::fine(),
         Some(value) => return_rule(types, members, result_type, value),
     }
 }

@@ -14,9 +14,10 @@ ghost use Rattle.kr_types_expressions.specs.Parts.{with_one};
 
 use kr_ast::Tree;
 use kr_base::{NoMemory, Place};
+use kr_classes_table::TypeId;
 use kr_classes_types::{NodeTypes, TypeForm, Types};
 use kr_types_expressions::part_type;
-use kr_types_judging::{Note, Verdict, conclude, diamond_rule, type_of_node, type_rule};
+use kr_types_judging::{Judgement, Note, conclude, diamond_rule, type_of_node, type_rule};
 
 /// A primitive type or the name of a class (Java Language Specification 4.2, 4.3).
 pub fn named_type_note(
@@ -57,7 +58,11 @@ pub fn diamond_type_note(
 }
 
 /// What T1 says of a head with an argument that has a type.
-fn generic_verdict(types: &mut Types, head: u32, a: Option<u32>) -> Result<Verdict, NoMemory>
+fn generic_verdict(
+    types: &mut Types,
+    head: TypeId,
+    a: Option<TypeId>,
+) -> Result<Judgement, NoMemory>
     requires head { head < count types.old }
     requires argument { IfSome a (λ t. t < count types.old) }
     ensures extends { Extends types.old types.new }
@@ -65,7 +70,7 @@ fn generic_verdict(types: &mut Types, head: u32, a: Option<u32>) -> Result<Verdi
     ensures says { IfOk result (λ v. verdict_shown types.new v ≡ with_one (λ t. rules.type_rule (applied (type_at types.old head) t)) (option_map (type_at types.old) a)) }
 {
     match a {
-        None => Ok(Verdict::fine()),
+        None => Ok(Judgement::fine()),
         Some(a) => {
             let number = types.applied(head, a)?;
             Ok(type_rule(types, number))
@@ -96,17 +101,17 @@ pub fn generic_type_note(
 }
 
 /// What is said of an array whose elements have a type.
-fn array_verdict(types: &mut Types, a: Option<u32>) -> Result<Verdict, NoMemory>
+fn array_verdict(types: &mut Types, a: Option<TypeId>) -> Result<Judgement, NoMemory>
     requires { IfSome a (λ t. t < count types.old) }
     ensures extends { Extends types.old types.new }
     ensures within { IfOk result (λ v. IsVerdictWithin types.new v) }
     ensures says { IfOk result (λ v. verdict_shown types.new v ≡ with_one rules.array_rule (option_map (type_at types.old) a)) }
 {
     match a {
-        None => Ok(Verdict::fine()),
+        None => Ok(Judgement::fine()),
         Some(a) => {
             let number = types.number(TypeForm::Array(a))?;
-            Ok(Verdict::value(number))
+            Ok(Judgement::value(number))
         }
     }
 }

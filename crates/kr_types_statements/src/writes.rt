@@ -14,10 +14,11 @@ ghost use Rattle.kr_types_expressions.specs.Parts.{with_one, with_two};
 use kr_ast::BinaryOperator;
 use kr_base::Place;
 use kr_classes_members::Members;
+use kr_classes_table::TypeId;
 use kr_classes_types::Types;
 use kr_types_expressions::part_type;
 use kr_types_judging::{
-    Known, Note, Typed, Verdict, assignment_rule, compound_rule, conclude, earlier, step_rule,
+    Judgement, Known, Note, Typed, assignment_rule, compound_rule, conclude, earlier, step_rule,
 };
 use kr_types_scopes::Within;
 
@@ -38,14 +39,14 @@ fn step_verdict(
     members: &Members,
     here: Within,
     target: Typed,
-    a: Option<u32>,
-) -> Verdict
+    a: Option<TypeId>,
+) -> Judgement
     requires { IfSome a (λ t. t < count types.now) }
     ensures within { IsVerdictWithin types.now result }
     ensures says { (files : List Arena) (g : Setting) (bs : List Binding) → AreMembers files members.now → g.table ≡ table_in files → verdict_shown types.now result ≡ with_one (rules.step_rule (scope_in g bs here) (typed_shown types.now target)) (option_map (type_at types.now) a) }
 {
     match a {
-        None => Verdict::fine(),
+        None => Judgement::fine(),
         Some(a) => step_rule(types, members, here, target, a),
     }
 }
@@ -68,9 +69,9 @@ fn assignment_verdict(
     members: &Members,
     here: Within,
     target: Typed,
-    a: Option<u32>,
-    b: Option<u32>,
-) -> Verdict
+    a: Option<TypeId>,
+    b: Option<TypeId>,
+) -> Judgement
     requires first { IfSome a (λ t. t < count types.now) }
     requires second { IfSome b (λ t. t < count types.now) }
     ensures within { IsVerdictWithin types.now result }
@@ -78,7 +79,7 @@ fn assignment_verdict(
 {
     match (a, b) {
         (Some(a), Some(b)) => assignment_rule(types, members, here, target, a, b),
-        _ => Verdict::fine(),
+        _ => Judgement::fine(),
     }
 }
 
@@ -111,9 +112,9 @@ fn compound_verdict(
     here: Within,
     operator: BinaryOperator,
     target: Typed,
-    a: Option<u32>,
-    b: Option<u32>,
-) -> Verdict
+    a: Option<TypeId>,
+    b: Option<TypeId>,
+) -> Judgement
     requires first { IfSome a (λ t. t < count types.now) }
     requires second { IfSome b (λ t. t < count types.now) }
     ensures within { IsVerdictWithin types.now result }
@@ -121,7 +122,7 @@ fn compound_verdict(
 {
     match (a, b) {
         (Some(a), Some(b)) => compound_rule(types, members, here, operator, target, a, b),
-        _ => Verdict::fine(),
+        _ => Judgement::fine(),
     }
 }
 

@@ -8,7 +8,7 @@ use kr_ast::Tree;
 use kr_base::NoMemory;
 use kr_classes_members::Members;
 use kr_classes_names::Heads;
-use kr_sources::tree_of;
+use kr_sources::{Unread, tree_of};
 use std::alloc::Global;
 
 /// What is looked at.
@@ -65,22 +65,28 @@ fn trees_fit(alloc: Global, layer: Layer, trees: &[Tree]) -> Result<bool, NoMemo
     heads_fit(alloc, layer, trees, &heads)
 }
 
+fn pair(alloc: Global, first: Tree, second: Tree) -> Result<Vec<Tree>, NoMemory>
+    ensures { IfOk result (λ trees. length trees.items ≡ 2) }
+{
+    Ok(vec![in alloc; first, second]?)
+}
+
 /// The trees of two files.
-fn files(alloc: Global, first: &str, second: &str) -> Result<Vec<Tree>, NoMemory>
+fn files(alloc: Global, first: &str, second: &str) -> Result<Vec<Tree>, Unread>
     ensures { IfOk result (λ trees. length trees.items ≡ 2) }
 {
     let first = tree_of(alloc, 0, first)?;
     let second = tree_of(alloc, 1, second)?;
-    Ok(vec![in alloc; first, second]?)
+    Ok(pair(alloc, first, second)?)
 }
 
-fn fits(alloc: Global, layer: Layer, first: &str, second: &str) -> Result<bool, NoMemory> {
+fn fits(alloc: Global, layer: Layer, first: &str, second: &str) -> Result<bool, Unread> {
     let trees = files(alloc, first, second)?;
-    trees_fit(alloc, layer, &trees)
+    Ok(trees_fit(alloc, layer, &trees)?)
 }
 
 #[test]
-fn two_files(rt: HostRuntime) -> Result<(), NoMemory> {
+fn two_files(rt: HostRuntime) -> Result<(), Unread> {
     for (layer, first, second) in [
         (
             Layer::Names,

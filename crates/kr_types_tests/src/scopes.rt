@@ -4,7 +4,7 @@ ghost use Rattle.kr_types_scopes.specs.Scoped.{AreScopes};
 
 use kr_ast::{Node, Primitive, Tree};
 use kr_base::NoMemory;
-use kr_sources::tree_of;
+use kr_sources::{Unread, tree_of};
 use kr_types_scopes::{Scopes, judged_law, local_law};
 use std::alloc::Global;
 
@@ -89,7 +89,7 @@ fn scopes_fit(alloc: Global, tree: &Tree) -> Result<bool, NoMemory> {
 }
 
 #[test]
-fn a_local_is_in_scope_from_its_own_initial_value_on(rt: HostRuntime) -> Result<(), NoMemory> {
+fn a_local_is_in_scope_from_its_own_initial_value_on(rt: HostRuntime) -> Result<(), Unread> {
     let tree = tree_of(rt.alloc(), 0, "class A { void m() { int x = x; } }")?;
     let fit = scopes_fit(rt.alloc(), &tree)?;
     assert!(rt; fit);

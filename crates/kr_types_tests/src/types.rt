@@ -3,8 +3,8 @@ ghost use Rattle.kr_types.specs.Programs.{IsProgram};
 ghost use Rattle.std.specs.Prelude.{◌≡◌, length};
 
 use kr_ast::tree_of;
-use kr_base::{NoMemory, Place};
-use kr_sources::program_of;
+use kr_base::Place;
+use kr_sources::{Unread, program_of};
 use kr_types::Program;
 
 fn column(col: u32) -> Place {
@@ -35,7 +35,7 @@ fn ints_at_value(program: &Program) -> u32
 }
 
 #[test]
-fn an_int_field(rt: HostRuntime) -> Result<(), NoMemory> {
+fn an_int_field(rt: HostRuntime) -> Result<(), Unread> {
     let program = program_of(rt.alloc(), "class A { int v = 7; }")?;
     let nodes = program.nodes();
     let ints = ints_at_value(&program);

@@ -4,7 +4,7 @@ use crate::object::Spot;
 use crate::value::Obj;
 
 /// Where a candidate has a value: what `this` is, a parameter of the method under test, or a spot of an object of the heap.
-#[derive(Clone, Copy, Debug, PartialEq, Eq)]
+#[derive(Clone, Copy, PartialEq, Eq)]
 pub enum SlotPlace {
     This,
     Parameter(u32),

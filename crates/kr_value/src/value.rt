@@ -4,7 +4,7 @@
 pub type Obj = u32;
 
 /// A value of a primitive type, or a reference (Java Language Specification 4.2, 4.3).
-#[derive(Clone, Copy, Debug, PartialEq, Eq)]
+#[derive(Clone, Copy, PartialEq, Eq)]
 pub enum Value {
     Int(i32),
     Bool(bool),

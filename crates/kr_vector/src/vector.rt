@@ -7,7 +7,7 @@ use std::alloc::Global;
 use std::marker::Model;
 
 /// An index for each slot. Contracts see the list of the indices.
-#[derive(Debug, Drop)]
+#[derive(Drop)]
 pub struct Vector {
     indices: Vec<u32>,
 }

@@ -1,9 +1,10 @@
 // A cut read from its text.
-ghost use Rattle.std.specs.Prelude.{◌≡◌, ◌<◌, List, ℕ, true, [], ◌∷◌, ◌++◌, take, Some, None, MatchResult};
+ghost use Rattle.std.specs.Prelude.{◌≡◌, ◌<◌, List, ℕ, true, [], ◌∷◌, ◌++◌, take, Some, None, IfOk};
 ghost use Rattle.std.specs.Char.{is_ascii_digit};
 ghost use Rattle.kr_base.specs.Stages.{Steps};
+ghost use Rattle.kr_base.specs.declared.cut.reading.CutRefusal.TheVariants.{NoMemory as Lacking};
 
-use crate::Cut;
+use crate::{Cut, NoMemory};
 use std::alloc::Global;
 use thiserror::Error;
 
@@ -17,7 +18,15 @@ pub enum CutRefusal {
     #[error("a cut of {0} numbers")]
     TooLong(usize),
     #[error("out of memory")]
-    NoMemory,
+    NoMemory(NoMemory),
+}
+
+impl From<NoMemory> for CutRefusal {
+    ghost from_gives = { λ why refusal. refusal ≡ Lacking why };
+
+    fn from(why: NoMemory) -> CutRefusal {
+        CutRefusal::NoMemory(why)
+    }
 }
 
 /// The most numbers of a cut that is read.
@@ -89,17 +98,14 @@ fn step_of(begun: Option<u32>, byte: u8) -> Step
 }
 
 /// Keeps a number, where there aren't too many.
-fn keep(kept: &mut Vec<u32>, number: u32) -> Result<(), CutRefusal>
-    ensures { MatchResult result (λ _. (done : List ℕ) → kept.old.items ≡ take 4096 done → kept.new.items ≡ take 4096 (done ++ number ∷ []))
-        (λ e. e ≡ CutRefusal.NoMemory) }
+fn keep(kept: &mut Vec<u32>, number: u32) -> Result<(), NoMemory>
+    ensures { IfOk result (λ _. (done : List ℕ) → kept.old.items ≡ take 4096 done → kept.new.items ≡ take 4096 (done ++ number ∷ [])) }
 {
     if kept.len() >= MOST {
         return Ok(());
     }
-    match kept.push(number) {
-        Ok(()) => Ok(()),
-        Err(_) => Err(CutRefusal::NoMemory),
-    }
+    kept.push(number)?;
+    Ok(())
 }
 
 /// What was read of a text: the numbers that ended, as many as are kept, how many they are, and the number whose
@@ -112,15 +118,15 @@ struct Reading {
 }
 
 impl Reading {
-    ghost use Rattle.std.specs.Prelude.{◌≡◌, List, ℕ, ◌^◌, ◌<◌, length, MatchResult};
+    ghost use Rattle.std.specs.Prelude.{◌≡◌, List, ℕ, ◌^◌, ◌<◌, length, IfOk};
     ghost use Rattle.kr_base.specs.Parsing.{Parses};
     ghost use Rattle.kr_base.specs.Stages.{IsAt, Reads};
 
     /// Reads one byte more. Says whether some cut's text goes on with it.
-    fn read(&mut self, byte: u8) -> Result<bool, CutRefusal>
+    fn read(&mut self, byte: u8) -> Result<bool, NoMemory>
         requires { self.old.count < 2 ^ 63 }
-        ensures { MatchResult result (λ goes_on. (front done : List ℕ) → IsAt front done self.old.begun self.old.kept.items self.old.count →
-            Reads front done byte goes_on self.new.begun self.new.kept.items self.new.count) (λ e. e ≡ CutRefusal.NoMemory) }
+        ensures { IfOk result (λ goes_on. (front done : List ℕ) → IsAt front done self.old.begun self.old.kept.items self.old.count →
+            Reads front done byte goes_on self.new.begun self.new.kept.items self.new.count) }
     {
         match step_of(self.begun, byte) {
             Step::Digit(number) => {

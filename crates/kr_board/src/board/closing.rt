@@ -133,7 +133,7 @@ impl<R: Drop> Board<R> {
             Vec::new(self.alloc),
         ) {
             Ok(_) => Ok(answer),
-            Err(_) => Err(NoMemory),
+            Err(untaken) => Err(untaken.why),
         }
     }
 

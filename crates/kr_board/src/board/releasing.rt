@@ -9,7 +9,7 @@ use super::Board;
 use kr_core::{Core, Event, Lease, Reply};
 
 /// Whether a seat gave its segment back: or it doesn't own one of that number.
-#[derive(Clone, Copy, Debug, PartialEq, Eq)]
+#[derive(Clone, Copy, PartialEq, Eq)]
 pub enum GivenUp {
     Released,
     Gone,

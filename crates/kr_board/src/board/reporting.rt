@@ -7,7 +7,7 @@ ghost use Rattle.kr_board.specs.Boards.{Adds, StaysWith};
 ghost use Rattle.kr_board.specs.Parts.{IsPossible};
 ghost use Rattle.kr_board.specs.Reporting.{IsRefusal, refusal, report_event, reply_of};
 
-use super::Board;
+use super::{Board, Untaken};
 use kr_base::{Bound, Cut, NoMemory};
 use kr_core::{Core, Event, Lease, Reply, Segment};
 use kr_survey::{Part, RowList};
@@ -15,7 +15,7 @@ use kr_survey::{Part, RowList};
 /// What a report comes to: the lease's seat doesn't own the segment; its mark is another; the part reaches above its upto,
 /// which the lease has then; nothing is left of it; or it goes on under this lease. The first three change nothing but
 /// the log.
-#[derive(Debug, Drop)]
+#[derive(Drop)]
 pub enum Reported {
     Gone,
     Moved(Cut),
@@ -25,10 +25,11 @@ pub enum Reported {
 }
 
 /// A report that was refused memory, with what was handed in.
-#[derive(Debug, Drop)]
+#[derive(Drop)]
 pub struct Refused<R> {
     pub lease: Lease,
     pub part: Part<R>,
+    pub why: NoMemory,
 }
 
 // The lease again, up to where its segment ends now.
@@ -65,6 +66,13 @@ fn refusal(core: &Core, lease: &Lease, reach: &Bound) -> Result<Option<Reported>
     Ok(None)
 }
 
+// The reach, for the machine and for the log.
+fn copies_of(reach: &Bound) -> Result<(Bound, Bound), NoMemory>
+    ensures { IfOk result (λ copies. (copies.0 ≡ reach.now) × (copies.1 ≡ reach.now)) }
+{
+    Ok((reach.try_clone()?, reach.try_clone()?))
+}
+
 // The rows that are kept, by the segments' counts.
 fn kept_rows(segments: &[Segment]) -> u64
     ensures { result ≡ capped (sum_by (λ s. s.rows) segments.now) }
@@ -87,11 +95,11 @@ impl<R: Drop> Board<R> {
         ensures back { IfErr result (λ refused. (refused.lease ≡ lease) × (refused.part ≡ part)) }
     {
         match refusal(&self.core, &lease, &part.reach) {
-            Err(_) => Err(Refused { lease, part }),
+            Err(why) => Err(Refused { lease, part, why }),
             Ok(None) => self.take_in(lease, part),
             Ok(Some(reported)) => match self.look(lease.seat) {
                 Ok(()) => Ok(reported),
-                Err(_) => Err(Refused { lease, part }),
+                Err(why) => Err(Refused { lease, part, why }),
             },
         }
     }
@@ -105,16 +113,15 @@ impl<R: Drop> Board<R> {
         ensures back { IfErr result (λ refused. (refused.lease ≡ lease) × (refused.part ≡ part)) }
     {
         let count = part.rows.len() as u64;
-        if count > u64::MAX - kept_rows(self.core.segments()) {
-            return Err(Refused { lease, part });
+        let kept = kept_rows(self.core.segments());
+        if count > u64::MAX - kept {
+            let why = NoMemory::at_limit(count.saturating_add(kept));
+            return Err(Refused { lease, part, why });
         }
-        let Ok(reach) = part.reach.try_clone() else {
-            return Err(Refused { lease, part });
-        };
-        let Ok(again) = part.reach.try_clone() else {
-            return Err(Refused { lease, part });
-        };
-        self.write_in(lease, part, reach, again)
+        match copies_of(&part.reach) {
+            Err(why) => Err(Refused { lease, part, why }),
+            Ok((reach, again)) => self.write_in(lease, part, reach, again),
+        }
     }
 
     // The same, with two copies of the reach.
@@ -161,7 +168,7 @@ impl<R: Drop> Board<R> {
             Ok(Reply::Done) => Ok(Reported::Done),
             Ok(Reply::Lease(_)) => unreachable!(),
             Ok(Reply::Noted) => unreachable!(),
-            Err(rows) => Err(Refused {
+            Err(Untaken { rows, why }) => Err(Refused {
                 lease,
                 part: Part {
                     reach: own,
@@ -169,6 +176,7 @@ impl<R: Drop> Board<R> {
                     tried,
                     spent,
                 },
+                why,
             }),
         }
     }

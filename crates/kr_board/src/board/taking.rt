@@ -12,7 +12,7 @@ use kr_base::{Bound, Cut, NoMemory};
 use kr_core::{Event, Lease, Reply, Segment};
 
 /// What a seat is given: a lease; nothing now, while others are at work; or nothing any more.
-#[derive(Debug, Drop)]
+#[derive(Drop)]
 pub enum Taken {
     Lease(Lease),
     Later,
@@ -130,7 +130,7 @@ impl<R: Drop> Board<R> {
             Ok(Reply::Go(_)) => unreachable!(),
             Ok(Reply::Done) => unreachable!(),
             Ok(Reply::Noted) => unreachable!(),
-            Err(_) => Err(NoMemory),
+            Err(untaken) => Err(untaken.why),
         }
     }
 
@@ -159,7 +159,7 @@ impl<R: Drop> Board<R> {
             Ok(Reply::Go(_)) => unreachable!(),
             Ok(Reply::Done) => unreachable!(),
             Ok(Reply::Noted) => unreachable!(),
-            Err(_) => Err(NoMemory),
+            Err(untaken) => Err(untaken.why),
         }
     }
 

@@ -1,8 +1,8 @@
 use Rattle.std.proofs.Common.{ℕ, List, sym, subst}
-use Rattle.korat_top.specs.declared.command.Order.{Order}
-use Rattle.korat_top.specs.Orders.{command_in, inputs_in, range_of}
+use Rattle.kr_args.specs.declared.forms.Command.{Command}
+use Rattle.korat_top.specs.Answer.{files_of}
 use Rattle.korat_top.specs.Found.{FindsIn, Finds}
-use Rattle.korat_top.proofs.Answered.{list_found}
+use Rattle.korat_top.proofs.Answered.{list_found, check_found}
 use Rattle.korat_top.proofs.find.find.Goals as goal
 
 pub returns-in-List-clause-found : goal.returns-in-List-clause-found
@@ -10,7 +10,17 @@ returns-in-List-clause-found g c =
     let held = g.F.Files.held in
     let faults = g.F.Files.faults in
     let last = g.F.Files.last in
-    let names = c.in-List.names in
-    let found = subst (λ (fin : List ℕ). FindsIn held faults last (record { fin = fin; sources = names.sources }) c.args.files.now c.find_files.new.files c.find_files.result) c.as_str.ensures.value c.find_files.ensures.found in
-    subst (λ (o : Order). Finds held faults last (command_in o) c.args.files.now c.find_files.new.files c.find_files.result) (sym c.in-List.is)
-    (list_found held faults last (inputs_in names) (range_of c.in-List.field-1) c.args.files.now c.find_files.new.files c.find_files.result found)
+    let ask = c.in-List.ask in
+    let found = subst (λ (fin : List ℕ). FindsIn held faults last (files_of fin ask.sources) c.args.files.now c.find_files.new.files c.find_files.result) c.as_str.ensures c.find_files.ensures.found in
+    subst (λ (o : Command). Finds held faults last o c.args.files.now c.find_files.new.files c.find_files.result) (sym c.in-List.is)
+    (list_found held faults last ask c.args.files.now c.find_files.new.files c.find_files.result found)
+
+pub returns-in-Check-clause-found : goal.returns-in-Check-clause-found
+returns-in-Check-clause-found g c =
+    let held = g.F.Files.held in
+    let faults = g.F.Files.faults in
+    let last = g.F.Files.last in
+    let found = subst (λ (fin : List ℕ). FindsIn held faults last (files_of fin c.in-Check.sources) c.args.files.now c.find_files-in-Check.new.files c.find_files-in-Check.result)
+    c.as_str-in-Check.ensures c.find_files-in-Check.ensures.found in
+    subst (λ (o : Command). Finds held faults last o c.args.files.now c.find_files-in-Check.new.files c.find_files-in-Check.result) (sym c.in-Check.is)
+    (check_found held faults last c.in-Check.fin c.in-Check.sources c.args.files.now c.find_files-in-Check.new.files c.find_files-in-Check.result found)

@@ -1,6 +1,6 @@
-use Rattle.std.proofs.Common.{◌≡◌, ◌∙◌, ◌∷◌, ◌≤◌, ℕ, List, [], length, sym, subst, arith}
+use Rattle.std.proofs.Common.{◌≡◌, ◌∙◌, ◌≤◌, ℕ, List, length, sym, subst, arith}
 use Rattle.std.specs.Prelude.{All}
-use Rattle.kr_demo.specs.Texts.{source_text, finitization_text}
+use Rattle.kr_demo.specs.Texts.{finitization_text}
 use Rattle.korat_top.specs.Steps.{LIMIT, from_texts}
 use Rattle.korat_top.specs.Found.{Judges}
 use Rattle.korat_top.proofs.Answered.{demo_judged}

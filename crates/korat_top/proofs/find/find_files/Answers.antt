@@ -1,5 +1,5 @@
 use Rattle.std.proofs.Common.{arith}
-use Rattle.korat_top.specs.Refusals.{Inputs}
+use Rattle.korat_top.specs.Answer.{files_of}
 use Rattle.korat_top.proofs.Told.{as_many, all_short, sources_stopped, judged_found}
 use Rattle.korat_top.proofs.find.find_files.Goals as goal
 
@@ -11,12 +11,12 @@ judge_from_parsing-requires-clause-short g c = all_short (g.F.Files.held c.read.
 
 pub returns-clause-found : goal.returns-clause-found
 returns-clause-found g c =
-    let inputs : Inputs = record { fin = c.args.fin.now; sources = c.args.sources.now } in
+    let inputs = files_of c.args.fin.now c.args.sources.now in
     sources_stopped g.F.Files.held g.F.Files.faults g.F.Files.last inputs c.args.files.now c.read.new.files c.read_sources.new.files c.in_ok-bytes.bytes.items c.in-Err.stop
     c.in_ok-bytes.ensures.read c.in_ok-bytes.ensures.later.constant c.in_ok-bytes.ensures.count c.in-Err.ensures.read
 
 pub returns-in-Ok-clause-found : goal.returns-in-Ok-clause-found
 returns-in-Ok-clause-found g c =
-    let inputs : Inputs = record { fin = c.args.fin.now; sources = c.args.sources.now } in
+    let inputs = files_of c.args.fin.now c.args.sources.now in
     judged_found g.F.Files.held g.F.Files.faults g.F.Files.last inputs c.args.files.now c.read.new.files c.read_sources.new.files c.in_ok-bytes.bytes.items c.in-Ok.texts c.judge_from_parsing.result
     c.in_ok-bytes.ensures.read c.in_ok-bytes.ensures.later.constant c.in-Ok.ensures.read (rw c.deref.ensures.value at c.judge_from_parsing.ensures.judged)

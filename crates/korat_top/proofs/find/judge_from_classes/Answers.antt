@@ -1,3 +1,4 @@
+use Rattle.std.proofs.Common.{refl}
 use Rattle.std.specs.Prelude.{map}
 use Rattle.kr_ast.specs.Arena.{root}
 use Rattle.kr_classes_table.specs.Table.{table_of}
@@ -7,8 +8,11 @@ use Rattle.korat_top.proofs.Outcomes.{meets_next}
 use Rattle.korat_top.proofs.find.judge_from_classes.Goals as goal
 
 pub returns : goal.returns
-returns c = record {
-  judged = meets_next (classing (map root c.args.trees.items)) (λ table. from_table c.args.fin.now (map root c.args.trees.items)) posed (table_of (map root c.args.trees.items)) c.judge_from_typing.result
-      (rw c.as_slice.ensures.value at c.in_ok-table.ensures.judged) c.judge_from_typing.ensures.judged;
-  listing = c.judge_from_typing.ensures.listing;
-}
+returns c =
+    let trees = c.args.trees.items in
+    let read = rw c.as_slice.ensures.value at c.in_ok-table.ensures.read in
+    record {
+      judged = meets_next (classing (map root trees)) (λ table. from_table c.args.fin.now (map root trees)) posed (table_of (map root trees)) c.judge_from_typing.result
+          (refl, read.unbroken) c.judge_from_typing.ensures.judged;
+      listing = c.judge_from_typing.ensures.listing;
+    }

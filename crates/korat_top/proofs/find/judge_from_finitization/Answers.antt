@@ -6,12 +6,12 @@ use Rattle.korat_top.proofs.Outcomes.{meets_next}
 use Rattle.korat_top.proofs.find.judge_from_finitization.Goals as goal
 
 pub judge_from_posing-requires-clause-limits : goal.judge_from_posing-requires-clause-limits
-judge_from_posing-requires-clause-limits c = c.limits_law.ensures c.args.fin.now c.in_ok-document.document c.in_ok-document.ensures
+judge_from_posing-requires-clause-limits c = c.limits_law.ensures c.args.fin.now c.in_ok-document.document c.in_ok-document.ensures.read
 
 pub returns : goal.returns
 returns c =
     let trees = map root c.args.program.trees.items in
     record {
-      judged = meets_next (stating c.args.fin.now) (λ document. from_document trees document) posed c.in_ok-document.document c.judge_from_posing.result c.in_ok-document.ensures c.judge_from_posing.ensures.judged;
+      judged = meets_next (stating c.args.fin.now) (λ document. from_document trees document) posed c.in_ok-document.document c.judge_from_posing.result c.in_ok-document.ensures.read c.judge_from_posing.ensures.judged;
       listing = c.judge_from_posing.ensures.listing;
     }

@@ -21,8 +21,8 @@ loop-number-preserved c =
     let i = c.loop-number.number in
     let within : i < length texts = omega (arith, c.loop-number-test.true, c.len-number-end.ensures) in
     let trees = c.loop-number.trees.items in
-    let pushed : map root c.push.new.self.items ≡ map root trees ++ root c.in-Ok.tree ∷ [] = ap (map root) c.in_ok-push-in-Ok.ensures.items ∙ map-append root trees (c.in-Ok.tree ∷ []) in
+    let pushed : map root c.add_tree.new.trees.items ≡ map root trees ++ root c.in-Ok.tree ∷ [] = ap (map root) c.in_ok-add_tree-in-Ok.ensures.added ∙ map-append root trees (c.in-Ok.tree ∷ []) in
     let grown = subst (λ made. each growing 0 (take (i + 1) texts) (Ok made)) (sym pushed) (each_next growing texts i [] (map root trees) (root c.in-Ok.tree) within c.loop-number.invariant.0 (rw c.get.ensures at c.in-Ok.ensures.grown)) in
-    let small = subst (All (λ (tree : Arena). length tree.entries ≤ MOST_NODES)) (sym c.in_ok-push-in-Ok.ensures.items) (All-push (λ (tree : Arena). length tree.entries ≤ MOST_NODES) trees c.in-Ok.tree c.loop-number.invariant.1 c.in-Ok.ensures.small) in
-    let shaped = subst AreShaped (sym c.in_ok-push-in-Ok.ensures.items) (All-push (λ (tree : Arena). AreClasses (root tree)) trees c.in-Ok.tree c.loop-number.invariant.2 c.in-Ok.ensures.shaped) in
+    let small = subst (All (λ (tree : Arena). length tree.entries ≤ MOST_NODES)) (sym c.in_ok-add_tree-in-Ok.ensures.added) (All-push (λ (tree : Arena). length tree.entries ≤ MOST_NODES) trees c.in-Ok.tree c.loop-number.invariant.1 c.in-Ok.ensures.small) in
+    let shaped = subst AreShaped (sym c.in_ok-add_tree-in-Ok.ensures.added) (All-push (λ (tree : Arena). AreClasses (root tree)) trees c.in-Ok.tree c.loop-number.invariant.2 c.in-Ok.ensures.shaped) in
     (grown, small, shaped)

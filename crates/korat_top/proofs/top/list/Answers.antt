@@ -3,11 +3,10 @@ use Rattle.kr_base.specs.Told.{Writes}
 use Rattle.kr_space_problem.specs.Posed.{posed}
 use Rattle.kr_report.specs.Texts.{memory_text}
 use Rattle.korat_top.specs.Answer.{listing_of}
-use Rattle.korat_top.specs.Orders.{range_of}
 use Rattle.korat_top.proofs.Calls.{memory_listing}
 use Rattle.korat_top.proofs.top.list.Goals as goal
 
 pub returns : goal.returns
 returns g c =
     let written = subst (λ (old : g.row.K.Denot). Writes g.K.Sink.taken g.K.Sink.faults old c.put_out_of_memory.new.out memory_text c.put_out_of_memory.result) c.in-Err.ensures.nothing c.put_out_of_memory.ensures in
-    memory_listing g.K.Sink.taken g.K.Sink.faults c.args.out.now c.put_out_of_memory.new.out (listing_of (range_of c.args.range.now) (posed c.args.found)) c.once_written.result c.put_out_of_memory.result written c.once_written.ensures
+    memory_listing g.K.Sink.taken g.K.Sink.faults c.args.out.now c.put_out_of_memory.new.out (listing_of c.args.ask.now (posed c.args.found)) c.once_written.result c.put_out_of_memory.result written c.once_written.ensures

@@ -5,32 +5,31 @@ use Rattle.kr_report.specs.Texts.{read_fault_text}
 use Rattle.kr_text.specs.Texts.{refusal_text}
 use Rattle.korat_top.specs.Refusals.{name_of, refusal_of}
 use Rattle.korat_top.specs.Answer.{served, refused, inputs_of, refusal_answer, report_of}
-use Rattle.korat_top.specs.Orders.{command_in}
 use Rattle.korat_top.proofs.Answered.{refused_low, refused_no_usage}
 use Rattle.korat_top.proofs.Calls.{put_answer, put_read_fault, put_memory, end_listing}
 use Rattle.korat_top.proofs.top.serve.Goals as goal
 
 pub returns-in-Ok : goal.returns-in-Ok
 returns-in-Ok g c =
-    let command = command_in c.args.order.now in
+    let command = c.args.command.now in
     let problem = posed c.in-Ok.found in
     end_listing g.F.Files.held g.F.Files.faults g.F.Files.last g.K.Sink.taken g.K.Sink.faults command c.args.files.now c.find.new.files
     c.args.out.now c.report.new.out c.report.result (report_of command problem) (λ told. served problem (c.in-Ok.ensures.found told)) c.in-Ok.ensures.count c.report.ensures
 
 pub returns-in-Err-Refused : goal.returns-in-Err-Refused
 returns-in-Err-Refused g c =
-    let command = command_in c.args.order.now in
+    let command = c.args.command.now in
     let refusal = refusal_of c.in-Err-Refused.refusal in
     let found = rw c.in-Err-Refused.field-0-is at c.in-Err-Refused.ensures.found in
-    let written = rw (c.name_of.ensures, c.in-Err-Refused.refusal-is) at c.put_refused.ensures in
+    let written = rw (c.name_of.ensures, c.file-file.ensures, c.in-Err-Refused.refusal-is) at c.put_refused.ensures in
     put_answer g.F.Files.held g.F.Files.faults g.F.Files.last g.K.Sink.taken g.K.Sink.faults command c.args.files.now c.find.new.files
     c.args.out.now c.put_refused.new.out c.once_written.result (refusal_answer (inputs_of command) refusal) c.put_refused.result
     (λ told. refused refusal (found told)) (refused_no_usage refusal.file) (refused_low refusal.file) (rw c.in-Err-Refused.field-0-is at c.in-Err-Refused.ensures.count) written
-    (rw (c.status_of.ensures, c.in-Err-Refused.refusal-is) at c.once_written.ensures)
+    (rw (c.status_of.ensures, c.file-file.ensures, c.in-Err-Refused.refusal-is) at c.once_written.ensures)
 
 pub returns-in-Err-Read : goal.returns-in-Err-Read
 returns-in-Err-Read g c =
-    let command = command_in c.args.order.now in
+    let command = c.args.command.now in
     let failed = rw c.in-Err-Read.field-0-is at c.in-Err-Read.ensures.found in
     let written = rw (c.name_of-in-Err-Read.ensures, c.in-Err-Read.file-is) at c.put_read_fault.ensures in
     put_read_fault g.F.Files.held g.F.Files.faults g.F.Files.last g.K.Sink.taken g.K.Sink.faults command c.args.files.now c.find.new.files

@@ -5,7 +5,7 @@ use Rattle.kr_classes_table.specs.Constants.{Known, constant_of}
 use Rattle.kr_ast.specs.declared.node.Node.TheVariants.{FieldAccess}
 use Rattle.std.specs.Prelude.{option_map}
 use Rattle.kr_mean.specs.Operators.{value_of_constant}
-use Rattle.kr_classes_table.specs.Constants.{value_of, values_of}
+use Rattle.kr_classes_table.specs.Constants.{known_value, values_of}
 use Rattle.kr_space_problem.specs.Posed.{table}
 use Rattle.kr_ast.specs.Arena.{name_in}
 use Rattle.kr_code_lowering.specs.Sites.{Resolves, arena_at, scope_at}
@@ -27,7 +27,7 @@ returns-in-Some-clause-resolves c = λ arrays links.
     let t = scope_table p s.file s.node in
     let x = name_in (arena_at p s).text c.args.name in
     let class = sym c.class_before.ensures ∙ c.in-Some.is in
-    let same = ap (λ (ks : List Known). option_map value_of_constant (value_of ks (constant_of (scope_at p s).table (Some c.in-Some.class) x))) v ∙ (ap (λ (w : Table). option_map value_of_constant (value_of (values_of (table p)) (constant_of w (Some c.in-Some.class) x))) t ∙ (ap (λ (y : List ℕ). option_map value_of_constant (value_of (values_of (table p)) (constant_of (table p) (Some c.in-Some.class) y))) (sym c.text-text.ensures) ∙ sym c.class_constant.ensures)) in
+    let same = ap (λ (ks : List Known). option_map value_of_constant (known_value ks (constant_of (scope_at p s).table (Some c.in-Some.class) x))) v ∙ (ap (λ (w : Table). option_map value_of_constant (known_value (values_of (table p)) (constant_of w (Some c.in-Some.class) x))) t ∙ (ap (λ (y : List ℕ). option_map value_of_constant (known_value (values_of (table p)) (constant_of (table p) (Some c.in-Some.class) y))) (sym c.text-text.ensures) ∙ sym c.class_constant.ensures)) in
     subst (Resolves p arrays s c.args.names.now links) (sym c.literal.ensures) (class_constant_resolves p c.requires.program arrays s c.args.entry c.args.object c.args.name c.requires.here c.requires.node c.args.names.now links c.in-Some.class c.class_constant.result class same)
 
 pub returns-in_ok-number-in-None-clause-resolves : goal.returns-in_ok-number-in-None-clause-resolves

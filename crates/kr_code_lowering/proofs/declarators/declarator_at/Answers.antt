@@ -1,6 +1,6 @@
 use Rattle.std.proofs.Common.{sym, ap, ◌∙◌, subst, ℕ, ◌+◌, List}
 use Rattle.kr_mean.specs.Program.{default_of}
-use Rattle.kr_types_meaning.specs.Scopes.{bind}
+use Rattle.kr_types_meaning.specs.Scopes.{bind_local}
 use Rattle.kr_code_lowering.specs.declared.site.Site.{Site}
 use Rattle.kr_code_lowering.specs.Sites.{scope_at, tree_at}
 use Rattle.kr_code_lowering.specs.Statements.{IsMaybe}
@@ -13,7 +13,7 @@ returns c = λ locals final.
     let s = c.args.site in
     let r = scope_at p s in
     let inner = initial_scope p c.requires.program s c.args.entry c.requires.here c.args.name c.args.initial c.requires.node locals in
-    let scope = ap (scope_at p) c.at.ensures ∙ (inner ∙ ap (λ (y : List ℕ). bind y r.declared r) (sym c.text-text.ensures)) in
+    let scope = ap (scope_at p) c.at.ensures ∙ (inner ∙ ap (λ (y : List ℕ). bind_local y r.declared r) (sym c.text-text.ensures)) in
     let number = c.own_number-number.ensures r.declared r scope in
     let default = c.default_value.ensures ∙ ap default_of c.declared_type.ensures.type_is in
     let maybe = subst (λ (at : Site). IsMaybe (tree_at p at) (at.first + at.node) c.maybe_part.result) c.at-2.ensures c.maybe_part.ensures in

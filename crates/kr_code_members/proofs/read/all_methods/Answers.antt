@@ -18,12 +18,12 @@ loop-class-preserved c =
     let all = c.in_ok-extend_from_slice.ensures.items in
     let first = c.in_ok-push.ensures.items in
     record {
-      count = omega (arith, ap length first, length-append c.loop-class.first.items (c.len-in-loop-class.result ∷ []), i.count);
+      count = omega (arith, ap length first, length-append c.loop-class.first.items (c.in_ok-counted.field-0 ∷ []), i.count);
       stands = λ files h. subst (λ (xs : List Method). All (IsMethod files) xs) (sym all) (All-append (IsMethod files) old own (i.stands files h) (c.methods.ensures.stands files h));
       shown = λ files h.
           ap (map (method_shown files)) all ∙ (map-append (method_shown files) old own ∙ (ap (λ w. w ++ map (method_shown files) own) (i.shown files h) ∙ (ap (λ w. flat_map methods_of_class (take class (table_in files).classes) ++ w) (c.methods.ensures.shown files h) ∙ sym (one_more methods_of_class (table_in files).classes class))));
       first = λ files h.
           let n : length old ≡ first_of methods_of_class (table_in files) class = sym (length-map old (method_shown files)) ∙ ap length (i.shown files h) in
-          let k : c.len-in-loop-class.result ≡ length old = omega (arith, c.len-in-loop-class.ensures, c.loop-class.all.ok.0) in
-          first_push methods_of_class (table_in files) c.loop-class.first.items c.push.new.self.items c.len-in-loop-class.result (i.first files h) first (k ∙ (n ∙ ap (first_of methods_of_class (table_in files)) (sym i.count)));
+          let k : c.in_ok-counted.field-0 ≡ length old = omega (arith, c.in_ok-counted.ensures.0, c.len.ensures, c.loop-class.all.ok.0) in
+          first_push methods_of_class (table_in files) c.loop-class.first.items c.push.new.self.items c.in_ok-counted.field-0 (i.first files h) first (k ∙ (n ∙ ap (first_of methods_of_class (table_in files)) (sym i.count)));
     }

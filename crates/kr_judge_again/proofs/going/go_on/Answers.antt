@@ -1,4 +1,4 @@
-use Rattle.std.proofs.Common.{◌≡◌, ◌+◌, true, false, refl, rules}
+use Rattle.std.proofs.Common.{◌≡◌, ◌+◌, ℕ, true, false, refl, rules, ap}
 use Rattle.kr_judge_again.proofs.Steps.{all_hold_so, next_so, false_so, stays_halted, stuck_so}
 use Rattle.kr_judge_again.proofs.going.go_on.Goals as goal
 
@@ -15,7 +15,7 @@ pub conditions-preserved : goal.conditions-preserved
 conditions-preserved c =
     let on : c.in-Some.following ≡ c.conditions.at + 1 = search rules in
     let yes : c.in-Bool.truth ≡ true = search rules in
-    (next_so c.args.layout.now c.args.predicate.now c.args.vector.now c.requires.vector c.conditions.at c.in-Some.following c.in-Some-condition_at.node c.condition_at.result c.in-Ok.given c.in-Bool.truth c.clear.new.self c.give.new.world c.in-Bool.is yes on c.condition_at.ensures c.in-Some-condition_at.is c.clear.ensures c.in-Ok.ensures.gives, c.in-Ok.ensures.kept)
+    (next_so c.args.layout.now c.args.predicate.now c.args.vector.now c.requires.vector c.conditions.at c.in-Some.following c.in-Some-condition_at.node c.condition_at.result c.in-Ok.given c.in-Bool.truth c.clear.new.self c.give.new.world c.in-Bool.is yes on c.condition_at.ensures c.in-Some-condition_at.is c.clear.ensures c.in-Ok.ensures.gives, c.in-Ok.ensures.kept, ap (λ (n : ℕ). n + 1) c.conditions.invariant.2)
 
 pub returns-then-not-truth-clause-means : goal.returns-then-not-truth-clause-means
 returns-then-not-truth-clause-means c =

@@ -10,10 +10,10 @@ returns c =
     let p = c.args.problem.now.program in
     let old = c.args.nodes.now.items in
     let call = c.rep_ok_call-call.result in
-    let count : c.len-count.result ≡ length old = omega (arith, c.len-count.ensures, c.args.nodes.now.ok.0) in
+    let object : c.in-Ok.object ≡ length old + 1 = omega (arith, c.in-Ok.ensures, c.len.ensures, c.args.nodes.now.ok.0) in
     let this : List Node = nodes.Expression expressions.This ∷ [] in
     record {
       call = call;
       items = c.in_ok-push-2.ensures.items ∙ (ap (λ (ns : List Node). ns ++ this) c.in_ok-push.ensures.items ∙ append_assoc old (nodes.Expression call ∷ []) this);
-      calls = subst (λ (k : ℕ). CallsRepOk p k (length old + 1) call) c.root_class.ensures (subst (λ (n : ℕ). CallsRepOk p c.root_class.result (n + 1) call) count c.rep_ok_call-call.ensures);
+      calls = subst (λ (k : ℕ). CallsRepOk p k (length old + 1) call) c.root_class.ensures (subst (λ (n : ℕ). CallsRepOk p c.root_class.result n call) object c.rep_ok_call-call.ensures);
     }

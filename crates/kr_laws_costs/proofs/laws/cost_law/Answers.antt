@@ -1,5 +1,5 @@
-use Rattle.kr_laws_costs.proofs.Costs.{cost}
+use Rattle.kr_laws_costs.proofs.Costs.{body_cost}
 use Rattle.kr_laws_costs.proofs.laws.cost_law.Goals as goal
 
 pub returns : goal.returns
-returns c = cost
+returns c = body_cost

@@ -1,4 +1,3 @@
-use Rattle.std.proofs.Common.{◌≡◌, ◌++◌, ap, ◌∙◌}
 use Rattle.kr_lex.proofs.Steps.{all_read}
 use Rattle.kr_lex.proofs.lexer.lex.Goals as goal
 
@@ -6,7 +5,5 @@ pub returns-clause-tokens : goal.returns-clause-tokens
 returns-clause-tokens c =
     let bytes = c.args.bytes.now in
     let items = c.read_all.new.items.items in
-    let copied : c.extend_from_slice.new.self.items ≡ bytes =
-    c.in_ok-extend_from_slice.ensures.items ∙ ap (λ s. s ++ bytes) c.in_ok-source.ensures.items in
-    rw (c.new.ensures, copied)
+    rw (c.new.ensures, c.in_ok-source.ensures)
     (all_read c.args.file bytes c.valid_len-valid.result items c.in_ok-progress.progress c.place.result c.valid_len-valid.ensures c.in_ok-progress.ensures.read c.in_ok-progress.ensures.whole c.place.ensures)

@@ -1,6 +1,6 @@
 use Rattle.std.proofs.Common.{take, ap, ◌∙◌, arith}
+use Rattle.kr_base.specs.declared.refusal.RefusalAt.TheVariants as refusals
 use Rattle.kr_lex.specs.declared.refusal.LexRule.TheVariants as rules
-use Rattle.kr_lex.specs.declared.refusal.LexRefusal.TheVariants as refusals
 use Rattle.kr_lex.specs.Places.{place_after}
 use Rattle.kr_lex.proofs.Steps.{place_is}
 use Rattle.kr_lex.proofs.lexer.pass.Goals as goal

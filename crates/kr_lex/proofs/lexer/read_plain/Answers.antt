@@ -33,18 +33,18 @@ returns-in-Gap-clause-refused c =
     IfErr-weaker c.pass.result (IsPast c.args.file c.args.bytes.now c.args.valid (c.behind_gap-behind.result.cursor.at + c.in-Gap.len)) (IsCause c.args.file c.args.bytes.now)
     (λ refusal p. past_gap c.args.file c.args.bytes.now c.args.valid c.args.items.now.items c.args.progress c.behind_gap-behind.result c.in-Gap.len refusal c.requires.valid c.requires.reading b h.1 h.2 p) c.pass.ensures.past
 
-pub returns-in_ok-push-in-Token-clause-read : goal.returns-in_ok-push-in-Token-clause-read
-returns-in_ok-push-in-Token-clause-read c =
+pub returns-in_ok-add-in-Token-clause-read : goal.returns-in_ok-add-in-Token-clause-read
+returns-in_ok-add-in-Token-clause-read c =
     let h = rw (take_rest c.args.bytes.now c.args.progress.cursor.at) at c.in-Token.ensures in
     let entry : IsEntryAt c.args.progress.cursor c.in-Token.kind c.in-Token.len c.new.result = record { kind_is = c.new.ensures.kind; line_is = c.new.ensures.line; col_is = c.new.ensures.col; start_is = c.new.ensures.start; end_is = c.new.ensures.end } in
-    rw c.in_ok-push-in-Token.ensures.items
+    rw c.in_ok-add-in-Token.ensures
     (IfOk-weaker c.pass-in-Token.result (IsPassed c.args.bytes.now c.args.valid c.args.progress c.in-Token.len)
     (IsReading c.args.file c.args.bytes.now c.args.valid (c.args.items.now.items ++ c.new.result ∷ []))
     (λ next p. after_token c.args.file c.args.bytes.now c.args.valid c.args.items.now.items c.args.progress c.in-Token.kind c.in-Token.len next c.new.result c.requires.reading h.1 h.2 entry p)
     c.pass-in-Token.ensures.passed)
 
-pub returns-in_ok-push-in-Token-clause-refused : goal.returns-in_ok-push-in-Token-clause-refused
-returns-in_ok-push-in-Token-clause-refused c =
+pub returns-in_ok-add-in-Token-clause-refused : goal.returns-in_ok-add-in-Token-clause-refused
+returns-in_ok-add-in-Token-clause-refused c =
     let h = rw (take_rest c.args.bytes.now c.args.progress.cursor.at) at c.in-Token.ensures in
     IfErr-weaker c.pass-in-Token.result (IsPast c.args.file c.args.bytes.now c.args.valid (c.args.progress.cursor.at + c.in-Token.len)) (IsCause c.args.file c.args.bytes.now)
     (λ refusal p. past_token c.args.file c.args.bytes.now c.args.valid c.args.items.now.items c.args.progress c.in-Token.kind c.in-Token.len refusal c.requires.valid c.requires.reading h.1 h.2 p)

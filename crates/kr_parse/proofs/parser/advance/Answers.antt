@@ -3,7 +3,7 @@ use Rattle.kr_parse_grammar.specs.declared.terminal.Terminal.{Terminal}
 use Rattle.kr_parse_grammar.specs.declared.goal.Spelled.{Spelled}
 use Rattle.kr_parse_grammar.specs.declared.goal.Symbol.{Symbol}
 use Rattle.kr_parse_grammar.specs.declared.goal.Symbol.TheVariants.{Take, Keep, Word, Literal as Leaf, Spell}
-use Rattle.kr_parse_grammar.specs.Values.{Item}
+use Rattle.kr_parse_grammar.specs.Values.{StackItem}
 use Rattle.kr_parse_grammar.specs.State.{State, load}
 use Rattle.kr_parse.specs.Refusals.{token_at}
 use Rattle.kr_parse_trees.specs.Built.{values_of}
@@ -41,7 +41,7 @@ returns-in_ok-build-in-Build-clause-state c =
     let at = c.args.cursor.now.at in
     let vs = values_of c.args.builder.now in
     let h = subst (λ (s : Symbol). State ts.list at (s ∷ c.args.stack.now) vs) c.in-Build.is c.requires.state in
-    subst (λ (ws : List Item). State ts.list at c.args.stack.now ws) (sym c.in_ok-build-in-Build.ensures.shown) (state_build c.laws.ensures ts at c.args.stack.now vs c.in-Build.make h)
+    subst (λ (ws : List StackItem). State ts.list at c.args.stack.now ws) (sym c.in_ok-build-in-Build.ensures.shown) (state_build c.laws.ensures ts at c.args.stack.now vs c.in-Build.make h)
 
 pub returns-in_ok-keep-in-Take : goal.returns-in_ok-keep-in-Take
 returns-in_ok-keep-in-Take c =
@@ -57,7 +57,7 @@ returns-in_ok-keep-in-Take c =
       standing = c.in_ok-step-in-Take.ensures.standing;
       built = c.in_ok-keep-in-Take.ensures.built;
       state = subst (λ (x : ℕ). State ts.list x ss (values_of c.keep.new.builder)) (sym e)
-          (subst (λ (ws : List Item). State ts.list (at + 1) ss ws) (sym c.in_ok-keep-in-Take.ensures.shown) h);
+          (subst (λ (ws : List StackItem). State ts.list (at + 1) ss ws) (sym c.in_ok-keep-in-Take.ensures.shown) h);
       falls = subst (λ (x : ℕ). load ss + 100 * (length ts.list - x) < load (c.args.symbol ∷ ss) + 100 * (length ts.list - at)) (sym e) f;
       refused = tt;
     }

@@ -7,23 +7,23 @@ use Rattle.kr_plain.proofs.least.is_allowed_along.Goals as goal
 
 pub index-index-requires : goal.index-index-requires
 index-index-requires g c =
-    let b = below_at (g.R.Slots.space c.args.runner.now).slots c.last_order-order.result.now c.loop-slot.slot-index (subst (λ (ss : List ℕ). AllBelow (g.R.Slots.space c.args.runner.now).slots ss) (sym c.last_order-order.ensures) c.requires.below) c.loop-slot-test.true in
+    let b = below_at (g.C.Slots.space c.args.candidates.now).slots c.last_order-order.result.now c.loop-slot.slot-index (subst (λ (ss : List ℕ). AllBelow (g.C.Slots.space c.args.candidates.now).slots ss) (sym c.last_order-order.ensures) c.requires.below) c.loop-slot-test.true in
     omega (arith, b, c.requires.vector.long)
 
 pub is_allowed-requires-clause-slot : goal.is_allowed-requires-clause-slot
-is_allowed-requires-clause-slot g c = below_at (g.R.Slots.space c.args.runner.now).slots c.last_order-order.result.now c.loop-slot.slot-index (subst (λ (ss : List ℕ). AllBelow (g.R.Slots.space c.args.runner.now).slots ss) (sym c.last_order-order.ensures) c.requires.below) c.loop-slot-test.true
+is_allowed-requires-clause-slot g c = below_at (g.C.Slots.space c.args.candidates.now).slots c.last_order-order.result.now c.loop-slot.slot-index (subst (λ (ss : List ℕ). AllBelow (g.C.Slots.space c.args.candidates.now).slots ss) (sym c.last_order-order.ensures) c.requires.below) c.loop-slot-test.true
 
 pub is_allowed-requires-clause-index : goal.is_allowed-requires-clause-index
 is_allowed-requires-clause-index g c =
-    let S = g.R.Slots.space c.args.runner.now in
+    let S = g.C.Slots.space c.args.candidates.now in
     let s = get_or c.last_order-order.result.now c.loop-slot.slot-index 0 in
     let b = below_at S.slots c.last_order-order.result.now c.loop-slot.slot-index (subst (λ (ss : List ℕ). AllBelow S.slots ss) (sym c.last_order-order.ensures) c.requires.below) c.loop-slot-test.true in
     subst (λ (i : ℕ). i < S.size s) (sym c.index-index.ensures) (c.requires.vector.within s b)
 
 pub returns-then-not-is_allowed : goal.returns-then-not-is_allowed
 returns-then-not-is_allowed g c =
-    let S = g.R.Slots.space c.args.runner.now in
-    let v = g.R.Runner.vector c.args.runner.now in
+    let S = g.C.Slots.space c.args.candidates.now in
+    let v = g.C.Candidates.vector c.args.candidates.now in
     let order = c.last_order-order.result.now in
     let path = c.loop-slot.path.items in
     let s = get_or order c.loop-slot.slot-index 0 in
@@ -36,8 +36,8 @@ returns-then-not-is_allowed g c =
 
 pub loop-slot-preserved : goal.loop-slot-preserved
 loop-slot-preserved g c =
-    let S = g.R.Slots.space c.args.runner.now in
-    let v = g.R.Runner.vector c.args.runner.now in
+    let S = g.C.Slots.space c.args.candidates.now in
+    let v = g.C.Candidates.vector c.args.candidates.now in
     let order = c.last_order-order.result.now in
     let k = c.loop-slot.slot-index in
     let path = c.loop-slot.path.items in

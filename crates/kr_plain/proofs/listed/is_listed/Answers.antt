@@ -7,9 +7,9 @@ use Rattle.kr_plain.proofs.listed.is_listed.Goals as goal
 pub returns-then-not-branch : goal.returns-then-not-branch
 returns-then-not-branch g c =
     let r = c.args.candidates.now in
-    let S = g.R.Slots.space r in
-    let v = g.R.Runner.vector r in
-    let law = c.choice_law.ensures S (g.R.Runner.order r) (g.R.Runner.ending r) c.laws.ensures.space c.laws.ensures.reading v (record { long = c.requires.vector.long; within = c.requires.vector.within }) in (
+    let S = g.C.Slots.space r in
+    let v = g.C.Candidates.vector r in
+    let law = c.choice_law.ensures S (g.C.Candidates.order r) (g.C.Candidates.ending r) c.laws.ensures.space c.laws.ensures.reading v (record { long = c.requires.vector.long; within = c.requires.vector.within }) in (
       λ t. absurd (cc (t)),
       λ l. sym c.if-not-branch.true ∙ c.in_ok-is_allowed_along.ensures.1 (subst (λ (ss : List ℕ). AllowedAlong S v [] ss) (sym c.requires.last) (law.0 l.least)),
     )
@@ -17,10 +17,10 @@ returns-then-not-branch g c =
 pub returns : goal.returns
 returns g c =
     let r = c.args.candidates.now in
-    let S = g.R.Slots.space r in
-    let v = g.R.Runner.vector r in
+    let S = g.C.Slots.space r in
+    let v = g.C.Candidates.vector r in
     let is : IsVector S v = record { long = c.requires.vector.long; within = c.requires.vector.within } in
-    let law = c.choice_law.ensures S (g.R.Runner.order r) (g.R.Runner.ending r) c.laws.ensures.space c.laws.ensures.reading v is in (
+    let law = c.choice_law.ensures S (g.C.Candidates.order r) (g.C.Candidates.ending r) c.laws.ensures.space c.laws.ensures.reading v is in (
       λ t. record {
         vector = is;
         least = law.1 (subst (λ (ss : List ℕ). AllowedAlong S v [] ss) c.requires.last (c.in_ok-is_allowed_along.ensures.0 c.if-not-branch.false));

@@ -5,14 +5,15 @@ use Rattle.kr_space_layout.specs.Bounds.{bare}
 use Rattle.kr_report.specs.Texts.{in_brackets, joined_by, object_name}
 use Rattle.kr_text.specs.Lines.{line_bytes}
 use Rattle.kr_value.specs.declared.object.Class.{Class}
+use Rattle.kr_space_problem.specs.Posed.{posed}
 use Rattle.kr_report_structures.specs.Written.{parts_written}
 use Rattle.kr_report_structures.proofs.Objects.{class_same, name_same}
 use Rattle.kr_report_structures.proofs.Slots.{object_added}
 use Rattle.kr_report_structures.proofs.parts.add_object.Goals as goal
 
 pub returns : goal.returns
-returns g c =
-    let problem = g.N.Subject.problem c.args.names.now in
+returns c =
+    let problem = posed c.args.prepared.now.problem in
     let o = object_of c.args.object in
     let text = joined_by (codes ",") (parts_written problem c.args.vector.now o) in
     object_added c.class-class.result (line_bytes c.args.line.now) (line_bytes c.add_object_name.new.line) (line_bytes c.add_opening.new.line) (line_bytes c.add_parts.new.line) (line_bytes c.add_closing.new.line) (object_name (bare c.args.layout.now) o) text

@@ -1,21 +1,28 @@
-use Rattle.std.proofs.Common.{◌+◌, ◌++◌, ◌∷◌, [], ◌∙◌, List, true, drop, ap, sym}
+use Rattle.std.proofs.Common.{◌+◌, ◌++◌, ◌∷◌, [], ◌∙◌, List, true, drop, get_or, ap, sym}
 use Rattle.std.specs.Prelude.{codes, map}
 use Rattle.std.proofs.lemmas.List.{at_drop_more}
 use Rattle.kr_iso.specs.Objects.{object_of}
 use Rattle.kr_mean.specs.Problem.{DomainObject}
 use Rattle.kr_space_layout.specs.Bounds.{bare}
 use Rattle.kr_laws_slots.proofs.Numbering.{nobody}
+use Rattle.kr_space_problem.specs.Posed.{posed}
 use Rattle.kr_text.specs.Lines.{line_bytes}
 use Rattle.kr_report_structures.specs.Written.{met, object_written, separated}
-use Rattle.kr_report_structures.proofs.Objects.{found_is, inside, written_more}
+use Rattle.kr_report_structures.proofs.Objects.{found_is, inside, is_numbered, written_more}
 use Rattle.kr_report_structures.proofs.Slots.{one_added, some_any}
 use Rattle.kr_report_structures.proofs.structure.add_objects.Goals as goal
 
+pub numbered-requires : goal.numbered-requires
+numbered-requires c =
+    let b = bare c.args.layout.now in
+    let k = c.loop-number.number-index in
+    (get_or (met b c.args.vector.now) k nobody, is_numbered b c.requires.well c.args.vector.now c.args.numbers.now c.requires.numbers k c.loop-number-test.true)
+
 pub loop-number-preserved : goal.loop-number-preserved
-loop-number-preserved g c =
+loop-number-preserved c =
     let b = bare c.args.layout.now in
     let v = c.args.vector.now in
-    let w = object_written (g.N.Subject.problem c.args.names.now) v in
+    let w = object_written (posed c.args.prepared.now.problem) v in
     let k = c.loop-number.number-index in
     let line = line_bytes c.loop-number.line in
     let any = c.loop-number.any in

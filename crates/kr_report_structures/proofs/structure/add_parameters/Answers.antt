@@ -6,6 +6,7 @@ use Rattle.kr_mean.specs.Heaps.{value_at}
 use Rattle.kr_mean.specs.Problem.{slots}
 use Rattle.kr_space_layout.specs.Bounds.{bare}
 use Rattle.kr_build.proofs.Rows.{roots_inside}
+use Rattle.kr_space_problem.specs.Posed.{posed}
 use Rattle.kr_report.specs.Texts.{in_parentheses, value_text}
 use Rattle.kr_text.specs.Lines.{line_bytes}
 use Rattle.kr_report_structures.specs.Written.{parameter_written, separated}
@@ -14,20 +15,20 @@ use Rattle.kr_report_structures.proofs.Slots.{some_any}
 use Rattle.kr_report_structures.proofs.structure.add_parameters.Goals as goal
 
 pub overflow_cast-count : goal.overflow_cast-count
-overflow_cast-count g c =
+overflow_cast-count c =
     let r = roots_inside (bare c.args.layout.now) in
     let f : c.parameters-count.result < 2 ^ 32 = omega (arith, r, c.requires.small, c.parameters-count.ensures) in
     search rules
 
 pub add_field-requires-clause-slot : goal.add_field-requires-clause-slot
-add_field-requires-clause-slot g c =
+add_field-requires-clause-slot c =
     let r = roots_inside (bare c.args.layout.now) in
     let inside : c.loop-number.number + 1 < length (slots (bare c.args.layout.now)) = omega (arith, r, c.loop-number-test.true, c.parameters-count.ensures) in
     inside
 
 pub loop-number-preserved : goal.loop-number-preserved
-loop-number-preserved g c =
-    let problem = g.N.Subject.problem c.args.names.now in
+loop-number-preserved c =
+    let problem = posed c.args.prepared.now.problem in
     let b = c.args.layout.now in
     let v = c.args.vector.now in
     let w = parameter_written problem v in
@@ -38,13 +39,13 @@ loop-number-preserved g c =
     written_more (codes ",") c.loop-number.any true (line_bytes c.add.new.line) line (line_bytes c.add_field.new.line) (map w (range_with_len 0 c.parameters-count.result)) (w k ∷ []) (map w (range_with_len (k + 1) left))
     (c.loop-number.invariant ∙ ap (λ (m : ℕ). line ++ separated (codes ",") c.loop-number.any (map w (range_with_len k m))) n)
     (c.in_ok-add_field.ensures
-    ∙ (ap (λ (t : List ℕ). line ++ separated (codes ",") c.loop-number.any ((t ++ codes "=" ++ value_text (bare b) (value_at (bare b) v (k + 1))) ∷ [])) c.parameter.ensures
+    ∙ (ap (λ (t : List ℕ). line ++ separated (codes ",") c.loop-number.any ((t ++ codes "=" ++ value_text (bare b) (value_at (bare b) v (k + 1))) ∷ [])) c.parameter_name.ensures
     ∙ ap (λ (t : List ℕ). line ++ separated (codes ",") c.loop-number.any (t ∷ [])) (parameter_same problem b c.requires.laid v k)))
     (some_any c.loop-number.any (w k))
 
 pub returns : goal.returns
-returns g c =
-    let problem = g.N.Subject.problem c.args.names.now in
+returns c =
+    let problem = posed c.args.prepared.now.problem in
     let w = parameter_written problem c.args.vector.now in
     let count = c.parameters-count.result in
     let all = map w (range_with_len 0 count) in

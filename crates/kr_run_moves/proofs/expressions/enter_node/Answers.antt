@@ -1,7 +1,7 @@
 use Rattle.std.proofs.Common.{Err, ap, ◌∙◌}
 use Rattle.kr_value.specs.declared.value.Value.{Value}
 use Rattle.kr_mean.specs.Steps.{Outcome, bind, tick}
-use Rattle.kr_code.specs.Doing.{Doing, value_of}
+use Rattle.kr_code.specs.Doing.{Doing, value_done}
 use Rattle.kr_code.specs.Tables.{node_at, expression_of}
 use Rattle.kr_run_state.specs.Noting.{noting}
 use Rattle.kr_run_state.specs.Worlds.{state_at}
@@ -15,9 +15,9 @@ pub returns-in-Err : goal.returns-in-Err
 returns-in-Err c =
     let code = c.args.code.now in
     let w = c.args.world.now in
-    leads_alike code (Err c.in-Err.halt) c.args.stack.now c.tick.new.world w (λ d x. out_value code d c.args.stack.now (d.value c.args.node (state_at w x))) (λ d x. out_value code d c.args.stack.now (bind tick (λ u. value_of code d (expression_of (node_at code c.args.node))) (state_at w x)))
+    leads_alike code (Err c.in-Err.halt) c.args.stack.now c.tick.new.world w (λ d x. out_value code d c.args.stack.now (d.value c.args.node (state_at w x))) (λ d x. out_value code d c.args.stack.now (bind tick (λ u. value_done code d (expression_of (node_at code c.args.node))) (state_at w x)))
     (λ x d m. ap (λ (q : Outcome Value). out_value code d c.args.stack.now q) (m.value_is c.args.node (state_at w x)))
-    (no_value_tick code c.in-Err.halt c.args.stack.now c.args.stack.now c.tick.new.world w (λ (d : Doing). value_of code d (expression_of (node_at code c.args.node))) c.in-Err.ensures)
+    (no_value_tick code c.in-Err.halt c.args.stack.now c.args.stack.now c.tick.new.world w (λ (d : Doing). value_done code d (expression_of (node_at code c.args.node))) c.in-Err.ensures)
 
 pub returns-in-Ok : goal.returns-in-Ok
 returns-in-Ok c =
@@ -25,10 +25,10 @@ returns-in-Ok c =
     let w = c.args.world.now in
     let then = c.tick.new.world in
     let e = expression_of (node_at code c.args.node) in
-    leads_same code (next_task c.enter_ticked.result c.enter_ticked.new.task) c.enter_ticked.new.stack c.enter_ticked.new.world then w (λ d x. out_value code d c.args.stack.now (d.value c.args.node (state_at w x))) (λ d x. out_value code d c.args.stack.now (value_of code d e (state_at then x)))
+    leads_same code (next_task c.enter_ticked.result c.enter_ticked.new.task) c.enter_ticked.new.stack c.enter_ticked.new.world then w (λ d x. out_value code d c.args.stack.now (d.value c.args.node (state_at w x))) (λ d x. out_value code d c.args.stack.now (value_done code d e (state_at then x)))
     (λ x a. let r = c.in-Ok.ensures x a in (
       r.0,
       λ d m. ap (λ (q : Outcome Value). noting w.reads (out_value code d c.args.stack.now q)) (m.value_is c.args.node (state_at w x))
-          ∙ ticked (out_value code d c.args.stack.now) (value_reads code d c.args.stack.now) w.reads then.reads (value_of code d e) (state_at w x) (state_at then x) _ r.1,
+          ∙ ticked (out_value code d c.args.stack.now) (value_reads code d c.args.stack.now) w.reads then.reads (value_done code d e) (state_at w x) (state_at then x) _ r.1,
     ))
     c.enter_ticked.ensures

@@ -2,27 +2,27 @@ use Rattle.std.proofs.Common.{rules, refl, sym, ◌∙◌}
 use Rattle.kr_value.specs.declared.object.Spot.TheVariants.{Length, Element}
 use Rattle.kr_mean.specs.Places.{At}
 use Rattle.kr_run_state.specs.Worlds.{state_at}
-use Rattle.kr_run_state.proofs.Candidates.{misses_candidate, reads_candidate, ok_is}
+use Rattle.kr_run_state.proofs.Candidates.{misses_candidate, reads_candidate}
 use Rattle.kr_run_state.proofs.Growing.{only_noted, only_then}
 use Rattle.kr_run_state.proofs.memory.element_candidate.Goals as goal
 
 pub returns-in-None-clause-agrees : goal.returns-in-None-clause-agrees
 returns-in-None-clause-agrees c = λ x a.
     let w = c.args.world.now in
-    let is = ok_is c.note.result (sym c.is_err.ensures.value ∙ c.if-is_err.false) c.note.ensures.noted in
+    let is = c.in_ok-note.ensures.noted in
     let r = misses_candidate w.is_frozen w.candidates w.reads c.note.new.self w.made x c.args.object c.args.index (state_at w x) refl refl is c.requires.candidate c.requires.array (search rules) a in
-    (record { allowed = r.0; frozen = λ e. e; same = λ e. refl }, r.1)
+    (record { allowed = r.0; frozen = λ e. e; frozen_before = λ e. e; same = λ e. refl }, r.1)
 
-pub returns-else-is_err-2-clause-agrees : goal.returns-else-is_err-2-clause-agrees
-returns-else-is_err-2-clause-agrees c = λ x a.
+pub returns-in_ok-note-in-Some-read-clause-agrees : goal.returns-in_ok-note-in-Some-read-clause-agrees
+returns-in_ok-note-in-Some-read-clause-agrees c = λ x a.
     let w = c.args.world.now in
-    let first = ok_is c.note.result (sym c.is_err.ensures.value ∙ c.if-is_err.false) c.note.ensures.noted in
-    let then = ok_is c.note-in-Some-read.result (sym c.is_err-in-Some-read.ensures.value ∙ c.if-is_err-2.false) c.note-in-Some-read.ensures.noted in
+    let first = c.in_ok-note.ensures.noted in
+    let then = c.in_ok-note-in-Some-read.ensures.noted in
     let r = reads_candidate w.is_frozen w.candidates w.reads c.note.new.self c.note-in-Some-read.new.self w.made x c.args.object c.in-Some.at c.args.index c.in-Some-read.value (state_at w x) refl refl first then c.requires.candidate c.requires.array (search rules) (sym c.read.ensures ∙ c.in-Some-read.is) a in
-    (record { allowed = r.0; frozen = λ e. e; same = λ e. refl }, r.1)
+    (record { allowed = r.0; frozen = λ e. e; frozen_before = λ e. e; same = λ e. refl }, r.1)
 
-pub returns-else-is_err-2-clause-only : goal.returns-else-is_err-2-clause-only
-returns-else-is_err-2-clause-only c =
+pub returns-in_ok-note-in-Some-read-clause-only : goal.returns-in_ok-note-in-Some-read-clause-only
+returns-in_ok-note-in-Some-read-clause-only c =
     let w = c.args.world.now in
     let first = c.note.ensures in
     let then = c.note-in-Some-read.ensures in

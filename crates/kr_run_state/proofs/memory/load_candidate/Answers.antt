@@ -1,11 +1,11 @@
 use Rattle.std.proofs.Common.{sym, ◌∙◌, refl}
 use Rattle.kr_run_state.specs.Worlds.{state_at}
-use Rattle.kr_run_state.proofs.Candidates.{loads_candidate, ok_is}
+use Rattle.kr_run_state.proofs.Candidates.{loads_candidate}
 use Rattle.kr_run_state.proofs.memory.load_candidate.Goals as goal
 
 pub returns-clause-agrees : goal.returns-clause-agrees
 returns-clause-agrees c = λ x a.
     let w = c.args.world.now in
-    let is = ok_is c.note.result (sym (c.is_err.ensures.value) ∙ c.if-is_err.false) c.note.ensures.noted in
+    let is = c.in_ok-note.ensures.noted in
     let r = loads_candidate w.is_frozen w.candidates w.reads c.note.new.self w.made x c.args.object c.args.spot c.in-Some.value (state_at w x) refl refl is c.requires.candidate c.requires.fixed (sym c.read.ensures ∙ c.in-Some.is) a in
-    (record { allowed = r.0; frozen = λ e. e; same = λ e. refl }, r.1)
+    (record { allowed = r.0; frozen = λ e. e; frozen_before = λ e. e; same = λ e. refl }, r.1)

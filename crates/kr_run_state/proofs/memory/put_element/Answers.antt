@@ -14,7 +14,7 @@ returns-in-None c = λ x a.
     let same = writable w.is_frozen w.candidates w.reads w.made x c.args.object a (search rules) in
     let none : index_within c.args.index (length (object_in (w.candidates ++ w.made) c.args.object).values) ≡ None = search rules in
     let is = ap (λ (r : HeapObject). index_within c.args.index (length r.values)) same ∙ none in
-    (record { allowed = a; frozen = λ e. e; same = λ e. refl }, ap (λ (k : Option ℕ). noting w.reads (bind (store_index c.args.object k c.args.value) (λ u. give c.args.given) (state_at w x))) is)
+    (record { allowed = a; frozen = λ e. e; frozen_before = λ e. e; same = λ e. refl }, ap (λ (k : Option ℕ). noting w.reads (bind (store_index c.args.object k c.args.value) (λ u. give c.args.given) (state_at w x))) is)
 
 pub returns-in-Some : goal.returns-in-Some
 unfolding bind

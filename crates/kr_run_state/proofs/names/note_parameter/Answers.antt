@@ -4,14 +4,14 @@ use Rattle.kr_mean.specs.Places.{SlotPlace, Parameter}
 use Rattle.kr_mean.specs.Steps.{place_reads}
 use Rattle.kr_run_state.specs.Noting.{noting}
 use Rattle.kr_run_state.specs.Worlds.{state_at, AreLike}
-use Rattle.kr_run_state.proofs.Candidates.{allowed_before, ok_is}
+use Rattle.kr_run_state.proofs.Candidates.{allowed_before}
 use Rattle.kr_run_state.proofs.names.note_parameter.Goals as goal
 
-pub returns-else-is_err : goal.returns-else-is_err
-returns-else-is_err c = λ x a.
+pub returns-in_ok-note-in-Some : goal.returns-in_ok-note-in-Some
+returns-in_ok-note-in-Some c = λ x a.
     let w = c.args.world.now in
-    let is = ok_is c.note.result (sym c.is_err.ensures.value ∙ c.if-is_err.false) c.note.ensures.noted in (
-      record { allowed = allowed_before w.is_frozen w.candidates (Parameter c.in-Some.number) w.reads x (subst (λ (ps : List SlotPlace). AreLike w.is_frozen ps w.candidates x) is a); frozen = λ e. e; same = λ e. refl },
+    let is = c.in_ok-note-in-Some.ensures.noted in (
+      record { allowed = allowed_before w.is_frozen w.candidates (Parameter c.in-Some.number) w.reads x (subst (λ (ps : List SlotPlace). AreLike w.is_frozen ps w.candidates x) is a); frozen = λ e. e; frozen_before = λ e. e; same = λ e. refl },
       ap (λ (k : Option ℕ). noting w.reads (record { said = Ok tt; after = state_at w x; reads = place_reads (option_map (λ i. Parameter i) k) })) c.in-Some.is
           ∙ ap (λ (ps : List SlotPlace). record { said = Ok tt; after = state_at w x; reads = ps }) (sym is),
     )

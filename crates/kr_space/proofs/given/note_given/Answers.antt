@@ -1,10 +1,9 @@
 use Rattle.std.proofs.Common.{Option, ap, sym, ◌∙◌, fold, map}
 use Rattle.std.specs.Prelude.{flat_map}
 use Rattle.std.proofs.lemmas.Result.{on_ok_weaker}
-use Rattle.kr_space_meaning.specs.declared.refusal.Fault.{Fault}
 use Rattle.kr_space_meaning.specs.Bounds.{setting_of, tested_parameters}
 use Rattle.kr_space_meaning.specs.Faults.{array_S2, parameter_S2}
-use Rattle.kr_space_meaning.specs.Order.{lesser}
+use Rattle.kr_space_meaning.specs.Order.{Fault, lesser}
 use Rattle.kr_space_rules.specs.Classes.{files_of}
 use Rattle.kr_space_rules.specs.Entries.{bound_shown}
 use Rattle.kr_space.proofs.Parts.{S2_is}

@@ -1,6 +1,6 @@
 use Rattle.std.proofs.Common.{◌≡◌, ◌+◌, ◌-◌, ◌^◌, ℕ, List, length, map, min, ap, sym, ◌∙◌, drop, arith}
 use Rattle.std.proofs.lemmas.List.{drop_all}
-use Rattle.kr_space_layout.specs.declared.item.Item.{Item}
+use Rattle.kr_space_layout.specs.declared.item.DomainEntry.{DomainEntry}
 use Rattle.kr_space_layout.specs.Stretches.{all_choices, count_of, stretch_of}
 use Rattle.kr_space_rules.proofs.Numbers.{counted_more}
 use Rattle.kr_space_rules.proofs.count.value_count.Goals as goal
@@ -14,5 +14,5 @@ loop-item-preserved c = record {
 
 pub returns : goal.returns
 returns c =
-    let none : length (all_choices (map (stretch_of c.args.blocks.now) (drop c.loop-item.item-index c.args.items.now))) ≡ 0 = ap (λ (is : List Item). length (all_choices (map (stretch_of c.args.blocks.now) is))) (drop_all c.loop-item.item-index c.args.items.now c.loop-item-test.false) in
+    let none : length (all_choices (map (stretch_of c.args.blocks.now) (drop c.loop-item.item-index c.args.items.now))) ≡ 0 = ap (λ (is : List DomainEntry). length (all_choices (map (stretch_of c.args.blocks.now) is))) (drop_all c.loop-item.item-index c.args.items.now c.loop-item-test.false) in
     omega (arith, c.loop-item.invariant.is, c.loop-item.invariant.small, none)

@@ -4,12 +4,12 @@ use Rattle.kr_step.proofs.turning.advance.Given as goal
 
 abbrev pub invariant-loop-slot : goal.invariant-loop-slot
 invariant-loop-slot g l = record {
-  space : g.R.Slots.space l.runner ≡ g.R.Slots.space l.initial.runner;
-  order : g.R.Runner.order l.runner ≡ g.R.Runner.order l.initial.runner;
-  ending : g.R.Runner.ending l.runner ≡ g.R.Runner.ending l.initial.runner;
-  some : (c : List ℕ) × IsStuck (g.R.Slots.space l.initial.runner) (g.R.Runner.order l.initial.runner) c (g.R.Runner.vector l.runner) l.path.items;
-  stuck : (c : List ℕ) → IsStuck (g.R.Slots.space l.initial.runner) (g.R.Runner.order l.initial.runner) c (g.R.Runner.vector l.initial.runner) l.initial.path.items
-      → IsStuck (g.R.Slots.space l.initial.runner) (g.R.Runner.order l.initial.runner) c (g.R.Runner.vector l.runner) l.path.items;
+  space : g.C.Slots.space l.candidates ≡ g.C.Slots.space l.initial.candidates;
+  order : g.C.Candidates.order l.candidates ≡ g.C.Candidates.order l.initial.candidates;
+  ending : g.C.Candidates.ending l.candidates ≡ g.C.Candidates.ending l.initial.candidates;
+  some : (c : List ℕ) × IsStuck (g.C.Slots.space l.initial.candidates) (g.C.Candidates.order l.initial.candidates) c (g.C.Candidates.vector l.candidates) l.path.items;
+  stuck : (c : List ℕ) → IsStuck (g.C.Slots.space l.initial.candidates) (g.C.Candidates.order l.initial.candidates) c (g.C.Candidates.vector l.initial.candidates) l.initial.path.items
+      → IsStuck (g.C.Slots.space l.initial.candidates) (g.C.Candidates.order l.initial.candidates) c (g.C.Candidates.vector l.candidates) l.path.items;
   gone : (rest : List (ℕ × ℕ)) × (l.initial.path.items ≡ l.path.items ++ rest);
 }
 

@@ -21,5 +21,5 @@ returns-in-None-clause-shown c = λ g bs look e.
     let f = rules.access_rule s c.args.name.now in
     let x = c.args.x in
     c.conclude-in-None.ensures.shown l look
-    ∙ ap (λ (v : rules.Verdict). noting.concluded c.args.place v (least_shown x.least)) (c.access_verdict-verdict.ensures.says g bs e ∙ ap (with_one f) (c.part_type-object.ensures.shown l look) ∙ asks_one f (known_shown l look x.known))
+    ∙ ap (λ (v : rules.Judgement). noting.concluded c.args.place v (least_shown x.least)) (c.access_verdict-verdict.ensures.says g bs e ∙ ap (with_one f) (c.part_type-object.ensures.shown l look) ∙ asks_one f (known_shown l look x.known))
     ∙ ap (λ (b : Option ℕ). noting.field_of s c.args.place c.args.name.now b (note_shown l look x)) (sym c.in-None.is)

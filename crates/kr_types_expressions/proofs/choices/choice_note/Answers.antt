@@ -26,7 +26,7 @@ returns-clause-shown c = λ files g bs look h e.
     let d = option_map (type_at l) c.part_type-third.result in
     let v = typing.on_one (λ a. typing.on_two (f a) y z) x in
     c.conclude.ensures.shown l look
-    ∙ ap (λ (w : rules.Verdict). concluded c.args.place w (least_shown c.earlier.result))
+    ∙ ap (λ (w : rules.Judgement). concluded c.args.place w (least_shown c.earlier.result))
     (c.choice_verdict-verdict.ensures.says files g bs h e
     ∙ ap (λ (o : Option JavaType). with_three f o b d) (c.part_type-first.ensures.shown l look)
     ∙ ap (λ (o : Option JavaType). with_three f (typing.type_in x) o d) (c.part_type-second.ensures.shown l look)

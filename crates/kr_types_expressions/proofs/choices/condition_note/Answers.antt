@@ -16,5 +16,5 @@ returns-clause-shown c = λ look.
     let f = rules.condition_rule in
     let x = known_shown l look c.args.x.known in
     c.conclude.ensures.shown l look
-    ∙ ap (λ (v : rules.Verdict). concluded c.args.place v (least_shown c.earlier.result)) (c.condition_verdict-verdict.ensures.says ∙ ap (with_one f) (c.part_type.ensures.shown l look) ∙ asks_one f x)
+    ∙ ap (λ (v : rules.Judgement). concluded c.args.place v (least_shown c.earlier.result)) (c.condition_verdict-verdict.ensures.says ∙ ap (with_one f) (c.part_type.ensures.shown l look) ∙ asks_one f x)
     ∙ ap (concluded c.args.place (typing.on_one f x)) c.earlier.ensures

@@ -15,4 +15,4 @@ returns-clause-shown c = λ files g bs look h e.
     let l = c.args.types.now in
     let f = rules.old_rule (scope_in g bs c.args.here) in
     c.conclude.ensures.shown l look
-    ∙ ap (λ (v : rules.Verdict). concluded c.args.place v (least_shown c.args.x.least)) (c.old_verdict-verdict.ensures.says files g bs h e ∙ ap (with_one f) (c.part_type.ensures.shown l look) ∙ asks_one f (known_shown l look c.args.x.known))
+    ∙ ap (λ (v : rules.Judgement). concluded c.args.place v (least_shown c.args.x.least)) (c.old_verdict-verdict.ensures.says files g bs h e ∙ ap (with_one f) (c.part_type.ensures.shown l look) ∙ asks_one f (known_shown l look c.args.x.known))

@@ -8,4 +8,4 @@ pub returns-clause-within : goal.returns-clause-within
 returns-clause-within c = c.conclude.ensures.within c.args.types.now c.jump_rule-verdict.ensures.within
 
 pub returns-clause-shown : goal.returns-clause-shown
-returns-clause-shown c = λ files g bs look h e. c.conclude.ensures.shown c.args.types.now look ∙ ap (λ (v : rules.Verdict). concluded c.args.place v None) (c.jump_rule-verdict.ensures.says files g bs h e)
+returns-clause-shown c = λ files g bs look h e. c.conclude.ensures.shown c.args.types.now look ∙ ap (λ (v : rules.Judgement). concluded c.args.place v None) (c.jump_rule-verdict.ensures.says files g bs h e)

@@ -9,4 +9,4 @@ pub returns-clause-within : goal.returns-clause-within
 returns-clause-within c = c.conclude.ensures.within c.args.types.now (c.value-verdict.ensures.within c.args.types.now c.boolean.ensures.within)
 
 pub returns-clause-shown : goal.returns-clause-shown
-returns-clause-shown c = λ look. c.conclude.ensures.shown c.args.types.now look ∙ ap (λ (v : rules.Verdict). concluded c.args.place v None) (c.value-verdict.ensures.says c.args.types.now ∙ ap (λ (t : JavaType). rules.Fits (rules.Value t)) c.boolean.ensures.type_is)
+returns-clause-shown c = λ look. c.conclude.ensures.shown c.args.types.now look ∙ ap (λ (v : rules.Judgement). concluded c.args.place v None) (c.value-verdict.ensures.says c.args.types.now ∙ ap (λ (t : JavaType). rules.Fits (rules.Value t)) c.boolean.ensures.type_is)

@@ -8,4 +8,4 @@ pub returns-clause-within : goal.returns-clause-within
 returns-clause-within c = c.conclude.ensures.within c.args.types.now c.variable_rule-verdict.ensures.within
 
 pub returns-clause-shown : goal.returns-clause-shown
-returns-clause-shown c = λ known look k. c.conclude.ensures.shown c.args.types.now look ∙ ap (λ (v : rules.Verdict). concluded c.args.place v None) (c.variable_rule-verdict.ensures.says known k)
+returns-clause-shown c = λ known look k. c.conclude.ensures.shown c.args.types.now look ∙ ap (λ (v : rules.Judgement). concluded c.args.place v None) (c.variable_rule-verdict.ensures.says known k)

@@ -21,7 +21,7 @@ returns-clause-shown c = λ files g bs look h e.
     let x = known_shown l look c.args.x.known in
     let y = known_shown l look c.args.y.known in
     c.conclude.ensures.shown l look
-    ∙ ap (λ (v : rules.Verdict). concluded c.args.place v (least_shown c.earlier.result))
+    ∙ ap (λ (v : rules.Judgement). concluded c.args.place v (least_shown c.earlier.result))
     (c.binary_verdict-verdict.ensures.says files g bs h e
     ∙ ap (λ (o : Option JavaType). with_two f o (option_map (type_at l) c.part_type-second.result)) (c.part_type-first.ensures.shown l look)
     ∙ ap (with_two f (typing.type_in x)) (c.part_type-second.ensures.shown l look) ∙ asks_two f x y)

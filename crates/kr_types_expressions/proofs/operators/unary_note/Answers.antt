@@ -14,4 +14,4 @@ returns-clause-shown c = λ look.
     let l = c.args.types.now in
     let f = rules.unary_rule c.args.operator in
     c.conclude.ensures.shown l look
-    ∙ ap (λ (v : rules.Verdict). concluded c.args.place v (least_shown c.args.x.least)) (c.unary_verdict-verdict.ensures.says ∙ ap (with_one f) (c.part_type.ensures.shown l look) ∙ asks_one f (known_shown l look c.args.x.known))
+    ∙ ap (λ (v : rules.Judgement). concluded c.args.place v (least_shown c.args.x.least)) (c.unary_verdict-verdict.ensures.says ∙ ap (with_one f) (c.part_type.ensures.shown l look) ∙ asks_one f (known_shown l look c.args.x.known))

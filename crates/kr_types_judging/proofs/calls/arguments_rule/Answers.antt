@@ -23,6 +23,6 @@ returns-clause-says c = λ g bs e.
     let hs = headings_in files in
     let a = file_at files m.file in
     c.ask.ensures.says l
-    ∙ ap (λ (v : rules.Verdict). rules.ask c.arguments_fit-fit.result 24 v) (c.result_rule.ensures.says g bs)
+    ∙ ap (λ (v : rules.Judgement). rules.ask c.arguments_fit-fit.result 24 v) (c.result_rule.ensures.says g bs)
     ∙ ap (λ b. rules.ask b 24 (rules.result_rule s (method_shown files m)))
     (c.arguments_fit-fit.ensures ∙ ap (λ (t : Table). arguments_go_into t hs ts (listed_types a m.parameters)) (sym e) ∙ sym (asked s hs ts (items (tree_in a m.parameters))))

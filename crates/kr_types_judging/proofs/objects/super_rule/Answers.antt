@@ -16,6 +16,6 @@ returns-clause-says c = λ g bs e k.
     let s = scope_in g bs c.args.here in
     let ts = map (type_at l) c.args.arguments.now in
     c.ask.ensures.says l
-    ∙ ap (λ (v : rules.Verdict). rules.ask (not c.args.here.is_static) 5 v) (c.above_rule.ensures.says g bs e)
+    ∙ ap (λ (v : rules.Judgement). rules.ask (not c.args.here.is_static) 5 v) (c.above_rule.ensures.says g bs e)
     ∙ ap (λ f. rules.ask (not c.args.here.is_static) 5 (rules.above_rule s f ts))
     (c.method_above-found.ensures.shown files c.requires.members ∙ ap (λ (t : Table). option_and_then (λ d. method_named t d c.args.name.now) (super_of t c.args.class)) (sym e) ∙ ap (λ d. option_and_then (λ b. method_named g.table b c.args.name.now) (super_of g.table d)) (sym k))

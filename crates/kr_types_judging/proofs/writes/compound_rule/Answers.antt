@@ -1,6 +1,6 @@
 use Rattle.std.proofs.Common.{◌∙◌, ap}
 use Rattle.std.specs.Prelude.{not}
-use Rattle.kr_types_meaning.specs.Rules.{Verdict, ask, is_broken, written_rule}
+use Rattle.kr_types_meaning.specs.Rules.{Judgement, ask, is_broken, written_rule}
 use Rattle.kr_types_scopes.specs.Settings.{scope_in}
 use Rattle.kr_classes_types.specs.Types.{type_at}
 use Rattle.kr_types_judging.specs.Shown.{typed_shown}
@@ -13,5 +13,5 @@ pub returns-clause-says : goal.returns-clause-says
 returns-clause-says c = λ files g bs h e.
     let l = c.args.types.now in
     c.ask.ensures.says l
-    ∙ ap (λ (v : Verdict). ask (not c.is_broken.result) 17 v) (c.written_rule.ensures.says files g bs h e)
+    ∙ ap (λ (v : Judgement). ask (not c.is_broken.result) 17 v) (c.written_rule.ensures.says files g bs h e)
     ∙ ap (λ b. ask (not b) 17 (written_rule (scope_in g bs c.args.here) (typed_shown l c.args.target) (type_at l c.args.to))) (c.is_broken.ensures ∙ ap is_broken (c.operator_rule-operated.ensures.says files g bs h e))

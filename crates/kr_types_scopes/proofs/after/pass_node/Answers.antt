@@ -1,7 +1,7 @@
 use Rattle.std.proofs.Common.{Some}
 use Rattle.std.proofs.lemmas.Result.{IfOk-weaker}
 use Rattle.kr_ast.specs.Arena.{name_in}
-use Rattle.kr_types_meaning.specs.Scopes.{bind, bind_as}
+use Rattle.kr_types_meaning.specs.Scopes.{bind_local, bind_as}
 use Rattle.kr_types_scopes.specs.declared.tasks.Task.TheVariants as tasks
 use Rattle.kr_types_scopes.specs.Settings.{type_there, scope_in}
 use Rattle.kr_types_scopes.specs.Tasks.{IsStep, IsPassed}
@@ -41,10 +41,10 @@ returns-in-Parameter c =
     let new = c.bind.new.bindings.items in
     let from = c.args.from in
     let h : IsEntryThere tree c.args.node c.entry.result = record { within = c.requires.at; stands = c.entry.ensures.tree; parted = c.entry.ensures.parts } in
-    IfOk-weaker c.bind.result (λ w. IsStep tree old new w (λ g. bind (name_in g.tree.text c.in-Parameter.name) (type_there g (Some c.in-Parameter.declared)) (scope_in g old from)))
+    IfOk-weaker c.bind.result (λ w. IsStep tree old new w (λ g. bind_local (name_in g.tree.text c.in-Parameter.name) (type_there g (Some c.in-Parameter.declared)) (scope_in g old from)))
     (IsPassed tree old new from (tasks.Pass c.args.node) c.args.tasks.now c.args.tasks.now)
     (λ w s. passed_bound tree c.args.node c.entry.result h old from c.args.tasks.now c.requires.chain c.requires.top new w
-    (λ g. bind (name_in g.tree.text c.in-Parameter.name) (type_there g (Some c.in-Parameter.declared)) (scope_in g old from)) s
+    (λ g. bind_local (name_in g.tree.text c.in-Parameter.name) (type_there g (Some c.in-Parameter.declared)) (scope_in g old from)) s
     (parameter_is tree c.args.node c.entry.result h old from c.args.tasks.now c.requires.chain c.requires.top c.in-Parameter.declared c.in-Parameter.name c.in-Parameter.is))
     c.bind.ensures
 

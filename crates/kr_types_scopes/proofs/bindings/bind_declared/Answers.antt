@@ -1,7 +1,7 @@
 use Rattle.std.proofs.Common.{ap, sym}
 use Rattle.std.proofs.lemmas.Result.{IfOk-weaker}
 use Rattle.kr_ast.specs.Arena.{name_in}
-use Rattle.kr_types_meaning.specs.Scopes.{bind, bind_as}
+use Rattle.kr_types_meaning.specs.Scopes.{bind_local, bind_as}
 use Rattle.kr_types_scopes.specs.Settings.{setting, declaring_of, type_there, scope_in}
 use Rattle.kr_types_scopes.specs.Tasks.{IsStep}
 use Rattle.kr_types_scopes.proofs.Chains.{step_same, step_as}
@@ -14,9 +14,9 @@ returns-in-Locals c =
     let old = c.args.bindings.now.items in
     let new = c.bind.new.bindings.items in
     let from = c.args.from in
-    IfOk-weaker c.bind.result (λ w. IsStep tree old new w (λ g. bind (name_in g.tree.text c.args.name) (type_there g from.declared) (scope_in g old from)))
+    IfOk-weaker c.bind.result (λ w. IsStep tree old new w (λ g. bind_local (name_in g.tree.text c.args.name) (type_there g from.declared) (scope_in g old from)))
     (λ w. IsStep tree old new w (λ g. bind_as (scope_in g old from).declaring (name_in g.tree.text c.args.name) (scope_in g old from)))
-    (λ w h. step_as tree old new w (λ g. bind (name_in g.tree.text c.args.name) (type_there g from.declared) (scope_in g old from))
+    (λ w h. step_as tree old new w (λ g. bind_local (name_in g.tree.text c.args.name) (type_there g from.declared) (scope_in g old from))
     (λ g. bind_as (scope_in g old from).declaring (name_in g.tree.text c.args.name) (scope_in g old from)) h
     (λ t v. sym (ap (λ d. bind_as (declaring_of d) (name_in tree.text c.args.name) (scope_in (setting t v tree) old from)) c.in-Locals.is)))
     c.bind.ensures

@@ -11,4 +11,4 @@ returns-clause-within c = c.conclude.ensures.within c.args.types.now c.class_ver
 pub returns-clause-shown : goal.returns-clause-shown
 returns-clause-shown c = λ s look e single.
     c.conclude.ensures.shown c.args.types.now look
-    ∙ ap (λ (v : rules.Verdict). concluded c.args.place v (least_shown c.args.x.least)) (c.class_verdict-verdict.ensures.says (in_class c.args.name.now s) e single (c.class_named-class.ensures s e))
+    ∙ ap (λ (v : rules.Judgement). concluded c.args.place v (least_shown c.args.x.least)) (c.class_verdict-verdict.ensures.says (in_class c.args.name.now s) e single (c.class_named-class.ensures s e))

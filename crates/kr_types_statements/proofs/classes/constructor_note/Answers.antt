@@ -14,5 +14,5 @@ pub returns-clause-shown : goal.returns-clause-shown
 returns-clause-shown c = λ s look e single k linked.
     let l = c.args.types.now in
     c.conclude.ensures.shown l look
-    ∙ ap (λ (v : rules.Verdict). concluded c.args.place v (least_shown c.earlier.result)) (c.constructor_verdict-verdict.ensures.says s look e single k linked)
+    ∙ ap (λ (v : rules.Judgement). concluded c.args.place v (least_shown c.earlier.result)) (c.constructor_verdict-verdict.ensures.says s look e single k linked)
     ∙ ap (concluded c.args.place (on_maybe (λ t. rules.implied_rule s) (known_shown l look c.args.call.known))) (c.earlier.ensures ∙ ap (λ (o : Option Fault). sooner o (least_shown c.args.body.least)) c.earlier-head.ensures)

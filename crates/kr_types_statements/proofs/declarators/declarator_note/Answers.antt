@@ -44,12 +44,12 @@ returns-clause-shown c = λ known look kept linked.
     let e = known_shown l look c.args.x.known in
     let here : c.at-here.result ≡ slice_index_or c.args.scopes.now.within.items c.args.node nowhere = c.at-here.ensures in
     let has : c.is_some-has_value.result ≡ is_some (value_at known p) = c.is_some-has_value.ensures ∙ sym (some_shown c.value_at.result) ∙ ap (λ v. is_some v) (c.value_at.ensures known kept) in
-    let rule : Option JavaType → rules.Verdict = declares t s.declaring s.declared (rules.is_new s n (meant s n)) (is_some (value_at known p)) in
+    let rule : Option JavaType → rules.Judgement = declares t s.declaring s.declared (rules.is_new s n (meant s n)) (is_some (value_at known p)) in
     let said : verdict_shown l c.declarator_verdict-verdict.result ≡ with_maybe rule o =
     said_likewise t o (verdict_shown l c.declarator_verdict-verdict.result) (declaring_of c.at-here.result.declaring) s.declaring (type_at l c.type_of_node-declared.result) s.declared
     c.is_new-is_new_name.result (rules.is_new s n (meant s n)) c.is_some-has_value.result (is_some (value_at known p))
     (c.declarator_verdict-verdict.ensures.says files c.requires.members) (ap (λ (w : Within). declaring_of w.declaring) here)
     (declared.type_is ∙ ap (λ (w : Within). type_there g w.declared) here) (c.is_new-is_new_name.ensures known) has in
     c.conclude.ensures.shown l look
-    ∙ ap (λ (v : rules.Verdict). concluded p v (least_shown c.args.x.least))
+    ∙ ap (λ (v : rules.Judgement). concluded p v (least_shown c.args.x.least))
     (said ∙ c.maybe_type-initial.ensures.shown l look rule linked ∙ maybe_same rule (rules.declaration_rule s s.declaring p n) (declares_is s s.declaring p n) e)

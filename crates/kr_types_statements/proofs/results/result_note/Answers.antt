@@ -16,4 +16,4 @@ returns-clause-within c = c.conclude.ensures.within c.args.types.now c.result_va
 pub returns-clause-shown : goal.returns-clause-shown
 returns-clause-shown c = λ g bs look e t.
     let number = c.type_of_node-number.ensures g e t in
-    c.conclude.ensures.shown c.args.types.now look ∙ ap (λ (v : rules.Verdict). concluded c.args.place v None) (c.result_value_rule-verdict.ensures.says g bs number.type_is)
+    c.conclude.ensures.shown c.args.types.now look ∙ ap (λ (v : rules.Judgement). concluded c.args.place v None) (c.result_value_rule-verdict.ensures.says g bs number.type_is)

@@ -21,5 +21,5 @@ returns-clause-shown c = λ g bs look e t linked.
     let l = c.args.types.now in
     let number = c.type_of_node-number.ensures g e t in
     c.conclude.ensures.shown l look
-    ∙ ap (λ (v : rules.Verdict). concluded c.args.place v (least_shown c.args.x.least))
+    ∙ ap (λ (v : rules.Judgement). concluded c.args.place v (least_shown c.args.x.least))
     (c.return_verdict-verdict.ensures.says c.args.trees.now g bs c.requires.members e number.type_is ∙ c.maybe_type-value.ensures.shown l look (rules.return_rule (scope_in g bs c.args.here)) linked)

@@ -14,5 +14,5 @@ returns-clause-shown c = λ look.
     let l = c.args.types.now in
     let x = known_shown l look c.args.x.known in
     c.conclude.ensures.shown c.array_verdict.new.types look
-    ∙ ap (λ (v : rules.Verdict). concluded c.args.place v (least_shown c.args.x.least))
+    ∙ ap (λ (v : rules.Judgement). concluded c.args.place v (least_shown c.args.x.least))
     (c.in_ok-verdict.ensures.says ∙ ap (with_one rules.array_rule) (c.part_type.ensures.shown l look) ∙ asks_one rules.array_rule x)

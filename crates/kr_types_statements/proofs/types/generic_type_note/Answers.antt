@@ -23,8 +23,8 @@ pub returns-clause-shown : goal.returns-clause-shown
 returns-clause-shown c = λ s look e.
     let l = c.args.types.now in
     let x = known_shown l look c.args.x.known in
-    let f : JavaType → JavaType → rules.Verdict = λ h t. rules.type_rule (applied h t) in
+    let f : JavaType → JavaType → rules.Judgement = λ h t. rules.type_rule (applied h t) in
     let number = c.type_of_node-number.ensures (setting s.table [] (file_at c.args.trees.now c.args.file)) e refl in
     c.conclude.ensures.shown c.generic_verdict.new.types look
-    ∙ ap (λ (v : rules.Verdict). concluded c.args.place v (least_shown c.args.x.least))
+    ∙ ap (λ (v : rules.Judgement). concluded c.args.place v (least_shown c.args.x.least))
     (c.in_ok-verdict.ensures.says ∙ ap (with_one (f (type_at l c.type_of_node-number.result))) (c.part_type.ensures.shown l look) ∙ asks_one (f (type_at l c.type_of_node-number.result)) x ∙ ap (λ h. on_one (f h) x) number.type_is)

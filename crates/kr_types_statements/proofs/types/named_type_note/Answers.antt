@@ -16,4 +16,4 @@ returns-clause-within c = c.conclude.ensures.within c.args.types.now c.type_rule
 pub returns-clause-shown : goal.returns-clause-shown
 returns-clause-shown c = λ s look e.
     let number = c.type_of_node-number.ensures (setting s.table [] (file_at c.args.trees.now c.args.file)) e refl in
-    c.conclude.ensures.shown c.args.types.now look ∙ ap (λ (v : rules.Verdict). concluded c.args.place v None) (c.type_rule-verdict.ensures.says ∙ ap rules.type_rule number.type_is)
+    c.conclude.ensures.shown c.args.types.now look ∙ ap (λ (v : rules.Judgement). concluded c.args.place v None) (c.type_rule-verdict.ensures.says ∙ ap rules.type_rule number.type_is)

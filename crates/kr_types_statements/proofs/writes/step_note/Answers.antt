@@ -19,4 +19,4 @@ returns-clause-shown c = λ files g bs look h e.
     let target = typed_shown l c.target_of-target.result in
     let f = rules.step_rule s target in
     c.conclude.ensures.shown l look
-    ∙ ap (λ (v : rules.Verdict). concluded c.args.place v (least_shown c.args.x.least)) (c.step_verdict-verdict.ensures.says files g bs h e ∙ ap (with_one f) (c.part_type.ensures.shown l look) ∙ asks_one f x ∙ step_target s target x x (c.target_of-target.ensures l look))
+    ∙ ap (λ (v : rules.Judgement). concluded c.args.place v (least_shown c.args.x.least)) (c.step_verdict-verdict.ensures.says files g bs h e ∙ ap (with_one f) (c.part_type.ensures.shown l look) ∙ asks_one f x ∙ step_target s target x x (c.target_of-target.ensures l look))

@@ -7,7 +7,7 @@ returns-then-len-ge-MOST c = λ done is.
     let full : 4096 ≤ length c.args.kept.now.items = grind arith in
     keeps_front c.args.kept.now.items done c.args.number is full
 
-pub returns-in-Ok : goal.returns-in-Ok
-returns-in-Ok c = λ done is.
+pub returns : goal.returns
+returns c = λ done is.
     let room : length c.args.kept.now.items < 4096 = grind arith in
-    c.in-Ok.ensures.items ∙ keeps_more c.args.kept.now.items done c.args.number is room
+    c.in_ok-push.ensures.items ∙ keeps_more c.args.kept.now.items done c.args.number is room

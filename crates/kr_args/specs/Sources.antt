@@ -1,0 +1,15 @@
+-- Between crates: how many sources a command has.
+use Rattle.std.specs.Prelude.{◌≤◌, List, length}
+use Rattle.clap.specs.Words.{Text}
+use Rattle.kr_args.specs.Definition.{MOST_SOURCES}
+use Rattle.kr_args.specs.declared.forms.Command.{Command}
+use Rattle.kr_args.specs.declared.forms.Command.TheVariants as commands
+
+abbrev pub AreSources : List Text → Type 0
+AreSources sources = (1 ≤ length sources) × (length sources ≤ MOST_SOURCES)
+
+-- where it reads files, it has from one source to the most
+abbrev pub HasSources : Command → Type 0
+HasSources (commands.List ask) = AreSources ask.sources
+HasSources (commands.Check fin sources) = AreSources sources
+HasSources (commands.Demo n) = Unit {0}

@@ -1,0 +1,13 @@
+use Rattle.std.proofs.Common.{◌∙◌, ℕ, List, sym, subst, length}
+use Rattle.kr_mean.specs.Problem.{slots}
+use Rattle.kr_mean.specs.Readings.{AllBelow}
+use Rattle.kr_space_layout.specs.Bounds.{bare}
+use Rattle.kr_build_structure.proofs.Below.{vector_long, walk_inside}
+use Rattle.kr_build_structure.proofs.structure.structure_of.Goals as goal
+
+pub copy-requires-clause-long : goal.copy-requires-clause-long
+copy-requires-clause-long g c = c.slots-slots.ensures ∙ sym (vector_long (bare c.args.layout.now) (g.C.Candidates.vector c.args.candidate.now) c.requires.vector)
+
+pub values_at-requires-clause-inside : goal.values_at-requires-clause-inside
+values_at-requires-clause-inside g c =
+    subst (λ (ss : List ℕ). AllBelow (length (slots (bare c.args.layout.now))) ss) (sym (c.slots.ensures ∙ c.in_ok-walk.ensures)) (walk_inside (bare c.args.layout.now) c.requires.well c.copy.new.vector)

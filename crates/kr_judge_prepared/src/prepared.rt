@@ -1,0 +1,102 @@
+// What is searched and written.
+ghost use Rattle.std.specs.Prelude.{◌≡◌, ◌<◌, ◌^◌, All, IfOk, length, map};
+ghost use Rattle.kr_classes_table.specs.Table.{fields_of};
+ghost use Rattle.kr_classes_members.specs.Shown.{IsField, field_shown, table_in};
+ghost use Rattle.kr_mean.specs.Problem.{slots};
+ghost use Rattle.kr_mean.specs.WellFormed.{IsWellFormed};
+ghost use Rattle.kr_laws_pruning.specs.Laws.{IsLawful};
+ghost use Rattle.kr_space_layout.specs.Bounds.{problem_with};
+ghost use Rattle.kr_space_problem.specs.Posed.{posed};
+ghost use Rattle.kr_judge_prepared.specs.Preparing.{IsRunBy};
+
+use crate::accepted::Accepted;
+use crate::fields::{fields_at, fields_of_classes};
+use kr_base::NoMemory;
+use kr_classes_members::Field;
+use kr_classes_table::ClassId;
+use kr_judge::Predicate;
+use kr_laws_pruning::lawful_law;
+use kr_space_layout::Layout;
+use kr_space_problem::Problem;
+use std::alloc::Global;
+use std::marker::Model;
+
+/// An accepted problem of any mode, with the code of its predicate and the fields of each class's objects. Contracts see the
+/// problem and the code.
+#[derive(Drop)]
+pub struct Prepared {
+    accepted: Accepted,
+    predicate: Predicate,
+    rows: Vec<Vec<Field>>,
+}
+
+impl Model for Prepared {
+    ghost use Rattle.kr_judge_prepared.specs.Fields.{rows_of};
+    ghost use Rattle.kr_judge_prepared.specs.Preparing.{IsPrepared, Ready};
+
+    ghost Value = { Ready };
+
+    ghost view = { λ p. record { problem = p.accepted; predicate = p.predicate } };
+
+    ghost invariant = { λ p. IsPrepared p.accepted p.predicate (rows_of p.rows.items) };
+}
+
+impl Prepared {
+    /// The problem, whose predicate is this code.
+    pub fn new(
+        alloc: Global,
+        accepted: Accepted,
+        predicate: Predicate,
+    ) -> Result<Prepared, NoMemory>
+        requires { IsRunBy (posed accepted) predicate }
+        ensures { IfOk result (λ prepared. prepared.problem ≡ accepted) }
+    {
+        let rows = fields_of_classes(alloc, &accepted.problem().program.table.members)?;
+        Ok(Prepared {
+            accepted,
+            predicate,
+            rows,
+        })
+    }
+
+    pub fn problem(&self) -> &Problem
+        ensures { result.now ≡ self.now.problem }
+    {
+        self.accepted.problem()
+    }
+
+    /// The slots of its candidates.
+    pub fn layout(&self) -> &Layout
+        ensures laid { posed self.now.problem ≡ problem_with (posed self.now.problem).program result.now }
+        ensures same { result.now ≡ self.now.problem.layout }
+    {
+        &self.accepted.problem().layout
+    }
+
+    /// What has to hold, as code of its program.
+    pub fn predicate(&self) -> &Predicate
+        ensures run { IsRunBy (posed self.now.problem) result.now }
+        ensures same { result.now ≡ self.now.predicate }
+    {
+        &self.predicate
+    }
+
+    /// The fields of a class's objects, inherited ones first; none of what is no class.
+    pub fn fields(&self, class: ClassId) -> &[Field]
+        ensures fields { All (IsField self.now.problem.program.trees.items) result.now }
+        ensures shown { map (field_shown self.now.problem.program.trees.items) result.now ≡ fields_of (table_in self.now.problem.program.trees.items) class }
+    {
+        fields_at(self.rows.as_slice(), class)
+    }
+
+    /// What holds of it: it is well formed; its orders fork and rename, and its runs read only what is reachable, as those of
+    /// each pure problem do; and its slots have numbers.
+    pub fn laws(&self)
+        ensures well { IsWellFormed (posed self.now.problem) }
+        ensures lawful { IsLawful (posed self.now.problem) }
+        ensures small { length (slots (posed self.now.problem)) < 2 ^ 31 }
+    {
+        let _ = self.accepted.problem();
+        lawful_law();
+    }
+}

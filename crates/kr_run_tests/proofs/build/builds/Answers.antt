@@ -1,9 +1,0 @@
-use Rattle.std.proofs.Common.{ℕ, List, sym, subst}
-use Rattle.kr_mean.specs.Space.{IsVector, space_of}
-use Rattle.kr_space_layout.specs.Bounds.{Bounds, bare}
-use Rattle.kr_run_tests.specs.TwoNodes.{two_nodes}
-use Rattle.kr_run_tests.proofs.TwoNodes.{is_vector}
-use Rattle.kr_run_tests.proofs.build.builds.Goals as goal
-
-pub build-requires-clause-vector : goal.build-requires-clause-vector
-build-requires-clause-vector g c = subst (λ (b : Bounds). IsVector (space_of (bare b)) c.in_ok-vector.vector) (sym c.in_ok-layout.ensures) (subst (λ (v : List ℕ). IsVector (space_of (bare two_nodes)) v) (sym c.in_ok-vector.ensures) is_vector)

@@ -1,0 +1,20 @@
+use Rattle.std.proofs.Common.{◌∙◌, sym, subst}
+use Rattle.kr_mean.specs.Space.{Space, IsVector}
+use Rattle.kr_space_problem.specs.Posed.{posed}
+use Rattle.kr_judge_prepared.proofs.Laid.{space_same, well_formed}
+use Rattle.kr_scan.proofs.Rows.{row_is, structure_same}
+use Rattle.kr_scan.proofs.row.row_for.Goals as goal
+
+pub structure_of-requires-clause-well : goal.structure_of-requires-clause-well
+structure_of-requires-clause-well g c = well_formed (posed c.args.prepared.now.problem) c.layout-layout.result.now c.layout-layout.ensures.laid c.laws.ensures.well
+
+pub structure_of-requires-clause-vector : goal.structure_of-requires-clause-vector
+structure_of-requires-clause-vector g c =
+    subst (λ (s : Space). IsVector s (g.C.Candidates.vector c.args.candidate.now)) (space_same (posed c.args.prepared.now.problem) c.layout-layout.result.now c.layout-layout.ensures.laid) c.requires.vector
+
+pub returns : goal.returns
+returns g c =
+    let P = posed c.args.prepared.now.problem in
+    let v = g.C.Candidates.vector c.args.candidate.now in
+    row_is P v c.in_ok-key.key c.in_ok-structure.structure c.requires.mode (c.in_ok-key.ensures ∙ c.requires.key)
+    (c.in_ok-structure.ensures ∙ sym (structure_same P c.layout-layout.result.now v c.layout-layout.ensures.laid))

@@ -1,0 +1,18 @@
+//! Tests of finitizations and of the problems that they make of programs. What a test looks at is borrowed by small functions that
+//! answer whether it is as it should be: a step that may fail while a program, a document or a layout is owned makes a proof long.
+#![tactic(auto)]
+
+#[cfg(test)]
+mod arrays;
+#[cfg(test)]
+mod files;
+#[cfg(test)]
+mod fin;
+#[cfg(test)]
+mod meanings;
+#[cfg(test)]
+mod problem;
+#[cfg(test)]
+mod space;
+#[cfg(test)]
+mod space_problems;
