@@ -11,6 +11,10 @@ const CELL: &str = "class Cell { int v; boolean repOk() { return v > 0; } }";
 
 const TWO_FIELDS: &str = "class P { int v; int w; boolean repOk() { return v > 0; } }";
 
+/// It counts up to 2, and says that it always does.
+const COUNTER: &str =
+    "class Cell { int v; boolean repOk() { return v < 9; }\n//@ ensures v == \\old(v) + 1;\nvoid inc() { if (v < 2) v = v + 1; } }";
+
 const FIN: &str =
     "root = \"Cell\"\nfuel = 1000\n[objects]\nCell = 1\n[fields]\n\"Cell.v\" = [{ from = 0, to = 2 }]\n";
 
@@ -152,6 +156,50 @@ fn small_steps(rt: HostRuntime) -> Result<(), Fail> {
             let ended = ends_into(rt.alloc(), words, 1024, step, &[], status, text.as_bytes())?;
             assert!(rt; ended, "{step}, {text}");
         }
+    }
+    Ok(())
+}
+
+/// Whether a call over the counter's files ends so.
+fn counts(alloc: Global, words: &[&str], status: u8, text: &str) -> Result<bool, NoMemory> {
+    let mut out = sink_of(alloc, 1024, 1024, &[])?;
+    ends_over(
+        alloc,
+        words,
+        COUNTER,
+        &[],
+        &mut out,
+        status,
+        text.as_bytes(),
+    )
+}
+
+#[test]
+fn tests_of_a_method(rt: HostRuntime) -> Result<(), Fail> {
+    let rows: [(&[&str], u8, &str); 4] = [
+        (
+            &["test", "fin.toml", "inc", "Cell.java"],
+            1,
+            "0.0 pass Cell#0{v=0}\n0.1 pass Cell#0{v=1}\n0.2 ensures 1 Cell#0{v=2}\nvalid 3 failing 1 tried 3\n",
+        ),
+        (
+            &["test", "fin.toml", "--limit", "2", "inc", "Cell.java"],
+            0,
+            "0.0 pass Cell#0{v=0}\n0.1 pass Cell#0{v=1}\nmore 0.1\n",
+        ),
+        (
+            &["test", "fin.toml", "inc", "Cell.java", "--from", "0.2"],
+            0,
+            "valid 0 failing 0 tried 0\n",
+        ),
+        (
+            &["test", "fin.toml", "none", "Cell.java"],
+            4,
+            "fin.toml: S8 method\n",
+        ),
+    ];
+    for (words, status, text) in rows {
+        assert!(rt; counts(rt.alloc(), words, status, text)?, "{text}");
     }
     Ok(())
 }

@@ -13,16 +13,19 @@ fn push_words(words: &mut Words, texts: &[&str]) -> Result<(), Fail> {
     Ok(())
 }
 
-/// What a listing is asked for, in one line.
-fn shown_ask(alloc: Global, ask: &Ask) -> Result<String, Fail> {
+/// What a listing, or the test of a method, is asked for, in one line.
+fn shown_ask(alloc: Global, name: &str, ask: &Ask) -> Result<String, Fail> {
     let fin = ask.fin.as_str();
     let sources = ask.sources.len();
     let from = ask.from.numbers();
     let limit = ask.limit;
     Ok(match &ask.to {
-        Bound::End => format!(in alloc; "list {fin} {sources} {from:?} end {limit}")?,
+        Bound::End => format!(in alloc; "{name} {fin} {sources} {from:?} end {limit}")?,
         Bound::At(cut) => {
-            format!(in alloc; "list {fin} {sources} {from:?} {:?} {limit}", cut.numbers())?
+            format!(in alloc;
+                "{name} {fin} {sources} {from:?} {:?} {limit}",
+                cut.numbers()
+            )?
         }
     })
 }
@@ -30,7 +33,8 @@ fn shown_ask(alloc: Global, ask: &Ask) -> Result<String, Fail> {
 /// A command, or why there is none, in one line.
 fn shown(alloc: Global, answer: &Result<Command, ArgRefusal>) -> Result<String, Fail> {
     match answer {
-        Ok(Command::List(ask)) => shown_ask(alloc, ask),
+        Ok(Command::List(ask)) => shown_ask(alloc, "list", ask),
+        Ok(Command::Test { method, ask }) => shown_ask(alloc, method.as_str(), ask),
         Ok(Command::Check { fin, sources }) => {
             let fin = fin.as_str();
             let count = sources.len();
@@ -53,7 +57,7 @@ fn is_command(alloc: Global, texts: &[&str], line: &str) -> Result<bool, Fail> {
 
 #[test]
 fn commands(rt: HostRuntime) -> Result<(), Fail> {
-    let rows: [(&[&str], &str); 9] = [
+    let rows: [(&[&str], &str); 10] = [
         (&["list", "f", "a"], "list f 1 [] end 4294967295"),
         (
             &[
@@ -67,7 +71,11 @@ fn commands(rt: HostRuntime) -> Result<(), Fail> {
         (&[], "usage"),
         (&["list", "f", "a", "--from", "01"], "usage"),
         (&["list", "f", "a", "--limit", "1", "b"], "usage"),
-        (&["test", "f", "m", "a"], "usage"),
+        (
+            &["test", "f", "m", "a", "--from", "0.2"],
+            "m f 1 [0, 2] end 4294967295",
+        ),
+        (&["test", "f", "a"], "usage"),
     ];
     for (texts, answer) in rows {
         assert!(rt; is_command(rt.alloc(), texts, answer)?, "{answer}");

@@ -21,7 +21,7 @@ use Rattle.kr_mean_rows.specs.Listings.{loops, plus}
 use Rattle.kr_report.specs.Texts.{structure_text, value_text, verdict_text, tested_text}
 use Rattle.kr_report.specs.Reports.{listing_answer, is_failing}
 use Rattle.korat_top.specs.Answer.{tally_of}
-use Rattle.korat_top.specs.Examples.{lines_of, told, told_by, report_of, WorkedLines}
+use Rattle.korat_top.specs.Examples.{counter, never_right, lines_of, told, told_by, report_of, WorkedLines}
 
 two_nodes_lines : lines_of two_nodes ≡ codes "0.0 R#0{next=null}\n" ∷ codes "0.1 R#0{next=R#0}\n" ∷ codes "0.2.0 R#0{next=R#1} R#1{next=null}\n" ∷ codes "0.2.1 R#0{next=R#1} R#1{next=R#0}\n" ∷ codes "0.2.2 R#0{next=R#1} R#1{next=R#1}\n" ∷ []
 unfolding digits less space_of heap_of walk table_of values_of is_constant evaluated judged bind eval exec value body_of verdict_of end_on read_slots order_of mark_of all_of all_entries structure_text listing_answer
@@ -87,6 +87,22 @@ plus_report : report_of plus [] 9 ≡ told 0 (codes "0.1.0 pass (x=1) Cell#0{v=0
 unfolding digits less space_of heap_of walk table_of values_of is_constant evaluated judged bind eval exec value body_of verdict_of end_on read_slots order_of mark_of all_of all_entries structure_text listing_answer
 plus_report = refl
 
+counter_report : report_of counter [] 9 ≡ told 1 (codes "0.0.0 pass R#0{v=0,o=null}\n0.1.0 pass R#0{v=1,o=null}\n0.2.0 ensures 1 R#0{v=2,o=null}\n0.3.0 ensures 1 R#0{v=3,o=null}\nvalid 4 failing 2 tried 4\n")
+unfolding digits less space_of heap_of walk table_of values_of is_constant evaluated judged bind eval exec value body_of verdict_of end_on read_slots order_of mark_of all_of all_entries structure_text listing_answer
+counter_report = refl
+
+counter_cut_behind_a_failing_row : report_of counter [] 3 ≡ told 1 (codes "0.0.0 pass R#0{v=0,o=null}\n0.1.0 pass R#0{v=1,o=null}\n0.2.0 ensures 1 R#0{v=2,o=null}\nmore 0.2.0\n")
+unfolding digits less space_of heap_of walk table_of values_of is_constant evaluated judged bind eval exec value body_of verdict_of end_on read_slots order_of mark_of all_of all_entries structure_text listing_answer
+counter_cut_behind_a_failing_row = refl
+
+counter_cut_before_a_failing_row : report_of counter [] 2 ≡ told 0 (codes "0.0.0 pass R#0{v=0,o=null}\n0.1.0 pass R#0{v=1,o=null}\nmore 0.1.0\n")
+unfolding digits less space_of heap_of walk table_of values_of is_constant evaluated judged bind eval exec value body_of verdict_of end_on read_slots order_of mark_of all_of all_entries structure_text listing_answer
+counter_cut_before_a_failing_row = refl
+
+spent_behind_failing_rows : report_of never_right [] 9 ≡ told 5 (codes "0.0.0 ensures 1 R#0{v=0,o=null}\n0.1.0 ensures 1 R#0{v=1,o=null}\nspent 0.2\n")
+unfolding digits less space_of heap_of walk table_of values_of is_constant evaluated judged bind eval exec value body_of verdict_of end_on read_slots order_of mark_of all_of all_entries structure_text listing_answer
+spent_behind_failing_rows = refl
+
 booleans : map (value_text two_ints) (Truth true ∷ Truth false ∷ []) ≡ codes "true" ∷ codes "false" ∷ []
 unfolding digits less space_of heap_of walk table_of values_of is_constant evaluated judged bind eval exec value body_of verdict_of end_on read_slots order_of mark_of all_of all_entries structure_text listing_answer
 booleans = refl
@@ -121,6 +137,10 @@ worked = record {
   cell_counted = cell_counted;
   counted_up_to_spent = counted_up_to_spent;
   plus_report = plus_report;
+  counter_report = counter_report;
+  counter_cut_behind_a_failing_row = counter_cut_behind_a_failing_row;
+  counter_cut_before_a_failing_row = counter_cut_before_a_failing_row;
+  spent_behind_failing_rows = spent_behind_failing_rows;
   booleans = booleans;
   verdicts = verdicts;
   failing = failing;

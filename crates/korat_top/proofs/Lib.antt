@@ -2,6 +2,7 @@ pub mod Small
 pub mod Calls
 pub mod Classes
 pub mod Outcomes
+pub mod Chained
 pub mod Told
 pub mod Answered
 pub mod OneAnswer

@@ -23,6 +23,8 @@ use Rattle.kr_fin.specs.declared.document.FinDoc.{FinDoc}
 use Rattle.kr_space_meaning.specs.Order.{Fault as SpaceFault, rule_code as space_code}
 use Rattle.kr_fin.specs.Order.{Fault, rule_code as fin_code}
 use Rattle.kr_mean.specs.Problem.{Problem}
+use Rattle.kr_mean.specs.declared.mode.Mode.{Mode}
+use Rattle.kr_mean.specs.declared.mode.Mode.TheVariants.{List as Listing, Method as Testing}
 use Rattle.kr_classes_table.specs.Rules.{is_earlier, less_or}
 use Rattle.kr_report.specs.Texts.{usage_text}
 use Rattle.kr_report.specs.Reports.{Answer, line_answer}
@@ -30,13 +32,15 @@ use Rattle.korat_top.specs.declared.refusal.InputFile.{InputFile}
 use Rattle.korat_top.specs.declared.refusal.InputFile.TheVariants as input
 use Rattle.korat_top.specs.declared.rules.CallRule.TheVariants.{Impure}
 use Rattle.korat_top.specs.Refusals.{Inputs, Refusal, at_place, call_code, of_finitization, type_code}
-use Rattle.korat_top.specs.Steps.{Held, each, made, reading, lexing, parsing, growing, classing, stating, typing, spacing, purifying, from_problem, from_document, from_trees, from_table, from_grown, from_texts, checking, demonstrating}
+use Rattle.korat_top.specs.Steps.{Held, Judges, Checks}
+use Rattle.korat_top.specs.Chains.{each, made, reading, reading_source, lexing, parsing, growing, classing, stating, typing, spacing, purifying, from_problem, from_document, from_trees, from_table, from_grown, from_texts, from_fin, checking}
 use Rattle.kr_demo.specs.Texts.{source_text, finitization_text}
 use Rattle.kr_args.specs.declared.forms.Command.{Command}
 use Rattle.kr_args.specs.declared.forms.Command.TheVariants as commands
 use Rattle.korat_top.specs.Answer.{IsAnswer, usage, refused, served, files_of, inputs_of, refusal_answer, report_of, steps_of}
 use Rattle.korat_top.specs.Ends.{OneAnswer}
 use Rattle.korat_top.proofs.Outcomes.{HasOne, one_then, one_each}
+use Rattle.korat_top.proofs.Chained.{from_checks, from_judges}
 
 -- ---- each step has one outcome
 
@@ -161,11 +165,11 @@ one_stating fin (Err r) (Err t) x y =
     let faults : x.0 ≡ y.0 = cc (same) in
     ap Err (x.2 ∙ (ap (λ (f : Fault). of_finitization (fin_code f.rule) f.item) faults ∙ sym y.2))
 
-one_spacing : (trees : List Tree) (document : FinDoc) → HasOne (spacing trees document)
-one_spacing trees document (Ok a) (Ok b) x y = let same = sym x ∙ y in cc (same)
-one_spacing trees document (Ok a) (Err t) x y = let differ = sym x ∙ y.1 in absurd (cc (differ))
-one_spacing trees document (Err r) (Ok b) x y = let differ = sym x.1 ∙ y in absurd (cc (differ))
-one_spacing trees document (Err r) (Err t) x y =
+one_spacing : (mode : Mode) (trees : List Tree) (document : FinDoc) → HasOne (spacing mode trees document)
+one_spacing mode trees document (Ok a) (Ok b) x y = let same = sym x ∙ y in cc (same)
+one_spacing mode trees document (Ok a) (Err t) x y = let differ = sym x ∙ y.1 in absurd (cc (differ))
+one_spacing mode trees document (Err r) (Ok b) x y = let differ = sym x.1 ∙ y in absurd (cc (differ))
+one_spacing mode trees document (Err r) (Err t) x y =
     let same = sym x.1 ∙ y.1 in
     let faults : x.0 ≡ y.0 = cc (same) in
     ap Err (x.2 ∙ (ap (λ (f : SpaceFault). of_finitization (space_code f.rule) f.item) faults ∙ sym y.2))
@@ -211,35 +215,40 @@ one_made a (Err r) z x y = absurd x
 one_from_problem : (problem : Problem) → HasOne (from_problem problem)
 one_from_problem problem = one_then (purifying problem) (λ done. made problem) (one_purifying problem) (λ done. one_made problem)
 
-one_from_document : (trees : List Tree) (document : FinDoc) → HasOne (from_document trees document)
-one_from_document trees document = one_then (spacing trees document) from_problem (one_spacing trees document) one_from_problem
+one_from_document : (mode : Mode) (trees : List Tree) (document : FinDoc) → HasOne (from_document mode trees document)
+one_from_document mode trees document = one_then (spacing mode trees document) from_problem (one_spacing mode trees document) one_from_problem
 
-one_from_trees : (fin : List ℕ) (trees : List Tree) → HasOne (from_trees fin trees)
-one_from_trees fin trees = one_then (stating fin) (λ document. from_document trees document) (one_stating fin) (λ document. one_from_document trees document)
+one_from_trees : (mode : Mode) (fin : List ℕ) (trees : List Tree) → HasOne (from_trees mode fin trees)
+one_from_trees mode fin trees = one_then (stating fin) (λ document. from_document mode trees document) (one_stating fin) (λ document. one_from_document mode trees document)
 
-one_from_table : (fin : List ℕ) (trees : List Tree) → HasOne (from_table fin trees)
-one_from_table fin trees = one_then (typing trees) (λ done. from_trees fin trees) (one_typing trees) (λ done. one_from_trees fin trees)
+one_from_table : (mode : Mode) (fin : List ℕ) (trees : List Tree) → HasOne (from_table mode fin trees)
+one_from_table mode fin trees = one_then (typing trees) (λ done. from_trees mode fin trees) (one_typing trees) (λ done. one_from_trees mode fin trees)
 
-one_from_grown : (fin : List ℕ) (trees : List Tree) → HasOne (from_grown fin trees)
-one_from_grown fin trees = one_then (classing trees) (λ table. from_table fin trees) (one_classing trees) (λ table. one_from_table fin trees)
+one_from_grown : (mode : Mode) (fin : List ℕ) (trees : List Tree) → HasOne (from_grown mode fin trees)
+one_from_grown mode fin trees = one_then (classing trees) (λ table. from_table mode fin trees) (one_classing trees) (λ table. one_from_table mode fin trees)
 
-one_from_texts : Laws → (fin : List ℕ) (sources : List (List ℕ)) → HasOne (from_texts fin sources)
-one_from_texts laws fin sources = one_then (each growing 0 sources) (λ trees. from_grown fin trees) (one_each growing (one_growing laws) 0 sources) (λ trees. one_from_grown fin trees)
+one_from_texts : Laws → (mode : Mode) (fin : List ℕ) (sources : List (List ℕ)) → HasOne (from_texts mode fin sources)
+one_from_texts laws mode fin sources = one_then (each growing 0 sources) (λ trees. from_grown mode fin trees) (one_each growing (one_growing laws) 0 sources) (λ trees. one_from_grown mode fin trees)
 
-one_checking : Laws → (held : Held) (inputs : Inputs) → HasOne (checking held inputs)
-one_checking laws held inputs =
-    one_then _ _ (one_reading held input.Finitization inputs.fin) (λ fin.
-    one_then _ _ (one_each (λ n name. reading held (input.Source n) name) (λ n name. one_reading held (input.Source n) name) 0 inputs.sources) (λ sources.
-    one_from_texts laws fin sources))
+one_checking : Laws → (held : Held) (mode : Mode) (inputs : Inputs) → HasOne (checking held mode inputs)
+one_checking laws held mode inputs =
+    one_then (reading held input.Finitization inputs.fin) (λ fin. from_fin held mode inputs fin) (one_reading held input.Finitization inputs.fin) (λ fin.
+    one_then (each (reading_source held) 0 inputs.sources) (λ sources. from_texts mode fin sources)
+    (one_each (reading_source held) (λ n name. one_reading held (input.Source n) name) 0 inputs.sources) (λ sources. one_from_texts laws mode fin sources))
 
-one_demonstrating : Laws → (n : ℕ) → HasOne (demonstrating n)
-unfolding demonstrating
-one_demonstrating laws n = one_from_texts laws (finitization_text n) (source_text n ∷ [])
+-- ---- the same of the steps read top down
+
+one_judging : Laws → (mode : Mode) (fin : List ℕ) (sources : List (List ℕ)) → HasOne (Judges mode fin sources)
+one_judging laws mode fin sources x y h k = one_from_texts laws mode fin sources x y (from_judges mode fin sources x h) (from_judges mode fin sources y k)
+
+one_of_files : Laws → (held : Held) (mode : Mode) (inputs : Inputs) → HasOne (Checks held mode inputs)
+one_of_files laws held mode inputs x y h k = one_checking laws held mode inputs x y (from_checks held mode inputs x h) (from_checks held mode inputs y k)
 
 one_steps : Laws → (held : Held) (command : Command) → HasOne (steps_of held command)
-one_steps laws held (commands.List ask) = one_checking laws held (files_of ask.fin ask.sources)
-one_steps laws held (commands.Check fin sources) = one_checking laws held (files_of fin sources)
-one_steps laws held (commands.Demo n) = one_demonstrating laws n
+one_steps laws held (commands.List ask) = one_of_files laws held Listing (files_of ask.fin ask.sources)
+one_steps laws held (commands.Test method ask) = one_of_files laws held (Testing method) (files_of ask.fin ask.sources)
+one_steps laws held (commands.Check fin sources) = one_of_files laws held Listing (files_of fin sources)
+one_steps laws held (commands.Demo n) = one_judging laws Listing (finitization_text n) (source_text n ∷ [])
 
 -- ---- one answer
 

@@ -5,7 +5,7 @@ use Rattle.std.specs.Prelude.{Result, Ok, Err}
 use Rattle.korat_top.specs.declared.refusal.Stop.{Stop}
 use Rattle.korat_top.specs.declared.refusal.Stop.TheVariants.{Read, Refused, Memory}
 use Rattle.korat_top.specs.Refusals.{Refusal, refusal_of}
-use Rattle.korat_top.specs.Steps.{and_then, each}
+use Rattle.korat_top.specs.Chains.{and_then, each}
 use Rattle.korat_top.specs.Found.{Meets, StopsBy}
 
 -- ---- a step over items in order

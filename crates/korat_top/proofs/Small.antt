@@ -13,7 +13,8 @@ use Rattle.kr_lex.specs.declared.kind.Kind.{Kind}
 use Rattle.kr_lex.proofs.Classes.{token_some}
 use Rattle.kr_lex.proofs.Heads.{contract_token_some}
 use Rattle.kr_types.specs.Programs.{all_entries}
-use Rattle.korat_top.specs.Steps.{LIMIT, MOST_NODES}
+use Rattle.korat_top.specs.Steps.{LIMIT}
+use Rattle.korat_top.specs.Chains.{MOST_NODES}
 
 text_some : (inside : Bool) (kind : Kind) (part rest : List ℕ) → IsTokenHere inside kind part rest → 0 < length part
 text_some inside kind part rest (anywhere l) = token_some kind part rest l.token

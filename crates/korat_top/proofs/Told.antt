@@ -10,9 +10,11 @@ use Rattle.kr_base.specs.Causes.{Rose}
 use Rattle.korat_top.specs.declared.refusal.Stop.{Stop}
 use Rattle.korat_top.specs.declared.refusal.Stop.TheVariants.{Read, Refused, Memory}
 use Rattle.kr_mean.specs.Problem.{Problem}
+use Rattle.kr_mean.specs.declared.mode.Mode.{Mode}
 use Rattle.kr_space_problem.specs.declared.problem.Problem as posing
 use Rattle.korat_top.specs.Refusals.{Inputs, Refusal, name_of, refusal_of}
-use Rattle.korat_top.specs.Steps.{Held, LIMIT, each, growing, reading, from_texts, checking, ReadsIn, Reads, AllTold}
+use Rattle.korat_top.specs.Steps.{Held, LIMIT, ReadsIn, Reads, AllTold}
+use Rattle.korat_top.specs.Chains.{each, growing, reading, reading_source, from_texts, checking}
 use Rattle.korat_top.specs.Found.{telling, telling_source, HasRead, HasReadAll, Meets, FindsIn}
 use Rattle.korat_top.proofs.Outcomes.{split_at, each_refused}
 
@@ -109,7 +111,7 @@ grown_many n (f ∷ texts) [] h = absurd h
 grown_many n (f ∷ texts) (t ∷ trees) h = let rest = grown_many (n + 1) texts trees h.1 in omega (arith, rest)
 
 each_whole : (held : Held) (n : ℕ) (names texts : List (List ℕ)) → each (telling_source held) n names (Ok texts) → ((file : List ℕ) → ReadsIn held names file → IsSome (held file))
-    → each (λ k name. reading held (input.Source k) name) n names (Ok texts)
+    → each (reading_source held) n names (Ok texts)
 each_whole held n [] [] h told = tt
 each_whole held n [] (t ∷ texts) h told = absurd h
 each_whole held n (f ∷ names) [] h told = absurd h
@@ -119,7 +121,7 @@ each_whole held n (f ∷ names) (t ∷ texts) h told = (
 )
 
 each_long : (held : Held) (n : ℕ) (names : List (List ℕ)) (r : Refusal) → each (telling_source held) n names (Err r) → ((file : List ℕ) → ReadsIn held names file → IsSome (held file))
-    → each (λ k name. reading held (input.Source k) name) n names (Err r)
+    → each (reading_source held) n names (Err r)
 each_long held n [] r h told = absurd h
 each_long held n (f ∷ names) r (inl h) told = inl (read_long held (input.Source n) f r h (told f (inl refl)))
 each_long held n (f ∷ names) r (inr h) told = inr (
@@ -134,22 +136,22 @@ rest_told : (held : Held) (inputs : Inputs) (fin : List ℕ) → telling held in
 rest_told held inputs fin h told file r = told file (inr (short_told (held inputs.fin) fin h.1 h.0, r))
 
 -- a source is too long
-pub source_long : (held : Held) (inputs : Inputs) (fin : List ℕ) (r : Refusal) → telling held input.Finitization inputs.fin (Ok fin) → each (telling_source held) 0 inputs.sources (Err r) → AllTold held inputs → checking held inputs (Err r)
-source_long held inputs fin r h s told = inr (
+pub source_long : (held : Held) (mode : Mode) (inputs : Inputs) (fin : List ℕ) (r : Refusal) → telling held input.Finitization inputs.fin (Ok fin) → each (telling_source held) 0 inputs.sources (Err r) → AllTold held inputs → checking held mode inputs (Err r)
+source_long held mode inputs fin r h s told = inr (
   fin,
   read_whole held input.Finitization inputs.fin fin h (told inputs.fin (inl refl)),
   inl (each_long held 0 inputs.sources r s (rest_told held inputs fin h told)),
 )
 
 -- what is judged of the files that were read
-pub judged : (held : Held) (inputs : Inputs) (fin : List ℕ) (texts : List (List ℕ)) (x : Result Problem Refusal) → telling held input.Finitization inputs.fin (Ok fin) → each (telling_source held) 0 inputs.sources (Ok texts)
-    → from_texts fin texts x → AllTold held inputs → checking held inputs x
-judged held inputs fin texts (Ok problem) h s j told = (
+pub judged : (held : Held) (mode : Mode) (inputs : Inputs) (fin : List ℕ) (texts : List (List ℕ)) (x : Result Problem Refusal) → telling held input.Finitization inputs.fin (Ok fin) → each (telling_source held) 0 inputs.sources (Ok texts)
+    → from_texts mode fin texts x → AllTold held inputs → checking held mode inputs x
+judged held mode inputs fin texts (Ok problem) h s j told = (
   fin,
   read_whole held input.Finitization inputs.fin fin h (told inputs.fin (inl refl)),
   (texts, each_whole held 0 inputs.sources texts s (rest_told held inputs fin h told), j),
 )
-judged held inputs fin texts (Err r) h s j told = inr (
+judged held mode inputs fin texts (Err r) h s j told = inr (
   fin,
   read_whole held input.Finitization inputs.fin fin h (told inputs.fin (inl refl)),
   inr (texts, each_whole held 0 inputs.sources texts s (rest_told held inputs fin h told), j),
@@ -172,25 +174,25 @@ stopped_at held faults last names i files before after texts (Read failed) l e s
 stopped_at held faults last names i files before after texts (Memory why) l e same count h = tt
 
 -- sources that are not all read, behind the finitization
-pub sources_stopped : {F : Type 0} (held : F → Held) (faults : F → ℕ) (last : F → Option (List ℕ)) (inputs : Inputs) (files before after : F) (fin : List ℕ) (stop : Stop)
+pub sources_stopped : {F : Type 0} (held : F → Held) (faults : F → ℕ) (last : F → Option (List ℕ)) (mode : Mode) (inputs : Inputs) (files before after : F) (fin : List ℕ) (stop : Stop)
     → telling (held files) input.Finitization inputs.fin (Ok fin) → ((name : List ℕ) → held before name ≡ held files name) → faults before ≡ faults files
-    → HasReadAll held faults last inputs.sources before after (Err stop) → FindsIn held faults last inputs files after (Err stop)
-sources_stopped held faults last inputs files before after fin (Refused r) f same count h = λ told.
-    source_long (held files) inputs fin (refusal_of r) f (each_before (held files) (held before) 0 inputs.sources (Err (refusal_of r)) same h) told
-sources_stopped held faults last inputs files before after fin (Read failed) f same count h = record {
+    → HasReadAll held faults last inputs.sources before after (Err stop) → FindsIn held faults last mode inputs files after (Err stop)
+sources_stopped held faults last mode inputs files before after fin (Refused r) f same count h = λ told.
+    source_long (held files) mode inputs fin (refusal_of r) f (each_before (held files) (held before) 0 inputs.sources (Err (refusal_of r)) same h) told
+sources_stopped held faults last mode inputs files before after fin (Read failed) f same count h = record {
   read = subst (λ (x : InputFile). Reads (held files) inputs (name_of inputs x)) (sym h.file) (source_reads (held files) inputs fin (slice_index_or inputs.sources h.number []) f (reads_before (held files) (held before) inputs.sources (slice_index_or inputs.sources h.number []) same h.read));
   named = subst (λ (x : InputFile). last after ≡ Some (name_of inputs x)) (sym h.file) h.named;
   cause = subst (λ n. Rose n (faults after)) count h.cause;
 }
-sources_stopped held faults last inputs files before after fin (Memory why) f same count h = tt
+sources_stopped held faults last mode inputs files before after fin (Memory why) f same count h = tt
 
 -- all files were read, and judged
-pub judged_found : {F : Type 0} (held : F → Held) (faults : F → ℕ) (last : F → Option (List ℕ)) (inputs : Inputs) (files before after : F) (fin : List ℕ) (texts : List (List ℕ)) (r : Result posing.Problem Stop)
+pub judged_found : {F : Type 0} (held : F → Held) (faults : F → ℕ) (last : F → Option (List ℕ)) (mode : Mode) (inputs : Inputs) (files before after : F) (fin : List ℕ) (texts : List (List ℕ)) (r : Result posing.Problem Stop)
     → telling (held files) input.Finitization inputs.fin (Ok fin) → ((name : List ℕ) → held before name ≡ held files name) → each (telling_source (held before)) 0 inputs.sources (Ok texts)
-    → Meets (from_texts fin texts) posed r → FindsIn held faults last inputs files after r
-judged_found held faults last inputs files before after fin texts (Ok found) f same e j = λ told.
-    judged (held files) inputs fin texts (Ok (posed found)) f (each_before (held files) (held before) 0 inputs.sources (Ok texts) same e) j told
-judged_found held faults last inputs files before after fin texts (Err (Refused r)) f same e j = λ told.
-    judged (held files) inputs fin texts (Err (refusal_of r)) f (each_before (held files) (held before) 0 inputs.sources (Ok texts) same e) j told
-judged_found held faults last inputs files before after fin texts (Err (Read failed)) f same e j = absurd j
-judged_found held faults last inputs files before after fin texts (Err (Memory why)) f same e j = tt
+    → Meets (from_texts mode fin texts) posed r → FindsIn held faults last mode inputs files after r
+judged_found held faults last mode inputs files before after fin texts (Ok found) f same e j = λ told.
+    judged (held files) mode inputs fin texts (Ok (posed found)) f (each_before (held files) (held before) 0 inputs.sources (Ok texts) same e) j told
+judged_found held faults last mode inputs files before after fin texts (Err (Refused r)) f same e j = λ told.
+    judged (held files) mode inputs fin texts (Err (refusal_of r)) f (each_before (held files) (held before) 0 inputs.sources (Ok texts) same e) j told
+judged_found held faults last mode inputs files before after fin texts (Err (Read failed)) f same e j = absurd j
+judged_found held faults last mode inputs files before after fin texts (Err (Memory why)) f same e j = tt

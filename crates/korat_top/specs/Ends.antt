@@ -9,23 +9,48 @@ use Rattle.kr_args.specs.declared.forms.Command.{Command}
 use Rattle.korat_top.specs.Steps.{Held}
 use Rattle.korat_top.specs.Answer.{IsAnswer, IsTold, ReadsFor}
 
+-- ---- what is outside
+
+-- What the files and the sink of a call tell at a moment: what each file holds, where that is told; how many reads failed, and
+-- the name of the last one; what the sink took, where that is told; and how many writes failed.
+pub record Outside : Type 0 where
+  pub held : Held
+  pub read_faults : ℕ
+  pub last : Option (List ℕ)
+  pub taken : Option (List ℕ)
+  pub write_faults : ℕ
+
+-- files and a sink, as their traits tell of them
+abbrev pub seen : {F K : Type 0} → (F → Held) → (F → ℕ) → (F → Option (List ℕ)) → (K → Option (List ℕ)) → (K → ℕ) → F → K → Outside
+seen held read_faults last taken write_faults files out = record { held = held files; read_faults = read_faults files; last = last files; taken = taken out; write_faults = write_faults out }
+
+-- all of a text was written, and no write failed
+abbrev pub Wrote : Outside → Outside → List ℕ → Type 0
+Wrote before after text = Added (λ (o : Outside). o.taken) (λ (o : Outside). o.write_faults) before after text
+
+-- a write failed after a front of a text
+abbrev pub Broke : Outside → Outside → List ℕ → Type 0
+Broke before after text = Stopped (λ (o : Outside). o.taken) (λ (o : Outside). o.write_faults) before after text
+
+-- ---- how a call ends
+
 -- The words' answer was given: its status, and exactly its bytes.
-pub record Gives {K : Type 0} (held : Held) (taken : K → Option (List ℕ)) (faults : K → ℕ) (asked : Option Command) (out out' : K) (status : ℕ) : Type 0 where
+pub record Gives (asked : Option Command) (before after : Outside) (status : ℕ) : Type 0 where
   pub answer : Answer
-  pub is_answer : IsAnswer held asked answer
+  pub is_answer : IsAnswer before.held asked answer
   pub status_is : status ≡ answer.status
-  pub written : Added taken faults out out' (bytes_of answer)
+  pub written : Wrote before after (bytes_of answer)
 
 -- A read was counted in this call as failed, of a file that the command reads: no step before that read is broken, as far
 -- as bytes are told. That is all that is written.
-pub record TellsReadFault {F K : Type 0} (held : F → Held) (read_faults : F → ℕ) (last : F → Option (List ℕ)) (taken : K → Option (List ℕ)) (faults : K → ℕ) (asked : Option Command) (files files' : F) (out out' : K) : Type 0 where
+pub record TellsReadFault (asked : Option Command) (before after : Outside) : Type 0 where
   pub command : Command
   pub name : List ℕ
   pub asked_for : asked ≡ Some command
-  pub read : ReadsFor (held files) command name
-  pub named : last files' ≡ Some name
-  pub cause : Rose (read_faults files) (read_faults files')
-  pub written : Added taken faults out out' (read_fault_text name)
+  pub read : ReadsFor before.held command name
+  pub named : after.last ≡ Some name
+  pub cause : Rose before.read_faults after.read_faults
+  pub written : Wrote before after (read_fault_text name)
 
 -- some rows of the answer, from the first one on, or none
 abbrev pub IsFront : Held → Option Command → List ℕ → Type 0
@@ -38,41 +63,41 @@ MayTell held asked text = ((answer : Answer) × IsAnswer held asked answer × (t
     ⊎ ((rows : List ℕ) × IsFront held asked rows × (text ≡ rows ++ memory_text))
 
 -- A fault of the sink ended the call within such a text.
-pub record BeginsText {K : Type 0} (held : Held) (taken : K → Option (List ℕ)) (faults : K → ℕ) (asked : Option Command) (out out' : K) : Type 0 where
+pub record BeginsText (asked : Option Command) (before after : Outside) : Type 0 where
   pub text : List ℕ
-  pub may : MayTell held asked text
-  pub written : Stopped taken faults out out' text
+  pub may : MayTell before.held asked text
+  pub written : Broke before after text
 
 -- Want of memory, which is free, after some rows.
-pub record TellsMemory {K : Type 0} (held : Held) (taken : K → Option (List ℕ)) (faults : K → ℕ) (asked : Option Command) (out out' : K) : Type 0 where
+pub record TellsMemory (asked : Option Command) (before after : Outside) : Type 0 where
   pub rows : List ℕ
-  pub front : IsTold held asked → IsFront held asked rows
-  pub written : Added taken faults out out' (rows ++ memory_text)
+  pub front : IsTold before.held asked → IsFront before.held asked rows
+  pub written : Wrote before after (rows ++ memory_text)
 
--- How a call ends, over files that hold what they hold and a sink that takes what it is told to have taken.
-pub record EndsFor {F K : Type 0} (held : F → Held) (read_faults : F → ℕ) (last : F → Option (List ℕ)) (taken : K → Option (List ℕ)) (faults : K → ℕ) (asked : Option Command) (files files' : F) (out out' : K) (status : ℕ) : Type 0 where
+-- How a call ends whose words ask for this, by what is outside before and after it.
+pub record EndsFor (asked : Option Command) (before after : Outside) (status : ℕ) : Type 0 where
   pub known : status ≤ 8
   -- 0 to 5: where the files' bytes are told, it is the answer's status, with exactly its bytes
-  pub given : status < 6 → IsTold (held files) asked → Gives (held files) taken faults asked out out' status
+  pub given : status < 6 → IsTold before.held asked → Gives asked before after status
   -- 2, whatever is told of the files: only the words give no command, and such words end with 2, 7 or 8
   pub usage : status ≡ 2 → asked ≡ None
   pub no_command : asked ≡ None → (status ≡ 2) ⊎ (status ≡ 7) ⊎ (status ≡ 8)
   -- 6: a counted read fault, and its name alone
-  pub read_fault : status ≡ 6 → TellsReadFault held read_faults last taken faults asked files files' out out'
+  pub read_fault : status ≡ 6 → TellsReadFault asked before after
   -- 7: a counted write fault, after a prefix
-  pub write_fault : status ≡ 7 → Rose (faults out) (faults out')
+  pub write_fault : status ≡ 7 → Rose before.write_faults after.write_faults
   -- and no other status where a write failed, nor but 6 or 7 where a read did
-  pub no_write_fault : (status ≡ 7 → ⊥) → faults out' ≡ faults out
-  pub no_read_fault : (status ≡ 6 → ⊥) → (status ≡ 7 → ⊥) → read_faults files' ≡ read_faults files
-  pub front : status ≡ 7 → IsTold (held files) asked → BeginsText (held files) taken faults asked out out'
+  pub no_write_fault : (status ≡ 7 → ⊥) → after.write_faults ≡ before.write_faults
+  pub no_read_fault : (status ≡ 6 → ⊥) → (status ≡ 7 → ⊥) → after.read_faults ≡ before.read_faults
+  pub front : status ≡ 7 → IsTold before.held asked → BeginsText asked before after
   -- 8: want of memory, after rows
-  pub memory : status ≡ 8 → TellsMemory (held files) taken faults asked out out'
+  pub memory : status ≡ 8 → TellsMemory asked before after
 
 -- Where the files' bytes are told and no count rose, the call ends with its answer, or with want of memory.
-abbrev pub IsComplete : {F K : Type 0} → (F → Held) → (F → ℕ) → (K → Option (List ℕ)) → (K → ℕ) → Option Command → F → F → K → K → ℕ → Type 0
-IsComplete held read_faults taken faults asked files files' out out' status =
-    IsTold (held files) asked → (Rose (read_faults files) (read_faults files') → ⊥) → (Rose (faults out) (faults out') → ⊥)
-    → (status ≡ 8) ⊎ Gives (held files) taken faults asked out out' status
+abbrev pub IsComplete : Option Command → Outside → Outside → ℕ → Type 0
+IsComplete asked before after status =
+    IsTold before.held asked → (Rose before.read_faults after.read_faults → ⊥) → (Rose before.write_faults after.write_faults → ⊥)
+    → (status ≡ 8) ⊎ Gives asked before after status
 
 -- Words and files have at most one answer.
 abbrev pub OneAnswer : Type 0

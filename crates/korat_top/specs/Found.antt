@@ -1,5 +1,5 @@
 -- Between crates: what the work for a command finds, before anything is written.
-use Rattle.std.specs.Prelude.{◌≡◌, ℕ, ◌<◌, ◌≤◌, List, [], length, All, Option, Some, IfSome, Result, Ok, Err, IfOk, Vec, slice_index_or}
+use Rattle.std.specs.Prelude.{◌≡◌, ℕ, ◌<◌, ◌≤◌, List, [], length, All, Option, Some, IfSome, Result, Ok, Err, Vec, slice_index_or}
 use Rattle.std.specs.declared.alloc.Global.{Global}
 use Rattle.kr_base.specs.Causes.{Rose}
 use Rattle.kr_base.specs.declared.refusal.RefusalAt.{RefusalAt}
@@ -8,15 +8,15 @@ use Rattle.kr_base.specs.declared.refusal.RefusalOf.{RefusalOf}
 use Rattle.kr_base.specs.declared.refusal.RefusalOf.TheVariants as of
 use Rattle.kr_args.specs.declared.forms.Command.{Command}
 use Rattle.kr_ast.specs.Arena.{Arena, root}
-use Rattle.kr_mean.specs.declared.mode.Mode.TheVariants.{List as Listing}
-use Rattle.kr_mean.specs.Problem as means
+use Rattle.kr_mean.specs.declared.mode.Mode.{Mode}
 use Rattle.kr_space_problem.specs.Posed.{posed}
 use Rattle.kr_laws_shapes.specs.Shapes.{AreClasses}
 use Rattle.kr_space_problem.specs.declared.problem.Problem.{Problem}
 use Rattle.kr_pure.specs.declared.purity.PureRefusal.{PureRefusal}
 use Rattle.kr_pure.specs.declared.purity.PureRefusal.TheVariants as pure
 use Rattle.korat_top.specs.Refusals.{Inputs, Refusal, at_place, call_code, of_finitization, too_long, name_of, refusal_of}
-use Rattle.korat_top.specs.Steps.{Held, LIMIT, MOST_NODES, each, checking, ReadsIn, Reads, AllTold}
+use Rattle.korat_top.specs.Steps.{Held, LIMIT, ReadsIn, Reads, AllTold}
+use Rattle.korat_top.specs.Chains.{MOST_NODES, each, checking}
 use Rattle.korat_top.specs.Answer.{IsTold, ReadsFor, inputs_of, steps_of}
 use Rattle.korat_top.specs.declared.refusal.InputFile.{InputFile}
 use Rattle.korat_top.specs.declared.refusal.InputFile.TheVariants as input
@@ -103,11 +103,6 @@ Meets outcome seen (Err stop) = StopsBy outcome stop
 abbrev pub AreShaped : List Arena → Type 0
 AreShaped files = All (λ a. AreClasses (root a)) files
 
--- What steps come to: the problem of a listing that they say, or why they stop.
-pub record Judges (steps : Result means.Problem Refusal → Type 0) (result : Result Problem Stop) : Type 0 where
-  pub judged : Meets steps posed result
-  pub listing : IfOk result (λ found. (posed found).mode ≡ Listing)
-
 -- the trees of at most 16 sources, each of as many nodes as a source can have, and of the shapes of classes
 pub record AreGrown (trees : List Arena) : Type 0 where
   pub few : length trees ≤ 16
@@ -123,11 +118,11 @@ pub record FailsToRead {F : Type 0} (faults : F → ℕ) (last : F → Option (L
   pub cause : Rose (faults files) (faults files')
 
 -- what the steps say of what the files hold, where it is told; or a read fault; or want of memory, which is free
-abbrev pub FindsIn : {F : Type 0} → (F → Held) → (F → ℕ) → (F → Option (List ℕ)) → Inputs → F → F → Result Problem Stop → Type 0
-FindsIn held faults last inputs files files' (Ok f) = AllTold (held files) inputs → checking (held files) inputs (Ok (posed f))
-FindsIn held faults last inputs files files' (Err (Refused r)) = AllTold (held files) inputs → checking (held files) inputs (Err (refusal_of r))
-FindsIn held faults last inputs files files' (Err (Read failed)) = FailsToRead faults last (Reads (held files) inputs) (name_of inputs failed) files files'
-FindsIn held faults last inputs files files' (Err (Memory why)) = Unit {0}
+abbrev pub FindsIn : {F : Type 0} → (F → Held) → (F → ℕ) → (F → Option (List ℕ)) → Mode → Inputs → F → F → Result Problem Stop → Type 0
+FindsIn held faults last mode inputs files files' (Ok f) = AllTold (held files) inputs → checking (held files) mode inputs (Ok (posed f))
+FindsIn held faults last mode inputs files files' (Err (Refused r)) = AllTold (held files) inputs → checking (held files) mode inputs (Err (refusal_of r))
+FindsIn held faults last mode inputs files files' (Err (Read failed)) = FailsToRead faults last (Reads (held files) inputs) (name_of inputs failed) files files'
+FindsIn held faults last mode inputs files files' (Err (Memory why)) = Unit {0}
 
 -- the same of a command's steps
 abbrev pub Finds : {F : Type 0} → (F → Held) → (F → ℕ) → (F → Option (List ℕ)) → Command → F → F → Result Problem Stop → Type 0

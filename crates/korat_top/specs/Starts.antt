@@ -8,9 +8,8 @@ use Rattle.std.specs.declared.vec.IntoIter.{IntoIter}
 use Rattle.std.specs.IoError.{error_kind}
 use Rattle.std.specs.Vec.Iter.{into_iter_items}
 use Rattle.kr_args.specs.declared.forms.Command.{Command}
-use Rattle.korat_top.specs.Steps.{Held}
 use Rattle.korat_top.specs.Answer.{asked_of}
-use Rattle.korat_top.specs.Ends.{EndsFor, IsComplete}
+use Rattle.korat_top.specs.Ends.{Outside, EndsFor, IsComplete}
 use Rattle.korat_top.specs.declared.given.NoWords.{NoWords}
 use Rattle.korat_top.specs.declared.given.NoWords.TheVariants.{NotText, Memory}
 
@@ -32,9 +31,9 @@ WhyNone (Err error) (Memory why) = error_kind error ≡ OutOfMemory
 WhyNone (Err error) NotText = ¬ (error_kind error ≡ OutOfMemory)
 
 -- how a call ends whose words ask for this
-pub record Serves {F K : Type 0} (held : F → Held) (read_faults : F → ℕ) (last : F → Option (List ℕ)) (taken : K → Option (List ℕ)) (faults : K → ℕ) (asked : Option Command) (files files' : F) (out out' : K) (status : ℕ) : Type 0 where
-  pub headline : EndsFor held read_faults last taken faults asked files files' out out' status
-  pub complete : IsComplete held read_faults taken faults asked files files' out out' status
+pub record Serves (asked : Option Command) (before after : Outside) (status : ℕ) : Type 0 where
+  pub headline : EndsFor asked before after status
+  pub complete : IsComplete asked before after status
 
 -- nothing is read or written, and the status is that of want of memory
 pub record EndsUnread {F K : Type 0} (files files' : F) (out out' : K) (status : ℕ) : Type 0 where
@@ -42,8 +41,9 @@ pub record EndsUnread {F K : Type 0} (files files' : F) (out out' : K) (status :
   pub unread : files' ≡ files
   pub unwritten : out' ≡ out
 
--- Words are served. Words of which one isn't text are served as none, which are no command.
-abbrev pub Starts : {F K : Type 0} → (F → Held) → (F → ℕ) → (F → Option (List ℕ)) → (K → Option (List ℕ)) → (K → ℕ) → Result (List (List ℕ)) NoWords → F → F → K → K → ℕ → Type 0
-Starts held read_faults last taken faults (Ok words) files files' out out' status = Serves held read_faults last taken faults (asked_of words) files files' out out' status
-Starts held read_faults last taken faults (Err NotText) files files' out out' status = Serves held read_faults last taken faults (asked_of []) files files' out out' status
-Starts held read_faults last taken faults (Err (Memory why)) files files' out out' status = EndsUnread files files' out out' status
+-- Words are served, by what is seen of files and sink. Words of which one isn't text are served as none, which are no
+-- command.
+abbrev pub Starts : {F K : Type 0} → (F → K → Outside) → Result (List (List ℕ)) NoWords → F → F → K → K → ℕ → Type 0
+Starts see (Ok words) files files' out out' status = Serves (asked_of words) (see files out) (see files' out') status
+Starts see (Err NotText) files files' out out' status = Serves (asked_of []) (see files out) (see files' out') status
+Starts see (Err (Memory why)) files files' out out' status = EndsUnread files files' out out' status

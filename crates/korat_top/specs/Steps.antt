@@ -1,5 +1,5 @@
 -- To be believed: the steps that the files of a command go through, in their order. The first that refuses a file decides.
-use Rattle.std.specs.Prelude.{◌≡◌, ℕ, ◌+◌, ◌*◌, ◌<◌, ◌≤◌, ◌⊎◌, List, [], ◌∷◌, length, Option, Some, None, Result, Ok, Err, IfSome, IsSome}
+use Rattle.std.specs.Prelude.{◌≡◌, ℕ, ◌+◌, ◌<◌, ◌≤◌, ◌⊎◌, List, [], ◌∷◌, ◌++◌, length, Option, Some, None, Result, Ok, Err, IfSome, IsSome}
 use Rattle.kr_base.specs.declared.place.Place.{Place}
 use Rattle.kr_base.specs.declared.refusal.Fault.{Fault}
 use Rattle.kr_lex.specs.Lexemes.{Lexemes}
@@ -9,22 +9,20 @@ use Rattle.kr_lex.specs.Broken.{IsFirstBroken}
 use Rattle.kr_ast.specs.Tree.{Tree}
 use Rattle.kr_parse.specs.Rules.{rule_code as parse_code}
 use Rattle.kr_parse.specs.Refusals.{IsParsed, IsUnparsed}
-use Rattle.kr_classes_table.specs.Table.{Table, table_of}
+use Rattle.kr_classes_table.specs.Table.{table_of}
 use Rattle.kr_classes_table.specs.Rules.{class_fault}
 use Rattle.kr_types_meaning.specs.Typing.{type_fault}
 use Rattle.kr_classes.specs.Refusals.{rule_number as class_number, rule_code as class_code}
 use Rattle.kr_types_judging.specs.Numbers.{rule_number as type_number}
-use Rattle.kr_demo.specs.Texts.{source_text, finitization_text}
 use Rattle.kr_fin.specs.declared.document.FinDoc.{FinDoc}
 use Rattle.kr_fin.specs.Order.{rule_code as fin_code}
 use Rattle.kr_fin.specs.Meaning.{meaning}
 use Rattle.kr_fin.specs.declared.reading.TheConstants.{MAX_FIN_BYTES}
 use Rattle.kr_mean.specs.Problem.{Problem}
 use Rattle.kr_mean.specs.Purity.{IsPure, IsFirstImpure}
-use Rattle.kr_mean.specs.declared.mode.Mode.TheVariants.{List as Listing}
+use Rattle.kr_mean.specs.declared.mode.Mode.{Mode}
 use Rattle.kr_space_meaning.specs.Order.{rule_code as space_code}
 use Rattle.kr_space_meaning.specs.Meaning.{meaning as problem_meant}
-use Rattle.korat_top.specs.declared.refusal.InputFile.{InputFile}
 use Rattle.korat_top.specs.declared.refusal.InputFile.TheVariants as input
 use Rattle.korat_top.specs.declared.rules.CallRule.TheVariants.{Impure}
 use Rattle.korat_top.specs.Refusals.{Inputs, Refusal, at_place, call_code, of_finitization, too_long, typing_code}
@@ -37,25 +35,33 @@ Held = List ℕ → Option (List ℕ)
 abbrev pub LIMIT : ℕ
 LIMIT = MAX_FIN_BYTES
 
--- the most nodes that the tree of a file has: three for each byte, and one more
-abbrev pub MOST_NODES : ℕ
-MOST_NODES = 3 * LIMIT + 1
+-- ---- What the steps say of a file
 
--- ---- A step says what it makes, or what it refuses a file with
+-- a file is read whole
+abbrev pub IsRead : Held → List ℕ → List ℕ → Type 0
+IsRead held name bytes = (held name ≡ Some bytes) × (length bytes ≤ LIMIT)
 
--- a step, and the next one over what the first makes
-abbrev pub and_then : {A B : Type 0} → (Result A Refusal → Type 0) → (A → Result B Refusal → Type 0) → Result B Refusal → Type 0
-and_then {A} first next (Ok b) = (a : A) × first (Ok a) × next a (Ok b)
-and_then {A} first next (Err r) = first (Err r) ⊎ ((a : A) × first (Ok a) × next a (Err r))
+-- a file has more bytes than are taken
+abbrev pub IsTooLong : Held → List ℕ → Type 0
+IsTooLong held name = (bytes : List ℕ) × (held name ≡ Some bytes) × (LIMIT < length bytes)
 
--- a step over each item in order, numbered from a number on
-abbrev pub each : {A B : Type 0} → (ℕ → A → Result B Refusal → Type 0) → ℕ → List A → Result (List B) Refusal → Type 0
-each step n [] (Ok []) = Unit {0}
-each step n [] (Ok (b ∷ made)) = ⊥
-each step n [] (Err r) = ⊥
-each step n (a ∷ items) (Ok []) = ⊥
-each step n (a ∷ items) (Ok (b ∷ made)) = step n a (Ok b) × each step (n + 1) items (Ok made)
-each {A} {B} step n (a ∷ items) (Err r) = step n a (Err r) ⊎ ((b : B) × step n a (Ok b) × each step (n + 1) items (Err r))
+-- files are read whole, in order
+abbrev pub AreRead : Held → List (List ℕ) → List (List ℕ) → Type 0
+AreRead held [] [] = Unit {0}
+AreRead held [] (bytes ∷ texts) = ⊥
+AreRead held (name ∷ names) [] = ⊥
+AreRead held (name ∷ names) (bytes ∷ texts) = IsRead held name bytes × AreRead held names texts
+
+-- the tree of a source, by its tokens
+abbrev pub IsTreeOf : ℕ → List ℕ → Tree → Type 0
+IsTreeOf n bytes tree = (tokens : Lexemes) × AreTokens n bytes tokens × IsParsed tokens tree
+
+-- the trees of sources, numbered from a number on
+abbrev pub AreTrees : ℕ → List (List ℕ) → List Tree → Type 0
+AreTrees n [] [] = Unit {0}
+AreTrees n [] (tree ∷ trees) = ⊥
+AreTrees n (bytes ∷ sources) [] = ⊥
+AreTrees n (bytes ∷ sources) (tree ∷ trees) = IsTreeOf n bytes tree × AreTrees (n + 1) sources trees
 
 -- a source is refused: by a rule that it breaks at a place
 abbrev pub broken_at : {R : Type 0} → (R → List ℕ) → (Place → R → Type 0) → Refusal → Type 0
@@ -65,87 +71,61 @@ broken_at {R} code breaks r = (place : Place) × (rule : R) × breaks place rule
 abbrev pub broken_of : {R A : Type 0} → (R → List ℕ) → Result A (Fault R) → Refusal → Type 0
 broken_of {R} code meant r = (fault : Fault R) × (meant ≡ Err fault) × (r ≡ of_finitization (code fault.rule) fault.item)
 
--- nothing is left to refuse
-abbrev pub made : {A : Type 0} → A → Result A Refusal → Type 0
-made a (Ok b) = a ≡ b
-made a (Err r) = ⊥
+-- the predicate, or what the contract of the method under test asks, writes a candidate or makes one: first here
+abbrev pub impure_at : Problem → Refusal → Type 0
+impure_at problem r = (place : Place) × IsFirstImpure problem place × (r ≡ at_place place (call_code Impure))
 
--- ---- The steps
+-- the classes break a class rule, or the nodes a typing rule: first here
+abbrev pub misclassed : List Tree → Refusal → Type 0
+misclassed trees r = broken_at class_code (λ place rule. class_fault (table_of trees) ≡ Some (record { place = place; rule = class_number rule })) r
 
--- a file is read whole, where it isn't too long
-abbrev pub reading : Held → InputFile → List ℕ → Result (List ℕ) Refusal → Type 0
-reading held file name (Ok bytes) = (held name ≡ Some bytes) × (length bytes ≤ LIMIT)
-reading held file name (Err r) = (bytes : List ℕ) × (held name ≡ Some bytes) × (LIMIT < length bytes) × (r ≡ too_long file)
+abbrev pub mistyped : List Tree → Refusal → Type 0
+mistyped trees r = broken_at typing_code (λ place rule. type_fault trees ≡ Some (record { place = place; rule = type_number rule })) r
 
--- a source's tokens
-abbrev pub lexing : ℕ → List ℕ → Result Lexemes Refusal → Type 0
-lexing n bytes (Ok tokens) = AreTokens n bytes tokens
-lexing n bytes (Err r) = broken_at lex_code (IsFirstBroken n bytes) r
+-- ---- The steps over texts
 
--- the tree of a source's tokens
-abbrev pub parsing : Lexemes → Result Tree Refusal → Type 0
-parsing tokens (Ok tree) = IsParsed tokens tree
-parsing tokens (Err r) = broken_at parse_code (IsUnparsed tokens) r
+-- What a finitization and sources come to: the problem of a mode, or the first refusal. Each step stands on what the steps
+-- before it made: the trees of the sources, one after another; classes that break no class rule; no node that breaks a
+-- typing rule; the document that the finitization is; the problem that it poses; a predicate that leaves the candidates alone.
+pub data Judges (mode : Mode) (fin : List ℕ) (sources : List (List ℕ)) : Result Problem Refusal → Type 0 where
+  unlexed : (front : List (List ℕ)) (bytes : List ℕ) (rest : List (List ℕ)) (trees : List Tree) (r : Refusal)
+      → sources ≡ front ++ bytes ∷ rest → AreTrees 0 front trees
+      → broken_at lex_code (IsFirstBroken (length front) bytes) r → Judges mode fin sources (Err r)
+  unparsed : (front : List (List ℕ)) (bytes : List ℕ) (rest : List (List ℕ)) (trees : List Tree) (tokens : Lexemes) (r : Refusal)
+      → sources ≡ front ++ bytes ∷ rest → AreTrees 0 front trees → AreTokens (length front) bytes tokens
+      → broken_at parse_code (IsUnparsed tokens) r → Judges mode fin sources (Err r)
+  unclassed : (trees : List Tree) (r : Refusal)
+      → AreTrees 0 sources trees
+      → misclassed trees r → Judges mode fin sources (Err r)
+  untyped : (trees : List Tree) (r : Refusal)
+      → AreTrees 0 sources trees → class_fault (table_of trees) ≡ None
+      → mistyped trees r → Judges mode fin sources (Err r)
+  unstated : (trees : List Tree) (r : Refusal)
+      → AreTrees 0 sources trees → class_fault (table_of trees) ≡ None → type_fault trees ≡ None
+      → broken_of fin_code (meaning fin) r → Judges mode fin sources (Err r)
+  unposed : (trees : List Tree) (document : FinDoc) (r : Refusal)
+      → AreTrees 0 sources trees → class_fault (table_of trees) ≡ None → type_fault trees ≡ None → meaning fin ≡ Ok document
+      → broken_of space_code (problem_meant trees document mode) r → Judges mode fin sources (Err r)
+  impure : (trees : List Tree) (document : FinDoc) (problem : Problem) (r : Refusal)
+      → AreTrees 0 sources trees → class_fault (table_of trees) ≡ None → type_fault trees ≡ None → meaning fin ≡ Ok document
+      → problem_meant trees document mode ≡ Ok problem
+      → impure_at problem r → Judges mode fin sources (Err r)
+  accepted : (trees : List Tree) (document : FinDoc) (problem : Problem)
+      → AreTrees 0 sources trees → class_fault (table_of trees) ≡ None → type_fault trees ≡ None → meaning fin ≡ Ok document
+      → problem_meant trees document mode ≡ Ok problem → IsPure problem
+      → Judges mode fin sources (Ok problem)
 
--- the tree of a source
-abbrev pub growing : ℕ → List ℕ → Result Tree Refusal → Type 0
-growing n bytes = and_then (lexing n bytes) parsing
+-- ---- The steps over files
 
--- the class table of the sources, which breaks no class rule
-abbrev pub classing : List Tree → Result Table Refusal → Type 0
-classing trees (Ok table) = (table ≡ table_of trees) × (class_fault table ≡ None)
-classing trees (Err r) = broken_at class_code (λ place rule. class_fault (table_of trees) ≡ Some (record { place = place; rule = class_number rule })) r
-
--- no node breaks a typing rule; else the first broken one decides
-abbrev pub typing : List Tree → Result (Unit {0}) Refusal → Type 0
-typing trees (Ok done) = type_fault trees ≡ None
-typing trees (Err r) = broken_at typing_code (λ place rule. type_fault trees ≡ Some (record { place = place; rule = type_number rule })) r
-
--- the document that the finitization is
-abbrev pub stating : List ℕ → Result FinDoc Refusal → Type 0
-stating fin (Ok document) = meaning fin ≡ Ok document
-stating fin (Err r) = broken_of fin_code (meaning fin) r
-
--- the problem of the sources and the document, which breaks no rule beside them
-abbrev pub spacing : List Tree → FinDoc → Result Problem Refusal → Type 0
-spacing trees document (Ok problem) = problem_meant trees document Listing ≡ Ok problem
-spacing trees document (Err r) = broken_of space_code (problem_meant trees document Listing) r
-
--- the predicate leaves the candidates alone; else the first node of its code that doesn't decides
-abbrev pub purifying : Problem → Result (Unit {0}) Refusal → Type 0
-purifying problem (Ok done) = IsPure problem
-purifying problem (Err r) = (place : Place) × IsFirstImpure problem place × (r ≡ at_place place (call_code Impure))
-
--- ---- Their order, from the last one on: each goes on over what those before it make
-
-abbrev pub from_problem : Problem → Result Problem Refusal → Type 0
-from_problem problem = and_then (purifying problem) (λ done. made problem)
-
-abbrev pub from_document : List Tree → FinDoc → Result Problem Refusal → Type 0
-from_document trees document = and_then (spacing trees document) from_problem
-
-abbrev pub from_trees : List ℕ → List Tree → Result Problem Refusal → Type 0
-from_trees fin trees = and_then (stating fin) (λ document. from_document trees document)
-
-abbrev pub from_table : List ℕ → List Tree → Result Problem Refusal → Type 0
-from_table fin trees = and_then (typing trees) (λ done. from_trees fin trees)
-
-abbrev pub from_grown : List ℕ → List Tree → Result Problem Refusal → Type 0
-from_grown fin trees = and_then (classing trees) (λ table. from_table fin trees)
-
-abbrev pub from_texts : List ℕ → List (List ℕ) → Result Problem Refusal → Type 0
-from_texts fin sources = and_then (each growing 0 sources) (λ trees. from_grown fin trees)
-
--- the same steps over the demo's texts, of so many nodes
-unfoldable pub demonstrating : ℕ → Result Problem Refusal → Type 0
-demonstrating n = from_texts (finitization_text n) (source_text n ∷ [])
-
--- all steps, the finitization read first: the problem that the files pose, where none is refused
-abbrev pub checking : Held → Inputs → Result Problem Refusal → Type 0
-checking held inputs =
-    and_then (reading held input.Finitization inputs.fin) (λ fin.
-    and_then (each (λ n name. reading held (input.Source n) name) 0 inputs.sources) (λ sources.
-    from_texts fin sources))
+-- What files come to: they are read, the finitization first, and judged.
+pub data Checks (held : Held) (mode : Mode) (inputs : Inputs) : Result Problem Refusal → Type 0 where
+  long_finitization : IsTooLong held inputs.fin → Checks held mode inputs (Err (too_long input.Finitization))
+  long_source : (fin : List ℕ) (front : List (List ℕ)) (name : List ℕ) (rest texts : List (List ℕ))
+      → IsRead held inputs.fin fin → inputs.sources ≡ front ++ name ∷ rest → AreRead held front texts
+      → IsTooLong held name → Checks held mode inputs (Err (too_long (input.Source (length front))))
+  judged : (fin : List ℕ) (texts : List (List ℕ)) (result : Result Problem Refusal)
+      → IsRead held inputs.fin fin → AreRead held inputs.sources texts
+      → Judges mode fin texts result → Checks held mode inputs result
 
 -- ---- Which files are read
 

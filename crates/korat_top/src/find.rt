@@ -7,20 +7,21 @@ ghost use Rattle.kr_classes.specs.ClassTables.{IsClassTable};
 ghost use Rattle.kr_types.specs.Programs.{IsProgram};
 ghost use Rattle.kr_laws_shapes.specs.Shapes.{AreClasses};
 ghost use Rattle.kr_space_meaning.specs.Limits.{IsWithinLimits};
-ghost use Rattle.kr_mean.specs.declared.mode.Mode.TheVariants.{List as Listing};
+ghost use Rattle.kr_mean.specs.declared.mode.Mode.TheVariants.{List as Listing, Method as Testing};
 ghost use Rattle.kr_mean.specs.Problem.{slots};
 ghost use Rattle.kr_mean.specs.WellFormed.{IsWellFormed};
 ghost use Rattle.kr_space_problem.specs.Posed.{IsPosed, posed};
 ghost use Rattle.korat_top.specs.Refusals.{refusal_of, too_long as too_long_of, source_start as start_of};
-ghost use Rattle.korat_top.specs.Steps.{LIMIT, growing, MOST_NODES, from_texts, from_grown, from_table, from_trees, from_document, from_problem, each, demonstrating};
+ghost use Rattle.korat_top.specs.Steps.{LIMIT};
+ghost use Rattle.korat_top.specs.Chains.{growing, MOST_NODES, from_texts, from_grown, from_table, from_trees, from_document, from_problem, each};
 ghost use Rattle.korat_top.specs.Answer.{files_of};
-ghost use Rattle.kr_demo.specs.Texts.{source_text};
-ghost use Rattle.korat_top.specs.Found.{HasRead, HasReadAll, IsLater, Meets, Judges, FindsIn, Finds, CountStays, AreShaped, AreGrown};
+ghost use Rattle.kr_demo.specs.Texts.{finitization_text, source_text};
+ghost use Rattle.korat_top.specs.Found.{HasRead, HasReadAll, IsLater, Meets, FindsIn, Finds, CountStays, AreShaped, AreGrown};
 
 use crate::refusal::{InputFile, Refusal, Stop};
 use crate::rules::{CallRule, ItemRule, SourceRule};
 use crate::sources::Texts;
-use kr_args::forms::Command;
+use kr_args::forms::{Ask, Command, Word};
 use kr_ast::Tree;
 use kr_base::{ItemName, NoMemory, Place, Words};
 use kr_classes::{ClassTable, classes};
@@ -30,7 +31,7 @@ use kr_io::{Files, ReadRefusal};
 use kr_judge_prepared::Accepted;
 use kr_laws_shapes::shape_law;
 use kr_lex::lex;
-use kr_mean::Mode;
+use kr_mean::{MethodName, Mode};
 use kr_parse::parse;
 use kr_pure::pure;
 use kr_space::{limits_law, problem};
@@ -149,80 +150,100 @@ fn judge_from_purity(alloc: Global, problem: Problem) -> Result<Accepted, Stop>
     requires well_formed { IsWellFormed (posed problem) }
     requires small { length (slots (posed problem)) ≤ 4096 }
     ensures judged { Meets (from_problem (posed problem)) posed result }
-    ensures same { IfOk result (λ found. found ≡ problem) }
 {
     pure(alloc, &problem)?;
     Ok(Accepted::new(problem))
 }
 
-fn judge_from_posing(alloc: Global, program: Program, document: &FinDoc) -> Result<Accepted, Stop>
+fn judge_from_posing(
+    alloc: Global,
+    mode: Mode,
+    program: Program,
+    document: &FinDoc,
+) -> Result<Accepted, Stop>
     requires program { IsProgram program }
     requires limits { IsWithinLimits document.now }
     requires shaped { AreShaped program.trees.items }
-    ensures { Judges (from_document (map root program.trees.items) document.now) result }
+    ensures judged { Meets (from_document mode (map root program.trees.items) document.now) posed result }
 {
-    let problem = problem(alloc, program, document, Mode::List)?;
+    let problem = problem(alloc, program, document, mode)?;
     judge_from_purity(alloc, problem)
 }
 
-fn judge_from_finitization(alloc: Global, fin: &[u8], program: Program) -> Result<Accepted, Stop>
+fn judge_from_finitization(
+    alloc: Global,
+    mode: Mode,
+    fin: &[u8],
+    program: Program,
+) -> Result<Accepted, Stop>
     requires program { IsProgram program }
     requires shaped { AreShaped program.trees.items }
-    ensures { Judges (from_trees fin.now (map root program.trees.items)) result }
+    ensures judged { Meets (from_trees mode fin.now (map root program.trees.items)) posed result }
 {
     limits_law();
     let document = read_fin(alloc, fin)?;
-    judge_from_posing(alloc, program, &document)
+    judge_from_posing(alloc, mode, program, &document)
 }
 
 fn judge_from_typing(
     alloc: Global,
+    mode: Mode,
     fin: &[u8],
     trees: Vec<Tree>,
     table: ClassTable,
 ) -> Result<Accepted, Stop>
     requires grown { AreGrown trees.items }
     requires table { IsClassTable trees.items table }
-    ensures { Judges (from_table fin.now (map root trees.items)) result }
+    ensures judged { Meets (from_table mode fin.now (map root trees.items)) posed result }
 {
     well_typed_law();
     let program = check(alloc, trees, table)?;
-    judge_from_finitization(alloc, fin, program)
+    judge_from_finitization(alloc, mode, fin, program)
 }
 
-fn judge_from_classes(alloc: Global, fin: &[u8], trees: Vec<Tree>) -> Result<Accepted, Stop>
+fn judge_from_classes(
+    alloc: Global,
+    mode: Mode,
+    fin: &[u8],
+    trees: Vec<Tree>,
+) -> Result<Accepted, Stop>
     requires { AreGrown trees.items }
-    ensures { Judges (from_grown fin.now (map root trees.items)) result }
+    ensures judged { Meets (from_grown mode fin.now (map root trees.items)) posed result }
 {
     let table = classes(alloc, trees.as_slice())?;
-    judge_from_typing(alloc, fin, trees, table)
+    judge_from_typing(alloc, mode, fin, trees, table)
 }
 
-/// Judges what was read.
-fn judge_from_parsing(alloc: Global, fin: &[u8], texts: &Texts) -> Result<Accepted, Stop>
+/// Judges what was read, as what a mode asks of it.
+fn judge_from_parsing(
+    alloc: Global,
+    mode: Mode,
+    fin: &[u8],
+    texts: &Texts,
+) -> Result<Accepted, Stop>
     requires few { length texts.now ≤ MOST_SOURCES }
     requires short { All (λ text. length text ≤ LIMIT) texts.now }
-    ensures { Judges (from_texts fin.now texts.now) result }
+    ensures judged { Meets (from_texts mode fin.now texts.now) posed result }
 {
     let trees = trees_of(alloc, texts)?;
-    judge_from_classes(alloc, fin, trees)
+    judge_from_classes(alloc, mode, fin, trees)
 }
 
 /// Reads files, the finitization first, and judges them.
 fn find_files<F: Files>(
     alloc: Global,
+    mode: Mode,
     fin: &str,
     sources: &Words,
     files: &mut F,
 ) -> Result<Accepted, Stop>
     requires few { length sources.now ≤ MOST_SOURCES }
-    ensures found { FindsIn F.held F.faults F.last (files_of fin.now sources.now) files.old files.new result }
+    ensures found { FindsIn F.held F.faults F.last mode (files_of fin.now sources.now) files.old files.new result }
     ensures count { CountStays (F.faults files.old) (F.faults files.new) result }
-    ensures mode { IfOk result (λ found. (posed found).mode ≡ Listing) }
 {
     let bytes = read(alloc, InputFile::Finitization, fin, files)?;
     match read_sources(alloc, sources, files) {
-        Ok(texts) => judge_from_parsing(alloc, &bytes, &texts),
+        Ok(texts) => judge_from_parsing(alloc, mode, &bytes, &texts),
         Err(stop) => Err(stop),
     }
 }
@@ -239,11 +260,34 @@ fn demo_texts(alloc: Global, nodes: u32) -> Result<Texts, NoMemory>
 
 /// Judges the demo's texts, which no file holds.
 fn find_demo(alloc: Global, nodes: u32) -> Result<Accepted, Stop>
-    ensures { Judges (demonstrating nodes) result }
+    ensures judged { Meets (from_texts Listing (finitization_text nodes) (source_text nodes ∷ [])) posed result }
 {
     let texts = demo_texts(alloc, nodes)?;
     let fin = demo_finitization(alloc, nodes)?;
-    judge_from_parsing(alloc, &fin, &texts)
+    judge_from_parsing(alloc, Mode::List, &fin, &texts)
+}
+
+/// What a test of a method asks.
+fn testing(alloc: Global, method: &Word) -> Result<Mode, NoMemory>
+    ensures { IfOk result (λ mode. mode ≡ Testing method.now) }
+{
+    let name = String::from_str(alloc, method.as_str())?;
+    Ok(Mode::Method(MethodName::new(name)))
+}
+
+/// Does the steps of a test over its files, up to the problem.
+fn find_test<F: Files>(
+    alloc: Global,
+    method: &Word,
+    ask: &Ask,
+    files: &mut F,
+) -> Result<Accepted, Stop>
+    requires few { length ask.now.sources ≤ MOST_SOURCES }
+    ensures found { FindsIn F.held F.faults F.last (Testing method.now) (files_of ask.now.fin ask.now.sources) files.old files.new result }
+    ensures count { CountStays (F.faults files.old) (F.faults files.new) result }
+{
+    let mode = testing(alloc, method)?;
+    find_files(alloc, mode, ask.fin.as_str(), &ask.sources, files)
 }
 
 /// Does the steps of a command, up to the problem.
@@ -255,11 +299,15 @@ pub(crate) fn find<F: Files>(
     requires sources { HasSources command.now }
     ensures found { Finds F.held F.faults F.last command.now files.old files.new result }
     ensures count { CountStays (F.faults files.old) (F.faults files.new) result }
-    ensures mode { IfOk result (λ found. (posed found).mode ≡ Listing) }
 {
     match command {
-        Command::List(ask) => find_files(alloc, ask.fin.as_str(), &ask.sources, files),
-        Command::Check { fin, sources } => find_files(alloc, fin.as_str(), sources, files),
+        Command::List(ask) => {
+            find_files(alloc, Mode::List, ask.fin.as_str(), &ask.sources, files)
+        }
+        Command::Test { method, ask } => find_test(alloc, method, ask, files),
+        Command::Check { fin, sources } => {
+            find_files(alloc, Mode::List, fin.as_str(), sources, files)
+        }
         Command::Demo { n } => find_demo(alloc, *n),
     }
 }

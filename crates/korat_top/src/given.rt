@@ -1,6 +1,7 @@
 // What the program does with what it was given for words.
 ghost use Rattle.std.specs.Prelude.{◌≡◌, Err, IfOk, IfErr};
 ghost use Rattle.std.specs.declared.io.ErrorKind.TheVariants.{OutOfMemory};
+ghost use Rattle.korat_top.specs.Ends.{seen};
 ghost use Rattle.korat_top.specs.Starts.{IsGiven, WhyNone, Starts};
 ghost use Rattle.korat_top.specs.declared.given.NoWords.TheVariants.{Memory as Lacking};
 
@@ -74,7 +75,7 @@ pub fn start<R, F: Files, K: Sink, G: Gate + Sync>(
     out: &mut K,
     gate: &G,
 ) -> u8
-    ensures { Starts F.held F.faults F.last K.taken K.faults words files.old files.new out.old out.new result }
+    ensures { Starts (seen F.held F.faults F.last K.taken K.faults) words files.old files.new out.old out.new result }
 {
     match words {
         Ok(words) => run(rt, alloc, &words, files, out, gate),

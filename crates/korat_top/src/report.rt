@@ -45,6 +45,7 @@ pub(crate) fn name_of(command: &Command, file: InputFile) -> &str
 {
     match command {
         Command::List(ask) => file_name(&ask.fin, &ask.sources, file),
+        Command::Test { ask, .. } => file_name(&ask.fin, &ask.sources, file),
         Command::Check { fin, sources } => file_name(fin, sources, file),
         Command::Demo { .. } => demo_name(file),
     }

@@ -1,11 +1,10 @@
 // The call.
 ghost use Rattle.std.specs.Prelude.{◌≡◌, ◌<◌, Some, IfOk, OnErr};
 ghost use Rattle.kr_args.specs.Sources.{HasSources};
-ghost use Rattle.kr_mean.specs.declared.mode.Mode.TheVariants.{List as Listing};
 ghost use Rattle.kr_report.specs.Endings.{EndsListing};
 ghost use Rattle.kr_space_problem.specs.Posed.{posed};
 ghost use Rattle.korat_top.specs.Answer.{asked_of, counts_of, listing_of, report_of, tally_of};
-ghost use Rattle.korat_top.specs.Ends.{EndsFor, IsComplete};
+ghost use Rattle.korat_top.specs.Ends.{EndsFor, IsComplete, seen};
 
 use crate::find::find;
 use crate::refusal::Stop;
@@ -14,7 +13,7 @@ use kr_args::command;
 use kr_args::forms::{ArgRefusal, Ask, Command};
 use kr_base::{NoMemory, Sink, Steps, Words};
 use kr_io::{Files, Gate};
-use kr_judge_predicate::predicate_of;
+use kr_judge_predicate::problem_code;
 use kr_judge_prepared::{Accepted, Prepared};
 use kr_report::{
     Summary, once_written, put_out_of_memory, put_read_fault, put_usage_fault, summary_text,
@@ -28,11 +27,11 @@ use std::sync::ledger::{Blank, Ledger};
 fn prepare(alloc: Global, found: Accepted) -> Result<Prepared, NoMemory>
     ensures { IfOk result (λ prepared. prepared.problem ≡ found) }
 {
-    let predicate = predicate_of(alloc, found.problem())?;
-    Prepared::new(alloc, found, predicate)
+    let code = problem_code(alloc, found.problem())?;
+    Prepared::new(alloc, found, code)
 }
 
-/// Lists the entries of a problem that are asked for. Where memory is refused before anything is searched, nothing is put.
+/// Lists the entries of a problem that are asked for, with verdicts where a method is tested. Where memory is refused before anything is searched, nothing is put.
 fn put_asked<K: Sink, L: Ledger>(
     alloc: Global,
     prepared: &Prepared,
@@ -40,7 +39,6 @@ fn put_asked<K: Sink, L: Ledger>(
     out: &mut K,
     runs: &mut Steps<L>,
 ) -> Result<u8, NoMemory>
-    requires mode { (posed prepared.now.problem).mode ≡ Listing }
     ensures ends { IfOk result (λ status. EndsListing K.taken K.faults (listing_of ask.now (posed prepared.now.problem)) out.old out.new status) }
     ensures nothing { OnErr result (out.new ≡ out.old) }
 {
@@ -64,7 +62,6 @@ fn put_list<K: Sink, L: Ledger>(
     out: &mut K,
     runs: &mut Steps<L>,
 ) -> Result<u8, NoMemory>
-    requires mode { (posed found).mode ≡ Listing }
     ensures ends { IfOk result (λ status. EndsListing K.taken K.faults (listing_of ask.now (posed found)) out.old out.new status) }
     ensures nothing { OnErr result (out.new ≡ out.old) }
 {
@@ -72,7 +69,7 @@ fn put_list<K: Sink, L: Ledger>(
     put_asked(alloc, &prepared, ask, out, runs)
 }
 
-/// Lists a problem.
+/// Lists a problem, or tests its method.
 fn list<K: Sink, L: Ledger>(
     alloc: Global,
     found: Accepted,
@@ -80,7 +77,6 @@ fn list<K: Sink, L: Ledger>(
     out: &mut K,
     blank: Blank,
 ) -> u8
-    requires mode { (posed found).mode ≡ Listing }
     requires ledger { blank.name ≡ L.name }
     requires parts { blank.parts ≡ L.parts }
     requires some { 0 < L.parts }
@@ -101,7 +97,6 @@ fn put_valid<K: Sink, L: Ledger>(
     out: &mut K,
     runs: &mut Steps<L>,
 ) -> Result<u8, NoMemory>
-    requires mode { (posed found).mode ≡ Listing }
     ensures ends { IfOk result (λ status. EndsListing K.taken K.faults (tally_of nodes (posed found)) out.old out.new status) }
     ensures nothing { OnErr result (out.new ≡ out.old) }
 {
@@ -117,7 +112,6 @@ fn demonstrate<K: Sink, L: Ledger>(
     out: &mut K,
     blank: Blank,
 ) -> u8
-    requires mode { (posed found).mode ≡ Listing }
     requires ledger { blank.name ≡ L.name }
     requires parts { blank.parts ≡ L.parts }
     requires some { 0 < L.parts }
@@ -142,11 +136,11 @@ fn count<K: Sink>(found: &Accepted, out: &mut K) -> u8
 
 /// Reports of the problem of a command.
 fn report<K: Sink>(alloc: Global, command: &Command, found: Accepted, out: &mut K) -> u8
-    requires mode { (posed found).mode ≡ Listing }
     ensures { EndsListing K.taken K.faults (report_of command.now (posed found)) out.old out.new result }
 {
     match command {
         Command::List(ask) => list::<K, Brand>(alloc, found, ask, out, Blank::new(1)),
+        Command::Test { ask, .. } => list::<K, Brand>(alloc, found, ask, out, Blank::new(1)),
         Command::Check { .. } => count(&found, out),
         Command::Demo { n } => demonstrate::<K, Brand>(alloc, found, *n, out, Blank::new(1)),
     }
@@ -155,7 +149,7 @@ fn report<K: Sink>(alloc: Global, command: &Command, found: Accepted, out: &mut 
 /// Serves a command.
 fn serve<F: Files, K: Sink>(alloc: Global, command: &Command, files: &mut F, out: &mut K) -> u8
     requires sources { HasSources command.now }
-    ensures { EndsFor F.held F.faults F.last K.taken K.faults (Some command.now) files.old files.new out.old out.new result }
+    ensures { let see = seen F.held F.faults F.last K.taken K.faults in EndsFor (Some command.now) (see files.old out.old) (see files.new out.new) result }
 {
     match find(alloc, command, files) {
         Ok(found) => report(alloc, command, found, out),
@@ -181,8 +175,8 @@ pub fn run<R, F: Files, K: Sink, G: Gate + Sync>(
     out: &mut K,
     _gate: &G,
 ) -> u8
-    ensures headline { EndsFor F.held F.faults F.last K.taken K.faults (asked_of words.now) files.old files.new out.old out.new result }
-    ensures complete { IsComplete F.held F.faults K.taken K.faults (asked_of words.now) files.old files.new out.old out.new result }
+    ensures headline { let see = seen F.held F.faults F.last K.taken K.faults in EndsFor (asked_of words.now) (see files.old out.old) (see files.new out.new) result }
+    ensures complete { let see = seen F.held F.faults F.last K.taken K.faults in IsComplete (asked_of words.now) (see files.old out.old) (see files.new out.new) result }
 {
     match command(alloc, words) {
         Ok(asked) => serve(alloc, &asked, files, out),

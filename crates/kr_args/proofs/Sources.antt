@@ -20,7 +20,8 @@ use Rattle.clap.specs.declared.error.kind.ErrorKind.TheVariants as kind
 use Rattle.clap.proofs.OnLiterals.{clap_on_literals}
 use Rattle.kr_args.specs.Definition.{MOST_SOURCES, korat_app}
 use Rattle.kr_args.specs.Sources.{AreSources, HasSources}
-use Rattle.kr_args.specs.Reading.{Files, Range, check_in, command_in, command_of, demo_in, files_in, files_with, list_in, list_with, named_in, number_in, range_in}
+use Rattle.kr_args.specs.Reading.{Files, Range, ask_in, ask_with, check_in, command_in, command_of, demo_in, files_in, files_with, list_in, named_in, number_in, range_in, test_in, test_with}
+use Rattle.kr_args.specs.declared.forms.Ask.{Ask}
 use Rattle.kr_args.specs.declared.forms.Command.TheVariants as commands
 use Rattle.kr_args.proofs.Walks.{IsOf, Keeps, both_none, level_kept}
 
@@ -240,10 +241,19 @@ files_bounded None sources h = tt
 files_bounded (Some fin) None h = tt
 files_bounded (Some fin) (Some sources) h = h
 
-list_bounded : (files : Option Files) (range : Option Range) → IfSome files (λ f. AreSources f.1) → IfSome (list_with files range) HasSources
-list_bounded None range h = tt
-list_bounded (Some files) None h = tt
-list_bounded (Some files) (Some range) h = h
+ask_bounded : (files : Option Files) (range : Option Range) → IfSome files (λ f. AreSources f.1) → IfSome (ask_with files range) (λ ask. AreSources ask.sources)
+ask_bounded None range h = tt
+ask_bounded (Some files) None h = tt
+ask_bounded (Some files) (Some range) h = h
+
+list_bounded : (ask : Option Ask) → IfSome ask (λ a. AreSources a.sources) → IfSome (option_map commands.List ask) HasSources
+list_bounded None h = tt
+list_bounded (Some ask) h = h
+
+test_bounded : (method : Option Text) (ask : Option Ask) → IfSome ask (λ a. AreSources a.sources) → IfSome (test_with method ask) HasSources
+test_bounded None ask h = tt
+test_bounded (Some method) None h = tt
+test_bounded (Some method) (Some ask) h = h
 
 check_bounded : (files : Option Files) → IfSome files (λ f. AreSources f.1) → IfSome (option_map (λ f. commands.Check f.0 f.1) files) HasSources
 check_bounded None h = tt
@@ -254,16 +264,20 @@ demo_bounded None = tt
 demo_bounded (Some n) = tt
 
 named_bounded : (name : Text) (rows : List Row) → AreBounded rows → IfSome (named_in name rows) HasSources
-named_bounded name rows h = by_name (bytes_eq name (codes "list")) (bytes_eq name (codes "check")) (bytes_eq name (codes "demo"))
+named_bounded name rows h = by_name (bytes_eq name (codes "list")) (bytes_eq name (codes "test")) (bytes_eq name (codes "check")) (bytes_eq name (codes "demo"))
   where
     files : IfSome (files_in rows) (λ f. AreSources f.1)
     files = files_bounded (first_of (codes "fin") rows) (all_of (codes "source") rows) (found_bounded rows h)
 
-    by_name : (a b d : Bool) → IfSome (if a then list_in rows else (if b then check_in rows else (if d then demo_in rows else None))) HasSources
-    by_name true b d = list_bounded (files_in rows) (range_in rows) files
-    by_name false true d = check_bounded (files_in rows) files
-    by_name false false true = demo_bounded (option_and_then (number_in 1 12) (first_of (codes "nodes") rows))
-    by_name false false false = tt
+    asks : IfSome (ask_in rows) (λ a. AreSources a.sources)
+    asks = ask_bounded (files_in rows) (range_in rows) files
+
+    by_name : (a b c d : Bool) → IfSome (if a then list_in rows else (if b then test_in rows else (if c then check_in rows else (if d then demo_in rows else None)))) HasSources
+    by_name true b c d = list_bounded (ask_in rows) asks
+    by_name false true c d = test_bounded (first_of (codes "method") rows) (ask_in rows) asks
+    by_name false false true d = check_bounded (files_in rows) files
+    by_name false false false true = demo_bounded (option_and_then (number_in 1 12) (first_of (codes "nodes") rows))
+    by_name false false false false = tt
 
 command_bounded : (met : Option (Text × List Row)) → IfSome met (λ m. AreBounded m.1) → IfSome (command_in met) HasSources
 command_bounded None h = tt

@@ -37,6 +37,12 @@ worked = record {
   demo_of_none = refl;
   demo_too_large = refl;
   test = refl;
+  test_in_a_span = refl;
+  test_without_source = refl;
+  test_without_method = refl;
+  test_of_workers = refl;
+  test_of_no_limit = refl;
+  list_of_a_method = refl;
   help = refl;
   help_word = refl;
 }

@@ -22,10 +22,17 @@ sources_rule = record (new_rule (codes "source")) {
 abbrev pub option_rule : Text → Rule
 option_rule name = record (new_rule name) { long = Some name }
 
+-- `[--from CUT] [--to CUT] [--limit N]`, which entries are wanted
+abbrev pub with_range : App → App
+with_range command = with_rule (with_rule (with_rule command (option_rule (codes "from"))) (option_rule (codes "to"))) (option_rule (codes "limit"))
+
 -- `list FIN SOURCE.. [--from CUT] [--to CUT] [--limit N]`
 abbrev pub list_app : App
-list_app = with_rule (with_rule (with_rule (with_rule (with_rule (new_app (codes "list"))
-    (word_rule (codes "fin"))) sources_rule) (option_rule (codes "from"))) (option_rule (codes "to"))) (option_rule (codes "limit"))
+list_app = with_range (with_rule (with_rule (new_app (codes "list")) (word_rule (codes "fin"))) sources_rule)
+
+-- `test FIN METHOD SOURCE.. [--from CUT] [--to CUT] [--limit N]`
+abbrev pub test_app : App
+test_app = with_range (with_rule (with_rule (with_rule (new_app (codes "test")) (word_rule (codes "fin"))) (word_rule (codes "method"))) sources_rule)
 
 -- `check FIN SOURCE..`
 abbrev pub check_app : App
@@ -46,4 +53,4 @@ bare_app = on_top (λ s. record s {
 }) (new_app (codes "korat"))
 
 abbrev pub korat_app : App
-korat_app = with_subcommand (with_subcommand (with_subcommand bare_app list_app.top) check_app.top) demo_app.top
+korat_app = with_subcommand (with_subcommand (with_subcommand (with_subcommand bare_app list_app.top) test_app.top) check_app.top) demo_app.top

@@ -9,6 +9,7 @@ use Rattle.kr_base.specs.declared.span.Bound.{Bound}
 use Rattle.kr_base.specs.declared.span.Bound.TheVariants.{At, End}
 use Rattle.kr_base.specs.Parsing.{cut_of}
 use Rattle.kr_args.specs.Definition.{korat_app}
+use Rattle.kr_args.specs.declared.forms.Ask.{Ask}
 use Rattle.kr_args.specs.declared.forms.Command.{Command}
 use Rattle.kr_args.specs.declared.forms.Command.TheVariants as commands
 
@@ -59,12 +60,23 @@ range_with _ _ _ = None
 abbrev pub range_in : List Row → Option Range
 range_in rows = range_with (from_in (first_of (codes "from") rows)) (to_in (first_of (codes "to") rows)) (limit_in (first_of (codes "limit") rows))
 
-abbrev pub list_with : Option Files → Option Range → Option Command
-list_with (Some files) (Some range) = Some (commands.List (record { fin = files.0; sources = files.1; from = range.0; to = range.1; limit = range.2 }))
-list_with _ _ = None
+abbrev pub ask_with : Option Files → Option Range → Option Ask
+ask_with (Some files) (Some range) = Some (record { fin = files.0; sources = files.1; from = range.0; to = range.1; limit = range.2 })
+ask_with _ _ = None
+
+abbrev pub ask_in : List Row → Option Ask
+ask_in rows = ask_with (files_in rows) (range_in rows)
 
 abbrev pub list_in : List Row → Option Command
-list_in rows = list_with (files_in rows) (range_in rows)
+list_in rows = option_map commands.List (ask_in rows)
+
+-- the same of the valid structures on which a method is tested
+abbrev pub test_with : Option Text → Option Ask → Option Command
+test_with (Some method) (Some ask) = Some (commands.Test method ask)
+test_with _ _ = None
+
+abbrev pub test_in : List Row → Option Command
+test_in rows = test_with (first_of (codes "method") rows) (ask_in rows)
 
 abbrev pub check_in : List Row → Option Command
 check_in rows = option_map (λ files. commands.Check files.0 files.1) (files_in rows)
@@ -77,8 +89,9 @@ demo_in rows = demo_with (first_of (codes "nodes") rows)
 
 abbrev pub named_in : Text → List Row → Option Command
 named_in name rows = if bytes_eq name (codes "list") then list_in rows
+    else (if bytes_eq name (codes "test") then test_in rows
     else (if bytes_eq name (codes "check") then check_in rows
-    else (if bytes_eq name (codes "demo") then demo_in rows else None))
+    else (if bytes_eq name (codes "demo") then demo_in rows else None)))
 
 abbrev pub command_in : Option (Text × List Row) → Option Command
 command_in = option_and_then (λ p. named_in p.0 p.1)

@@ -11,5 +11,6 @@ AreSources sources = (1 ≤ length sources) × (length sources ≤ MOST_SOURCES)
 -- where it reads files, it has from one source to the most
 abbrev pub HasSources : Command → Type 0
 HasSources (commands.List ask) = AreSources ask.sources
+HasSources (commands.Test method ask) = AreSources ask.sources
 HasSources (commands.Check fin sources) = AreSources sources
 HasSources (commands.Demo n) = Unit {0}

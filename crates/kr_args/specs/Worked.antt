@@ -3,8 +3,9 @@ use Rattle.std.specs.Prelude.{◌≡◌, ℕ, List, [], ◌∷◌, Option, Some,
 use Rattle.clap.specs.Words.{Text}
 use Rattle.kr_base.specs.declared.span.Bound.{Bound}
 use Rattle.kr_base.specs.declared.span.Bound.TheVariants.{At, End}
+use Rattle.kr_args.specs.declared.forms.Ask.{Ask}
 use Rattle.kr_args.specs.declared.forms.Command.{Command}
-use Rattle.kr_args.specs.declared.forms.Command.TheVariants.{List as Lists, Check as Checks, Demo as Demos}
+use Rattle.kr_args.specs.declared.forms.Command.TheVariants.{List as Lists, Test as Tests, Check as Checks, Demo as Demos}
 use Rattle.kr_args.specs.Reading.{command_of}
 
 -- the words f and a behind a word, and more
@@ -12,8 +13,15 @@ abbrev pub with_files : Text → List Text → List Text
 with_files name more = name ∷ codes "f" ∷ codes "a" ∷ more
 
 -- the listing of these files, with keys above one and not above another, and so many valid entries
+abbrev pub wanted : List ℕ → Bound → ℕ → Ask
+wanted from to limit = record { fin = codes "f"; sources = codes "a" ∷ []; from = from; to = to; limit = limit }
+
 abbrev pub listed : List ℕ → Bound → ℕ → Option Command
-listed from to limit = Some (Lists (record { fin = codes "f"; sources = codes "a" ∷ []; from = from; to = to; limit = limit }))
+listed from to limit = Some (Lists (wanted from to limit))
+
+-- the test of method m on the same
+abbrev pub tested : List ℕ → Bound → ℕ → Option Command
+tested from to limit = Some (Tests (codes "m") (wanted from to limit))
 
 abbrev pub checked_as : Text → List Text → Option Command
 checked_as fin sources = Some (Checks fin sources)
@@ -48,6 +56,12 @@ pub record WorkedWords : Type 0 where
   pub demo : command_of (codes "demo" ∷ codes "12" ∷ []) ≡ Some (Demos 12)
   pub demo_of_none : command_of (codes "demo" ∷ codes "0" ∷ []) ≡ None
   pub demo_too_large : command_of (codes "demo" ∷ codes "13" ∷ []) ≡ None
-  pub test : command_of (codes "test" ∷ codes "f" ∷ codes "m" ∷ codes "a" ∷ []) ≡ None
+  pub test : command_of (codes "test" ∷ codes "f" ∷ codes "m" ∷ codes "a" ∷ []) ≡ tested [] End 4294967295
+  pub test_in_a_span : command_of (codes "test" ∷ codes "--limit" ∷ codes "2" ∷ codes "f" ∷ codes "--from=0.2" ∷ codes "m" ∷ codes "a" ∷ codes "--to" ∷ codes "1" ∷ []) ≡ tested (0 ∷ 2 ∷ []) (At (1 ∷ [])) 2
+  pub test_without_source : command_of (codes "test" ∷ codes "f" ∷ codes "m" ∷ []) ≡ None
+  pub test_without_method : command_of (codes "test" ∷ codes "f" ∷ []) ≡ None
+  pub test_of_workers : command_of (codes "test" ∷ codes "f" ∷ codes "m" ∷ codes "a" ∷ codes "--workers" ∷ codes "2" ∷ []) ≡ None
+  pub test_of_no_limit : command_of (codes "test" ∷ codes "f" ∷ codes "m" ∷ codes "a" ∷ codes "--limit" ∷ codes "0" ∷ []) ≡ None
+  pub list_of_a_method : command_of (codes "list" ∷ codes "f" ∷ codes "m" ∷ codes "a" ∷ []) ≡ Some (Lists (record (wanted [] End 4294967295) { sources = codes "m" ∷ codes "a" ∷ [] }))
   pub help : command_of (codes "--help" ∷ []) ≡ None
   pub help_word : command_of (codes "help" ∷ []) ≡ None

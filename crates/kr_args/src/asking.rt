@@ -2,12 +2,12 @@
 ghost use Rattle.std.specs.Prelude.{◌≡◌, ◌≢◌, Some, None, IfOk, MatchResult};
 ghost use Rattle.clap.specs.Words.{kind_of, subcommand_rows_of, found_of, rows_of, first_of, all_of};
 ghost use Rattle.clap.specs.declared.error.ErrorKind.TheVariants.{OutOfMemory};
-ghost use Rattle.kr_args.specs.Reading.{text_in, texts_in, files_in, range_in, list_in, check_in, demo_in, demo_with, named_in, command_in, command_of};
+ghost use Rattle.kr_args.specs.Reading.{text_in, texts_in, files_in, range_in, ask_in, list_in, test_in, check_in, demo_in, demo_with, named_in, command_in, command_of};
 ghost use Rattle.kr_args.specs.Sources.{HasSources};
 
 use crate::definition::whole_definition;
 use crate::forms::{ArgRefusal, Ask, Command, Word};
-use crate::values::{read_files, read_from, read_limit, read_number, read_to};
+use crate::values::{read_files, read_from, read_limit, read_number, read_to, read_word};
 use clap::error::ErrorKind;
 use clap::{ArgMatches, Error};
 use kr_base::{Bound, Cut, NoMemory, Words};
@@ -52,19 +52,35 @@ fn read_range(alloc: Global, matches: &ArgMatches<'_>) -> Result<Range, ArgRefus
     Ok(Range { from, to, limit })
 }
 
-fn read_list(alloc: Global, matches: &ArgMatches<'_>) -> Result<Command, ArgRefusal>
-    ensures { let wanted = list_in (rows_of (found_of matches.now)) in
-        MatchResult result (λ command. wanted ≡ Some command) (λ e. e ≡ ArgRefusal.Usage → wanted ≡ None) }
+fn read_ask(alloc: Global, matches: &ArgMatches<'_>) -> Result<Ask, ArgRefusal>
+    ensures { let wanted = ask_in (rows_of (found_of matches.now)) in
+        MatchResult result (λ ask. wanted ≡ Some ask) (λ e. e ≡ ArgRefusal.Usage → wanted ≡ None) }
 {
     let (fin, sources) = read_sources(alloc, matches)?;
     let range = read_range(alloc, matches)?;
-    Ok(Command::List(Ask {
+    Ok(Ask {
         fin,
         sources,
         from: range.from,
         to: range.to,
         limit: range.limit,
-    }))
+    })
+}
+
+fn read_list(alloc: Global, matches: &ArgMatches<'_>) -> Result<Command, ArgRefusal>
+    ensures { let wanted = list_in (rows_of (found_of matches.now)) in
+        MatchResult result (λ command. wanted ≡ Some command) (λ e. e ≡ ArgRefusal.Usage → wanted ≡ None) }
+{
+    Ok(Command::List(read_ask(alloc, matches)?))
+}
+
+fn read_test(alloc: Global, matches: &ArgMatches<'_>) -> Result<Command, ArgRefusal>
+    ensures { let wanted = test_in (rows_of (found_of matches.now)) in
+        MatchResult result (λ command. wanted ≡ Some command) (λ e. e ≡ ArgRefusal.Usage → wanted ≡ None) }
+{
+    let method = read_word(alloc, text_of(matches, "method"))?;
+    let ask = read_ask(alloc, matches)?;
+    Ok(Command::Test { method, ask })
 }
 
 fn read_check(alloc: Global, matches: &ArgMatches<'_>) -> Result<Command, ArgRefusal>
@@ -102,6 +118,8 @@ fn read_named(alloc: Global, name: &str, matches: &ArgMatches<'_>) -> Result<Com
 {
     if name == "list" {
         read_list(alloc, matches)
+    } else if name == "test" {
+        read_test(alloc, matches)
     } else if name == "check" {
         read_check(alloc, matches)
     } else if name == "demo" {

@@ -2,7 +2,7 @@
 ghost use Rattle.std.specs.Prelude.{◌≡◌, false, IfOk};
 ghost use Rattle.clap.specs.declared.builder.command.Command.TheViews.{out-Command as fields_of};
 ghost use Rattle.clap.specs.Words.{rule_of, app_of, with_rule, with_subcommand};
-ghost use Rattle.kr_args.specs.Definition.{sources_rule, option_rule, bare_app, list_app, check_app, demo_app, korat_app};
+ghost use Rattle.kr_args.specs.Definition.{sources_rule, option_rule, with_range as range_added, bare_app, list_app, test_app, check_app, demo_app, korat_app};
 
 use clap::{Arg, Command as Definition};
 use kr_base::NoMemory;
@@ -29,6 +29,17 @@ fn with_option<'a>(
     Ok(command.arg(Arg::new(alloc, name).long(name))?)
 }
 
+/// `[--from CUT] [--to CUT] [--limit N]`, for a command without a global argument.
+fn with_range<'a>(alloc: Global, command: Definition<'a>) -> Result<Definition<'a>, NoMemory>
+    requires { (fields_of command).has_globals ≡ false }
+    ensures app { IfOk result (λ c. app_of c ≡ range_added (app_of command.entry)) }
+    ensures local { IfOk result (λ c. (fields_of c).has_globals ≡ false) }
+{
+    let command = with_option(alloc, command, "from")?;
+    let command = with_option(alloc, command, "to")?;
+    with_option(alloc, command, "limit")
+}
+
 /// `list FIN SOURCE..` with its options.
 fn list_definition<'a>(alloc: Global) -> Result<Definition<'a>, NoMemory>
     ensures app { IfOk result (λ c. app_of c ≡ list_app) }
@@ -38,9 +49,21 @@ fn list_definition<'a>(alloc: Global) -> Result<Definition<'a>, NoMemory>
     let command = Definition::new(alloc, "list")
         .arg(fin)?
         .arg(sources_argument(alloc))?;
-    let command = with_option(alloc, command, "from")?;
-    let command = with_option(alloc, command, "to")?;
-    with_option(alloc, command, "limit")
+    with_range(alloc, command)
+}
+
+/// `test FIN METHOD SOURCE..` with its options.
+fn test_definition<'a>(alloc: Global) -> Result<Definition<'a>, NoMemory>
+    ensures app { IfOk result (λ c. app_of c ≡ test_app) }
+    ensures local { IfOk result (λ c. (fields_of c).has_globals ≡ false) }
+{
+    let fin = Arg::new(alloc, "fin").required(true);
+    let method = Arg::new(alloc, "method").required(true);
+    let command = Definition::new(alloc, "test")
+        .arg(fin)?
+        .arg(method)?
+        .arg(sources_argument(alloc))?;
+    with_range(alloc, command)
 }
 
 /// `check FIN SOURCE..`.
@@ -98,10 +121,19 @@ fn with_list<'a>(alloc: Global) -> Result<Definition<'a>, NoMemory>
 }
 
 /// The tool with its first two commands.
-fn with_check<'a>(alloc: Global) -> Result<Definition<'a>, NoMemory>
-    ensures { IfOk result (λ c. app_of c ≡ with_subcommand (with_subcommand bare_app list_app.top) check_app.top) }
+fn with_test<'a>(alloc: Global) -> Result<Definition<'a>, NoMemory>
+    ensures { IfOk result (λ c. app_of c ≡ with_subcommand (with_subcommand bare_app list_app.top) test_app.top) }
 {
     let korat = with_list(alloc)?;
+    let test = test_definition(alloc)?;
+    with_command(korat, test)
+}
+
+/// The tool with its first three commands.
+fn with_check<'a>(alloc: Global) -> Result<Definition<'a>, NoMemory>
+    ensures { IfOk result (λ c. app_of c ≡ with_subcommand (with_subcommand (with_subcommand bare_app list_app.top) test_app.top) check_app.top) }
+{
+    let korat = with_test(alloc)?;
     let check = check_definition(alloc)?;
     with_command(korat, check)
 }

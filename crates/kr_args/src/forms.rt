@@ -7,7 +7,7 @@ use std::alloc::Global;
 use std::marker::Model;
 use thiserror::Error;
 
-/// A word of the call, as the name of a file. Contracts see its bytes.
+/// A word of the call, as the name of a file or of a method. Contracts see its bytes.
 #[derive(Drop)]
 pub struct Word {
     text: String,
@@ -38,8 +38,8 @@ impl Word {
     }
 }
 
-/// What a listing is asked for: the files that it reads, the keys above `from` and not above `to`, and how many valid
-/// entries it writes at most.
+/// What a listing or a test is asked for: the files that it reads, the keys above `from` and not above `to`, and how many
+/// valid entries it writes at most.
 #[derive(Drop)]
 pub struct Ask {
     pub fin: Word,
@@ -54,6 +54,8 @@ pub struct Ask {
 pub enum Command {
     /// `list FIN SOURCE..`
     List(Ask),
+    /// `test FIN METHOD SOURCE..`
+    Test { method: Word, ask: Ask },
     /// `check FIN SOURCE..`
     Check { fin: Word, sources: Words },
     /// `demo N`

@@ -77,6 +77,17 @@ pub(crate) fn read_limit(text: Option<&str>) -> Result<u32, ArgRefusal>
     }
 }
 
+/// The word that is given.
+pub(crate) fn read_word(alloc: Global, text: Option<&str>) -> Result<Word, ArgRefusal>
+    ensures { let wanted = text_in text.entry in
+        MatchResult result (λ word. wanted ≡ Some word) (λ e. e ≡ ArgRefusal.Usage → wanted ≡ None) }
+{
+    match text {
+        Some(text) => Ok(Word::of(alloc, text)?),
+        None => Err(ArgRefusal::Usage),
+    }
+}
+
 fn copy_texts(alloc: Global, texts: &[&str]) -> Result<Words, NoMemory>
     ensures { IfOk result (λ copies. copies ≡ map (λ text. text.now) texts.now) }
 {

@@ -20,11 +20,11 @@ use Rattle.kr_board.specs.declared.board.taking.Taken.{Taken}
 use Rattle.kr_board.specs.declared.board.taking.Taken.TheVariants.{Lease as Leased, Later, Finished}
 use Rattle.kr_board.specs.Taking.{is_free, inside_bound, theft_of, first_free, first_victim, grant, take_event, any_owned, IsLater}
 
-less_from_before : (j k : List ℕ) → Before j k → less (At j) (At k) ≡ true
+pub less_from_before : (j k : List ℕ) → Before j k → less (At j) (At k) ≡ true
 unfolding less
 less_from_before j k h = test_from_before j k h
 
-and-both : (a b : Bool) → a ≡ true → b ≡ true → (a && b) ≡ true
+pub and-both : (a b : Bool) → a ≡ true → b ≡ true → (a && b) ≡ true
 and-both a b p q = ap (λ (x : Bool). x && b) p ∙ q
 
 not_here : (n : ℕ) (ss : List Segment) (g : Segment) (p : Segment → Bool) → Each (λ t. t.number ≢ n) ss → find p ss ≡ Some g → g.number ≢ n
@@ -82,7 +82,7 @@ theft-may g cut h =
       | false ↦ λ q. absurd (cc (q))
     ] h
 
-next-below : (n : ℕ) → n < 2 ^ 64 - 1 → ((n == n) && nat_lt n (2 ^ 64 - 1)) ≡ true
+pub next-below : (n : ℕ) → n < 2 ^ 64 - 1 → ((n == n) && nat_lt n (2 ^ 64 - 1)) ≡ true
 next-below n h = and-both (n == n) (nat_lt n (2 ^ 64 - 1)) (eqb-self n) (grind (arith, nat_tests))
 
 pub theft_fits : (s : State) (seat : ℕ) (g : Segment) (cut : List ℕ) → IsKept s → find (λ t. is_some (theft_of t)) s.segments ≡ Some g → theft_of g ≡ Some cut → s.next < 2 ^ 64 - 1

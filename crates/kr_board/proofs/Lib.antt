@@ -13,3 +13,4 @@ pub mod Taking
 pub mod Fronts
 pub mod Opened
 pub mod Drained
+pub mod Splits

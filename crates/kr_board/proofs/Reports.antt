@@ -33,13 +33,13 @@ use Rattle.kr_board.specs.Boards.{Adds, StaysWith}
 use Rattle.kr_board.specs.Reporting.{refusal_at, refusal_of, refusal, report_event, reply_of}
 use Rattle.kr_board.proofs.Staying.{stays, quiet_stays}
 
-same-cut : (m k : List ℕ) → m ≡ k → is_same (At m) (At k) ≡ true
+pub same-cut : (m k : List ℕ) → m ≡ k → is_same (At m) (At k) ≡ true
 same-cut m k e = ap (λ (x : List ℕ). is_same (At m) (At x)) (sym e) ∙ ap (λ (b : Bool). not b && not b) (irreflexive (At m))
 
 cut-same : (a b : Bound) → is_same a b ≡ true → a ≡ b
 cut-same a b h = connected a b (not-true (less a b) (and-left (not (less a b)) (not (less b a)) h)) (not-true (less b a) (and-right (not (less a b)) (not (less b a)) h))
 
-other-cut : (m k : List ℕ) → (m ≡ k → ⊥) → is_same (At m) (At k) ≡ false
+pub other-cut : (m k : List ℕ) → (m ≡ k → ⊥) → is_same (At m) (At k) ≡ false
 other-cut m k differ = elim (is_same (At m) (At k)) as (λ b. is_same (At m) (At k) ≡ b → b ≡ false) [
   | true ↦ λ h. absurd (differ (cc (cut-same (At m) (At k) h)))
   | false ↦ λ h. refl

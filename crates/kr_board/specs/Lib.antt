@@ -2,6 +2,7 @@ pub mod Held
 pub mod Parts
 pub mod Boards
 pub mod Taking
+pub mod Splitting
 pub mod Reporting
 pub mod Closing
 pub mod Releasing

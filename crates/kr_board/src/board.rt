@@ -10,6 +10,7 @@ ghost use Rattle.kr_board.specs.Rooms.{IsAdded};
 mod closing;
 mod releasing;
 mod reporting;
+mod splitting;
 mod taking;
 
 use crate::edits::{edit_of, empty_lists, make_room, write};

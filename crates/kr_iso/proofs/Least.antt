@@ -2,7 +2,8 @@
 use Rattle.std.proofs.Common.{◌≡◌, ℕ, zero, suc, ◌+◌, ◌-◌, ◌*◌, ◌<◌, ◌≤◌, ◌⊎◌, inl, inr, List, [], ◌∷◌, ◌++◌, Option, Some, None, refl, sym, ap, ◌∙◌, subst, get_or, arith}
 use Rattle.std.specs.Prelude.{map}
 use Rattle.kr_mean.specs.Problem.{DomainObject}
-use Rattle.kr_mean.specs.Space.{Space, IsVector, IsRenaming, IsRenamed, IsBlock, IsSpace, on_slot, on_index}
+use Rattle.kr_mean.specs.Space.{Space, IsVector, IsRenaming, IsRenamed}
+use Rattle.kr_mean.specs.Blocks.{IsBlock, IsSpace, IsMoved, on_slot, on_index}
 use Rattle.kr_base.specs.Cuts.{Before}
 use Rattle.kr_mean.specs.Readings.{AllBelow, IsReading}
 use Rattle.kr_mean.specs.Runs.{key_along}
@@ -10,6 +11,7 @@ use Rattle.kr_iso.specs.Choices.{IsUsed, MayStand, AllowedAlong}
 use Rattle.kr_mean.specs.Isomorphism.{IsLeast}
 use Rattle.kr_iso.specs.Laws.{ChoiceLaw}
 use Rattle.kr_iso.specs.Swap.{swap}
+use Rattle.kr_iso.proofs.Moves.{moves, renames, reading_moves}
 use Rattle.kr_iso.proofs.Swaps.{swap_second, swap_others, swap_renames, swapped, swapped_is}
 use Rattle.std.proofs.lemmas.Bool.{cases_eq, cases_lt}
 
@@ -18,7 +20,7 @@ abbrev pub renamed_along : Space → (ℕ → ℕ → ℕ) → List ℕ → List
 renamed_along S name v order = map (λ s. on_index S name s (get_or v s 0)) order
 
 -- the key of a renamed vector
-pub key_renamed : (S : Space) (name : ℕ → ℕ → ℕ) (v w : List ℕ) (order : List ℕ) → AllBelow S.slots order → IsRenamed S name v w → key_along w (map (on_slot S name) order) ≡ renamed_along S name v order
+pub key_renamed : (S : Space) (name : ℕ → ℕ → ℕ) (v w : List ℕ) (order : List ℕ) → AllBelow S.slots order → IsMoved S name v w → key_along w (map (on_slot S name) order) ≡ renamed_along S name v order
 key_renamed S name v w [] below r = refl
 key_renamed S name v w (s ∷ ss) below r =
     ap (λ (x : ℕ). x ∷ key_along w (map (on_slot S name) ss)) (r.values s below.0) ∙ ap (λ (l : List ℕ). on_index S name s (get_or v s 0) ∷ l) (key_renamed S name v w ss below.1 r)
@@ -99,7 +101,7 @@ no_smaller S is name n v iv path (s ∷ ss) below fixes allowed (inr h) =
 
 pub allowed_is_least : {M : Type 0} (S : Space) (order : List ℕ → List ℕ) (mark : List ℕ → M) → IsSpace S → IsReading S order mark → (v : List ℕ) → IsVector S v → AllowedAlong S v [] (order v) → IsLeast S order v
 allowed_is_least S order mark is reading v iv allowed name w n r b =
-    let e : key_along w (order w) ≡ renamed_along S name v (order v) = ap (key_along w) (reading.renames name v w n iv r) ∙ key_renamed S name v w (order v) (reading.below v iv) r in
+    let e : key_along w (order w) ≡ renamed_along S name v (order v) = ap (key_along w) (reading_moves S is name n order mark reading v w iv r) ∙ key_renamed S name v w (order v) (reading.below v iv) (moves S is name n v w iv r) in
     no_smaller S is name n v iv [] (order v) (reading.below v iv) (λ c k u. absurd u) allowed (subst (λ (k : List ℕ). Before k (key_along v (order v))) e b)
 
 -- whether an object is a given one
@@ -212,8 +214,9 @@ least_is_allowed S order mark is reading v iv least = go (least_choice S is v iv
         let first_in : m.first < S.count m.domain = (let a = m.apart in let b = m.within in omega arith) in
         let w : List ℕ = swapped S m.domain m.first m.second v in
         let n : IsRenaming S name = swap_renames S m.domain m.first m.second first_in m.within in
-        let r : IsRenamed S name v w = swapped_is S is m.domain m.first m.second first_in m.within v iv in
-        let e : key_along w (order w) ≡ renamed_along S name v (order v) = ap (key_along w) (reading.renames name v w n iv r) ∙ key_renamed S name v w (order v) (reading.below v iv) r in
+        let moved : IsMoved S name v w = swapped_is S is m.domain m.first m.second first_in m.within v iv in
+        let r : IsRenamed S name v w = renames S is name n v w iv moved in
+        let e : key_along w (order w) ≡ renamed_along S name v (order v) = ap (key_along w) (reading_moves S is name n order mark reading v w iv r) ∙ key_renamed S name v w (order v) (reading.below v iv) moved in
         absurd (least name w n r (subst (λ (k : List ℕ). Before k (key_along v (order v))) (sym e) m.smaller))
 
 pub choice : {M : Type 0} → ChoiceLaw M

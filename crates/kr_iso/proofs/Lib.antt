@@ -1,3 +1,4 @@
+pub mod Moves
 pub mod Swaps
 pub mod Least
 pub mod Drops

@@ -5,7 +5,8 @@ use Rattle.std.specs.List.{range_with_len}
 use Rattle.std.proofs.lemmas.List.FromFn.{length-map-range_with_len, get_or-map-range_with_len}
 use Rattle.std.proofs.lemmas.Bool.Decides.{nat_tests}
 use Rattle.kr_mean.specs.Problem.{DomainObject}
-use Rattle.kr_mean.specs.Space.{Space, IsVector, IsRenaming, IsRenamed, IsBlock, IsPart, IsSpace, on_slot, on_index}
+use Rattle.kr_mean.specs.Space.{Space, IsVector, IsRenaming}
+use Rattle.kr_mean.specs.Blocks.{width_in, IsBlock, IsPart, IsSpace, IsMoved, on_slot, on_index}
 use Rattle.kr_iso.specs.Swap.{swap}
 
 swap_back : (c m k d j : ℕ) → swap c m k d (swap c m k d j) ≡ j
@@ -51,10 +52,10 @@ module _ (S : Space) (is : IsSpace S) (name : ℕ → ℕ → ℕ) (n : IsRenami
       in_range : name o.domain o.number < S.count o.domain
       in_range = n.within o.domain o.number part.number
 
-      there : on_slot S name s ≡ s - o.number * S.width o.domain + name o.domain o.number * S.width o.domain
+      there : on_slot S name s ≡ s - o.number * width_in S o.domain + name o.domain o.number * width_in S o.domain
       there = rw e refl
 
-      twice : on_slot S name (s - o.number * S.width o.domain + name o.domain o.number * S.width o.domain) ≡ s
+      twice : on_slot S name (s - o.number * width_in S o.domain + name o.domain o.number * width_in S o.domain) ≡ s
       twice = rw (part.all (name o.domain o.number) in_range) (rw (back o.domain o.number) (let r = part.room in omega arith))
 
   goes_index : (s i : ℕ) → s < S.slots → i < S.size s → (x : Option DomainObject) → S.object_at s i ≡ x → on_index S name s i < S.size s
@@ -75,7 +76,7 @@ module _ (S : Space) (is : IsSpace S) (name : ℕ → ℕ → ℕ) (n : IsRenami
       let g = goes t h (S.owner t) refl in
       subst (λ (x : ℕ). renamed_at v t < x) g.size (goes_index (on_slot S name t) (get_or v (on_slot S name t) 0) g.within (iv.within (on_slot S name t) g.within) (S.object_at (on_slot S name t) (get_or v (on_slot S name t) 0)) refl)
 
-  pub renamed_is : (v : List ℕ) → IsVector S v → IsRenamed S name v (renamed v)
+  pub renamed_is : (v : List ℕ) → IsVector S v → IsMoved S name v (renamed v)
   renamed_is v iv = record {
     vector = record {
       long = length-map-range_with_len (renamed_at v) 0 S.slots;
@@ -87,6 +88,6 @@ module _ (S : Space) (is : IsSpace S) (name : ℕ → ℕ → ℕ) (n : IsRenami
 pub swapped : Space → ℕ → ℕ → ℕ → List ℕ → List ℕ
 swapped S c m k v = map (λ t. on_index S (swap c m k) (on_slot S (swap c m k) t) (get_or v (on_slot S (swap c m k) t) 0)) (range_with_len 0 S.slots)
 
-pub swapped_is : (S : Space) → IsSpace S → (c m k : ℕ) → m < S.count c → k < S.count c → (v : List ℕ) → IsVector S v → IsRenamed S (swap c m k) v (swapped S c m k v)
+pub swapped_is : (S : Space) → IsSpace S → (c m k : ℕ) → m < S.count c → k < S.count c → (v : List ℕ) → IsVector S v → IsMoved S (swap c m k) v (swapped S c m k v)
 unfolding swapped
 swapped_is S is c m k hm hk v iv = renamed_is S is (swap c m k) (swap_renames S c m k hm hk) (swap_back c m k) v iv

@@ -1,6 +1,7 @@
 -- Between crates: what makes a candidate the least of its class.
 use Rattle.std.specs.Prelude.{ℕ, List, []}
-use Rattle.kr_mean.specs.Space.{Space, IsVector, IsSpace}
+use Rattle.kr_mean.specs.Space.{Space, IsVector}
+use Rattle.kr_mean.specs.Blocks.{IsSpace}
 use Rattle.kr_mean.specs.Readings.{IsReading}
 use Rattle.kr_mean.specs.Isomorphism.{IsLeast}
 use Rattle.kr_iso.specs.Choices.{AllowedAlong}

@@ -1,7 +1,13 @@
 // What makes a candidate the least of its class.
 ghost use Rattle.kr_iso.specs.Laws.{ChoiceLaw};
+ghost use Rattle.kr_mean.specs.Blocks.{RenamingLaw};
 
 /// A candidate is least exactly where each of its choices is allowed.
 pub fn choice_law<M>()
     ensures { ChoiceLaw M }
+{}
+
+/// A renaming by objects and places is the same as arithmetic on the numbers of slots and on indices.
+pub fn renaming_law()
+    ensures { RenamingLaw }
 {}

@@ -1,5 +1,5 @@
 -- The slots of places, of places that no candidate has none.
-use Rattle.std.proofs.Common.{◌≡◌, ℕ, zero, suc, ◌+◌, ◌<◌, ◌≤◌, Bool, true, false, List, [], ◌∷◌, length, get_or, refl, sym, ap, ◌∙◌, arith}
+use Rattle.std.proofs.Common.{◌≡◌, ℕ, zero, suc, ◌+◌, ◌<◌, ◌≤◌, Bool, true, false, [], ◌∷◌, length, refl, sym, ap, ◌∙◌, arith}
 use Rattle.std.specs.Prelude.{filter, ◌==◌, ◌&&◌}
 use Rattle.std.specs.List.{range_with_len}
 use Rattle.std.proofs.lemmas.Bool.{eqb-true}
@@ -7,33 +7,16 @@ use Rattle.kr_value.specs.declared.object.Class.{Class}
 use Rattle.kr_value.specs.declared.object.Class.TheVariants.{Object, Array, Set, List as ListClass}
 use Rattle.kr_value.specs.declared.object.Spot.{Spot}
 use Rattle.kr_mean.specs.Places.{SlotPlace, Parameter, At}
-use Rattle.kr_mean.specs.Problem.{Problem, ClassDomain, DomainObject, Slot, no_objects, objects_before, heap_number, domain_at, slots, slot_at}
+use Rattle.kr_mean.specs.Problem.{Problem, DomainObject, Slot, heap_number, domain_at, slots, slot_at}
 use Rattle.kr_mean.specs.Runs.{slots_for, is_same_place, is_same_spot}
 use Rattle.kr_mean.specs.WellFormed.{IsWellFormed}
 use Rattle.kr_space_layout.specs.Layouts.{first_slot}
 use Rattle.kr_laws_slots.proofs.Numbering as numbering
-use Rattle.kr_laws_slots.proofs.Numbering.{object, count_at, width_at, parameters, parameter_slot, object_slot, SlotCase, is_this, is_parameter, is_spot, slot_case}
+use Rattle.kr_laws_slots.proofs.Numbering.{object, width_at, parameters, parameter_slot, object_slot, SlotCase, is_this, is_parameter, is_spot, slot_case}
 use Rattle.kr_laws_slots.proofs.Places.{kind, class_at, spot_slots, spot_none}
 use Rattle.kr_build.proofs.Rows.{first_same}
 use Rattle.kr_judge.specs.Columns.{spot_at, HasNone}
-use Rattle.kr_judge.specs.Places.{IsNumbered}
-
--- ---- numbers of objects
-
--- one class domain more has as many objects more before it
-next_domain : (d : ℕ) (ds : List ClassDomain) → d < length ds → objects_before (suc d) ds ≡ objects_before d ds + (get_or ds d no_objects).count
-next_domain d [] h = absurd (omega (arith, h))
-next_domain zero (c ∷ cs) h = omega arith
-next_domain (suc d) (c ∷ cs) h = let r = next_domain d cs (omega (arith, h)) in omega (arith, r)
-
-pub before_more : (d : ℕ) (ds : List ClassDomain) → d < length ds → objects_before (d + 1) ds ≡ objects_before d ds + (get_or ds d no_objects).count
-before_more d ds h = let n : d + 1 ≡ suc d = omega arith in ap (λ (n : ℕ). objects_before n ds) n ∙ next_domain d ds h
-
--- an object is before all that are behind the class domains
-pub before_all : (d k : ℕ) (ds : List ClassDomain) → d < length ds → k < (get_or ds d no_objects).count → objects_before d ds + k < objects_before (length ds) ds
-before_all d k [] h b = absurd (omega (arith, h))
-before_all zero k (c ∷ cs) h b = omega (arith, b)
-before_all (suc d) k (c ∷ cs) h b = let r = before_all d k cs (omega (arith, h)) b in omega (arith, r)
+use Rattle.kr_space_layout.specs.Numbers.{HasNumber}
 
 -- ---- places that no candidate has
 
@@ -66,7 +49,7 @@ module _ (problem : Problem) where
           absurd (omega (arith, eqb-true j i u, l, past))
       go s t (is_spot d k j a b c z) = absurd (cc (t, ap (λ (x : ℕ). is_same_place (slot_at problem x).place place) z, ap (λ (x : Slot). is_same_place x.place place) (object_slot problem d k j a b c).1))
 
-  pub no_object : (number : ℕ) (spot : Spot) → ((o : DomainObject) → IsNumbered problem number o → ⊥) → slots_for problem (At number spot) ≡ []
+  pub no_object : (number : ℕ) (spot : Spot) → ((o : DomainObject) → HasNumber problem number o → ⊥) → slots_for problem (At number spot) ≡ []
   no_object number spot none = nowhere place (λ s h t. go s t (slot_case problem s h))
     where
       place : SlotPlace

@@ -3,6 +3,5 @@ pub mod One
 pub mod Orders
 pub mod Follows
 pub mod Columns
-pub mod Places
 pub mod Predicates
 pub mod Runs

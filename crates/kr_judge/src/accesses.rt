@@ -57,7 +57,7 @@ fn add_place(order: &mut Order, layout: &Layout, place: SlotPlace) -> Result<(),
     requires small { length (slots (bare layout.now)) < 2 ^ 31 }
     ensures { OnOk result (order.new ≡ with_slots order.old (slots_for (bare layout.now) (place_of place))) }
 {
-    match slot_of(layout, place)? {
+    match slot_of(layout, place) {
         None => Ok(()),
         Some(slot) => order.add(slot),
     }

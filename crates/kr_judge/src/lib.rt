@@ -14,7 +14,6 @@ mod start;
 pub use accesses::{Access, Accesses};
 pub use judge::Judge;
 pub use order::Order;
-pub use places::object_numbered;
 pub use predicate::Predicate;
 pub use run::{Ran, run_predicate};
 pub use start::begin;

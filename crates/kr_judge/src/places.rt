@@ -1,8 +1,7 @@
 // The slots of places.
-ghost use Rattle.std.specs.Prelude.{◌≡◌, ◌<◌, ◌≤◌, ◌^◌, ℕ, IfOk, MatchOption, length, option_to_list};
+ghost use Rattle.std.specs.Prelude.{◌≡◌, ◌<◌, ◌≤◌, ◌^◌, ℕ, MatchOption, length, option_to_list};
 ghost use Rattle.kr_iso.specs.Objects.{object_of};
 ghost use Rattle.kr_judge.specs.Columns.{HasNone, spot_at};
-ghost use Rattle.kr_judge.specs.Places.{IsFound};
 ghost use Rattle.kr_mean.specs.Problem.{domain_at, heap_number, slots};
 ghost use Rattle.kr_mean.specs.Runs.{slots_for};
 ghost use Rattle.kr_mean.specs.Places.{At, Parameter};
@@ -12,10 +11,9 @@ ghost use Rattle.kr_mean.specs.WellFormed.{IsWellFormed};
 ghost use Rattle.kr_space_layout.specs.Bounds.{bare};
 ghost use Rattle.kr_mean.specs.Places.{place_of};
 
-use kr_base::NoMemory;
 use kr_iso::Object;
 use kr_space_layout::Layout;
-use kr_value::{Class, Obj, SlotPlace, Spot};
+use kr_value::{Class, SlotPlace, Spot};
 
 /// A number that is below another.
 fn below(number: u32, bound: u32) -> Option<u32>
@@ -74,28 +72,6 @@ fn parameter_slot(layout: &Layout, number: u32) -> Option<u32>
     }
 }
 
-/// The object of a number in the heap, if there is one.
-pub fn object_numbered(layout: &Layout, number: Obj) -> Result<Option<Object>, NoMemory>
-    ensures { IfOk result (λ found. IsFound (bare layout.now) number found) }
-{
-    let count = layout.domains();
-    let Ok(domains) = u32::try_from(count) else {
-        return Err(NoMemory::at_limit(count as u64));
-    };
-    let mut left = number;
-    for domain in 0..domains {
-        let count = layout.count(domain);
-        if left < count {
-            return Ok(Some(Object {
-                domain,
-                number: left,
-            }));
-        }
-        left -= count;
-    }
-    Ok(None)
-}
-
 /// The slot of a spot of an object, if it has the spot.
 fn spot_slot(layout: &Layout, object: Object, spot: Spot) -> Option<u32>
     requires well { IsWellFormed (bare layout.now) }
@@ -112,18 +88,17 @@ fn spot_slot(layout: &Layout, object: Object, spot: Spot) -> Option<u32>
 }
 
 /// The slot of a place, if a candidate has the place.
-pub(crate) fn slot_of(layout: &Layout, place: SlotPlace) -> Result<Option<u32>, NoMemory>
+pub(crate) fn slot_of(layout: &Layout, place: SlotPlace) -> Option<u32>
     requires well { IsWellFormed (bare layout.now) }
     requires small { length (slots (bare layout.now)) < 2 ^ 31 }
-    ensures { IfOk result (λ slot. option_to_list slot ≡ slots_for (bare layout.now) (place_of place)) }
+    ensures { option_to_list result ≡ slots_for (bare layout.now) (place_of place) }
 {
     match place {
-        SlotPlace::This => Ok(Some(0)),
-        SlotPlace::Parameter(number) => Ok(parameter_slot(layout, number)),
-        SlotPlace::At(number, spot) => match object_numbered(layout, number) {
-            Err(why) => Err(why),
-            Ok(None) => Ok(None),
-            Ok(Some(object)) => Ok(spot_slot(layout, object, spot)),
+        SlotPlace::This => Some(0),
+        SlotPlace::Parameter(number) => parameter_slot(layout, number),
+        SlotPlace::At(number, spot) => match layout.numbered(number) {
+            None => None,
+            Some(object) => spot_slot(layout, object, spot),
         },
     }
 }

@@ -7,8 +7,6 @@ use Rattle.kr_laws_shapes.specs.Shapes.{AreContractLines}
 use Rattle.kr_mean.specs.Code as meaning
 use Rattle.kr_mean.specs.Program.{method_scope}
 use Rattle.kr_mean.specs.Runs.{conditions, rep_ok_node, requires_of, tested_method}
-use Rattle.kr_judge.specs.declared.predicate.Predicate.{Predicate}
-use Rattle.kr_judge_prepared.specs.Preparing.{IsRunBy}
 use Rattle.kr_classes_types.specs.Types.{type_at}
 use Rattle.kr_types.specs.declared.program.Program.{Program}
 use Rattle.kr_types.specs.Programs.{all_entries}
@@ -23,7 +21,17 @@ use Rattle.kr_code_lowering.proofs.Numbers.{origin_behind}
 use Rattle.kr_code_members.specs.declared.nodes.MemberNodes.{MemberNodes}
 use Rattle.kr_code_members.specs.declared.nodes.MethodNode.{MethodNode}
 use Rattle.kr_code_members.specs.Nodes.{AreMemberNodes, IsMethodNode}
-use Rattle.kr_judge_predicate.specs.Compiled.{IsCompiled, call_nodes, final_of}
+use Rattle.kr_ast.specs.Tree.{Tree}
+use Rattle.kr_code.specs.declared.code.Code.{Code}
+use Rattle.kr_code.specs.Resolved.{IsMethod, Numbering}
+use Rattle.kr_code_lowering.proofs.Called.{there}
+use Rattle.kr_judge_prepared.specs.Tested.{IsCodeFor, IsContractOf, IsTestedBy, old_shown}
+use Rattle.kr_judge_prepared.specs.declared.contract.Contract.{Contract}
+use Rattle.kr_judge_prepared.specs.declared.contract.OldCode.{OldCode}
+use Rattle.kr_judge_prepared.specs.declared.contract.ProblemCode.{ProblemCode}
+use Rattle.kr_judge_contract.specs.Lines.{ensured}
+use Rattle.kr_judge_contract.specs.Olds.{AreAdded, olds_in}
+use Rattle.kr_judge_predicate.specs.Compiled.{HasMethods, IsCompiled, call_nodes, final_of}
 use Rattle.std.proofs.lemmas.Option.{get_or_from_slice_get, slice_get_read}
 
 -- the call is the first node behind those of the files
@@ -57,9 +65,6 @@ tested_conditions problem k w =
 pub no_tested_conditions : (problem : Problem) → IsFound problem.program None (tested_method (posed problem) (posed problem).mode) → conditions (posed problem) ≡ rep_ok_node (posed problem) ∷ []
 no_tested_conditions problem none = ap (λ (o : Option Method). rep_ok_node (posed problem) ∷ flat_map (requires_of (posed problem).program) (option_to_list o)) none
 
-pub run_by : (problem : Problem) (predicate : Predicate) → IsCompiled problem predicate.code → ((final : Final) → final.nodes ≡ call_nodes problem → map (numbering_of problem.program final).origin predicate.conditions.items ≡ conditions (posed problem)) → IsRunBy (posed problem) predicate
-run_by problem predicate is hold = ∣ (numbering_of problem.program (final_of problem is.0), record { code = is.1; conditions = hold (final_of problem is.0) refl }) ∣₁
-
 pub lines_shape : (p : Program) (m : Method) (n : MethodNode) → IsMethodNode p m n → (s : Site) → s.file ≡ n.file → s.node ≡ n.contracts → AreContractLines (tree_at p s)
 lines_shape p m n is s f i = subst AreContractLines (sym (ap (λ (g : ℕ). node_tree p g s.node) f ∙ ap (λ (j : ℕ). node_tree p n.file j) i)) is.contracts_shape
 
@@ -68,3 +73,44 @@ pub call_alone : (problem : Problem) (final : Final) → final.nodes ≡ call_no
 call_alone problem final is k e old new none pushed =
     let o = (numbering_of problem.program final).origin in
     ap (map o) (pushed ∙ ap (λ (ks : List ℕ). ks ++ k ∷ []) none) ∙ ap (λ (n : meaning.Node). n ∷ []) (call_first problem final is k e)
+
+-- ---- the contract of the method under test
+
+-- the method of a number, with its postconditions and their `\old`s
+pub contract_is : (problem : Problem) (k : ℕ) → k < length (all_methods (table problem.program)) → (lines : Site) (x : MethodNode) → IsMethodNode problem.program (method_numbered (table problem.program) k) x → lines.file ≡ x.file → lines.node ≡ x.contracts
+    → (final : Final) (code : Code) → HasMethods problem code → (none more : List ℕ) (few all : List OldCode) → none ≡ [] → few ≡ []
+    → AreAdded (numbering_of problem.program final) (ensured (method_scope (posed problem).program (method_numbered (table problem.program) k)) (items (tree_at problem.program lines))) none more few all
+    → (contract : Contract) → contract.method ≡ k → contract.olds.items ≡ all → contract.postconditions.items ≡ more → IsContractOf (posed problem).program code (numbering_of problem.program final) (method_numbered (table problem.program) k) contract
+contract_is problem k h lines x is file node final code methods none more few all no_conditions no_olds added contract number olds postconditions =
+    let p = problem.program in
+    let m = method_numbered (table p) k in
+    let n = numbering_of p final in
+    let scope = method_scope (posed problem).program m in
+    let same : items (tree_at p lines) ≡ m.contracts = lines_are p m x is lines file node in
+    let body = there code.methods.items k (let e = methods in omega (arith, e, h)) in
+    record {
+      method = subst (λ (j : ℕ). IsMethod code n m j) (sym number) (record { is = refl; body = body.0; there = body.1 });
+      olds =
+          ap (map (old_shown n)) olds ∙ (added.olds ∙ (ap (λ (os : List OldCode). map (old_shown n) os ++ flat_map olds_in (ensured scope (items (tree_at p lines)))) no_olds
+          ∙ ap (λ (ts : List Tree). flat_map olds_in (ensured scope ts)) same));
+      postconditions =
+          ap (map n.origin) postconditions ∙ (added.conditions ∙ (ap (λ (ks : List ℕ). map n.origin ks ++ ensured scope (items (tree_at p lines))) no_conditions
+          ∙ ap (λ (ts : List Tree). ensured scope ts) same));
+    }
+
+-- a method is tested, or none
+pub none_tested : (problem : Problem) (code : Code) (n : Numbering) → IsFound problem.program None (tested_method (posed problem) (posed problem).mode) → IsTestedBy (posed problem).program code n (tested_method (posed problem) (posed problem).mode) None
+none_tested problem code n none = subst (λ (m : Option Method). IsTestedBy (posed problem).program code n m None) (sym none) tt
+
+pub one_tested : (problem : Problem) (code : Code) (n : Numbering) (k : ℕ) → IsFound problem.program (Some k) (tested_method (posed problem) (posed problem).mode) → (contract : Contract) → IsContractOf (posed problem).program code n (method_numbered (table problem.program) k) contract
+    → IsTestedBy (posed problem).program code n (tested_method (posed problem) (posed problem).mode) (Some contract)
+one_tested problem code n k w contract is =
+    let same : method_numbered (table problem.program) k ≡ w.0 = get_or_from_slice_get _ k w.0 (no_method (table problem.program)) w.2 in
+    subst (λ (m : Option Method). IsTestedBy (posed problem).program code n m (Some contract)) (sym w.1) (subst (λ (m : Method). IsContractOf (posed problem).program code n m contract) same is)
+
+-- the whole
+pub code_for : (problem : Problem) (made : ProblemCode) → IsCompiled problem made.predicate.code → ((final : Final) → final.nodes ≡ call_nodes problem → map (numbering_of problem.program final).origin made.predicate.conditions.items ≡ conditions (posed problem))
+    → ((final : Final) (code : Code) → HasMethods problem code → IsTestedBy (posed problem).program code (numbering_of problem.program final) (tested_method (posed problem) (posed problem).mode) made.contract) → IsCodeFor (posed problem) made
+code_for problem made is hold tested =
+    let final = final_of problem is.names in
+    ∣ (numbering_of problem.program final, record { code = is.is; conditions = hold final refl }, tested final made.predicate.code is.methods) ∣₁

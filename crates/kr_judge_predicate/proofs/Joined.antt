@@ -15,7 +15,7 @@ use Rattle.kr_code.specs.declared.expression.Expression.{Expression}
 use Rattle.kr_code.specs.declared.expression.Expression.TheVariants as expressions
 use Rattle.kr_code.specs.declared.statement.Statement.TheVariants as statements
 use Rattle.kr_code.specs.Resolved as resolved
-use Rattle.kr_code.specs.Resolved.{IsDeclarator, IsExpression, IsPart, IsStatement, Numbering}
+use Rattle.kr_code.specs.Resolved.{IsDeclarator, IsExpression, IsStatement, Numbering}
 use Rattle.kr_code.specs.Tables.{declarator_of, expression_of, node_at, statement_of}
 use Rattle.kr_types.specs.declared.program.Program.{Program}
 use Rattle.kr_types.specs.Programs.{all_entries}

@@ -1,5 +1,4 @@
 pub mod RepOk
-pub mod Lines
 pub mod Joined
 pub mod Tabled
 pub mod Conditions

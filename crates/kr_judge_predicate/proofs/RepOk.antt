@@ -14,7 +14,7 @@ use Rattle.kr_code.specs.declared.code.Code.{Code}
 use Rattle.kr_code.specs.declared.expression.Expression.{Expression}
 use Rattle.kr_code.specs.declared.expression.Expression.TheVariants as expressions
 use Rattle.kr_code.specs.Resolved as resolved
-use Rattle.kr_code.specs.Resolved.{Numbering, AreParts, IsExpression, IsPart}
+use Rattle.kr_code.specs.Resolved.{Numbering, AreParts}
 use Rattle.kr_code.specs.Tables.{listed}
 use Rattle.kr_code_members.specs.Rosters.{all_methods, method_numbered, no_method}
 use Rattle.kr_types.specs.declared.program.Program.{Program}

@@ -38,11 +38,12 @@ module _ (problem : Problem) (names : List (List ℕ)) (files called all : List 
       nodes_are ∙ (more.items ∙ (ap (λ (ns : List Node). ns ++ map nodes.Initialiser more.added) call.items ∙ append_assoc files two (map nodes.Initialiser more.added)))
 
   pub compiled : IsCompiled problem code
-  compiled = (
-    names,
-    record {
+  compiled = record {
+    names = names;
+    is = record {
       tables = tables_are problem.program problem.arrays.items (final_of problem names) t tabled code has methods (bodies ended);
       expressions = expressions_are problem names linked files are count call.call call.calls more.added code split begun;
       statements = statements_are problem names linked files are count call.call call.calls more.added code split begun;
-    },
-  )
+    };
+    methods = methods;
+  }

@@ -13,7 +13,8 @@ use Rattle.kr_code.specs.declared.expression.Nodes.{Nodes}
 use Rattle.kr_code.specs.Resolved.{IsCodeOf, IsExpression, IsPart}
 use Rattle.kr_types.specs.declared.program.Program.{Program}
 use Rattle.kr_space_problem.specs.declared.problem.Problem.{Problem}
-use Rattle.kr_space_problem.specs.Posed.{posed, run_program}
+use Rattle.kr_space_problem.specs.Posed.{posed, run_program, table}
+use Rattle.kr_code_members.specs.Rosters.{all_methods}
 use Rattle.kr_code_lowering.specs.Origins.{Final, numbering_of}
 use Rattle.kr_code_lowering.specs.Sites.{Becomes}
 
@@ -44,6 +45,12 @@ pub record HasCall (problem : Problem) (files made : List Node) : Type 0 where
 abbrev pub final_of : Problem → List (List ℕ) → Final
 final_of problem names = record { names = names; nodes = call_nodes problem }
 
+-- it has all methods of the problem's program
+abbrev pub HasMethods : Problem → Code → Type 0
+HasMethods problem code = length code.methods.items ≡ length (all_methods (table problem.program))
+
 -- it is the code of the problem's program with the call, with some names
-abbrev pub IsCompiled : Problem → Code → Type 0
-IsCompiled problem code = (names : List (List ℕ)) × IsCodeOf (posed problem).program code (numbering_of problem.program (final_of problem names))
+pub record IsCompiled (problem : Problem) (code : Code) : Type 0 where
+  pub names : List (List ℕ)
+  pub is : IsCodeOf (posed problem).program code (numbering_of problem.program (final_of problem names))
+  pub methods : HasMethods problem code

@@ -1,2 +1,3 @@
+pub mod Coded
 pub mod Laid
 pub mod Rows

@@ -1,3 +1,4 @@
 pub mod Accepting
 pub mod Fields
 pub mod Preparing
+pub mod Tested

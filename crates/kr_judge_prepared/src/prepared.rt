@@ -1,15 +1,19 @@
 // What is searched and written.
-ghost use Rattle.std.specs.Prelude.{◌≡◌, ◌<◌, ◌^◌, All, IfOk, length, map};
+ghost use Rattle.std.specs.Prelude.{◌≡◌, ◌<◌, ◌^◌, All, IfOk, is_some, length, map, option_copied};
 ghost use Rattle.kr_classes_table.specs.Table.{fields_of};
 ghost use Rattle.kr_classes_members.specs.Shown.{IsField, field_shown, table_in};
 ghost use Rattle.kr_mean.specs.Problem.{slots};
+ghost use Rattle.kr_mean.specs.Runs.{tested_method};
 ghost use Rattle.kr_mean.specs.WellFormed.{IsWellFormed};
 ghost use Rattle.kr_laws_pruning.specs.Laws.{IsLawful};
 ghost use Rattle.kr_space_layout.specs.Bounds.{problem_with};
 ghost use Rattle.kr_space_problem.specs.Posed.{posed};
+ghost use Rattle.kr_judge_prepared.specs.Accepting.{IsAccepted};
+ghost use Rattle.kr_judge_prepared.specs.Tested.{IsCodeFor};
 ghost use Rattle.kr_judge_prepared.specs.Preparing.{IsRunBy};
 
 use crate::accepted::Accepted;
+use crate::contract::{Contract, ProblemCode};
 use crate::fields::{fields_at, fields_of_classes};
 use kr_base::NoMemory;
 use kr_classes_members::Field;
@@ -21,12 +25,12 @@ use kr_space_problem::Problem;
 use std::alloc::Global;
 use std::marker::Model;
 
-/// An accepted problem of any mode, with the code of its predicate and the fields of each class's objects. Contracts see the
-/// problem and the code.
+/// An accepted problem of any mode, with the code of its predicate and of its method under test, and the fields of each class's
+/// objects. Contracts see the problem and the code.
 #[derive(Drop)]
 pub struct Prepared {
     accepted: Accepted,
-    predicate: Predicate,
+    code: ProblemCode,
     rows: Vec<Vec<Field>>,
 }
 
@@ -36,25 +40,21 @@ impl Model for Prepared {
 
     ghost Value = { Ready };
 
-    ghost view = { λ p. record { problem = p.accepted; predicate = p.predicate } };
+    ghost view = { λ p. record { problem = p.accepted; predicate = p.code.predicate; contract = p.code.contract } };
 
-    ghost invariant = { λ p. IsPrepared p.accepted p.predicate (rows_of p.rows.items) };
+    ghost invariant = { λ p. IsPrepared p.accepted p.code (rows_of p.rows.items) };
 }
 
 impl Prepared {
-    /// The problem, whose predicate is this code.
-    pub fn new(
-        alloc: Global,
-        accepted: Accepted,
-        predicate: Predicate,
-    ) -> Result<Prepared, NoMemory>
-        requires { IsRunBy (posed accepted) predicate }
+    /// The problem, whose code this is.
+    pub fn new(alloc: Global, accepted: Accepted, code: ProblemCode) -> Result<Prepared, NoMemory>
+        requires { IsCodeFor (posed accepted) code }
         ensures { IfOk result (λ prepared. prepared.problem ≡ accepted) }
     {
         let rows = fields_of_classes(alloc, &accepted.problem().program.table.members)?;
         Ok(Prepared {
             accepted,
-            predicate,
+            code,
             rows,
         })
     }
@@ -77,8 +77,17 @@ impl Prepared {
     pub fn predicate(&self) -> &Predicate
         ensures run { IsRunBy (posed self.now.problem) result.now }
         ensures same { result.now ≡ self.now.predicate }
+        ensures tested { IsCodeFor (posed self.now.problem) (record { predicate = result.now; contract = self.now.contract }) }
     {
-        &self.predicate
+        &self.code.predicate
+    }
+
+    /// The method under test with its contract, as nodes of the predicate's code; none where a problem is listed.
+    pub fn contract(&self) -> Option<&Contract>
+        ensures same { option_copied result ≡ self.now.contract }
+        ensures tested { is_some result ≡ is_some (tested_method (posed self.now.problem) (posed self.now.problem).mode) }
+    {
+        self.code.contract.as_ref()
     }
 
     /// The fields of a class's objects, inherited ones first; none of what is no class.
@@ -89,9 +98,10 @@ impl Prepared {
         fields_at(self.rows.as_slice(), class)
     }
 
-    /// What holds of it: it is well formed; its orders fork and rename, and its runs read only what is reachable, as those of
+    /// What holds of it: it breaks no rule; it is well formed; its orders fork and rename, and its runs read only what is reachable, as those of
     /// each pure problem do; and its slots have numbers.
     pub fn laws(&self)
+        ensures accepted { IsAccepted self.now.problem }
         ensures well { IsWellFormed (posed self.now.problem) }
         ensures lawful { IsLawful (posed self.now.problem) }
         ensures small { length (slots (posed self.now.problem)) < 2 ^ 31 }

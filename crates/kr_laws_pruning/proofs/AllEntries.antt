@@ -5,7 +5,8 @@ use Rattle.kr_base.specs.declared.entry.Mark.{Mark}
 use Rattle.kr_base.specs.declared.entry.Entry.{Entry}
 use Rattle.kr_base.specs.Entries.{IsAmong}
 use Rattle.kr_mean.specs.Problem.{Problem}
-use Rattle.kr_mean.specs.Space.{Space, space_of, IsSpace}
+use Rattle.kr_mean.specs.Space.{Space, space_of}
+use Rattle.kr_mean.specs.Blocks.{IsSpace}
 use Rattle.kr_mean.specs.Readings.{IsReading}
 use Rattle.kr_mean.specs.Runs.{order_of}
 use Rattle.kr_mean.specs.Entries.{entry_of, mark_of, IsAll, vectors, is_least, is_settled, sorted, all_of, all_entries}

@@ -2,9 +2,10 @@
 use Rattle.std.proofs.Common.{◌≡◌, ℕ, ◌+◌, ◌-◌, ◌*◌, ◌<◌, List, [], ◌∷◌, refl, sym, ap, ◌∙◌, arith, get_or, Option, Some, None}
 use Rattle.std.specs.Prelude.{map}
 use Rattle.kr_mean.specs.Problem.{DomainObject}
-use Rattle.kr_mean.specs.Space.{Space, IsVector, IsSpace, IsBlock, IsPart, IsRenaming, IsRenamed, on_slot, on_index}
+use Rattle.kr_mean.specs.Space.{Space, IsVector, IsRenaming}
+use Rattle.kr_mean.specs.Blocks.{width_in, IsMoved, IsSpace, IsBlock, IsPart, on_slot, on_index}
 use Rattle.kr_mean.specs.Readings.{AllBelow}
-use Rattle.kr_laws_slots.proofs.Renamed.{renamed_along}
+use Rattle.kr_iso.proofs.Least.{renamed_along}
 
 module _ (space : Space) (is : IsSpace space) where
   index_twice : (m f : ℕ → ℕ → ℕ) → IsRenaming space m → (s i : ℕ) → s < space.slots → i < space.size s → (x : Option DomainObject) → space.object_at s i ≡ x → on_index space f s (on_index space m s i) ≡ on_index space (λ c k. f c (m c k)) s i
@@ -24,10 +25,10 @@ module _ (space : Space) (is : IsSpace space) where
   slot_objects m n s i hs None e = let a : on_slot space m s ≡ s = rw e refl in rw a refl
   slot_objects m n s i hs (Some o) e =
       let p : IsPart space s o = is.parts s o hs e in
-      let a : on_slot space m s ≡ s - o.number * space.width o.domain + m o.domain o.number * space.width o.domain = rw e refl in
+      let a : on_slot space m s ≡ s - o.number * width_in space o.domain + m o.domain o.number * width_in space o.domain = rw e refl in
       rw a (p.objects (m o.domain o.number) i (n.within o.domain o.number p.number))
 
-  pub along_twice : (m f : ℕ → ℕ → ℕ) → IsRenaming space m → (v w : List ℕ) → IsVector space v → IsRenamed space m v w → (ss : List ℕ) → AllBelow space.slots ss → renamed_along space f w (map (on_slot space m) ss) ≡ renamed_along space (λ c k. f c (m c k)) v ss
+  pub along_twice : (m f : ℕ → ℕ → ℕ) → IsRenaming space m → (v w : List ℕ) → IsVector space v → IsMoved space m v w → (ss : List ℕ) → AllBelow space.slots ss → renamed_along space f w (map (on_slot space m) ss) ≡ renamed_along space (λ c k. f c (m c k)) v ss
   along_twice m f n v w iv r [] b = refl
   along_twice m f n v w iv r (s ∷ ss) b =
       let i = get_or v s 0 in

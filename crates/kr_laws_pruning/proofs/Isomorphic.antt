@@ -5,7 +5,8 @@ use Rattle.kr_base.specs.declared.entry.Entry.{Entry}
 use Rattle.kr_base.specs.Cuts.{Before}
 use Rattle.kr_base.specs.Entries.{is_valid}
 use Rattle.kr_mean.specs.Problem.{Problem}
-use Rattle.kr_mean.specs.Space.{Space, space_of, IsVector, IsSpace}
+use Rattle.kr_mean.specs.Space.{Space, space_of, IsVector}
+use Rattle.kr_mean.specs.Blocks.{IsSpace}
 use Rattle.kr_mean.specs.Heaps.{walk}
 use Rattle.kr_mean.specs.Readings.{IsIn, AreIn, IsReading}
 use Rattle.kr_mean.specs.Runs.{End, True, end_on, order_of, key_along}
@@ -17,7 +18,7 @@ use Rattle.kr_laws_pruning.proofs.AllEntries.{entries_are_all}
 use Rattle.kr_laws_slots.proofs.CutOrder.{connected}
 use Rattle.kr_laws_pruning.proofs.Forks.{forks_agree}
 use Rattle.kr_laws_pruning.proofs.Listed.{one_entry, renamed_key}
-use Rattle.kr_laws_slots.proofs.Renamed.{renamed_along}
+use Rattle.kr_iso.proofs.Least.{renamed_along}
 use Rattle.kr_laws_pruning.proofs.Representatives.{LeastRenaming, least_renaming, lowest_is_least, least_of_all, Settles, settled, settles}
 
 agree_at : (s : ℕ) (ts u w : List ℕ) → IsIn s ts → AgreeOn ts u w → get_or u s 0 ≡ get_or w s 0

@@ -3,10 +3,11 @@ use Rattle.std.proofs.Common.{◌≡◌, ℕ, ◌+◌, ◌<◌, inl, inr, Bool, 
 use Rattle.std.specs.Prelude.{map, if◌then◌else◌}
 use Rattle.std.proofs.lemmas.Bool.{eq-eqb, eqb-true}
 use Rattle.kr_mean.specs.Problem.{Problem, DomainObject, slot_at, choices_at, all_objects, heap_number}
-use Rattle.kr_mean.specs.Space.{space_of, no_choice, IsVector, IsRenaming, IsRenamed, moved, on_index}
+use Rattle.kr_mean.specs.Space.{space_of, no_choice, IsVector, IsRenaming, IsRenamed}
+use Rattle.kr_mean.specs.Blocks.{IsMoved, moved, on_index}
 use Rattle.kr_mean.specs.Heaps.{value_at, walk}
 use Rattle.kr_mean.specs.Runs.{End, True, False, Trap, Spent, end_on, is_accepted, is_same_number, read_slots, accepted_walk, order_of, key_along, key_of}
-use Rattle.kr_mean.specs.Readings.{Forks, AllBelow, Differ, IsIn, AreIn}
+use Rattle.kr_mean.specs.Readings.{Forks, AllBelow, AreRenamedSlots, Differ, IsIn, AreIn}
 use Rattle.kr_mean.specs.Entries.{row_of, structure_of, mark_for, mark_of}
 use Rattle.kr_mean.specs.Purity.{IsPure}
 use Rattle.kr_mean.specs.WellFormed.{IsWellFormed}
@@ -14,7 +15,7 @@ use Rattle.kr_laws_pruning.specs.Laws.{ended, IsLawful}
 use Rattle.kr_value.specs.declared.value.Value.{Value}
 use Rattle.kr_value.specs.declared.value.Value.TheVariants.{Int, Bool as Truth, Null, Ref as Reference}
 use Rattle.kr_laws_slots.proofs.Membership.{Has, has_append_right}
-use Rattle.kr_laws_slots.proofs.Renamed.{slots_apart}
+use Rattle.kr_iso.proofs.Moves.{moves, moved_orders, slots_apart}
 use Rattle.kr_laws_slots.proofs.Numbering.{object, count_at, parameters, first_slot, parameter_slot, object_slot, SlotCase, is_this, is_parameter, is_spot, slot_case}
 use Rattle.kr_laws_slots.proofs.Spaces.{block_of, is_space}
 use Rattle.kr_laws_slots.proofs.Places.{extent, extent_within}
@@ -217,12 +218,12 @@ module _ (problem : Problem) (w : IsWellFormed problem) (pure : IsPure problem) 
 
   -- ---- renamed vectors
 
-  renamed_agree : (name : ℕ → ℕ → ℕ) (v u : List ℕ) (n : IsRenaming (space_of problem) name) → IsRenamed (space_of problem) name v u → (s : ℕ) → Below problem s → AgreeAt problem w name n v u s
+  renamed_agree : (name : ℕ → ℕ → ℕ) (v u : List ℕ) (n : IsRenaming (space_of problem) name) → IsMoved (space_of problem) name v u → (s : ℕ) → Below problem s → AgreeAt problem w name n v u s
   unfolding space_of
   renamed_agree name v u n r s h = r.values s h
 
   renamed_runs : (name : ℕ → ℕ → ℕ) (v u : List ℕ) (n : IsRenaming (space_of problem) name) → IsVector (space_of problem) v → IsRenamed (space_of problem) name v u → (ended problem u ≡ ended problem v) × (order_of problem u ≡ map (on problem w name n) (order_of problem v)) × AllOf (Below problem) (order_of problem v)
-  renamed_runs name v u n iv r = slots_always (on problem w name n) (AgreeAt problem w name n v u) (Below problem) (ended problem u ≡ ended problem v) (order_of problem v) (order_of problem u) (renamed_agree name v u n r) (plain_fork name n v u iv)
+  renamed_runs name v u n iv r = slots_always (on problem w name n) (AgreeAt problem w name n v u) (Below problem) (ended problem u ≡ ended problem v) (order_of problem v) (order_of problem u) (renamed_agree name v u n (moves (space_of problem) (is_space problem w) name n v u iv r)) (plain_fork name n v u iv)
 
   pub is_lawful : IsLawful problem
   is_lawful = record {
@@ -231,7 +232,9 @@ module _ (problem : Problem) (w : IsWellFormed problem) (pure : IsPure problem) 
       below = λ v iv. all_below (order_of problem v) (order_below v iv);
       once = λ v iv. order_once v;
       forks = all_fork;
-      renames = λ name v u n iv r. (renamed_runs name v u n iv r).1;
+      renames = λ name v u n iv r.
+          let o = renamed_runs name v u n iv r in
+          subst (AreRenamedSlots (space_of problem) name (order_of problem v)) (sym o.1) (moved_orders (space_of problem) (is_space problem w) name n (order_of problem v) (all_below (order_of problem v) (order_below v iv)));
     };
     agreed = all_agreed;
     ends = λ name v u n iv r. (renamed_runs name v u n iv r).0;

@@ -4,6 +4,7 @@ pub mod Sorting
 pub mod Listed
 pub mod AllEntries
 pub mod Inverses
+pub mod OneRenamed
 pub mod Compositions
 pub mod Representatives
 pub mod Isomorphic

@@ -6,7 +6,8 @@ use Rattle.kr_base.specs.declared.entry.Mark.{Mark}
 use Rattle.kr_base.specs.declared.entry.Entry.{Entry}
 use Rattle.kr_base.specs.Cuts.{Before, is_before}
 use Rattle.kr_mean.specs.Problem.{upto}
-use Rattle.kr_mean.specs.Space.{Space, IsVector, IsSpace, IsRenaming, IsRenamed}
+use Rattle.kr_mean.specs.Space.{Space, IsVector, IsRenaming, IsRenamed}
+use Rattle.kr_mean.specs.Blocks.{IsSpace}
 use Rattle.kr_mean.specs.Readings.{Lacks, IsReading}
 use Rattle.kr_mean.specs.Runs.{key_along, contains_number}
 use Rattle.kr_mean.specs.Isomorphism.{IsLeast}
@@ -16,7 +17,9 @@ use Rattle.kr_laws_pruning.proofs.Forks.{forks_equal}
 use Rattle.kr_laws_slots.proofs.Membership.{Has, bool_cases, has_map, has_map_from, has_filter, has_filter_from, has_range, range_has, fits_has, has_fits, fits_ranges, ranges_fit}
 use Rattle.kr_laws_slots.proofs.Numbers.{lacks_number, has_not, no_lacks, has_number}
 use Rattle.kr_laws_pruning.proofs.Renamings.{row_of, names_have, names_same, names_rename}
-use Rattle.kr_laws_slots.proofs.Renamed.{renamed_along, key_renamed, renamed_is_renamed, along_same}
+use Rattle.kr_iso.proofs.Least.{renamed_along, key_renamed}
+use Rattle.kr_iso.proofs.Moves.{moves, reading_moves}
+use Rattle.kr_laws_slots.proofs.Renamed.{renamed_is_renamed, along_same}
 
 pub vectors_have : (space : Space) (v : List ℕ) → IsVector space v → Has v (vectors space)
 vectors_have space v iv = fits_has v (map (λ s. upto (space.size s)) (upto space.slots)) (fits_ranges space.size 0 space.slots v iv.long (λ k l. let e : 0 + k ≡ k = omega arith in rw e (iv.within k l)))
@@ -41,7 +44,7 @@ pass_all p (y ∷ ys) h = rw (h y (inl refl)) (pass_all p ys (λ x q. h x (inr q
 
 module _ (space : Space) {R : Type 0} (order : List ℕ → List ℕ) (mark : List ℕ → Mark R) (is : IsSpace space) (reading : IsReading space order mark) where
   pub renamed_key : (v w : List ℕ) → IsVector space v → (f : ℕ → ℕ → ℕ) → IsRenaming space f → IsRenamed space f v w → key_along w (order w) ≡ renamed_along space f v (order v)
-  renamed_key v w iv f n r = ap (key_along w) (reading.renames f v w n iv r) ∙ key_renamed space f v w (order v) (reading.below v iv) r
+  renamed_key v w iv f n r = ap (key_along w) (reading_moves space is f n order mark reading v w iv r) ∙ key_renamed space f v w (order v) (reading.below v iv) (moves space is f n v w iv r)
 
   pub least_yes : (v : List ℕ) → IsVector space v → is_least space order v ≡ true → IsLeast space order v
   least_yes v iv t f w n r b =

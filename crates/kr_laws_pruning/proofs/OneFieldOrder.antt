@@ -2,10 +2,11 @@
 use Rattle.std.proofs.Common.{◌≡◌, ℕ, ◌<◌, true, inl, inr, List, [], ◌∷◌, length, map, refl, sym, ap, ◌∙◌, subst, arith}
 use Rattle.kr_ast.specs.Tree as trees
 use Rattle.kr_ast.specs.Tree.{Tree}
-use Rattle.kr_mean.specs.Space.{space_of, IsVector, IsRenaming, IsRenamed, on_slot}
+use Rattle.kr_mean.specs.Space.{space_of, IsVector, IsRenaming, IsRenamed}
+use Rattle.kr_mean.specs.Blocks.{on_slot}
 use Rattle.kr_mean.specs.Heaps.{walk}
 use Rattle.kr_mean.specs.Runs.{order_of}
-use Rattle.kr_mean.specs.Readings.{Forks, AllBelow, Differ, AreIn, IsReading}
+use Rattle.kr_mean.specs.Readings.{Forks, AllBelow, AreRenamedSlots, Differ, AreIn, IsReading}
 use Rattle.kr_mean.specs.Entries.{mark_of}
 use Rattle.kr_classes_table.specs.Table.{table_of}
 use Rattle.kr_types_meaning.specs.Scopes.{Scope}
@@ -14,6 +15,7 @@ use Rattle.kr_mean.specs.Program.{Program}
 use Rattle.kr_mean.specs.Meaning.{NoTarget}
 use Rattle.kr_mean.specs.Code.{Node, code_run}
 use Rattle.kr_mean.specs.Purity.{IsOneOf, IsPure, writes_to, may_touch, roots, IsPredicateCode, root, run}
+use Rattle.kr_iso.proofs.Moves.{moved_orders}
 use Rattle.kr_laws_pruning.specs.Laws.{ended, IsLawful}
 use Rattle.kr_value.specs.declared.object.Class.{Class}
 use Rattle.kr_laws_pruning.proofs.OneFieldSpace.{Form, problem_of, space_for, spelled, is_space, slots_stay, vectors_stay}
@@ -95,14 +97,21 @@ orders_fork said form u v h k =
     (subst (λ u. Forks u v (said u ≡ said v) (0 ∷ 1 ∷ []) (0 ∷ 1 ∷ [])) (sym a.2)
     (subst (λ v. Forks (0 ∷ a.0 ∷ []) v (said (0 ∷ a.0 ∷ []) ≡ said v) (0 ∷ 1 ∷ []) (0 ∷ 1 ∷ [])) (sym b.2) (forks_spelled said a.0 b.0))))
 
+order_below : (form : Form) (v : List ℕ) → IsVector (space_for form) v → AllBelow (space_for form).slots (order_of (problem_of form) v)
+order_below form v h = subst (λ o. AllBelow (space_for form).slots o) (sym (order_there form v h)) (two_slots form)
+
 orders_rename : (form : Form) (name : ℕ → ℕ → ℕ) (v w : List ℕ) → IsRenaming (space_for form) name → IsVector (space_for form) v → IsRenamed (space_for form) name v w
-    → order_of (problem_of form) w ≡ map (on_slot (space_for form) name) (order_of (problem_of form) v)
+    → AreRenamedSlots (space_for form) name (order_of (problem_of form) v) (order_of (problem_of form) w)
 orders_rename form name v w r h m =
-    order_there form w m.vector ∙ (sym (slots_stay form name r) ∙ ap (map (on_slot (space_for form) name)) (sym (order_there form v h)))
+    let a = spelled form v h in
+    let there : order_of (problem_of form) w ≡ map (on_slot (space_for form) name) (order_of (problem_of form) v) =
+    order_there form w m.vector ∙ (sym (slots_stay form name r) ∙ ap (map (on_slot (space_for form) name)) (sym (order_there form v h))) in
+    subst (AreRenamedSlots (space_for form) name (order_of (problem_of form) v)) (sym there)
+    (moved_orders (space_for form) (is_space form (omega (arith, a.1))) name r (order_of (problem_of form) v) (order_below form v h))
 
 pub is_reading : (form : Form) → IsReading (space_for form) (order_of (problem_of form)) (mark_of (problem_of form))
 is_reading form = record {
-  below = λ v h. subst (λ o. AllBelow (space_for form).slots o) (sym (order_there form v h)) (two_slots form);
+  below = order_below form;
   once = λ v h. subst (λ o. Differ o) (sym (order_there form v h)) apart;
   forks = orders_fork (mark_of (problem_of form)) form;
   renames = orders_rename form;

@@ -2,9 +2,13 @@
 -- change nothing.
 use Rattle.std.proofs.Common.{◌≡◌, ℕ, zero, suc, ◌+◌, ◌-◌, ◌*◌, ◌<◌, ◌≤◌, true, ℤ, pos, List, [], ◌∷◌, length, map, get_or, Some, None, refl, sym, ap, ◌∙◌, subst, arith}
 use Rattle.kr_ast.specs.declared.node.BinaryOperator.{BinaryOperator}
-use Rattle.kr_mean.specs.Problem.{Problem, DomainObject, Choice, choices_in}
-use Rattle.kr_mean.specs.Space.{Space, no_choice, space_of, IsVector, IsRenaming, IsRenamed, IsBlock, IsPart, IsSpace, moved, on_slot, on_index}
+use Rattle.kr_mean.specs.Problem.{Problem, Choice, choices_in, slots, slot_at, domain_at}
+use Rattle.kr_mean.specs.Space.{Space, no_choice, space_of, IsVector, IsRenaming, IsRenamed}
+use Rattle.kr_mean.specs.Blocks.{width_in, IsSpace, moved, on_slot, on_index}
+use Rattle.kr_mean.specs.WellFormed.{ArePlain, AreSpots, IsWellFormed}
 use Rattle.kr_mean.specs.Operators.{is_comparison}
+use Rattle.kr_iso.proofs.Moves.{moves}
+use Rattle.kr_laws_slots.proofs.Spaces as spaces
 use Rattle.kr_laws_pruning.specs.OneField.{Places, one_field, int_domain}
 use Rattle.kr_value.specs.declared.value.Value.TheVariants.{Int}
 
@@ -74,60 +78,36 @@ is_vector form i h = record { long = refl; within = within_domains form i h }
 
 -- ---- the space
 
-abbrev pub cell : DomainObject
-cell = record { domain = 0; number = 0 }
-
-some_is : {A : Type 0} (a b : A) → Some a ≡ Some b → a ≡ b
-some_is a b e = cc
-
 filled : (form : Form) → 0 < length form.values → (s : ℕ) → s < (space_for form).slots → 0 < (space_for form).size s
 unfolding space_of
 filled form h zero b = omega arith
 filled form h (suc zero) b = subst (λ n. 0 < n) (sym (choices_long (problem_of form) form.values)) h
 filled form h (suc (suc s)) b = absurd (omega (arith, b))
 
-one_block : (form : Form) → IsBlock (space_for form) 0 0 cell
-unfolding space_of
-one_block form = record {
-  domain = omega arith;
-  number = omega arith;
-  room = omega arith;
-  inside = λ k h. omega (arith, h);
-  all = λ k h. let e : 0 ≡ k = omega (arith, h) in subst (λ k. (space_for form).object_at 0 (0 - 0 + k) ≡ Some (record { domain = 0; number = k })) e refl;
-}
+ints_plain : (zs : List ℤ) → ArePlain (int_domain zs)
+ints_plain [] = tt
+ints_plain (z ∷ zs) = (tt, ints_plain zs)
 
-blocks : (form : Form) (s i : ℕ) (o : DomainObject) → s < (space_for form).slots → i < (space_for form).size s → (space_for form).object_at s i ≡ Some o → IsBlock (space_for form) s i o
-unfolding space_of
-blocks form zero zero o b h e = subst (λ o. IsBlock (space_for form) 0 0 o) (some_is cell o e) (one_block form)
-blocks form zero (suc i) o b h e = absurd (omega (arith, h))
-blocks form (suc zero) i o b h e = absurd (cc (e, no_object_chosen (problem_of form) form.values i))
-blocks form (suc (suc s)) i o b h e = absurd (omega (arith, b))
+plain : (form : Form) (s : ℕ) → s < length (slots (problem_of form)) → ArePlain (slot_at (problem_of form) s).domain
+plain form zero b = tt
+plain form (suc zero) b = ints_plain form.values
+plain form (suc (suc s)) b = absurd (omega (arith, b))
 
-one_part : (form : Form) → IsPart (space_for form) 1 cell
-unfolding space_of
-one_part form = record {
-  domain = omega arith;
-  number = omega arith;
-  room = omega arith;
-  inside = λ k h. omega (arith, h);
-  all = λ k h. let e : 0 ≡ k = omega (arith, h) in subst (λ k. (space_for form).owner (1 - 0 * 1 + k * 1) ≡ Some (record { domain = 0; number = k })) e refl;
-  sizes = λ k h. let e : 0 ≡ k = omega (arith, h) in subst (λ k. (space_for form).size (1 - 0 * 1 + k * 1) ≡ (space_for form).size 1) e refl;
-  objects = λ k i h. let e : 0 ≡ k = omega (arith, h) in subst (λ k. (space_for form).object_at (1 - 0 * 1 + k * 1) i ≡ (space_for form).object_at 1 i) e refl;
-}
+spots : (form : Form) (d : ℕ) → d < length (problem_of form).domains → AreSpots (domain_at (problem_of form) d).class (domain_at (problem_of form) d).spots
+spots form zero b = (refl, tt)
+spots form (suc d) b = absurd (omega (arith, b))
 
-parts : (form : Form) (s : ℕ) (o : DomainObject) → s < (space_for form).slots → (space_for form).owner s ≡ Some o → IsPart (space_for form) s o
+well_formed : (form : Form) → 0 < length form.values → IsWellFormed (problem_of form)
 unfolding space_of
-parts form zero o b e = absurd (cc (e))
-parts form (suc zero) o b e = subst (λ o. IsPart (space_for form) 1 o) (some_is cell o e) (one_part form)
-parts form (suc (suc s)) o b e = absurd (omega (arith, b))
+well_formed form h = record { root = omega arith; filled = filled form h; plain = plain form; spots = spots form }
 
 pub is_space : (form : Form) → 0 < length form.values → IsSpace (space_for form)
-is_space form h = record { filled = filled form h; blocks = blocks form; parts = parts form }
+is_space form h = spaces.is_space (problem_of form) (well_formed form h)
 
 -- ---- other names
 
 same_slots : (form : Form) (name : ℕ → ℕ → ℕ) → IsRenaming (space_for form) name → on_slot (space_for form) name 1 ≡ 1
-unfolding space_of
+unfolding space_of width_in
 same_slots form name r = let h : name 0 0 < 1 = r.within 0 0 (omega arith) in omega (arith, h)
 
 pub slots_stay : (form : Form) (name : ℕ → ℕ → ℕ) → IsRenaming (space_for form) name → map (on_slot (space_for form) name) (0 ∷ 1 ∷ []) ≡ 0 ∷ 1 ∷ []
@@ -146,7 +126,7 @@ pub vectors_stay : (form : Form) (name : ℕ → ℕ → ℕ) (v w : List ℕ) �
 vectors_stay form name v w r h m =
     let a = spelled form v h in
     let b = spelled form w m.vector in
-    let there : get_or w (on_slot (space_for form) name 1) 0 ≡ on_index (space_for form) name 1 (get_or v 1 0) = m.values 1 (field_is_slot form) in
+    let there : get_or w (on_slot (space_for form) name 1) 0 ≡ on_index (space_for form) name 1 (get_or v 1 0) = (moves (space_for form) (is_space form (omega (arith, a.1))) name r v w h m).values 1 (field_is_slot form) in
     let here : get_or w 1 0 ≡ get_or v 1 0 = ap (λ s. get_or w s 0) (sym (same_slots form name r)) ∙ (there ∙ same_indices form name (get_or v 1 0)) in
     let same : b.0 ≡ a.0 = ap (λ u. get_or u 1 0) (sym b.2) ∙ (here ∙ ap (λ u. get_or u 1 0) a.2) in
     b.2 ∙ (ap (λ i. 0 ∷ i ∷ []) same ∙ sym a.2)

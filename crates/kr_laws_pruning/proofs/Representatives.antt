@@ -5,7 +5,8 @@ use Rattle.std.proofs.lemmas.List.FromFn.{length-map-range_with_len, get_or-map-
 use Rattle.kr_base.specs.declared.entry.Mark.{Mark}
 use Rattle.kr_base.specs.Cuts.{Before}
 use Rattle.kr_mean.specs.Problem.{upto}
-use Rattle.kr_mean.specs.Space.{Space, IsVector, IsSpace, IsRenaming, IsRenamed, on_index}
+use Rattle.kr_mean.specs.Space.{Space, IsVector, IsRenaming, IsRenamed}
+use Rattle.kr_mean.specs.Blocks.{IsSpace, on_index}
 use Rattle.kr_mean.specs.Readings.{AllBelow, Lacks, IsReading}
 use Rattle.kr_mean.specs.Runs.{key_along, contains_number}
 use Rattle.kr_mean.specs.Isomorphism.{AgreeOn, IsLeast}
@@ -15,7 +16,9 @@ use Rattle.kr_laws_pruning.proofs.Forks.{forks_agree, forks_equal}
 use Rattle.kr_laws_slots.proofs.Membership.{Has}
 use Rattle.kr_laws_slots.proofs.Numbers.{has_number, lacks_number, has_not}
 use Rattle.kr_laws_pruning.proofs.Renamings.{row_of, names_have, names_same, names_rename}
-use Rattle.kr_laws_slots.proofs.Renamed.{renamed_along, renamed_is_renamed, along_same}
+use Rattle.kr_iso.proofs.Least.{renamed_along}
+use Rattle.kr_iso.proofs.Moves.{moves, reading_moves}
+use Rattle.kr_laws_slots.proofs.Renamed.{renamed_is_renamed, along_same}
 use Rattle.kr_laws_pruning.proofs.Inverses.{back, back_renames, back_again, after_renames}
 use Rattle.kr_laws_pruning.proofs.Compositions.{along_twice}
 use Rattle.kr_laws_pruning.proofs.Listed.{renamed_key}
@@ -78,7 +81,7 @@ module _ (space : Space) {R : Type 0} (order : List ℕ → List ℕ) (mark : Li
 
   -- the key of a renaming's renaming
   key_twice : (f h : ℕ → ℕ → ℕ) (v w : List ℕ) → IsRenaming space f → IsVector space v → IsRenamed space f v w → renamed_along space h w (order w) ≡ renamed_along space (λ c k. h c (f c k)) v (order v)
-  key_twice f h v w n iv r = ap (renamed_along space h w) (reading.renames f v w n iv r) ∙ along_twice space is f h n v w iv r (order v) (reading.below v iv)
+  key_twice f h v w n iv r = ap (renamed_along space h w) (reading_moves space is f n order mark reading v w iv r) ∙ along_twice space is f h n v w iv (moves space is f n v w iv r) (order v) (reading.below v iv)
 
   pub lowest_is_least : (v : List ℕ) → IsVector space v → (m : LeastRenaming v) → IsLeast space order m.other
   lowest_is_least v iv m f x nf rx b =

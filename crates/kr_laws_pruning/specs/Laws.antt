@@ -3,15 +3,24 @@ use Rattle.std.specs.Prelude.{◌≡◌, ℕ, List, ◌∷◌, ◌++◌, true}
 use Rattle.kr_base.specs.declared.entry.Entry.{Entry}
 use Rattle.kr_base.specs.Entries.{IsAmong, is_valid}
 use Rattle.kr_mean.specs.Problem.{Problem}
-use Rattle.kr_mean.specs.Space.{space_of, IsSpace, IsVector, IsRenaming, IsRenamed}
+use Rattle.kr_mean.specs.Space.{Space, space_of, IsVector, IsRenaming, IsRenamed}
+use Rattle.kr_mean.specs.Blocks.{IsSpace}
 use Rattle.kr_mean.specs.Heaps.{walk}
 use Rattle.kr_mean.specs.Runs.{End, True, outcome_of, end_on, order_of, key_of}
 use Rattle.kr_mean.specs.Readings.{Forks, AreIn, IsReading}
 use Rattle.kr_mean.specs.Isomorphism.{IsIsomorphic, IsLeast}
 use Rattle.kr_mean.specs.WellFormed.{IsWellFormed}
 use Rattle.kr_mean.specs.Purity.{IsPure}
-use Rattle.kr_mean.specs.Entries.{mark_of, all_entries, AreAllEntries}
+use Rattle.kr_mean.specs.Entries.{renamed, mark_of, all_entries, AreAllEntries}
 use Rattle.kr_mean.specs.declared.row.Row.{Row}
+
+-- A vector has one renamed vector, which the plain function finds.
+pub record HasOneRenamed (space : Space) (name : ℕ → ℕ → ℕ) (v : List ℕ) : Type 0 where
+  pub is : IsRenamed space name v (renamed space name v)
+  pub only : (w : List ℕ) → IsRenamed space name v w → w ≡ renamed space name v
+
+abbrev pub RenamedLaw : Type 0
+RenamedLaw = (problem : Problem) → IsWellFormed problem → (name : ℕ → ℕ → ℕ) → IsRenaming (space_of problem) name → (v : List ℕ) → IsVector (space_of problem) v → HasOneRenamed (space_of problem) name v
 
 -- how the run on a vector ends, and the fuel that it leaves
 abbrev pub ended : Problem → List ℕ → End × ℕ

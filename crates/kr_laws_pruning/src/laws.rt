@@ -1,6 +1,11 @@
 // What holds of the entries of every problem.
-ghost use Rattle.kr_laws_pruning.specs.Laws.{PlainLaw, ClassLaw, LawfulLaw, KeysLaw, EntryLaw};
+ghost use Rattle.kr_laws_pruning.specs.Laws.{RenamedLaw, PlainLaw, ClassLaw, LawfulLaw, KeysLaw, EntryLaw};
 ghost use Rattle.kr_laws_pruning.specs.OneField.{OneFieldLaw};
+
+/// A vector has one renamed vector, which the plain function finds.
+pub fn renamed_law()
+    ensures { RenamedLaw }
+{}
 
 /// Every pure, well formed problem is lawful: its orders fork, renamed vectors have renamed runs, and runs read only what
 /// is reachable.

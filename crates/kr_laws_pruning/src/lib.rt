@@ -3,4 +3,4 @@
 
 mod laws;
 
-pub use laws::{class_law, entry_law, keys_law, lawful_law, one_field_law, plain_law};
+pub use laws::{class_law, entry_law, keys_law, lawful_law, one_field_law, plain_law, renamed_law};

@@ -3,13 +3,14 @@ use Rattle.std.proofs.Common.{◌≡◌, ℕ, ◌+◌, ◌-◌, ◌*◌, ◌<◌
 use Rattle.std.specs.Prelude.{nat_lt, if◌then◌else◌}
 use Rattle.std.proofs.lemmas.Bool.{cases_lt, lt-ltb, le-ltb}
 use Rattle.kr_mean.specs.Problem.{Problem, DomainObject, Choice, Domain, Slot, slots, slot_at, all_objects, heap_number, object_choice, choices_in}
-use Rattle.kr_mean.specs.Space.{space_of, IsRenaming, no_choice, moved, on_slot, on_index}
+use Rattle.kr_mean.specs.Space.{space_of, IsRenaming, no_choice, renamed_object}
+use Rattle.kr_mean.specs.Blocks.{width_in, moved, on_slot, on_index}
 use Rattle.kr_mean.specs.Heaps.{value_at, choice_at}
 use Rattle.kr_mean.specs.WellFormed.{IsPlain, IsWellFormed}
 use Rattle.kr_value.specs.declared.value.Value.{Value}
 use Rattle.kr_value.specs.declared.value.Value.TheVariants.{Int, Bool as Truth, Null, Ref as Reference}
 use Rattle.kr_laws_slots.proofs.Numbering.{object, nobody, count_at, width_at, parameters, first_slot, parameter_slot, object_slot, SlotCase, is_this, is_parameter, is_spot, slot_case, object_at_number, number_of_object}
-use Rattle.kr_laws_slots.proofs.Spaces.{some_is, block_of, plain_choice}
+use Rattle.kr_laws_slots.proofs.Spaces.{some_is, block_of, plain_choice, width_is}
 use Rattle.kr_laws_slots.proofs.Places.{one_object}
 use Rattle.kr_laws_slots.proofs.Goes.{renamed_value}
 
@@ -24,14 +25,11 @@ module _ (problem : Problem) (w : IsWellFormed problem) (name : ℕ → ℕ → 
   unfolding space_of
   name_apart d j k a b e = n.apart d j k a b e
 
-  abbrev pub renamed_object : DomainObject → DomainObject
-  renamed_object o = object o.domain (name o.domain o.number)
-
   abbrev pub heap_name : ℕ → ℕ
-  heap_name x = if nat_lt x (length (all_objects problem)) then heap_number problem (renamed_object (get_or (all_objects problem) x nobody)) else x
+  heap_name x = if nat_lt x (length (all_objects problem)) then heap_number problem (renamed_object name (get_or (all_objects problem) x nobody)) else x
 
   pub heap_name_at : (d k : ℕ) → d < length problem.domains → k < count_at problem d → heap_name (heap_number problem (object d k)) ≡ heap_number problem (object d (name d k))
-  heap_name_at d k a b = let r = object_at_number problem d k a b in rw (lt-ltb (heap_number problem (object d k)) (length (all_objects problem)) r.0) (ap (λ (o : DomainObject). heap_number problem (renamed_object o)) r.1)
+  heap_name_at d k a b = let r = object_at_number problem d k a b in rw (lt-ltb (heap_number problem (object d k)) (length (all_objects problem)) r.0) (ap (λ (o : DomainObject). heap_number problem (renamed_object name o)) r.1)
 
   pub heap_name_fixes : (x : ℕ) → length (all_objects problem) ≤ x → heap_name x ≡ x
   heap_name_fixes x h = rw (le-ltb x (length (all_objects problem)) h) refl
@@ -76,7 +74,8 @@ module _ (problem : Problem) (w : IsWellFormed problem) (name : ℕ → ℕ → 
   unfolding space_of
   on_spot d k j a b c =
       let e : (slot_at problem (first_slot problem d k + j)).owner ≡ Some (object d k) = ap (λ (x : Slot). x.owner) (object_slot problem d k j a b c).1 in
-      rw e (omega arith)
+      let wide : width_in (space_of problem) d ≡ width_at problem d = width_is problem w d a (omega (arith, b)) in
+      rw e (ap (λ (x : ℕ). first_slot problem d k + j - k * x + name d k * x) wide ∙ omega arith)
 
   -- a slot and its renamed one have one domain
   pub on_domain : (s : ℕ) → s < length (slots problem) → (slot_at problem (on s)).domain ≡ (slot_at problem s).domain
@@ -102,7 +101,7 @@ module _ (problem : Problem) (w : IsWellFormed problem) (name : ℕ → ℕ → 
   pub record ChoiceAt (v u : List ℕ) (s : ℕ) : Type 0 where
     pub value : value_at problem u (on s) ≡ renamed_value heap_name (value_at problem v s)
     pub none : (choice_at problem v s).object ≡ None → (choice_at problem u (on s)).object ≡ None
-    pub some : (o : DomainObject) → (choice_at problem v s).object ≡ Some o → (choice_at problem u (on s)).object ≡ Some (renamed_object o)
+    pub some : (o : DomainObject) → (choice_at problem v s).object ≡ Some o → (choice_at problem u (on s)).object ≡ Some (renamed_object name o)
 
   pub choice_renamed : (v u : List ℕ) (s : ℕ) → s < length (slots problem) → AgreeAt v u s → ChoiceAt v u s
   unfolding space_of
@@ -128,11 +127,11 @@ module _ (problem : Problem) (w : IsWellFormed problem) (name : ℕ → ℕ → 
       go (Some o) e =
           let b = block_of problem domain i o e in
           let at : i - o.number * 1 + name o.domain o.number * 1 ≡ i - o.number + name o.domain o.number = omega arith in
-          let is : choice_at problem u (on s) ≡ object_choice problem (renamed_object o) = there ∙ (ap (λ (y : ℕ). get_or (choices_in problem domain) y no_choice) (agree ∙ (ap (λ (y : Option DomainObject). moved name y 1 i) e ∙ at)) ∙ b.all (name o.domain o.number) (name_in o.domain o.number b.in_number)) in
+          let is : choice_at problem u (on s) ≡ object_choice problem (renamed_object name o) = there ∙ (ap (λ (y : ℕ). get_or (choices_in problem domain) y no_choice) (agree ∙ (ap (λ (y : Option DomainObject). moved name y 1 i) e ∙ at)) ∙ b.all (name o.domain o.number) (name_in o.domain o.number b.in_number)) in
           let back : i - o.number + o.number ≡ i = omega (arith, b.room) in
           let was : choice_at problem v s ≡ object_choice problem o = ap (λ (y : ℕ). get_or (choices_in problem domain) y no_choice) (sym back) ∙ b.all o.number b.in_number in
           record {
             value = ap (λ (c : Choice). c.value) is ∙ (ap (λ (y : ℕ). Reference y) (sym (heap_name_at o.domain o.number b.in_domain b.in_number)) ∙ sym (ap (λ (c : Choice). renamed_value heap_name c.value) was));
             none = λ f. absurd (cc (e, f));
-            some = λ p f. ap (λ (c : Choice). c.object) is ∙ ap (λ (y : DomainObject). Some (renamed_object y)) (some_is o p (sym e ∙ f));
+            some = λ p f. ap (λ (c : Choice). c.object) is ∙ ap (λ (y : DomainObject). Some (renamed_object name y)) (some_is o p (sym e ∙ f));
           }

@@ -147,6 +147,9 @@ module _ (problem : Problem) (w : IsWellFormed problem) where
   pub spot_is : (d j : ℕ) → d < length problem.domains → j < width_at problem d → (spotted_at problem d j).spot ≡ kind (class_at d) j
   spot_is d j h b = kind_at (class_at d) (domain_at problem d).spots j (w.spots d h) b
 
+  pub column_apart : (d i j : ℕ) → d < length problem.domains → i < width_at problem d → j < width_at problem d → (spotted_at problem d i).spot ≡ (spotted_at problem d j).spot → i ≡ j
+  column_apart d i j h a b e = kind_apart (class_at d) i j (sym (spot_is d i h a) ∙ (e ∙ spot_is d j h b))
+
   -- ---- the slots of an object
 
   owner_of : (d k j : ℕ) → d < length problem.domains → k < count_at problem d → j < width_at problem d → (slot_at problem (first_slot problem d k + j)).owner ≡ Some (object d k)

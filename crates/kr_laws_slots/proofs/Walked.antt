@@ -5,7 +5,7 @@ use Rattle.std.specs.List.{range_with_len}
 use Rattle.std.proofs.lemmas.List.{map-append, append_cancel_left}
 use Rattle.std.proofs.lemmas.List.Concat.{flat_map-append}
 use Rattle.kr_mean.specs.Problem.{Problem, DomainObject, slots, slot_at, all_objects}
-use Rattle.kr_mean.specs.Space.{space_of, IsRenaming}
+use Rattle.kr_mean.specs.Space.{space_of, IsRenaming, renamed_object}
 use Rattle.kr_mean.specs.Heaps.{distinct, length_in, value_at, choice_at, is_same_object, slots_in, objects_of, objects_at, root_slots, met_within, walk}
 use Rattle.kr_mean.specs.WellFormed.{IsWellFormed}
 use Rattle.kr_value.specs.declared.object.Class.{Class}
@@ -16,7 +16,7 @@ use Rattle.kr_laws_slots.proofs.Membership.{bool_cases}
 use Rattle.kr_laws_slots.proofs.Numbering.{object, count_at, width_at, parameters, first_slot, object_slot, slots_long}
 use Rattle.kr_laws_slots.proofs.Spaces.{block_of}
 use Rattle.kr_laws_slots.proofs.Places.{class_at, extent_of, extent, extent_within, slots_in_are, same_objects, same_object}
-use Rattle.kr_laws_slots.proofs.Named.{name_in, name_apart, heap_name, renamed_object, on, on_this, on_parameter, on_spot, AgreeAt, choice_renamed}
+use Rattle.kr_laws_slots.proofs.Named.{name_in, name_apart, heap_name, on, on_this, on_parameter, on_spot, AgreeAt, choice_renamed}
 use Rattle.kr_laws_runs.proofs.Respects.{AllOf}
 use Rattle.kr_laws_slots.proofs.Goes.{renamed_value}
 use Rattle.kr_laws_slots.proofs.SlotForks.{SlotForks, slots_then, slots_same, slots_map, slots_known, all_map, all_append, all_distinct, added, distinct_append, distinct_renamed}
@@ -109,7 +109,7 @@ module _ (problem : Problem) (w : IsWellFormed problem) where
 
 module _ (problem : Problem) (w : IsWellFormed problem) (name : ℕ → ℕ → ℕ) (n : IsRenaming (space_of problem) name) where
   abbrev ren : DomainObject → DomainObject
-  ren o = renamed_object problem w name n o
+  ren o = renamed_object name o
 
   abbrev go_on : ℕ → ℕ
   go_on s = on problem w name n s

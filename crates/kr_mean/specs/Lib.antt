@@ -7,6 +7,7 @@ pub mod Meaning
 pub mod Code
 pub mod Problem
 pub mod Space
+pub mod Blocks
 pub mod Heaps
 pub mod Runs
 pub mod Verdicts

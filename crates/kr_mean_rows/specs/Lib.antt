@@ -3,3 +3,4 @@ pub mod Constructs
 pub mod Listings
 pub mod Examples
 pub mod Tests
+pub mod Renamings

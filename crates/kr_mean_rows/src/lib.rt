@@ -3,4 +3,6 @@
 
 mod rows;
 
-pub use rows::{worked_constructs, worked_examples, worked_listings, worked_tests};
+pub use rows::{
+    worked_constructs, worked_examples, worked_listings, worked_renamings, worked_tests,
+};

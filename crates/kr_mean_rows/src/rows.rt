@@ -3,6 +3,7 @@ ghost use Rattle.kr_mean_rows.specs.Constructs.{Constructs};
 ghost use Rattle.kr_mean_rows.specs.Listings.{Listings};
 ghost use Rattle.kr_mean_rows.specs.Examples.{Worked};
 ghost use Rattle.kr_mean_rows.specs.Tests.{Tests};
+ghost use Rattle.kr_mean_rows.specs.Renamings.{Renamings};
 
 /// Each construct of the language: what it gives, what it costs, and what it reads.
 #[tactic(auto, using(crate::proofs::Constructs::constructs))]
@@ -26,4 +27,10 @@ pub fn worked_examples()
 #[tactic(auto, using(crate::proofs::Tests::tests))]
 pub fn worked_tests()
     ensures { Tests }
+{}
+
+/// A candidate under other names.
+#[tactic(auto, using(crate::proofs::Renamings::renamings))]
+pub fn worked_renamings()
+    ensures { Renamings }
 {}

@@ -1,14 +1,15 @@
 -- Where a renaming takes slots and indices, and the vector that is renamed one slot after another.
-use Rattle.std.proofs.Common.{◌≡◌, ℕ, ◌+◌, ◌-◌, ◌*◌, ◌<◌, ◌≤◌, ◌⊎◌, inl, inr, List, length, get_or, set, zero, suc, [], ◌∷◌, Option, Some, None, refl, sym, ap, ◌∙◌, subst, arith}
+use Rattle.std.proofs.Common.{◌≡◌, ℕ, ◌+◌, ◌-◌, ◌*◌, ◌<◌, ◌≤◌, ◌⊎◌, inl, inr, List, length, get_or, set, zero, suc, [], ◌∷◌, Some, None, refl, sym, ap, ◌∙◌, subst, arith}
 use Rattle.std.specs.Prelude.{replicate}
 use Rattle.std.proofs.lemmas.Bool.{cases_eq}
 use Rattle.std.proofs.lemmas.List.{get_or-set_same, get_or-set_other}
 use Rattle.kr_mean.specs.Problem.{DomainObject, slots, slot_at, choices_at, domain_at}
-use Rattle.kr_mean.specs.Space.{Space, IsVector, IsSpace, IsBlock, IsPart, IsRenaming, IsRenamed, no_choice, on_slot, on_index, space_of}
+use Rattle.kr_mean.specs.Space.{Space, IsVector, IsRenaming, no_choice, space_of}
+use Rattle.kr_mean.specs.Blocks.{width_in, IsMoved, IsSpace, IsBlock, IsPart, on_slot, on_index}
 use Rattle.kr_mean.specs.WellFormed.{IsWellFormed}
 use Rattle.kr_space_layout.specs.Bounds.{Bounds, bare}
-use Rattle.kr_laws_slots.proofs.Renamed.{slots_apart}
-use Rattle.kr_laws_slots.proofs.Spaces.{is_space}
+use Rattle.kr_iso.proofs.Moves as moves
+use Rattle.kr_laws_slots.proofs.Spaces.{is_space, width_is}
 
 -- ---- slots
 
@@ -28,7 +29,8 @@ module _ (b : Bounds) (well : IsWellFormed (bare b)) (name : ℕ → ℕ → ℕ
   goes s h o e w width =
       let part : IsPart (space_of (bare b)) s o = (is_space (bare b) well).parts s o h e in
       let m = length (domain_at (bare b) o.domain).spots in
-      subst (λ (x : ℕ). Goes b name s o.domain o.number x) (sym width) (record {
+      let wide : width_in (space_of (bare b)) o.domain ≡ m = width_is (bare b) well o.domain part.domain (let k = part.number in omega (arith, k)) in
+      subst (λ (x : ℕ). Goes b name s o.domain o.number x) (wide ∙ sym width) (record {
         room = part.room;
         there = rw e refl;
         inside = part.inside (name o.domain o.number) (n.within o.domain o.number part.number);
@@ -57,26 +59,15 @@ module _ (b : Bounds) (well : IsWellFormed (bare b)) (name : ℕ → ℕ → ℕ
   -- ---- both
 
   pub slot_room : (s : ℕ) → s < length (slots (bare b)) → on_slot (space_of (bare b)) name s < length (slots (bare b))
-  slot_room s h = go (slot_at (bare b) s).owner refl
-    where
-      go : (x : Option DomainObject) → (slot_at (bare b) s).owner ≡ x → on_slot (space_of (bare b)) name s < length (slots (bare b))
-      go None e = subst (λ (y : ℕ). y < length (slots (bare b))) (stays s e) h
-      go (Some o) e = let g = goes s h o e (length (domain_at (bare b) o.domain).spots) refl in subst (λ (y : ℕ). y < length (slots (bare b))) g.there g.inside
-
-  same_size : (s : ℕ) → s < length (slots (bare b)) → (x : Option DomainObject) → (slot_at (bare b) s).owner ≡ x → length (choices_at (bare b) (on_slot (space_of (bare b)) name s)) ≡ length (choices_at (bare b) s)
   unfolding space_of
-  same_size s h None e = ap (λ (y : ℕ). length (choices_at (bare b) y)) (sym (stays s e))
-  same_size s h (Some o) e =
-      let part : IsPart (space_of (bare b)) s o = (is_space (bare b) well).parts s o h e in
-      let g = goes s h o e (length (domain_at (bare b) o.domain).spots) refl in
-      ap (λ (y : ℕ). length (choices_at (bare b) y)) (sym g.there) ∙ part.sizes (name o.domain o.number) (n.within o.domain o.number part.number)
+  slot_room s h = (moves.lands (space_of (bare b)) (is_space (bare b) well) name n s h).inside
 
   pub index_room : (s i : ℕ) → s < length (slots (bare b)) → i < length (choices_at (bare b) s) → on_index (space_of (bare b)) name s i < length (choices_at (bare b) (on_slot (space_of (bare b)) name s))
-  index_room s i h hi = subst (λ (m : ℕ). on_index (space_of (bare b)) name s i < m) (sym (same_size s h (slot_at (bare b) s).owner refl)) (go (get_or (choices_at (bare b) s) i no_choice).object refl)
-    where
-      go : (x : Option DomainObject) → (get_or (choices_at (bare b) s) i no_choice).object ≡ x → on_index (space_of (bare b)) name s i < length (choices_at (bare b) s)
-      go None e = subst (λ (y : ℕ). y < length (choices_at (bare b) s)) (keeps s i e) hi
-      go (Some o) e = let t = turns s i h hi o e in subst (λ (y : ℕ). y < length (choices_at (bare b) s)) t.1 t.2
+  unfolding space_of
+  index_room s i h hi =
+      let l = moves.lands (space_of (bare b)) (is_space (bare b) well) name n s h in
+      let g = moves.turns (space_of (bare b)) (is_space (bare b) well) name n s i h hi in
+      subst (λ (m : ℕ). on_index (space_of (bare b)) name s i < m) (sym l.size) g.within
 
 -- ---- one slot after another
 
@@ -123,7 +114,7 @@ renames_more S is name n v w k at i r h ea ei hat hi = record { vector = vector_
     go t ht (inl e) = subst (λ (x : ℕ). get_or (set w at i) (on_slot S name x) 0 ≡ on_index S name x (get_or v x 0)) (sym e) (ap (λ (x : ℕ). get_or (set w at i) x 0) (sym ea) ∙ (here ∙ ei))
     go t ht (inr ne) =
         let lower : t < k = omega (arith, ht, ne) in
-        get_or-set_other w at (on_slot S name t) i 0 (λ e. ne (slots_apart S is name n t k (omega (arith, lower, h)) h (e ∙ ea))) ∙ r.values t lower
+        get_or-set_other w at (on_slot S name t) i 0 (λ e. ne (moves.slots_apart S is name n t k (omega (arith, lower, h)) h (e ∙ ea))) ∙ r.values t lower
 
-pub renamed_whole : (S : Space) (name : ℕ → ℕ → ℕ) (v w : List ℕ) (k : ℕ) → k ≡ S.slots → Renames S name v w k → IsRenamed S name v w
+pub renamed_whole : (S : Space) (name : ℕ → ℕ → ℕ) (v w : List ℕ) (k : ℕ) → k ≡ S.slots → Renames S name v w k → IsMoved S name v w
 renamed_whole S name v w k e r = record { vector = r.vector; values = λ s h. r.values s (omega (arith, h, e)) }

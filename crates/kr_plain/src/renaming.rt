@@ -1,7 +1,8 @@
 // Candidates under other names: new numbers for the objects of each class domain.
 ghost use Rattle.std.specs.Prelude.{◌≡◌, ◌<◌, ◌^◌, ◌↔◌, ℕ, IfOk, IsTrue, length};
 ghost use Rattle.kr_mean.specs.Problem.{choices_at, slots};
-ghost use Rattle.kr_mean.specs.Space.{IsRenamed, IsRenaming, IsVector, on_index, on_slot, space_of};
+ghost use Rattle.kr_mean.specs.Space.{IsRenamed, IsRenaming, IsVector, space_of};
+ghost use Rattle.kr_mean.specs.Blocks.{on_index, on_slot};
 ghost use Rattle.kr_mean.specs.WellFormed.{IsWellFormed};
 ghost use Rattle.kr_space_layout.specs.Bounds.{bare};
 ghost use Rattle.kr_mean.specs.Entries.{name_in};

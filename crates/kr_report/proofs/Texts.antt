@@ -1,12 +1,11 @@
 -- Texts that are put in pieces.
 use Rattle.std.proofs.Common.{◌≡◌, ℕ, List, [], ◌++◌, sym, ap, ◌∙◌, append_assoc, append-nil}
-use Rattle.std.specs.Prelude.{codes, Option, None}
+use Rattle.std.specs.Prelude.{codes, None}
 use Rattle.kr_base.specs.Cuts.{cut_text}
 use Rattle.kr_mean.specs.Problem.{Problem}
 use Rattle.kr_mean.specs.Runs.{tested_method, key_of}
 use Rattle.kr_mean.specs.Verdicts.{verdict_by, verdict_of}
 use Rattle.kr_mean.specs.Entries.{row_of, structure_of}
-use Rattle.kr_mean.specs.declared.kind.Verdict.{Verdict}
 use Rattle.kr_mean.specs.declared.mode.Mode.TheVariants.{List as Listing}
 use Rattle.kr_report.specs.Texts.{structure_text, verdict_text, row_text}
 
@@ -16,6 +15,15 @@ grouped a b c d e = simp (append_assoc, append-nil)
 
 pub five_pieces : (a b c d e x y : List ℕ) → x ≡ b → y ≡ d → a ++ (x ++ (c ++ (y ++ (e ++ [])))) ≡ a ++ b ++ c ++ d ++ e
 five_pieces a b c d e x y p q = ap (λ t. a ++ (t ++ (c ++ (y ++ (e ++ []))))) p ∙ (ap (λ t. a ++ (b ++ (c ++ (t ++ (e ++ []))))) q ∙ grouped a b c d e)
+
+three : (a b c : List ℕ) → a ++ (b ++ (c ++ [])) ≡ a ++ b ++ c
+three a b c = simp (append_assoc, append-nil)
+
+pub three_pieces : (a b c x : List ℕ) → x ≡ b → a ++ (x ++ (c ++ [])) ≡ a ++ b ++ c
+three_pieces a b c x p = ap (λ t. a ++ (t ++ (c ++ []))) p ∙ three a b c
+
+pub two_pieces : (a b x : List ℕ) → x ≡ a → x ++ (b ++ []) ≡ a ++ b
+two_pieces a b x p = ap (λ t. x ++ t) (append-nil b) ∙ ap (λ t. t ++ b) p
 
 -- a listing has no verdicts
 pub no_verdict : (problem : Problem) (v : List ℕ) → problem.mode ≡ Listing → verdict_of problem v ≡ None

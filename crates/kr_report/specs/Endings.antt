@@ -14,7 +14,7 @@ MayBegin answer text = (text ≡ bytes_of answer) ⊎ ((n : ℕ) × (text ≡ fr
 
 -- All was written, and the status is the answer's; or a fault came after a front; or want of memory, after some rows.
 pub record EndsListing {K : Type 0} (taken : K → Option (List ℕ)) (faults : K → ℕ) (answer : Answer) (out out' : K) (status : ℕ) : Type 0 where
-  pub known : (status ≡ 0) ⊎ (status ≡ 5) ⊎ (status ≡ 7) ⊎ (status ≡ 8)
+  pub known : (status ≡ 0) ⊎ (status ≡ 1) ⊎ (status ≡ 5) ⊎ (status ≡ 7) ⊎ (status ≡ 8)
   pub whole : status < 6 → (status ≡ answer.status) × Added taken faults out out' (bytes_of answer)
   pub fault : status ≡ 7 → (text : List ℕ) × MayBegin answer text × Stopped taken faults out out' text
   pub memory : status ≡ 8 → (n : ℕ) × Added taken faults out out' (front_of answer n ++ memory_text)

@@ -4,3 +4,5 @@ pub mod Texts
 pub mod Reports
 pub mod Endings
 pub mod Summaries
+pub mod Joined
+pub mod Names

@@ -1,4 +1,4 @@
--- To be believed: the line that ends a call, and the status of a call without failing rows that ends with it.
+-- Between crates: the line that ends a call, and the status of a call without failing rows that ends with it.
 use Rattle.std.specs.Prelude.{ℕ, List}
 use Rattle.kr_report.specs.Texts.{listed_text, tested_text, more_text, spent_text, checked_text, counted_text}
 use Rattle.kr_report.specs.declared.lines.Summary.{Summary}

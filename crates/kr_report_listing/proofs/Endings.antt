@@ -6,29 +6,26 @@ use Rattle.kr_base.specs.Writing.{added_then, stopped_then, stopped_early}
 use Rattle.kr_report.specs.Texts.{memory_text}
 use Rattle.kr_report.specs.Reports.{Answer, lines, bytes_of}
 use Rattle.kr_report.specs.Endings.{front_of, MayBegin, EndsListing}
-use Rattle.kr_report_listing.specs.Puts.{PutsListing}
-use Rattle.kr_report.specs.Summaries.{summary_line, summary_status}
-use Rattle.kr_report.specs.declared.lines.Summary.{Summary}
-use Rattle.kr_report.specs.declared.lines.Summary.TheVariants as ends
-
-status_known : (summary : Summary) → (summary_status summary ≡ 0) ⊎ (summary_status summary ≡ 5)
-status_known (ends.Spent key) = inr refl
-status_known (ends.List valid tried) = inl refl
-status_known (ends.Test valid failing tried) = inl refl
-status_known (ends.More key) = inl refl
-status_known (ends.Check classes slots) = inl refl
-status_known (ends.Demo nodes valid) = inl refl
+use Rattle.kr_report_listing.specs.Puts.{IsListingStatus, PutsListing}
+use Rattle.kr_report.specs.Summaries.{summary_line}
+use Rattle.kr_report_listing.specs.declared.listing.Closing.{Closing}
 
 whole_end : {K : Type 0} {taken : K → Option (List ℕ)} {faults : K → ℕ} {a b : K} (answer : Answer) (status : ℕ)
-    → Added taken faults a b (bytes_of answer) → status ≡ answer.status → (status ≡ 0) ⊎ (status ≡ 5) → EndsListing taken faults answer a b status
+    → Added taken faults a b (bytes_of answer) → status ≡ answer.status → IsListingStatus status → EndsListing taken faults answer a b status
 whole_end answer status x e (inl z) = record {
   known = inl z;
   whole = λ _. (e, x);
   fault = λ f. absurd (omega (arith, z, f));
   memory = λ f. absurd (omega (arith, z, f));
 }
-whole_end answer status x e (inr z) = record {
+whole_end answer status x e (inr (inl z)) = record {
   known = inr (inl z);
+  whole = λ _. (e, x);
+  fault = λ f. absurd (omega (arith, z, f));
+  memory = λ f. absurd (omega (arith, z, f));
+}
+whole_end answer status x e (inr (inr z)) = record {
+  known = inr (inr (inl z));
   whole = λ _. (e, x);
   fault = λ f. absurd (omega (arith, z, f));
   memory = λ f. absurd (omega (arith, z, f));
@@ -37,7 +34,7 @@ whole_end answer status x e (inr z) = record {
 fault_end : {K : Type 0} {taken : K → Option (List ℕ)} {faults : K → ℕ} {a b : K} (answer : Answer) (status : ℕ) (text : List ℕ)
     → MayBegin answer text → Stopped taken faults a b text → status ≡ 7 → EndsListing taken faults answer a b status
 fault_end answer status text may x e = record {
-  known = inr (inr (inl e));
+  known = inr (inr (inr (inl e)));
   whole = λ f. absurd (omega (arith, e, f));
   fault = λ _. (text, may, x);
   memory = λ f. absurd (omega (arith, e, f));
@@ -46,25 +43,23 @@ fault_end answer status text may x e = record {
 memory_end : {K : Type 0} {taken : K → Option (List ℕ)} {faults : K → ℕ} {a b : K} (answer : Answer) (status n : ℕ)
     → Added taken faults a b (front_of answer n ++ memory_text) → status ≡ 8 → EndsListing taken faults answer a b status
 memory_end answer status n x e = record {
-  known = inr (inr (inr e));
+  known = inr (inr (inr (inr e)));
   whole = λ f. absurd (omega (arith, e, f));
   fault = λ f. absurd (omega (arith, e, f));
   memory = λ _. (n, x);
 }
 
 -- the last line behind all rows
-after_rows : {K T E : Type 0} {taken : K → Option (List ℕ)} {faults : K → ℕ} {a b : K} (c : K) (answer : Answer) (status known : ℕ) (r : Result T E) → known ≡ answer.status → (known ≡ 0) ⊎ (known ≡ 5)
+after_rows : {K T E : Type 0} {taken : K → Option (List ℕ)} {faults : K → ℕ} {a b : K} (c : K) (answer : Answer) (status known : ℕ) (r : Result T E) → known ≡ answer.status → IsListingStatus known
     → Added taken faults a b (lines answer.rows) → Writes taken faults b c answer.last r → status ≡ (if is_ok r then known else 7) → EndsListing taken faults answer a c status
-after_rows c answer status known (Ok v) same (inl z) x y e = whole_end answer status (added_then x y refl) (e ∙ same) (inl (e ∙ z))
-after_rows c answer status known (Ok v) same (inr z) x y e = whole_end answer status (added_then x y refl) (e ∙ same) (inr (e ∙ z))
+after_rows c answer status known (Ok v) same z x y e = whole_end answer status (added_then x y refl) (e ∙ same) (subst IsListingStatus (sym e) z)
 after_rows c answer status known (Err v) same z x y e = fault_end answer status (bytes_of answer) (inl refl) (stopped_then x y refl) e
 
-pub after_all : {K T E : Type 0} {taken : K → Option (List ℕ)} {faults : K → ℕ} {a b : K} (c : K) (answer : Answer) (summary : Summary) (status known : ℕ) (r : Result T E) → PutsListing taken faults a b answer (Ok summary)
-    → Writes taken faults b c (summary_line summary) r → known ≡ summary_status summary → status ≡ (if is_ok r then known else 7) → EndsListing taken faults answer a c status
-after_all {K} {T} {E} {taken} {faults} {a} {b} c answer summary status known r put y same e =
+pub after_all : {K T E : Type 0} {taken : K → Option (List ℕ)} {faults : K → ℕ} {a b : K} (c : K) (answer : Answer) (closing : Closing) (status : ℕ) (r : Result T E) → PutsListing taken faults a b answer (Ok closing)
+    → Writes taken faults b c (summary_line closing.summary) r → status ≡ (if is_ok r then closing.status else 7) → EndsListing taken faults answer a c status
+after_all {K} {T} {E} {taken} {faults} {a} {b} c answer closing status r put y e =
     let line : Writes taken faults b c answer.last r = subst (λ t. Writes taken faults b c t r) (sym put.1) y in
-    let one_of : (known ≡ 0) ⊎ (known ≡ 5) = subst (λ n. (n ≡ 0) ⊎ (n ≡ 5)) (sym same) (status_known summary) in
-    after_rows c answer status known r (same ∙ sym put.2) one_of put.0 line e
+    after_rows c answer status closing.status r (sym put.2) put.3 put.0 line e
 
 -- a fault among the rows
 pub among_rows : {K : Type 0} {taken : K → Option (List ℕ)} {faults : K → ℕ} (a b : K) (answer : Answer)

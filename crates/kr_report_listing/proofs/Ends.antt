@@ -27,7 +27,7 @@ whole_line nodes (Valid n) text status x e = record {
   memory = λ f. absurd (omega (arith, e, f));
 }
 whole_line nodes (Spent key) text status x e = record {
-  known = inr (inl e);
+  known = inr (inr (inl e));
   whole = λ _. (e, x);
   fault = λ f. absurd (omega (arith, e, f));
   memory = λ f. absurd (omega (arith, e, f));
@@ -37,7 +37,7 @@ line_put : {K T E : Type 0} {taken : K → Option (List ℕ)} {faults : K → �
     → status ≡ (if is_ok r then summary_status (tally_summary nodes tally) else 7) → EndsListing taken faults (line_answer (summary_status (tally_summary nodes tally)) text) a b status
 line_put nodes tally text status (Ok v) x e = whole_line nodes tally text status x e
 line_put nodes tally text status (Err v) x e = record {
-  known = inr (inr (inl e));
+  known = inr (inr (inr (inl e)));
   whole = λ f. absurd (omega (arith, e, f));
   fault = λ _. (text, inl refl, x);
   memory = λ f. absurd (omega (arith, e, f));

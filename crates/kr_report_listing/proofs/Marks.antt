@@ -1,8 +1,9 @@
 -- What an entry is marked with, by how its run ends.
-use Rattle.std.proofs.Common.{◌≡◌, ℕ, ◌+◌, ◌≤◌, List, [], ◌∷◌, ◌++◌, inl, inr, refl, sym, ap, suc, length, subst, ◌∙◌, arith}
-use Rattle.std.specs.Prelude.{Option, None, Ok, Err, map, false}
+use Rattle.std.proofs.Common.{◌≡◌, ℕ, ◌+◌, ◌≤◌, List, [], ◌∷◌, ◌++◌, inl, inr, refl, sym, ap, suc, length, subst, ◌∙◌, arith, append-nil}
+use Rattle.std.specs.Prelude.{Option, Bool, true, Result, Ok, Err, IfOk, OnOk, map, false, if◌then◌else◌}
 use Rattle.std.proofs.lemmas.Bool.{cases_lt}
 use Rattle.kr_base.specs.declared.entry.Mark.TheVariants as marks
+use Rattle.kr_base.specs.Told.{Added}
 use Rattle.kr_base.specs.Writing.{stopped_early}
 use Rattle.kr_mean.specs.Problem.{Problem}
 use Rattle.kr_mean.specs.Runs as runs
@@ -14,11 +15,11 @@ use Rattle.kr_step.specs.declared.candidates.Ending.TheVariants.{Valid, Invalid,
 use Rattle.kr_step_span.specs.Scans.{ending_of}
 use Rattle.kr_base.specs.Entries.{is_spent}
 use Rattle.kr_base.specs.declared.entry.Mark.{Mark}
-use Rattle.kr_mean.specs.declared.mode.Mode.TheVariants.{List as Listing}
-use Rattle.kr_report.specs.Reports.{lines, rows_of_mark}
+use Rattle.kr_mean.specs.Verdicts.{verdict_of}
+use Rattle.kr_report.specs.Reports.{lines, rows_of_mark, failing_in, is_failing}
 use Rattle.kr_report.specs.Texts.{row_text}
-use Rattle.kr_report.proofs.Texts.{no_verdict, row_is}
-use Rattle.kr_report_listing.specs.Puts.{PutsRow, PutsRows, CountsOf}
+use Rattle.kr_report_listing.specs.Puts.{PutsRow, PutsRows, CountsOf, number_of}
+use Rattle.kr_report_listing.specs.declared.row.Count.{Count}
 use Rattle.kr_report_listing.specs.declared.row.Halt.{Halt}
 use Rattle.kr_report_listing.specs.declared.row.Halt.TheVariants.{Sink, Memory}
 
@@ -52,10 +53,16 @@ pub is_spent_mark : (problem : Problem) (v : List ℕ) → Spent ≡ ending_of (
 unfolding mark_of
 is_spent_mark problem v e = spent_end (end_on problem v) (row_of problem v) e
 
--- one row that was not put
-pub halted : {K : Type 0} (T : Type 0) (taken : K → Option (List ℕ)) (faults : K → ℕ) (a b : K) (halt : Halt) (row : List ℕ) → PutsRow {T = T} taken faults a b row (Err halt) → PutsRows taken faults a b (row ∷ []) (Err halt)
-halted T taken faults a b Sink row x = stopped_early [] x refl
-halted T taken faults a b (Memory why) row x = x
+-- one row that is put, or not
+pub one_put : {K : Type 0} (taken : K → Option (List ℕ)) (faults : K → ℕ) (a b : K) (row : List ℕ) (r : Result Count Halt) → IfOk r (λ count. count.rows ≡ 1) → PutsRow taken faults a b row r → PutsRows taken faults a b (row ∷ []) r
+one_put taken faults a b row (Ok count) e x = (e, subst (λ t. Added taken faults a b t) (sym (append-nil row)) x)
+one_put taken faults a b row (Err Sink) e x = stopped_early [] x refl
+one_put taken faults a b row (Err (Memory why)) e x = x
+
+-- what holds holds at Ok
+pub at_ok : {T E P : Type 0} (r : Result T E) → P → OnOk r P
+at_ok (Ok x) h = h
+at_ok (Err e) h = tt
 
 one_more : (valid limit : ℕ) → valid ≤ limit → (valid ≡ limit → ⊥) → valid + 1 ≤ limit
 one_more valid limit h apart = elim (cases_lt valid limit) [
@@ -69,21 +76,15 @@ fits Valid valid limit n h room e = let more = one_more valid limit h (room refl
 fits Invalid valid limit n h room e = omega (arith, h, e)
 fits Spent valid limit n h room e = omega (arith, h, e)
 
--- a valid entry has no verdict where a listing is asked for
-abbrev pub Passing : Mark Row → Type 0
-Passing (marks.Valid row) = row.verdict ≡ None
-Passing marks.Invalid = Unit {0}
-Passing marks.Spent = Unit {0}
+-- one row, which fails or not
+one_failing : (fails : Bool) (row : Row) → number_of fails ≡ length (let rows : List Row = if fails then row ∷ [] else [] in rows)
+one_failing true row = refl
+one_failing false row = refl
 
-passing_end : (end : End) (row : Row) → row.verdict ≡ None → Passing (mark_for end row)
-passing_end runs.True row h = h
-passing_end runs.False row h = tt
-passing_end (runs.Trap kind) row h = tt
-passing_end runs.Spent row h = tt
-
-pub is_passing : (problem : Problem) (v : List ℕ) → problem.mode ≡ Listing → Passing (mark_of problem v)
-unfolding mark_of
-is_passing problem v mode = passing_end (end_on problem v) (row_of problem v) (no_verdict problem v mode)
+-- how many rows of an entry are no passes
+pub failing_valid : (problem : Problem) (v : List ℕ) (n : ℕ) → mark_of problem v ≡ marks.Valid (row_of problem v) → n ≡ number_of (is_failing (verdict_of problem v)) → n ≡ length (failing_in (rows_of_mark (mark_of problem v)))
+failing_valid problem v n mark e =
+    e ∙ (one_failing (is_failing (verdict_of problem v)) (row_of problem v) ∙ ap (λ (m : Mark Row). length (failing_in (rows_of_mark m))) (sym mark))
 
 unspent_end : (end : End) (row : Row) → (ending_of end ≡ Spent → ⊥) → is_spent (mark_for end row) ≡ false
 unspent_end runs.True row h = refl

@@ -9,14 +9,13 @@ use Rattle.kr_base.specs.declared.entry.Mark.TheVariants.{Valid, Invalid, Spent}
 use Rattle.kr_base.specs.declared.entry.Entry.{Entry}
 use Rattle.kr_base.specs.Entries.{is_spent, through_spent, NoneSpent}
 use Rattle.kr_mean.specs.Problem.{Problem}
-use Rattle.kr_mean.specs.declared.kind.Verdict.{Verdict}
 use Rattle.kr_mean.specs.declared.mode.Mode.{Mode}
-use Rattle.kr_mean.specs.declared.mode.Mode.TheVariants.{List as Listing}
+use Rattle.kr_mean.specs.declared.mode.Mode.TheVariants.{List as Listing, Method as Testing}
 use Rattle.kr_mean.specs.declared.row.Row.{Row}
-use Rattle.kr_report.specs.Texts.{row_text, listed_text, more_text, spent_text, capped}
+use Rattle.kr_report.specs.Summaries.{summary_line}
+use Rattle.kr_report.specs.Texts.{row_text, listed_text, tested_text, more_text, spent_text, capped}
 use Rattle.kr_report.specs.Reports.{Answer, lines, rows_of_mark, rows_in, spent_key, spent_key_of, is_failing, failing_in, status_of, summary_text, last_key, report, whole_report, cut_report, listing_answer}
-use Rattle.kr_report_listing.specs.Puts.{key_after}
-use Rattle.kr_report_listing.proofs.Marks.{Passing}
+use Rattle.kr_report_listing.specs.Puts.{key_after, summary_of}
 
 -- ---- lists of entries
 
@@ -45,14 +44,14 @@ failing_append : (a b : List Row) → failing_in (a ++ b) ≡ failing_in a ++ fa
 failing_append [] b = refl
 failing_append (row ∷ a) b = ap (λ l. if is_failing row.verdict then row ∷ l else l) (failing_append a b) ∙ failing_one (is_failing row.verdict) row (failing_in a) (failing_in b)
 
--- rows without verdicts
-none_failing : (row : Row) (verdict : Option Verdict) → row.verdict ≡ verdict → verdict ≡ None → failing_in (row ∷ []) ≡ []
-none_failing row verdict e h = ap (λ v. if is_failing v then row ∷ [] else []) (e ∙ h)
-
-passing_mark : (mark : Mark Row) → Passing mark → failing_in (rows_of_mark mark) ≡ []
-passing_mark (Valid row) h = none_failing row row.verdict refl h
-passing_mark Invalid h = refl
-passing_mark Spent h = refl
+-- no more rows fail than there are
+pub failing_few : (rows : List Row) → length (failing_in rows) ≤ length rows
+failing_few [] = omega arith
+failing_few (row ∷ rows) = by_row (is_failing row.verdict) (failing_few rows)
+  where
+    by_row : (b : Bool) → length (failing_in rows) ≤ length rows → length (let l : List Row = if b then row ∷ failing_in rows else failing_in rows in l) ≤ length (row ∷ rows)
+    by_row true h = omega (arith, h)
+    by_row false h = omega (arith, h)
 
 last_one : (rows : List Row) (row : Row) → last_key (rows ++ row ∷ []) ≡ row.key
 last_one [] row = refl
@@ -80,19 +79,24 @@ capped_more n = omega arith
 pub capped_twice : (valid n : ℕ) → listed_text valid (capped n) ≡ listed_text valid n
 capped_twice valid n = let e : capped (capped n) ≡ capped n = omega arith in ap (λ m. codes "valid " ++ decimal (capped valid) ++ codes " tried " ++ decimal m ++ codes "\n") e
 
+tested_twice : (valid failing n : ℕ) → tested_text valid failing (capped n) ≡ tested_text valid failing n
+tested_twice valid failing n =
+    let e : capped (capped n) ≡ capped n = omega arith in
+    ap (λ m. codes "valid " ++ decimal (capped valid) ++ codes " failing " ++ decimal (capped failing) ++ codes " tried " ++ decimal m ++ codes "\n") e
+
 -- ---- progress
 
 -- Of the entries es those of `done` are listed, and `rest` is what a scan has left.
-pub record IsDone (es done rest : List (Entry Row)) (valid tried : ℕ) (last : List ℕ) : Type 0 where
+pub record IsDone (es done rest : List (Entry Row)) (valid failing tried : ℕ) (last : List ℕ) : Type 0 where
   pub whole : es ≡ done ++ through_spent rest
   pub unspent : NoneSpent done
-  pub passing : failing_in (rows_in done) ≡ []
   pub valid_is : valid ≡ length (rows_in done)
+  pub failing_is : failing ≡ length (failing_in (rows_in done))
   pub tried_is : tried ≡ capped (length done)
   pub last_is : last ≡ last_key (rows_in done)
 
-pub at_start : (rest : List (Entry Row)) → IsDone (through_spent rest) [] rest 0 0 []
-at_start rest = record { whole = refl; unspent = tt; passing = refl; valid_is = refl; tried_is = refl; last_is = refl }
+pub at_start : (rest : List (Entry Row)) → IsDone (through_spent rest) [] rest 0 0 0 []
+at_start rest = record { whole = refl; unspent = tt; valid_is = refl; failing_is = refl; tried_is = refl; last_is = refl }
 
 through_next : (e : Entry Row) (rest : List (Entry Row)) → is_spent e.mark ≡ false → through_spent (e ∷ rest) ≡ e ∷ through_spent rest
 through_next e rest h = ap (λ (b : Bool). let l : List (Entry Row) = if b then [] else through_spent rest in e ∷ l) h
@@ -104,14 +108,19 @@ rows_step : (done : List (Entry Row)) (e : Entry Row) → rows_in (done ++ e ∷
 rows_step done e = rows_append done (e ∷ []) ∙ ap (λ l. rows_in done ++ l) (append-nil (rows_of_mark e.mark))
 
 -- an entry more
-pub one_more : (es done rest left : List (Entry Row)) (e : Entry Row) (valid tried now n later : ℕ) (last key : List ℕ) → IsDone es done left valid tried last → left ≡ e ∷ rest → is_spent e.mark ≡ false → Passing e.mark
-    → n ≡ length (rows_of_mark e.mark) → now ≡ valid + n → later ≡ min (tried + 1) (2 ^ 64 - 1) → key ≡ key_after e.mark last → IsDone es (done ++ e ∷ []) rest now later key
-one_more es done rest left e valid tried now n later last key is next unspent passing count counts tries behind =
+pub one_more : (es done rest left : List (Entry Row)) (e : Entry Row) (valid failing tried now n fails failed later : ℕ) (last key : List ℕ) → IsDone es done left valid failing tried last → left ≡ e ∷ rest → is_spent e.mark ≡ false
+    → n ≡ length (rows_of_mark e.mark) → fails ≡ length (failing_in (rows_of_mark e.mark)) → now ≡ valid + n → failed ≡ failing + fails → later ≡ min (tried + 1) (2 ^ 64 - 1) → key ≡ key_after e.mark last
+    → IsDone es (done ++ e ∷ []) rest now failed later key
+one_more es done rest left e valid failing tried now n fails failed later last key is next unspent count failures counts fail tries behind =
     let rows = rows_step done e in record {
       whole = is.whole ∙ (ap (λ l. done ++ through_spent l) next ∙ (ap (λ l. done ++ l) (through_next e rest unspent) ∙ sym (append_assoc done (e ∷ []) (through_spent rest))));
       unspent = unspent_append done e is.unspent unspent;
-      passing = ap failing_in rows ∙ (failing_append (rows_in done) (rows_of_mark e.mark) ∙ (ap (λ l. l ++ failing_in (rows_of_mark e.mark)) is.passing ∙ passing_mark e.mark passing));
       valid_is = let l = length-append (rows_in done) (rows_of_mark e.mark) in let m = ap length rows in omega (arith, l, m, counts, count, is.valid_is);
+      failing_is =
+          let all = ap (λ (rs : List Row). length (failing_in rs)) rows in
+          let both = ap length (failing_append (rows_in done) (rows_of_mark e.mark)) in
+          let l = length-append (failing_in (rows_in done)) (failing_in (rows_of_mark e.mark)) in
+          omega (arith, all, both, l, fail, failures, is.failing_is);
       tried_is = let l = length-append done (e ∷ []) in let m : length (let one : List (Entry Row) = e ∷ [] in one) ≡ 1 = refl in tries ∙ (ap (λ t. min (t + 1) (2 ^ 64 - 1)) is.tried_is ∙ (capped_more (length done) ∙ ap capped (sym l)));
       last_is = behind ∙ (ap (λ k. key_after e.mark k) is.last_is ∙ (sym (last_after (rows_in done) e.mark) ∙ ap last_key (sym rows)));
     }
@@ -122,8 +131,15 @@ lines_step f done e =
 
 -- ---- reports
 
-status_zero : (rows : List Row) → failing_in rows ≡ [] → status_of rows ≡ 0
-status_zero rows e = ap (λ (fs : List Row). if nat_lt 0 (length fs) then 1 else 0) e
+status_is : (rows : List Row) (failing : ℕ) → failing ≡ length (failing_in rows) → status_of rows ≡ (if nat_lt 0 failing then 1 else 0)
+status_is rows failing e = ap (λ (n : ℕ). if nat_lt 0 n then 1 else 0) (sym e)
+
+-- what the last line says
+summary_is : (mode : Mode) (rows : List Row) (valid failing tried n : ℕ) → valid ≡ length rows → failing ≡ length (failing_in rows) → tried ≡ capped n → summary_text mode rows n ≡ summary_line (summary_of mode valid failing tried)
+summary_is Listing rows valid failing tried n v f t =
+    ap (λ (m : ℕ). listed_text m n) (sym v) ∙ (sym (capped_twice valid n) ∙ ap (λ (m : ℕ). listed_text valid m) (sym t))
+summary_is (Testing name) rows valid failing tried n v f t =
+    ap (λ (m : ℕ). tested_text m (length (failing_in rows)) n) (sym v) ∙ (ap (λ (m : ℕ). tested_text valid m n) (sym f) ∙ (sym (tested_twice valid failing n) ∙ ap (λ (m : ℕ). tested_text valid failing m) (sym t)))
 
 not_over : (limit n : ℕ) → n ≤ limit → nat_lt limit n ≡ false
 not_over limit n h = grind (arith, nat_tests)
@@ -141,23 +157,21 @@ unfolding listing_answer
 is_cut P limit es h = ap (λ (b : Bool). if b then cut_report P (take limit (rows_in es)) else whole_report P es (spent_key es)) (over limit (length (rows_in es)) h)
 
 -- nothing is left
-pub ends_whole : (P : Problem) (limit : ℕ) (es done left : List (Entry Row)) (valid tried : ℕ) (last : List ℕ) → P.mode ≡ Listing → IsDone es done left valid tried last → left ≡ [] → valid ≤ limit
-    → listing_answer P limit es ≡ record { status = 0; rows = map (row_text P) (rows_in done); last = listed_text valid tried }
-ends_whole P limit es done left valid tried last mode is none few =
+pub ends_whole : (P : Problem) (limit : ℕ) (es done left : List (Entry Row)) (valid failing tried : ℕ) (last : List ℕ) → IsDone es done left valid failing tried last → left ≡ [] → valid ≤ limit
+    → listing_answer P limit es ≡ record { status = if nat_lt 0 failing then 1 else 0; rows = map (row_text P) (rows_in done); last = summary_line (summary_of P.mode valid failing tried) }
+ends_whole P limit es done left valid failing tried last is none few =
     let all : es ≡ done = is.whole ∙ (ap (λ l. done ++ through_spent l) none ∙ append-nil done) in
     let spent : spent_key done ≡ None = ap spent_key (sym (append-nil done)) ∙ spent_key_behind done [] is.unspent in
     let short : length (rows_in done) ≤ limit = omega (arith, few, is.valid_is) in
     let rows = map (row_text P) (rows_in done) in
     ap (listing_answer P limit) all ∙ (not_cut P limit done short ∙ (ap (whole_report P done) spent
-    ∙ (ap (λ n. let a : Answer = record { status = n; rows = rows; last = summary_text P.mode (rows_in done) (length done) } in a) (status_zero (rows_in done) is.passing)
-    ∙ (ap (λ (m : Mode). let a : Answer = record { status = 0; rows = rows; last = summary_text m (rows_in done) (length done) } in a) mode
-    ∙ (ap (λ n. let a : Answer = record { status = 0; rows = rows; last = listed_text n (length done) } in a) (sym is.valid_is)
-    ∙ ap (λ t. let a : Answer = record { status = 0; rows = rows; last = t } in a) (sym (capped_twice valid (length done)) ∙ ap (λ n. listed_text valid n) (sym is.tried_is)))))))
+    ∙ (ap (λ n. let a : Answer = record { status = n; rows = rows; last = summary_text P.mode (rows_in done) (length done) } in a) (status_is (rows_in done) failing is.failing_is)
+    ∙ ap (λ t. let a : Answer = record { status = if nat_lt 0 failing then 1 else 0; rows = rows; last = t } in a) (summary_is P.mode (rows_in done) valid failing tried (length done) is.valid_is is.failing_is is.tried_is))))
 
 -- the next entry is spent
-pub ends_spent : (P : Problem) (limit : ℕ) (es done left rest : List (Entry Row)) (e : Entry Row) (valid tried : ℕ) (last : List ℕ) → IsDone es done left valid tried last → left ≡ e ∷ rest → e.mark ≡ Spent → valid ≤ limit
+pub ends_spent : (P : Problem) (limit : ℕ) (es done left rest : List (Entry Row)) (e : Entry Row) (valid failing tried : ℕ) (last : List ℕ) → IsDone es done left valid failing tried last → left ≡ e ∷ rest → e.mark ≡ Spent → valid ≤ limit
     → listing_answer P limit es ≡ record { status = 5; rows = map (row_text P) (rows_in done); last = spent_text e.key }
-ends_spent P limit es done left rest e valid tried last is next spent few =
+ends_spent P limit es done left rest e valid failing tried last is next spent few =
     let all : es ≡ done ++ e ∷ [] = is.whole ∙ (ap (λ l. done ++ through_spent l) next ∙ ap (λ l. done ++ l) (through_last e rest spent)) in
     let rows : rows_in es ≡ rows_in done = ap rows_in all ∙ (rows_step done e ∙ (ap (λ m. rows_in done ++ rows_of_mark m) spent ∙ append-nil (rows_in done))) in
     let key : spent_key es ≡ Some e.key = ap spent_key all ∙ (spent_key_behind done (e ∷ []) is.unspent ∙ ap (λ m. spent_key_of e.key m None) spent) in
@@ -178,15 +192,15 @@ rows_behind es done left rest e row whole next valid =
     )
 
 -- the limit is reached, and the next entry is valid
-pub ends_more : (P : Problem) (limit : ℕ) (es done left rest : List (Entry Row)) (e : Entry Row) (row : Row) (valid tried : ℕ) (last : List ℕ) → IsDone es done left valid tried last → left ≡ e ∷ rest → e.mark ≡ Valid row → valid ≡ limit
-    → listing_answer P limit es ≡ record { status = 0; rows = map (row_text P) (rows_in done); last = more_text last }
-ends_more P limit es done left rest e row valid tried last is next marked full =
+pub ends_more : (P : Problem) (limit : ℕ) (es done left rest : List (Entry Row)) (e : Entry Row) (row : Row) (valid failing tried : ℕ) (last : List ℕ) → IsDone es done left valid failing tried last → left ≡ e ∷ rest → e.mark ≡ Valid row → valid ≡ limit
+    → listing_answer P limit es ≡ record { status = if nat_lt 0 failing then 1 else 0; rows = map (row_text P) (rows_in done); last = more_text last }
+ends_more P limit es done left rest e row valid failing tried last is next marked full =
     let rows = rows_behind es done left rest e row is.whole next marked in
     let long : limit < length (rows_in es) = let l = ap length rows.1 in let m = length-append (rows_in done) (row ∷ rows.0) in omega (arith, l, m, full, is.valid_is) in
     let taken : take limit (rows_in es) ≡ rows_in done = ap (take limit) rows.1 ∙ take_front limit (rows_in done) (row ∷ rows.0) (sym full ∙ is.valid_is) in
     is_cut P limit es long ∙ (ap (cut_report P) taken
-    ∙ (ap (λ n. let a : Answer = record { status = n; rows = map (row_text P) (rows_in done); last = more_text (last_key (rows_in done)) } in a) (status_zero (rows_in done) is.passing)
-    ∙ ap (λ k. let a : Answer = record { status = 0; rows = map (row_text P) (rows_in done); last = more_text k } in a) (sym is.last_is)))
+    ∙ (ap (λ n. let a : Answer = record { status = n; rows = map (row_text P) (rows_in done); last = more_text (last_key (rows_in done)) } in a) (status_is (rows_in done) failing is.failing_is)
+    ∙ ap (λ k. let a : Answer = record { status = if nat_lt 0 failing then 1 else 0; rows = map (row_text P) (rows_in done); last = more_text k } in a) (sym is.last_is)))
 
 -- ---- rows of the answer that were put already
 
@@ -216,15 +230,15 @@ fronted P limit es rows others e few = elim (over_or_not limit (length (rows_in 
   )
 ]
 
-pub front : (P : Problem) (limit : ℕ) (es done left : List (Entry Row)) (valid tried : ℕ) (last : List ℕ) → IsDone es done left valid tried last → valid ≤ limit
+pub front : (P : Problem) (limit : ℕ) (es done left : List (Entry Row)) (valid failing tried : ℕ) (last : List ℕ) → IsDone es done left valid failing tried last → valid ≤ limit
     → (more : List (List ℕ)) × ((listing_answer P limit es).rows ≡ map (row_text P) (rows_in done) ++ more)
-front P limit es done left valid tried last is few =
+front P limit es done left valid failing tried last is few =
     fronted P limit es (rows_in done) (rows_in (through_spent left)) (ap rows_in is.whole ∙ rows_append done (through_spent left)) (omega (arith, few, is.valid_is))
 
 -- and a row more
-pub front_row : (P : Problem) (limit : ℕ) (es done left rest : List (Entry Row)) (e : Entry Row) (valid tried n : ℕ) (last : List ℕ) → IsDone es done left valid tried last → left ≡ e ∷ rest → is_spent e.mark ≡ false
+pub front_row : (P : Problem) (limit : ℕ) (es done left rest : List (Entry Row)) (e : Entry Row) (valid failing tried n : ℕ) (last : List ℕ) → IsDone es done left valid failing tried last → left ≡ e ∷ rest → is_spent e.mark ≡ false
     → n ≡ length (rows_of_mark e.mark) → valid + n ≤ limit → (more : List (List ℕ)) × ((listing_answer P limit es).rows ≡ map (row_text P) (rows_in done) ++ (map (row_text P) (rows_of_mark e.mark) ++ more))
-front_row P limit es done left rest e valid tried n last is next unspent count few =
+front_row P limit es done left rest e valid failing tried n last is next unspent count few =
     let rows = rows_of_mark e.mark in
     let behind = rows_in (through_spent rest) in
     let all : rows_in es ≡ (rows_in done ++ rows) ++ behind =

@@ -3,7 +3,6 @@ ghost use Rattle.std.specs.Prelude.{◌≡◌, IfOk, OnErr};
 ghost use Rattle.kr_base.specs.Entries.{entries_in};
 ghost use Rattle.kr_base.specs.declared.span.Bound.TheVariants.{At};
 ghost use Rattle.kr_mean.specs.Entries.{all_entries};
-ghost use Rattle.kr_mean.specs.declared.mode.Mode.TheVariants.{List};
 ghost use Rattle.kr_space_problem.specs.Posed.{posed};
 ghost use Rattle.kr_report.specs.Endings.{EndsListing};
 ghost use Rattle.kr_report.specs.Reports.{listing_answer};
@@ -16,7 +15,7 @@ use kr_step_span::SpanSearch;
 use std::alloc::Global;
 use std::sync::ledger::Ledger;
 
-/// Puts the listing of a problem's entries with keys above `after` and not above `upto`, with at most so many rows. Says the
+/// Puts the listing of a problem's entries, or the test of its method on them, with keys above `after` and not above `upto`, with at most so many rows. Says the
 /// status; where memory is refused before anything is searched, nothing is put.
 pub fn put_span<K: Sink, L: Ledger>(
     alloc: Global,
@@ -27,7 +26,6 @@ pub fn put_span<K: Sink, L: Ledger>(
     out: &mut K,
     runs: &mut Steps<L>,
 ) -> Result<u8, NoMemory>
-    requires { (posed prepared.now.problem).mode ≡ List }
     ensures ends { IfOk result (λ status. EndsListing K.taken K.faults (listing_answer (posed prepared.now.problem) limit (entries_in (At after.now) upto (all_entries (posed prepared.now.problem)))) out.old out.new status) }
     ensures nothing { OnErr result (out.new ≡ out.old) }
 {

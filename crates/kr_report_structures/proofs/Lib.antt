@@ -1,6 +1,5 @@
 mod Chosen
 mod Named
 mod Objects
-mod Separated
 mod Slots
 mod Walks

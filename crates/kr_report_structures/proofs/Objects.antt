@@ -13,10 +13,11 @@ use Rattle.kr_laws_slots.proofs.Places.{one_object}
 use Rattle.kr_laws_slots.proofs.Walked.{Valid, met_valid}
 use Rattle.kr_report.specs.Texts.{in_parentheses, joined_by, object_name, tested_parameters, value_text}
 use Rattle.kr_judge.proofs.Programs.{met_same}
-use Rattle.kr_judge.specs.Places.{IsNumbered}
-use Rattle.kr_report_structures.specs.Written.{are_any, met, parameter_written, part_at, parts_written, separated}
-use Rattle.kr_report_structures.proofs.Separated.{separated_both}
-use Rattle.kr_report_structures.proofs.Slots.{nothing}
+use Rattle.kr_space_layout.specs.Numbers.{HasNumber}
+use Rattle.kr_report.specs.Joined.{are_any, separated}
+use Rattle.kr_report_structures.specs.Written.{met, parameter_written, part_at, parts_written}
+use Rattle.kr_report.proofs.Joined.{separated_both}
+use Rattle.kr_report.proofs.Joined.{nothing}
 
 -- some texts are written, and the others are left
 pub written_more : (between : List ℕ) (any now : Bool) (start line next : List ℕ) (all ts us : List (List ℕ)) → start ++ separated between false all ≡ line ++ separated between any (ts ++ us) → next ≡ line ++ separated between any ts → now ≡ (any || are_any ts)
@@ -81,10 +82,10 @@ module _ (problem : Problem) (w : IsWellFormed problem) (v : List ℕ) where
     number_at : get_or numbers k 0 ≡ heap_number problem (get_or (met problem v) k nobody)
     number_at = ap (λ (ns : List ℕ). get_or ns k 0) are ∙ get_map (heap_number problem) (met problem v) k nobody 0 inside
 
-    pub is_numbered : IsNumbered problem (get_or numbers k 0) (get_or (met problem v) k nobody)
+    pub is_numbered : HasNumber problem (get_or numbers k 0) (get_or (met problem v) k nobody)
     is_numbered = let m = met_at k inside in record { domain = m.0; inside = m.1; is = sym number_at }
 
-    pub found_is : (o : DomainObject) → IsNumbered problem (get_or numbers k 0) o → o ≡ get_or (met problem v) k nobody
+    pub found_is : (o : DomainObject) → HasNumber problem (get_or numbers k 0) o → o ≡ get_or (met problem v) k nobody
     found_is o n = let m = met_at k inside in one_object problem w o.domain o.number (get_or (met problem v) k nobody).domain (get_or (met problem v) k nobody).number n.domain n.inside m.0 m.1 (n.is ∙ number_at)
 
 -- parameters in their parentheses

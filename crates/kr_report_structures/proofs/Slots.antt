@@ -1,35 +1,16 @@
 -- What is written of a slot, by its place.
-use Rattle.std.proofs.Common.{◌≡◌, ℕ, Bool, true, false, List, [], ◌∷◌, ◌++◌, get_or, refl, sym, ap, ◌∙◌, append_assoc}
-use Rattle.std.specs.Prelude.{◌||◌, codes, if◌then◌else◌}
-use Rattle.std.proofs.lemmas.List.{append-nil}
+use Rattle.std.proofs.Common.{◌≡◌, ℕ, Bool, List, [], ◌∷◌, ◌++◌, get_or, sym, ap, ◌∙◌, append_assoc}
+use Rattle.std.specs.Prelude.{codes, if◌then◌else◌}
 use Rattle.kr_value.specs.declared.object.Class.{Class}
-use Rattle.kr_value.specs.declared.object.Class.TheVariants.{Object, Array, Set, List as ListClass}
 use Rattle.kr_value.specs.declared.object.Spot.TheVariants.{Field, Element}
 use Rattle.kr_mean.specs.Heaps.{value_at}
 use Rattle.kr_mean.specs.Places.{SlotPlace, At}
 use Rattle.kr_mean.specs.Problem.{Problem, slot_at}
 use Rattle.kr_space_layout.specs.Bounds.{Bounds, bare, problem_with}
 use Rattle.kr_report.specs.Texts.{field_names, in_brackets, part_text, value_text}
-use Rattle.kr_report_structures.specs.Written.{are_any, closing, opening, part_at, separated}
-
--- one text more
-pub separated_one : (between : List ℕ) (any : Bool) (t : List ℕ) → separated between any (t ∷ []) ≡ (if any then between else []) ++ t
-separated_one between true t = append-nil (between ++ t)
-separated_one between false t = append-nil t
-
-pub some_any : (any : Bool) (t : List ℕ) → true ≡ (any || are_any (t ∷ []))
-some_any true t = refl
-some_any false t = refl
-
-pub nothing : (between : List ℕ) (any : Bool) → separated between any [] ≡ []
-nothing between true = refl
-nothing between false = refl
-
-pub bracketed : (class : Class) (text : List ℕ) → in_brackets class text ≡ opening class ++ text ++ closing class
-bracketed (Object c) text = refl
-bracketed (Array t) text = refl
-bracketed Set text = refl
-bracketed ListClass text = refl
+use Rattle.kr_report.proofs.Joined.{bracketed, separated_one}
+use Rattle.kr_report.specs.Joined.{closing, opening, separated}
+use Rattle.kr_report_structures.specs.Written.{part_at}
 
 module _ (problem : Problem) (b : Bounds) (laid : problem ≡ problem_with problem.program b) (v : List ℕ) (class : Class) (s : ℕ) where
   value : List ℕ

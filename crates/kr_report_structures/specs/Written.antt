@@ -1,36 +1,12 @@
 -- Between crates: a candidate's structure as it is written: parameters, and then the objects that are met, each slot by slot.
-use Rattle.std.specs.Prelude.{◌≡◌, ℕ, ◌+◌, Bool, true, false, List, [], ◌∷◌, ◌++◌, length, map, flat_map, codes}
+use Rattle.std.specs.Prelude.{◌≡◌, ℕ, ◌+◌, List, [], ◌++◌, length, map, flat_map, codes}
 use Rattle.std.proofs.Common.{get_or}
 use Rattle.kr_value.specs.declared.object.Class.{Class}
-use Rattle.kr_value.specs.declared.object.Class.TheVariants.{Object, Array, Set, List as ListClass}
 use Rattle.kr_mean.specs.Entries.{structure_of}
 use Rattle.kr_mean.specs.WellFormed.{IsWellFormed}
 use Rattle.kr_mean.specs.Heaps.{choice_at, met_within, objects_of, slots_in, value_at}
 use Rattle.kr_mean.specs.Problem.{Problem, DomainObject, all_objects, domain_at, heap_number, slot_at, upto}
-use Rattle.kr_report.specs.Texts.{behind, in_brackets, in_parentheses, joined_by, object_name, part_text, structure_text, tested_parameters, value_text}
-
--- texts with another between each two, and before the first where others stand before it
-abbrev pub separated : List ℕ → Bool → List (List ℕ) → List ℕ
-separated between true texts = behind between texts
-separated between false texts = joined_by between texts
-
--- whether there are any
-abbrev pub are_any : List (List ℕ) → Bool
-are_any [] = false
-are_any (t ∷ ts) = true
-
--- the brackets of an object
-abbrev pub opening : Class → List ℕ
-opening (Array t) = codes "["
-opening (Object c) = codes "{"
-opening Set = codes "{"
-opening ListClass = codes "{"
-
-abbrev pub closing : Class → List ℕ
-closing (Array t) = codes "]"
-closing (Object c) = codes "}"
-closing Set = codes "}"
-closing ListClass = codes "}"
+use Rattle.kr_report.specs.Texts.{in_brackets, in_parentheses, joined_by, object_name, part_text, structure_text, tested_parameters, value_text}
 
 -- what a structure has of a slot
 abbrev pub part_at : Problem → List ℕ → Class → ℕ → List (List ℕ)

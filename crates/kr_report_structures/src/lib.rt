@@ -10,4 +10,5 @@ mod structure;
 mod values;
 
 pub use laws::written_law;
+pub use names::method_under_test;
 pub use room::Room;

@@ -10,7 +10,8 @@ ghost use Rattle.kr_space_layout.specs.Bounds.{bare, problem_with};
 ghost use Rattle.kr_space_problem.specs.Posed.{posed};
 ghost use Rattle.kr_report.specs.Texts.{field_names, joined_by, value_text};
 ghost use Rattle.kr_text.specs.Lines.{line_bytes};
-ghost use Rattle.kr_report_structures.specs.Written.{are_any, closing, object_written, opening, part_at, parts_written, separated};
+ghost use Rattle.kr_report.specs.Joined.{are_any, closing, opening, separated};
+ghost use Rattle.kr_report_structures.specs.Written.{object_written, part_at, parts_written};
 
 use crate::names::object_field_name;
 use crate::values::{add, add_object_name, add_value};

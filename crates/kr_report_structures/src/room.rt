@@ -1,7 +1,6 @@
 // What writes the structures of a problem's candidates.
 ghost use Rattle.std.specs.Prelude.{◌≡◌, ◌++◌, IfOk, OnOk, length};
 ghost use Rattle.kr_mean.specs.Entries.{structure_of};
-ghost use Rattle.kr_mean.specs.declared.mode.Mode.TheVariants.{List as Listing};
 ghost use Rattle.kr_mean.specs.Space.{IsVector, space_of};
 ghost use Rattle.kr_space_problem.specs.Posed.{posed};
 ghost use Rattle.kr_report.specs.Texts.{structure_text};
@@ -70,7 +69,6 @@ impl Room {
         candidate: &C,
         line: &mut Line,
     ) -> Result<(), NoMemory>
-        requires mode { (posed prepared.now.problem).mode ≡ Listing }
         requires vector { IsVector (space_of (posed prepared.now.problem)) (C.vector candidate.now) }
         ensures { OnOk result (line_bytes line.new ≡ line_bytes line.old ++ structure_text (posed prepared.now.problem) (structure_of (posed prepared.now.problem) (C.vector candidate.now))) }
     {

@@ -1,7 +1,6 @@
 // The structure of a candidate, put together in a line.
-ghost use Rattle.std.specs.Prelude.{◌≡◌, ◌<◌, ◌^◌, ◌++◌, [], codes, flat_map, length, map, IfOk, OnOk};
+ghost use Rattle.std.specs.Prelude.{◌≡◌, ◌<◌, ◌^◌, ◌++◌, [], codes, flat_map, length, map, OnOk};
 ghost use Rattle.kr_mean.specs.Entries.{structure_of};
-ghost use Rattle.kr_mean.specs.declared.mode.Mode.TheVariants.{List as Listing};
 ghost use Rattle.kr_mean.specs.Problem.{DomainObject, heap_number, slots, upto};
 ghost use Rattle.kr_mean.specs.Readings.{AllBelow};
 ghost use Rattle.kr_mean.specs.Space.{IsVector, space_of};
@@ -9,19 +8,19 @@ ghost use Rattle.kr_mean.specs.WellFormed.{IsWellFormed};
 ghost use Rattle.kr_space_layout.specs.Bounds.{bare, problem_with};
 ghost use Rattle.kr_space_problem.specs.Posed.{posed};
 ghost use Rattle.kr_iso.specs.Objects.{object_of};
-ghost use Rattle.kr_judge.specs.Places.{IsNumbered};
+ghost use Rattle.kr_space_layout.specs.Numbers.{HasNumber};
 ghost use Rattle.kr_judge.specs.Orders.{with_slots};
 ghost use Rattle.kr_report.specs.Texts.{in_parentheses, joined_by, structure_text};
 ghost use Rattle.kr_text.specs.Lines.{line_bytes};
 ghost use Rattle.kr_report_structures.specs.Written.{met, numbers_at, object_written, parameter_written};
 
-use crate::names::parameter_name;
+use crate::names::{method_under_test, parameter_name};
 use crate::parts::{add_between, add_field, add_object};
 use crate::values::{add, object_at};
 use kr_base::NoMemory;
 use kr_build::Walk;
 use kr_iso::Object;
-use kr_judge::{Order, object_numbered};
+use kr_judge::Order;
 use kr_judge_prepared::Prepared;
 use kr_space_layout::Layout;
 use kr_text::Line;
@@ -72,7 +71,6 @@ fn add_parameters(
     layout: &Layout,
     vector: &Vector,
 ) -> Result<(), NoMemory>
-    requires mode { (posed prepared.now.problem).mode ≡ Listing }
     requires laid { posed prepared.now.problem ≡ problem_with (posed prepared.now.problem).program layout.now }
     requires well { IsWellFormed (bare layout.now) }
     requires vector { IsVector (space_of (bare layout.now)) vector.now }
@@ -83,12 +81,13 @@ fn add_parameters(
     if count == 0 {
         return Ok(());
     }
+    let method = method_under_test(prepared);
     add(line, b"(")?;
     let mut any = false;
     for number in 0..count {
         add_field(
             line,
-            parameter_name(prepared, number),
+            parameter_name(prepared, method, number),
             layout,
             vector,
             number + 1,
@@ -101,12 +100,12 @@ fn add_parameters(
 }
 
 /// The object of a number that an object has.
-fn numbered(layout: &Layout, number: u32) -> Result<Object, NoMemory>
-    requires { (o : DomainObject) × IsNumbered (bare layout.now) number o }
-    ensures { IfOk result (λ o. IsNumbered (bare layout.now) number (object_of o)) }
+fn numbered(layout: &Layout, number: u32) -> Object
+    requires { (o : DomainObject) × HasNumber (bare layout.now) number o }
+    ensures { HasNumber (bare layout.now) number (object_of result) }
 {
-    match object_numbered(layout, number)? {
-        Some(object) => Ok(object),
+    match layout.numbered(number) {
+        Some(object) => object,
         None => unreachable!(),
     }
 }
@@ -128,7 +127,7 @@ fn add_objects(
 {
     let mut any = false;
     for number in numbers {
-        let object = numbered(layout, *number)?;
+        let object = numbered(layout, *number);
         add_between(line, b" ", any)?;
         add_object(line, prepared, layout, vector, object)?;
         any = true;
@@ -153,7 +152,6 @@ impl WalkRoom {
         vector: &Vector,
         line: &mut Line,
     ) -> Result<(), NoMemory>
-        requires mode { (posed prepared.now.problem).mode ≡ Listing }
         requires laid { posed prepared.now.problem ≡ problem_with (posed prepared.now.problem).program layout.now }
         requires well { IsWellFormed (bare layout.now) }
         requires vector { IsVector (space_of (bare layout.now)) vector.now }

@@ -1,5 +1,6 @@
--- What a run of a method costs.
+-- What a run of a method costs, and an evaluation.
 use Rattle.std.proofs.Common.{Option, ◌≡◌, ℕ, ◌+◌, ◌≤◌, Bool, true, false, List, [], ◌∷◌, Result, Ok, Err, refl, ap, ◌∙◌, arith}
+use Rattle.kr_base.specs.declared.place.Place.{Place}
 use Rattle.kr_value.specs.declared.value.Value.{Value}
 use Rattle.kr_value.specs.declared.value.Value.TheVariants.{Null}
 use Rattle.kr_value.specs.Heaps.{Heap}
@@ -7,12 +8,16 @@ use Rattle.kr_classes_table.specs.Types.{is_void}
 use Rattle.kr_classes_table.specs.Table as tables
 use Rattle.kr_mean.specs.Program.{Program}
 use Rattle.kr_mean.specs.Steps.{Stop, Trapped, OutOfFuel, Stuck, State, Outcome, Run}
-use Rattle.kr_mean.specs.Meaning.{body_of}
+use Rattle.kr_mean.specs.Meaning.{body_of, value}
+use Rattle.kr_mean.specs.Code.{Node}
+use Rattle.kr_mean.specs.Verdicts.{olds_of}
 use Rattle.kr_laws_costs.specs.Laws.{IsSameWith}
-use Rattle.kr_laws_costs.proofs.Costs.{body_cost}
+use Rattle.kr_laws_costs.proofs.Costs.{body_cost, value_cost}
 use Rattle.kr_run_state.specs.declared.world.End.{End}
 use Rattle.kr_run_state.specs.declared.world.End.TheVariants as ends
+use Rattle.kr_run_method.specs.declared.executed.Env.{Env}
 use Rattle.kr_run_method.specs.declared.executed.Executed.{Executed}
+use Rattle.kr_run_method.specs.Evaluated.{evaluated, places_of, seen}
 use Rattle.kr_run_method.specs.Executed.{begun, ending_of, executed, left_by, run_on}
 use Rattle.kr_run_method.specs.Costs.{HasCost}
 
@@ -67,3 +72,22 @@ module _ (program : Program) (m : tables.Method) (heap : Heap) where
 
   pub has_cost : (values : List Value) (fuel : ℕ) → ((executed program m values heap fuel).end ≡ Err ends.OutOfFuel → ⊥) → (c : ℕ) × (c ≤ fuel) × HasCost (executed program m values heap) c
   has_cost values fuel fine = cost_on m.is_static values fuel fine
+
+module _ (program : Program) (m : tables.Method) (e : Node) (env : Env) (heap : Heap) where
+  abbrev places : List Place
+  places = places_of (olds_of program m)
+
+  abbrev valued : ℕ → Outcome Value
+  valued fuel = value program e.scope e.tree (seen places env heap fuel)
+
+  pub evaluation_has_cost : (fuel : ℕ) → ((evaluated program m e env heap fuel).end ≡ Err ends.OutOfFuel → ⊥) → (c : ℕ) × (c ≤ fuel) × HasCost (evaluated program m e env heap) c
+  evaluation_has_cost fuel fine =
+      let found = value_cost program e.scope e.tree (seen places env heap 0) fuel (λ x. fine (is_spent false (valued fuel).said x)) in (
+        found.0,
+        found.1,
+        record {
+          below = λ f lt. is_spent false (valued f).said (found.2.below f lt);
+          enough = λ x. found.2.enough (was_spent false (valued found.0).said x);
+          above = λ more. same_left false more (valued found.0) (valued (found.0 + more)) (found.2.above more);
+        },
+      )

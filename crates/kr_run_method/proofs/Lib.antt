@@ -1,4 +1,6 @@
 pub mod Programs
 pub mod Runs
 pub mod Unstuck
+pub mod Evaluations
+pub mod Places
 pub mod Costs

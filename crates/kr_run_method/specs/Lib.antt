@@ -1,3 +1,4 @@
 pub mod Executed
+pub mod Evaluated
 pub mod Fits
 pub mod Costs

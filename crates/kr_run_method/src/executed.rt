@@ -12,6 +12,16 @@ pub struct Method {
     pub is_static: bool,
 }
 
+/// What an expression of a contract sees beside the heap: `this`, the arguments of the method, what it has given where it
+/// gives something, and the values of its `\old`s, in source order.
+#[derive(Drop)]
+pub struct Env {
+    pub this: Value,
+    pub arguments: Vec<Value>,
+    pub result: Option<Value>,
+    pub olds: Vec<Value>,
+}
+
 /// How a run has ended, and the heap and the fuel that it leaves. It ends with a value, or with none where the method has no
 /// result; or early. It is stuck where code has no meaning, as no code is that typing accepts, on a heap and values of its
 /// types.

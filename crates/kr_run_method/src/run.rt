@@ -26,8 +26,10 @@ use kr_value::Value;
 use std::alloc::Global;
 
 /// The world in which a run begins. It has no candidates, so that none is written where they are frozen.
-fn world_of(alloc: Global, heap: Heap, fuel: u64) -> World
+pub(crate) fn world_of(alloc: Global, heap: Heap, fuel: u64) -> World
     ensures state { state_of result ≡ begun heap fuel }
+    ensures locals { result.locals.items ≡ [] }
+    ensures olds { result.olds.items ≡ [] }
     ensures candidates { result.candidates ≡ [] }
     ensures frozen { result.is_frozen ≡ true }
 {
@@ -69,22 +71,37 @@ fn run(
     Err(Halt::Memory(NoMemory::at_limit(taken)))
 }
 
-/// Calls a method on a receiver and arguments: what it gives, or how the run ends.
-fn call(
+/// Calls a method on a receiver and arguments, with the room of a stack: what it gives, or how the run ends.
+pub fn call(
     alloc: Global,
     code: &Code,
     world: &mut World,
+    stack: &mut Stack,
     method: MethodId,
     receiver: Value,
     arguments: &[Value],
 ) -> Result<Value, Halt>
     ensures { Answers code.now result world.new world.old (λ d x. run_step code.now d receiver arguments.now (method_at code.now method) (state_at world.old x)) }
 {
-    let mut stack = Stack::new(alloc);
+    stack.clear();
     let goal = Goal::Run(receiver, Some(method));
     let none = Nodes { first: 0, count: 0 };
     stack.push_arguments(goal, none, arguments)?;
-    run(alloc, code, world, &mut stack, Task::Arguments)
+    run(alloc, code, world, stack, Task::Arguments)
+}
+
+/// Runs a node as an expression, with the room of a stack: what it gives, or how the run ends.
+pub fn value_of(
+    alloc: Global,
+    code: &Code,
+    world: &mut World,
+    stack: &mut Stack,
+    node: u32,
+) -> Result<Value, Halt>
+    ensures { Answers code.now result world.new world.old (λ d x. d.value node (state_at world.old x)) }
+{
+    stack.clear();
+    run(alloc, code, world, stack, Task::Evaluate(node))
 }
 
 /// Whether a method has no result.
@@ -98,7 +115,7 @@ fn is_void(code: &Code, method: MethodId) -> bool
 }
 
 /// What a run gives: nothing, where the method has no result.
-fn given(is_void: bool, end: Result<Value, End>) -> Result<Option<Value>, End>
+pub(crate) fn given(is_void: bool, end: Result<Value, End>) -> Result<Option<Value>, End>
     ensures { (said : Result Given Stop) → IsSaid end said → result ≡ ending_of is_void said }
 {
     match end {
@@ -122,7 +139,10 @@ fn run_on(
     ensures { IfOk result (λ run. (d : Doing) → IsMeaning code.now d → run ≡ left_by (gives_nothing (method_at code.now method)) (run_step code.now d receiver arguments.now (method_at code.now method) (begun heap fuel))) }
 {
     let mut world = world_of(alloc, heap, fuel);
-    let said = call(alloc, code, &mut world, method, receiver, arguments);
+    let mut stack = Stack::new(alloc);
+    let said = call(
+        alloc, code, &mut world, &mut stack, method, receiver, arguments,
+    );
     match ended(said)? {
         Some(end) => Ok(Executed {
             end: given(is_void(code, method), end),

@@ -9,6 +9,8 @@ mod codes;
 #[cfg(test)]
 mod collections;
 #[cfg(test)]
+mod evaluate;
+#[cfg(test)]
 mod execute;
 #[cfg(test)]
 mod heap;

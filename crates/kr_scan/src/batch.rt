@@ -1,7 +1,6 @@
 // What one scan walks: at most so many entries, up to a bound.
 ghost use Rattle.std.specs.Prelude.{◌≡◌, ◌<◌, ◌≤◌, ◌+◌, [], IfOk};
 ghost use Rattle.kr_mean.specs.Entries.{all_entries};
-ghost use Rattle.kr_mean.specs.declared.mode.Mode.TheVariants.{List};
 ghost use Rattle.kr_step_span.specs.Scans.{RunsOn};
 ghost use Rattle.kr_space_problem.specs.Posed.{posed};
 ghost use Rattle.kr_survey.specs.Scans.{IsScan};
@@ -10,6 +9,7 @@ ghost use Rattle.kr_scan.specs.Stops.{Gathers, IsSpent, reach_at, says_spent};
 use crate::row::{add_row, cut_of};
 use kr_base::{Bound, NoMemory, Steps};
 use kr_build::Walk;
+use kr_contract::Tester;
 use kr_judge_prepared::Prepared;
 use kr_mean::Row;
 use kr_step_span::{Candidates, Ending, Next, SpanSearch};
@@ -55,6 +55,7 @@ fn gather<C: Candidates + Drop, L: Ledger>(
     span: &mut SpanSearch<C>,
     most: u32,
     walk: &mut Walk,
+    tester: &mut Tester<'_>,
     rows: &mut Vec<Row>,
     tried: &mut u32,
     runs: &mut Steps<L>,
@@ -62,11 +63,12 @@ fn gather<C: Candidates + Drop, L: Ledger>(
     requires some { 0 < most }
     requires none { tried.old ≡ 0 }
     requires no_rows { rows.old.items ≡ [] }
-    requires mode { (posed prepared.now.problem).mode ≡ List }
+    requires tester { tester.old.problem ≡ prepared.now.problem }
     requires runs_on { RunsOn (posed prepared.now.problem) (C.space span.old.candidates) (C.order span.old.candidates) (C.ending span.old.candidates) }
     ensures space { C.space span.new.candidates ≡ C.space span.old.candidates }
     ensures order { C.order span.new.candidates ≡ C.order span.old.candidates }
     ensures ending { C.ending span.new.candidates ≡ C.ending span.old.candidates }
+    ensures tester { tester.new ≡ tester.old }
     ensures gathered { IfOk result (λ stop. Gathers (all_entries (posed prepared.now.problem)) span.old.cut span.old.upto most stop span.new.cut rows.new.items tried.new) }
     ensures runs { IfOk result (λ stop. runs.new ≤ runs.old + tried.new + 1) }
 {
@@ -76,7 +78,7 @@ fn gather<C: Candidates + Drop, L: Ledger>(
             Ok(Next::End) => return Ok(Stop::End),
             Ok(Next::Found(ending)) => ending,
         };
-        add_row(alloc, ending, prepared, walk, &*span, rows)?;
+        add_row(alloc, ending, prepared, walk, tester, &*span, rows)?;
         *tried += 1;
         if is_spent(ending) {
             return Ok(Stop::Spent);
@@ -103,17 +105,19 @@ pub(crate) fn collect<C: Candidates + Drop, L: Ledger>(
     alloc: Global,
     prepared: &Prepared,
     span: &mut SpanSearch<C>,
+    tester: &mut Tester<'_>,
     upto: &Bound,
     most: u32,
     runs: &mut Steps<L>,
 ) -> Result<Part<Row>, NoMemory>
     requires some { 0 < most }
-    requires mode { (posed prepared.now.problem).mode ≡ List }
+    requires tester { tester.old.problem ≡ prepared.now.problem }
     requires upto { span.old.upto ≡ upto.now }
     requires runs_on { RunsOn (posed prepared.now.problem) (C.space span.old.candidates) (C.order span.old.candidates) (C.ending span.old.candidates) }
     ensures space { C.space span.new.candidates ≡ C.space span.old.candidates }
     ensures order { C.order span.new.candidates ≡ C.order span.old.candidates }
     ensures ending { C.ending span.new.candidates ≡ C.ending span.old.candidates }
+    ensures tester { tester.new ≡ tester.old }
     ensures part { IfOk result (IsScan (all_entries (posed prepared.now.problem)) span.old.cut upto.now most) }
     ensures runs { IfOk result (λ part. runs.new ≤ runs.old + part.tried + 1) }
 {
@@ -121,7 +125,7 @@ pub(crate) fn collect<C: Candidates + Drop, L: Ledger>(
     let mut rows = Vec::new(alloc);
     let mut tried = 0;
     let stop = gather(
-        alloc, prepared, span, most, &mut walk, &mut rows, &mut tried, runs,
+        alloc, prepared, span, most, &mut walk, tester, &mut rows, &mut tried, runs,
     )?;
     let reach = reach(alloc, stop, span.cut(), upto)?;
     Ok(Part {

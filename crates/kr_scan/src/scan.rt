@@ -1,13 +1,13 @@
 // The survey of a prepared problem.
 ghost use Rattle.std.specs.Prelude.{◌≡◌, ◌<◌, ◌≤◌, ◌+◌, ◌↔◌, IfOk, IfSome, IsTrue, length};
 ghost use Rattle.kr_mean.specs.Entries.{all_entries};
-ghost use Rattle.kr_mean.specs.declared.mode.Mode.TheVariants.{List};
 ghost use Rattle.kr_step_span.specs.Scans.{RunsOn};
 ghost use Rattle.kr_space_problem.specs.Posed.{posed};
 ghost use Rattle.kr_survey.specs.Scans.{IsScan};
 
 use crate::batch::collect;
 use kr_base::{Bound, Cut, NoMemory, Steps};
+use kr_contract::Tester;
 use kr_iso::Slots;
 use kr_judge_again::Runner;
 use kr_judge_prepared::Prepared;
@@ -22,7 +22,7 @@ use std::marker::Model;
 use std::mem;
 use std::sync::ledger::Ledger;
 
-/// A prepared problem of the mode List, as a survey of its entries. Contracts see the problem.
+/// A prepared problem as a survey of its entries, with verdicts where a method is tested. Contracts see the problem.
 #[derive(Drop)]
 pub struct Scan<'p> {
     alloc: Global,
@@ -30,23 +30,19 @@ pub struct Scan<'p> {
 }
 
 impl<'p> Model for Scan<'p> {
-    ghost use Rattle.std.specs.Prelude.{◌≡◌};
-    ghost use Rattle.kr_mean.specs.declared.mode.Mode.TheVariants.{List};
-    ghost use Rattle.kr_space_problem.specs.Posed.{posed};
     ghost use Rattle.kr_space_problem.specs.declared.problem.Problem.{Problem as ProblemOf};
 
     ghost Value = { ProblemOf };
 
     ghost view = { λ s. s.prepared.now.problem };
-
-    ghost invariant = { λ s. (posed s.prepared.now.problem).mode ≡ List };
 }
 
-/// Where a scan stopped: the search, its candidate and all that is kept of its runs; or nothing yet. It borrows the prepared
-/// problem, and nothing of its survey.
+/// Where a scan stopped: the search, its candidate and all that is kept of its runs; or nothing yet. And what tests the method
+/// on candidates. It borrows the prepared problem, and nothing of its survey.
 #[derive(Drop)]
 pub struct Stopped<'p> {
     pub(crate) search: Option<Search<Runner<'p>>>,
+    pub(crate) tester: Tester<'p>,
 }
 
 /// Whether a search looks above a cut.
@@ -59,7 +55,6 @@ fn looks_above(cut: &[u32], after: &Cut) -> bool
 impl<'p> Scan<'p> {
     /// The survey of a problem's entries. It takes no memory before it is scanned.
     pub fn new(alloc: Global, prepared: &'p Prepared) -> Scan<'p>
-        requires { (posed prepared.now.problem).mode ≡ List }
         ensures { result ≡ prepared.now.problem }
     {
         Scan { alloc, prepared }
@@ -113,7 +108,7 @@ impl<'p> Scan<'p> {
 }
 
 impl<'p> Survey for Scan<'p> {
-    ghost use Rattle.std.specs.Prelude.{IfSome};
+    ghost use Rattle.std.specs.Prelude.{◌≡◌, IfSome};
     ghost use Rattle.kr_mean.specs.Entries.{all_entries};
     ghost use Rattle.kr_step_span.specs.Scans.{RunsOn};
     ghost use Rattle.kr_space_problem.specs.Posed.{posed};
@@ -124,10 +119,13 @@ impl<'p> Survey for Scan<'p> {
 
     ghost all = { λ s. all_entries (posed s) };
 
-    ghost made = { λ s stopped. IfSome stopped.search (λ search. RunsOn (posed s) (⟦<Runner<'p> as Slots>⟧.space search.candidates) (⟦<Runner<'p> as Candidates>⟧.order search.candidates) (⟦<Runner<'p> as Candidates>⟧.ending search.candidates)) };
+    ghost made = { λ s stopped. (stopped.tester.problem ≡ s) × IfSome stopped.search (λ search. RunsOn (posed s) (⟦<Runner<'p> as Slots>⟧.space search.candidates) (⟦<Runner<'p> as Candidates>⟧.order search.candidates) (⟦<Runner<'p> as Candidates>⟧.ending search.candidates)) };
 
     fn scratch(&self) -> Result<Stopped<'p>, NoMemory> {
-        Ok(Stopped { search: None })
+        Ok(Stopped {
+            search: None,
+            tester: Tester::new(self.alloc, self.prepared)?,
+        })
     }
 
     fn scan_with<L: Ledger>(
@@ -139,9 +137,9 @@ impl<'p> Survey for Scan<'p> {
         runs: &mut Steps<L>,
     ) -> Result<Part<Row>, NoMemory>
         requires some { 0 < most }
-        requires made { IfSome scratch.old.search (λ search. RunsOn (posed self.now) (⟦<Runner<'p> as Slots>⟧.space search.candidates) (⟦<Runner<'p> as Candidates>⟧.order search.candidates) (⟦<Runner<'p> as Candidates>⟧.ending search.candidates)) }
+        requires made { (scratch.old.tester.problem ≡ self.now) × IfSome scratch.old.search (λ search. RunsOn (posed self.now) (⟦<Runner<'p> as Slots>⟧.space search.candidates) (⟦<Runner<'p> as Candidates>⟧.order search.candidates) (⟦<Runner<'p> as Candidates>⟧.ending search.candidates)) }
         ensures part { IfOk result (IsScan (all_entries (posed self.now)) after.now upto.now most) }
-        ensures made { IfSome scratch.new.search (λ search. RunsOn (posed self.now) (⟦<Runner<'p> as Slots>⟧.space search.candidates) (⟦<Runner<'p> as Candidates>⟧.order search.candidates) (⟦<Runner<'p> as Candidates>⟧.ending search.candidates)) }
+        ensures made { (scratch.new.tester.problem ≡ self.now) × IfSome scratch.new.search (λ search. RunsOn (posed self.now) (⟦<Runner<'p> as Slots>⟧.space search.candidates) (⟦<Runner<'p> as Candidates>⟧.order search.candidates) (⟦<Runner<'p> as Candidates>⟧.ending search.candidates)) }
         ensures runs { IfOk result (λ part. runs.new ≤ runs.old + part.tried + length after.now + 3) }
     {
         let end = match upto.try_clone() {
@@ -154,7 +152,15 @@ impl<'p> Survey for Scan<'p> {
             Err(why) => return Err(why),
         };
         let mut span = SpanSearch::of(search, end);
-        match collect(self.alloc, self.prepared, &mut span, upto, most, runs) {
+        match collect(
+            self.alloc,
+            self.prepared,
+            &mut span,
+            &mut scratch.tester,
+            upto,
+            most,
+            runs,
+        ) {
             Ok(part) => {
                 scratch.search = Some(span.into_search());
                 Ok(part)
@@ -174,7 +180,7 @@ impl<'p> Survey for Scan<'p> {
         ensures part { IfOk result (IsScan (all_entries (posed self.now)) after.now upto.now most) }
         ensures runs { IfOk result (λ part. runs.new ≤ runs.old + part.tried + length after.now + 3) }
     {
-        let mut scratch = Stopped { search: None };
+        let mut scratch = self.scratch()?;
         self.scan_with(&mut scratch, after, upto, most, runs)
     }
 

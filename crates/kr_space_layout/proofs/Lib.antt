@@ -6,3 +6,4 @@ pub mod Layouts
 pub mod Starts
 pub mod Objects
 pub mod Shapes
+pub mod Numbers

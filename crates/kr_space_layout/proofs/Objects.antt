@@ -1,9 +1,9 @@
 -- What a layout knows of its class domains and their objects.
-use Rattle.std.proofs.Common.{◌≡◌, ℕ, suc, ◌+◌, ◌*◌, ◌^◌, ◌<◌, ◌≤◌, List, [], length, get_or, sym, ap, ◌∙◌, arith, subst}
+use Rattle.std.proofs.Common.{◌≡◌, ℕ, suc, ◌+◌, ◌*◌, ◌^◌, ◌<◌, ◌≤◌, List, [], length, get_or, sym, ap, ◌∙◌, arith, subst, zero-add}
 use Rattle.std.specs.Prelude.{map}
 use Rattle.std.proofs.lemmas.List.{get_or-map, get_or_default, length-append, length-map}
 use Rattle.kr_mean.specs.Problem as problems
-use Rattle.kr_mean.specs.Problem.{Domain, objects_before, no_objects, domain_at}
+use Rattle.kr_mean.specs.Problem.{Domain, objects_before, no_objects}
 use Rattle.kr_space_layout.specs.declared.classes.ClassDomain.{ClassDomain}
 use Rattle.kr_space_layout.specs.declared.stretch.Block.{Block}
 use Rattle.kr_space_layout.specs.declared.entry.Entry.{Entry}
@@ -16,7 +16,7 @@ use Rattle.kr_space_layout.proofs.Slots.{blocks_long, parameters_long}
 use Rattle.kr_space_layout.proofs.Choices.{block_is}
 use Rattle.kr_space_layout.proofs.Starts.{StartIs, start_is, starts_long}
 
-abbrev count_in : List problems.ClassDomain → ℕ → ℕ
+abbrev pub count_in : List problems.ClassDomain → ℕ → ℕ
 count_in ds d = (get_or ds d no_objects).count
 
 abbrev width_in : List problems.ClassDomain → ℕ → ℕ
@@ -27,6 +27,7 @@ pub record OfObjects (i : Inside) (b : Bounds) : Type 0 where
   pub starts : length i.starts.items ≡ length b.domains
   pub classes : length i.classes ≡ length b.domains
   pub class : (d : ℕ) (x : ClassDomain) → d < length b.domains → get_or b.domains d no_objects ≡ class_domain (map domain_of i.pool.items) (get_or i.classes d x)
+  pub domain : (d : ℕ) (x : Block) → d < length b.domains → (get_or i.blocks.items d x).domain ≡ d
   pub count : (d : ℕ) (x : Block) → d < length b.domains → (get_or i.blocks.items d x).count ≡ count_in b.domains d
   pub first : (d : ℕ) (x : Block) → d < length b.domains → (get_or i.blocks.items d x).first ≡ objects_before d b.domains
   pub numbered : (d : ℕ) (x : Block) → d < length b.domains → IsNumbered (get_or i.blocks.items d x)
@@ -40,6 +41,7 @@ of_objects i b laid e = subst (OfObjects i) e record {
   starts = starts;
   classes = sym longs;
   class = λ d x h. get_or-map (class_domain domains) i.classes d x no_objects (omega (arith, h, longs));
+  domain = λ d x h. ap (λ (y : Block). y.domain) (block d x h) ∙ ((block_is domains 0 0 i.classes d d (omega arith)).domain ∙ zero-add d);
   count = λ d x h. ap (λ (y : Block). y.count) (block d x h) ∙ (block_is domains 0 0 i.classes d d (omega arith)).count;
   first = λ d x h. ap (λ (y : Block). y.first) (block d x h) ∙ omega (arith, (block_is domains 0 0 i.classes d d (omega arith)).before h);
   numbered = λ d x h. laid.numbered d x (omega (arith, h, blocks));

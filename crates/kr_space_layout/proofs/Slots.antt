@@ -5,7 +5,7 @@ use Rattle.std.specs.List.{range_with_len}
 use Rattle.std.proofs.lemmas.List.{length-append, map-append, get_or_at}
 use Rattle.std.proofs.lemmas.List.Concat.{flat_map-append}
 use Rattle.kr_mean.specs.Problem as problems
-use Rattle.kr_mean.specs.Problem.{Problem, Domain, DomainObject, Slot, objects_before, objects_from, objects_of_domain, slots, slots_of_object, parameter_slots, domain_at, no_objects, heap_number}
+use Rattle.kr_mean.specs.Problem.{Problem, Domain, Slot, objects_before, objects_from, objects_of_domain, slots, slots_of_object, parameter_slots, domain_at, no_objects, heap_number}
 use Rattle.kr_mean.specs.Places.{This, Parameter, At}
 use Rattle.kr_space_layout.specs.declared.classes.Spotted.{Spotted}
 use Rattle.kr_space_layout.specs.declared.classes.ClassDomain.{ClassDomain}

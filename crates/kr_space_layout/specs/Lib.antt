@@ -4,3 +4,4 @@ pub mod Bounds
 pub mod Tables
 pub mod Layouts
 pub mod Shapes
+pub mod Numbers

@@ -7,6 +7,7 @@ ghost use Rattle.kr_mean.specs.Space.{no_choice, space_of};
 ghost use Rattle.kr_space_layout.specs.Items.{domain_of};
 ghost use Rattle.kr_space_layout.specs.Stretches.{IsNumbered, all_choices, chosen};
 ghost use Rattle.kr_space_layout.specs.Bounds.{bare, bounds_of};
+ghost use Rattle.kr_space_layout.specs.Numbers.{IsFound};
 ghost use Rattle.kr_space_layout.specs.Shapes.{AreShapes, IsShape, values_with};
 ghost use Rattle.kr_mean.specs.Places.{place_of};
 ghost use Rattle.kr_space_layout.specs.Layouts.{AnyProgramLaw, first_slot, stretches};
@@ -276,6 +277,22 @@ impl Layout {
         ensures { result ≡ heap_number (bare self.now) (object_of object) }
     {
         self.blocks[object.domain as usize].first + object.number
+    }
+
+    /// The object of a number in the heap, if there is one. It takes no memory.
+    pub fn numbered(&self, number: Obj) -> Option<Object>
+        ensures { IsFound (bare self.now) number result }
+    {
+        for block in self.blocks.as_slice() {
+            let within = number - block.first;
+            if within < block.count {
+                return Some(Object {
+                    domain: block.domain,
+                    number: within,
+                });
+            }
+        }
+        None
     }
 
     /// An object's first slot; its others stand behind it.

@@ -1,7 +1,8 @@
 -- One step of a search finds the next entry.
 use Rattle.std.proofs.Common.{◌≡◌, ℕ, ◌+◌, ◌<◌, ◌≤◌, ◌⊎◌, inl, inr, List, [], ◌∷◌, ◌++◌, refl, sym, ap, ◌∙◌, subst, arith, get_or, Some, None, append_assoc, length, set, length-set, get_or-set_same, get_or-set_other}
 use Rattle.std.proofs.lemmas.Bool.{cases_lt, cases_eq}
-use Rattle.kr_mean.specs.Space.{Space, IsVector, IsSpace}
+use Rattle.kr_mean.specs.Space.{Space, IsVector}
+use Rattle.kr_mean.specs.Blocks.{IsSpace}
 use Rattle.kr_base.specs.Cuts.{Before}
 use Rattle.kr_mean.specs.Readings.{Forks, AllBelow, Lacks, Differ, IsReading}
 use Rattle.kr_mean.specs.Runs.{key_along}

@@ -1,7 +1,8 @@
 -- Vectors that follow a path.
 use Rattle.std.proofs.Common.{◌≡◌, ℕ, ◌<◌, inl, inr, List, [], ◌∷◌, ◌++◌, refl, sym, ap, ◌∙◌, subst, arith, get_or, Option, Some, None, append_assoc}
 use Rattle.kr_mean.specs.Problem.{DomainObject}
-use Rattle.kr_mean.specs.Space.{Space, IsSpace}
+use Rattle.kr_mean.specs.Space.{Space}
+use Rattle.kr_mean.specs.Blocks.{IsSpace}
 use Rattle.kr_base.specs.Cuts.{Before}
 use Rattle.kr_mean.specs.Readings.{Forks, AllBelow, Lacks, Differ}
 use Rattle.kr_mean.specs.Runs.{key_along}

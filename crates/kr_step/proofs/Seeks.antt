@@ -3,7 +3,8 @@ use Rattle.std.proofs.Common.{◌≡◌, ℕ, zero, suc, ◌+◌, ◌<◌, ◌�
 use Rattle.std.proofs.lemmas.List.{length-replicate, take-append-drop}
 use Rattle.kr_iso.proofs.Drops.{drop_number}
 use Rattle.std.specs.Prelude.{replicate}
-use Rattle.kr_mean.specs.Space.{Space, IsVector, IsSpace}
+use Rattle.kr_mean.specs.Space.{Space, IsVector}
+use Rattle.kr_mean.specs.Blocks.{IsSpace}
 use Rattle.kr_mean.specs.Readings.{AllBelow, Lacks, Differ, IsReading}
 use Rattle.kr_mean.specs.Runs.{key_along}
 use Rattle.kr_iso.specs.Choices.{IsAllowed}

@@ -2,7 +2,8 @@
 use Rattle.std.proofs.Common.{◌≡◌, ℕ, ◌<◌, ◌≤◌, zero, suc, Bool, List, [], ◌∷◌, ◌++◌, Some, refl, sym, ap, ◌∙◌, subst, arith, get_or, length, drop, set, append-nil}
 use Rattle.std.specs.Prelude.{Result, Ok, Err, OnErr, is_ok, if◌then◌else◌}
 use Rattle.kr_base.specs.Cuts.{Before}
-use Rattle.kr_mean.specs.Space.{Space, IsSpace}
+use Rattle.kr_mean.specs.Space.{Space}
+use Rattle.kr_mean.specs.Blocks.{IsSpace}
 use Rattle.kr_mean.specs.Readings.{AllBelow, IsReading}
 use Rattle.kr_mean.specs.Runs.{key_along}
 use Rattle.kr_mean.specs.Entries.{IsListed}

@@ -1,6 +1,7 @@
 // Candidates that can be run, one after another.
 ghost use Rattle.std.specs.Prelude.{◌≡◌, ◌<◌, ◌+◌, List, ℕ, length, slice_index, slice_set, IfOk, OnOk};
-ghost use Rattle.kr_mean.specs.Space.{IsVector, IsSpace};
+ghost use Rattle.kr_mean.specs.Space.{IsVector};
+ghost use Rattle.kr_mean.specs.Blocks.{IsSpace};
 ghost use Rattle.kr_mean.specs.Readings.{IsReading};
 
 use kr_base::{NoMemory, Steps};

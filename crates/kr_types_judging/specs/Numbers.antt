@@ -1,4 +1,4 @@
--- Between crates: the numbers of the typing rules.
+-- To be believed: the numbers of the typing rules.
 use Rattle.std.specs.Prelude.{ℕ}
 use Rattle.kr_types_judging.specs.declared.rules.TypingRule.{TypingRule}
 use Rattle.kr_types_judging.specs.declared.rules.TypingRule.TheVariants.{UnknownType, UnknownName, RepeatedLocal, StaticCode, NumberTooLarge, Arithmetic, Shift, Comparison, Equality, Bitwise, Logical, Negation, Sign, Conditional, Assignment, CompoundAssignment, Step, Target, Cast, InstanceOf, FieldAccess, ElementAccess, Call, CollectionCall, Creation, ArrayLength, Condition, LocalValue, Return, Jump, NoResult, SuperCall, SuperConstructor, FieldValue, ConstantValue, StaticField, ContractValue, ContractWrite, ContractPlace}

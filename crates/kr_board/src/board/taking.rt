@@ -135,7 +135,7 @@ impl<R: Drop> Board<R> {
     }
 
     // The lease of what is behind a cut, in a segment that may be stolen from.
-    fn steal(&mut self, seat: u32, victim: u64, cut: Cut) -> Result<Taken, NoMemory>
+    pub(super) fn steal(&mut self, seat: u32, victim: u64, cut: Cut) -> Result<Taken, NoMemory>
         requires { fits self.old.core (Event.Steal seat victim cut self.old.core.next) ≡ true }
         ensures added { IfOk result (λ taken. Adds self.old (Event.Steal seat victim cut self.old.core.next) (reply_of taken) [] self.new) }
         ensures unchanged { OnErr result (self.new ≡ self.old) }

@@ -1,9 +1,11 @@
 use Rattle.std.proofs.Common.{◌≡◌, ◌∙◌, ◌≤◌, ℕ, List, length, sym, subst, arith}
 use Rattle.std.specs.Prelude.{All}
 use Rattle.kr_demo.specs.Texts.{finitization_text}
-use Rattle.korat_top.specs.Steps.{LIMIT, from_texts}
-use Rattle.korat_top.specs.Found.{Judges}
-use Rattle.korat_top.proofs.Answered.{demo_judged}
+use Rattle.kr_mean.specs.declared.mode.Mode.TheVariants.{List as Listing}
+use Rattle.kr_space_problem.specs.Posed.{posed}
+use Rattle.korat_top.specs.Steps.{LIMIT}
+use Rattle.korat_top.specs.Chains.{from_texts}
+use Rattle.korat_top.specs.Found.{Meets}
 use Rattle.korat_top.proofs.Small.{one_short}
 use Rattle.korat_top.proofs.find.find_demo.Goals as goal
 
@@ -19,5 +21,7 @@ pub returns : goal.returns
 returns c =
     let n = c.args.nodes in
     let fin : c.deref.result.now ≡ finitization_text n = c.deref.ensures.value ∙ c.in_ok-fin.ensures.text in
-    demo_judged n c.judge_from_parsing.result
-    (subst (λ (ts : List (List ℕ)). Judges (from_texts (finitization_text n) ts) c.judge_from_parsing.result) c.in_ok-texts.ensures (subst (λ (f : List ℕ). Judges (from_texts f c.in_ok-texts.texts) c.judge_from_parsing.result) fin c.judge_from_parsing.ensures))
+    record {
+      judged = subst (λ (ts : List (List ℕ)). Meets (from_texts Listing (finitization_text n) ts) posed c.judge_from_parsing.result) c.in_ok-texts.ensures
+          (subst (λ (f : List ℕ). Meets (from_texts Listing f c.in_ok-texts.texts) posed c.judge_from_parsing.result) fin c.judge_from_parsing.ensures.judged);
+    }

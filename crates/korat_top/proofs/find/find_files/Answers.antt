@@ -9,14 +9,14 @@ judge_from_parsing-requires-clause-few g c = omega (arith, c.requires.few, as_ma
 pub judge_from_parsing-requires-clause-short : goal.judge_from_parsing-requires-clause-short
 judge_from_parsing-requires-clause-short g c = all_short (g.F.Files.held c.read.new.files) 0 c.args.sources.now c.in-Ok.texts c.in-Ok.ensures.read
 
-pub returns-clause-found : goal.returns-clause-found
-returns-clause-found g c =
+pub returns-in-Err-clause-found : goal.returns-in-Err-clause-found
+returns-in-Err-clause-found g c =
     let inputs = files_of c.args.fin.now c.args.sources.now in
-    sources_stopped g.F.Files.held g.F.Files.faults g.F.Files.last inputs c.args.files.now c.read.new.files c.read_sources.new.files c.in_ok-bytes.bytes.items c.in-Err.stop
+    sources_stopped g.F.Files.held g.F.Files.faults g.F.Files.last c.args.mode inputs c.args.files.now c.read.new.files c.read_sources.new.files c.in_ok-bytes.bytes.items c.in-Err.stop
     c.in_ok-bytes.ensures.read c.in_ok-bytes.ensures.later.constant c.in_ok-bytes.ensures.count c.in-Err.ensures.read
 
 pub returns-in-Ok-clause-found : goal.returns-in-Ok-clause-found
 returns-in-Ok-clause-found g c =
     let inputs = files_of c.args.fin.now c.args.sources.now in
-    judged_found g.F.Files.held g.F.Files.faults g.F.Files.last inputs c.args.files.now c.read.new.files c.read_sources.new.files c.in_ok-bytes.bytes.items c.in-Ok.texts c.judge_from_parsing.result
+    judged_found g.F.Files.held g.F.Files.faults g.F.Files.last c.args.mode inputs c.args.files.now c.read.new.files c.read_sources.new.files c.in_ok-bytes.bytes.items c.in-Ok.texts c.judge_from_parsing.result
     c.in_ok-bytes.ensures.read c.in_ok-bytes.ensures.later.constant c.in-Ok.ensures.read (rw c.deref.ensures.value at c.judge_from_parsing.ensures.judged)

@@ -1,7 +1,7 @@
 use Rattle.std.specs.Prelude.{map}
 use Rattle.kr_ast.specs.Arena.{root}
 use Rattle.kr_space_problem.specs.Posed.{posed}
-use Rattle.korat_top.specs.Steps.{stating, from_document}
+use Rattle.korat_top.specs.Chains.{stating, from_document}
 use Rattle.korat_top.proofs.Outcomes.{meets_next}
 use Rattle.korat_top.proofs.find.judge_from_finitization.Goals as goal
 
@@ -12,6 +12,5 @@ pub returns : goal.returns
 returns c =
     let trees = map root c.args.program.trees.items in
     record {
-      judged = meets_next (stating c.args.fin.now) (λ document. from_document trees document) posed c.in_ok-document.document c.judge_from_posing.result c.in_ok-document.ensures.read c.judge_from_posing.ensures.judged;
-      listing = c.judge_from_posing.ensures.listing;
+      judged = meets_next (stating c.args.fin.now) (λ document. from_document c.args.mode trees document) posed c.in_ok-document.document c.judge_from_posing.result c.in_ok-document.ensures.read c.judge_from_posing.ensures.judged;
     }

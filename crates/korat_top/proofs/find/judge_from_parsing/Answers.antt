@@ -2,7 +2,7 @@ use Rattle.std.proofs.Common.{arith}
 use Rattle.std.specs.Prelude.{map}
 use Rattle.kr_ast.specs.Arena.{root}
 use Rattle.kr_space_problem.specs.Posed.{posed}
-use Rattle.korat_top.specs.Steps.{each, growing, from_grown}
+use Rattle.korat_top.specs.Chains.{each, growing, from_grown}
 use Rattle.korat_top.proofs.Outcomes.{meets_next}
 use Rattle.korat_top.proofs.Told.{grown_many}
 use Rattle.korat_top.proofs.find.judge_from_parsing.Goals as goal
@@ -13,7 +13,8 @@ judge_from_classes-requires c =
     record { few = omega (arith, c.requires.few, many); small = c.in_ok-trees.ensures.small; shaped = c.in_ok-trees.ensures.shaped }
 
 pub returns : goal.returns
-returns c = record {
-  judged = meets_next (each growing 0 c.args.texts.now) (λ trees. from_grown c.args.fin.now trees) posed (map root c.in_ok-trees.trees.items) c.judge_from_classes.result c.in_ok-trees.ensures.grown c.judge_from_classes.ensures.judged;
-  listing = c.judge_from_classes.ensures.listing;
-}
+returns c =
+    record {
+      judged = meets_next (each growing 0 c.args.texts.now) (λ trees. from_grown c.args.mode c.args.fin.now trees) posed (map root c.in_ok-trees.trees.items) c.judge_from_classes.result
+          c.in_ok-trees.ensures.grown c.judge_from_classes.ensures.judged;
+    }

@@ -3,7 +3,7 @@ use Rattle.std.specs.Prelude.{map}
 use Rattle.kr_ast.specs.Arena.{Arena, root}
 use Rattle.kr_types_meaning.specs.Typing.{IsWellTyped}
 use Rattle.kr_space_problem.specs.Posed.{posed}
-use Rattle.korat_top.specs.Steps.{typing, from_trees}
+use Rattle.korat_top.specs.Chains.{typing, from_trees}
 use Rattle.korat_top.specs.Found.{AreShaped, Meets}
 use Rattle.korat_top.proofs.Small.{few_nodes}
 use Rattle.korat_top.proofs.Outcomes.{meets_next}
@@ -21,7 +21,6 @@ returns c =
     let stated = c.in_ok-program.ensures in
     let typed = subst (λ (ts : List Arena). IsWellTyped (map root ts)) stated.files stated.typed.well_typed in
     record {
-      judged = meets_next (typing (map root trees)) (λ done. from_trees c.args.fin.now (map root trees)) posed tt c.judge_from_finitization.result ((c.well_typed_law.ensures (map root trees)).1 typed)
-          (subst (λ (ts : List Arena). Meets (from_trees c.args.fin.now (map root ts)) posed c.judge_from_finitization.result) stated.files c.judge_from_finitization.ensures.judged);
-      listing = c.judge_from_finitization.ensures.listing;
+      judged = meets_next (typing (map root trees)) (λ done. from_trees c.args.mode c.args.fin.now (map root trees)) posed tt c.judge_from_finitization.result ((c.well_typed_law.ensures (map root trees)).1 typed)
+          (subst (λ (ts : List Arena). Meets (from_trees c.args.mode c.args.fin.now (map root ts)) posed c.judge_from_finitization.result) stated.files c.judge_from_finitization.ensures.judged);
     }

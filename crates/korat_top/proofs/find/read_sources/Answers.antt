@@ -1,7 +1,7 @@
 use Rattle.std.proofs.Common.{◌∙◌, ◌+◌, ◌<◌, [], length, take, sym, subst, arith}
 use Rattle.std.specs.Prelude.{ℕ, List, Ok, Err, slice_index_or}
 use Rattle.korat_top.specs.declared.refusal.InputFile.TheVariants as input
-use Rattle.korat_top.specs.Steps.{each}
+use Rattle.korat_top.specs.Chains.{each}
 use Rattle.korat_top.specs.Found.{telling_source, HasRead}
 use Rattle.korat_top.proofs.Outcomes.{each_next}
 use Rattle.korat_top.proofs.Told.{stopped_at, told_before}

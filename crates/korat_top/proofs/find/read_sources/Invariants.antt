@@ -1,6 +1,6 @@
 use Rattle.std.proofs.Common.{◌≡◌, take}
 use Rattle.std.specs.Prelude.{Ok}
-use Rattle.korat_top.specs.Steps.{each}
+use Rattle.korat_top.specs.Chains.{each}
 use Rattle.korat_top.specs.Found.{IsLater, telling_source}
 use Rattle.korat_top.proofs.find.read_sources.Given as goal
 

@@ -5,7 +5,7 @@ use Rattle.std.proofs.lemmas.List.Elements.{All-push}
 use Rattle.kr_ast.specs.Arena.{Arena, root}
 use Rattle.kr_laws_shapes.specs.Shapes.{AreClasses}
 use Rattle.korat_top.specs.Found.{AreShaped}
-use Rattle.korat_top.specs.Steps.{MOST_NODES, each, growing}
+use Rattle.korat_top.specs.Chains.{MOST_NODES, each, growing}
 use Rattle.korat_top.proofs.Outcomes.{each_next, stops_each}
 use Rattle.korat_top.proofs.find.trees_of.Goals as goal
 

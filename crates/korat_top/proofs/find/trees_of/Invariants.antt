@@ -1,7 +1,7 @@
 use Rattle.std.proofs.Common.{◌≤◌, length, take}
 use Rattle.std.specs.Prelude.{All, Ok, map}
 use Rattle.kr_ast.specs.Arena.{root}
-use Rattle.korat_top.specs.Steps.{MOST_NODES, each, growing}
+use Rattle.korat_top.specs.Chains.{MOST_NODES, each, growing}
 use Rattle.korat_top.specs.Found.{AreShaped}
 use Rattle.korat_top.proofs.find.trees_of.Given as goal
 

@@ -1,8 +1,10 @@
 use Rattle.std.proofs.Common.{◌≡◌, ◌∙◌, ◌<◌, ◌+◌, ℕ, List, ap, sym, subst, arith, get_or, length}
 use Rattle.kr_mean.specs.Entries.{name_in}
-use Rattle.kr_mean.specs.Space.{space_of, on_slot, on_index}
+use Rattle.kr_mean.specs.Space.{space_of}
+use Rattle.kr_mean.specs.Blocks.{on_slot, on_index}
 use Rattle.kr_mean.specs.Problem.{choices_at, slots}
 use Rattle.kr_space_layout.specs.Bounds.{bare}
+use Rattle.kr_iso.proofs.Moves.{renames}
 use Rattle.kr_laws_slots.proofs.Spaces.{is_space}
 use Rattle.kr_plain.proofs.Moving.{Renames, index_room, renamed_whole, renames_more, slot_room, starts}
 use Rattle.kr_plain.proofs.renaming.rename.Goals as goal
@@ -49,4 +51,6 @@ loop-slot-preserved c =
 
 pub returns : goal.returns
 unfolding space_of
-returns c = renamed_whole (space_of (bare c.args.layout.now)) (name_in c.args.perm.now) c.args.vector.now c.loop-slot.renamed c.loop-slot.slot (omega (arith, c.loop-slot-test.false, c.loop-slot.auto.slot-end, c.slots-count.ensures)) c.loop-slot.invariant
+returns c =
+    renames (space_of (bare c.args.layout.now)) (is_space (bare c.args.layout.now) c.requires.well) (name_in c.args.perm.now) c.requires.renaming c.args.vector.now c.loop-slot.renamed c.requires.vector
+    (renamed_whole (space_of (bare c.args.layout.now)) (name_in c.args.perm.now) c.args.vector.now c.loop-slot.renamed c.loop-slot.slot (omega (arith, c.loop-slot-test.false, c.loop-slot.auto.slot-end, c.slots-count.ensures)) c.loop-slot.invariant)

@@ -10,7 +10,7 @@ pub returns-in-Ok : goal.returns-in-Ok
 returns-in-Ok g c =
     let P = posed c.args.prepared.now.problem in
     let answer = listing_answer P c.args.limit (entries_in (At c.args.scan.cut) c.args.scan.upto (all_entries P)) in
-    after_all c.summary_text.new.out answer c.in-Ok.summary c.once_written.result c.status.result c.summary_text.result c.in-Ok.ensures c.summary_text.ensures c.status.ensures c.once_written.ensures
+    after_all c.summary_text.new.out answer c.in-Ok.closing c.once_written.result c.summary_text.result c.in-Ok.ensures c.summary_text.ensures c.once_written.ensures
 
 pub returns-in-Err-Sink : goal.returns-in-Err-Sink
 returns-in-Err-Sink g c =

@@ -1,9 +1,19 @@
-use Rattle.std.proofs.Common.{ap, sym, get_or, []}
-use Rattle.kr_mean.specs.declared.mode.Mode.{Mode}
-use Rattle.kr_mean.specs.Runs.{tested_method}
-use Rattle.kr_space_problem.specs.Posed.{posed}
-use Rattle.kr_report.specs.Texts.{parameter_names}
+use Rattle.std.proofs.Common.{◌≡◌, ◌∙◌, List, ℕ, ap, sym, subst, get_or, []}
+use Rattle.std.specs.Prelude.{IfSome}
+use Rattle.kr_ast.specs.Arena.{Arena}
+use Rattle.kr_classes_members.specs.Shown.{IsMethod}
+use Rattle.kr_space_problem.specs.declared.problem.Problem.{Problem}
+use Rattle.kr_report.specs.Names.{names_of}
 use Rattle.kr_report_structures.proofs.names.parameter_name.Goals as goal
 
+pub parameter_name_of-requires : goal.parameter_name_of-requires
+parameter_name_of-requires c =
+    let files : c.as_slice-trees.result.now ≡ c.args.prepared.now.problem.program.trees.items = c.as_slice-trees.ensures.value ∙ ap (λ (p : Problem). p.program.trees.items) c.problem.ensures in
+    subst (λ (fs : List Arena). IfSome c.args.method (IsMethod fs)) (sym files) c.requires.stands
+
 pub returns : goal.returns
-returns c = ap (λ (m : Mode). get_or (parameter_names (tested_method (posed c.args.prepared.now.problem) m)) c.args.number []) (sym c.requires)
+returns c =
+    let files : c.as_slice-trees.result.now ≡ c.args.prepared.now.problem.program.trees.items = c.as_slice-trees.ensures.value ∙ ap (λ (p : Problem). p.program.trees.items) c.problem.ensures in
+    c.parameter_name_of.ensures
+    ∙ (ap (λ (fs : List Arena). get_or (names_of fs c.args.method) c.args.number []) files
+    ∙ ap (λ (ns : List (List ℕ)). get_or ns c.args.number []) c.requires.names)

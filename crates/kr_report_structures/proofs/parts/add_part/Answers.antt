@@ -11,7 +11,7 @@ use Rattle.kr_text.specs.Lines.{line_bytes}
 use Rattle.kr_value.specs.declared.object.Spot.{Spot}
 use Rattle.kr_value.specs.declared.object.Spot.TheVariants.{Field, Element}
 use Rattle.kr_space_problem.specs.Posed.{posed}
-use Rattle.kr_report_structures.specs.Written.{separated}
+use Rattle.kr_report.specs.Joined.{separated}
 use Rattle.kr_report_structures.proofs.Slots.{of_field, of_element}
 use Rattle.kr_report_structures.proofs.parts.add_part.Goals as goal
 

@@ -5,7 +5,8 @@ use Rattle.kr_iso.specs.Objects.{object_of}
 use Rattle.kr_space_problem.specs.Posed.{posed}
 use Rattle.kr_report.specs.Texts.{joined_by}
 use Rattle.kr_text.specs.Lines.{line_bytes}
-use Rattle.kr_report_structures.specs.Written.{part_at, separated}
+use Rattle.kr_report.specs.Joined.{separated}
+use Rattle.kr_report_structures.specs.Written.{part_at}
 use Rattle.kr_report_structures.proofs.Objects.{parts_same, written_all, written_more}
 use Rattle.kr_report_structures.proofs.parts.add_parts.Goals as goal
 

@@ -3,7 +3,8 @@ use Rattle.std.specs.Prelude.{codes, flat_map}
 use Rattle.std.specs.List.{range_with_len}
 use Rattle.kr_space_problem.specs.Posed.{posed}
 use Rattle.kr_text.specs.Lines.{line_bytes}
-use Rattle.kr_report_structures.specs.Written.{part_at, separated}
+use Rattle.kr_report.specs.Joined.{separated}
+use Rattle.kr_report_structures.specs.Written.{part_at}
 use Rattle.kr_report_structures.proofs.parts.add_parts.Given as goal
 
 -- what is left comes behind what is written

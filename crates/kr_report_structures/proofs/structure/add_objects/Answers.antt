@@ -7,13 +7,15 @@ use Rattle.kr_space_layout.specs.Bounds.{bare}
 use Rattle.kr_laws_slots.proofs.Numbering.{nobody}
 use Rattle.kr_space_problem.specs.Posed.{posed}
 use Rattle.kr_text.specs.Lines.{line_bytes}
-use Rattle.kr_report_structures.specs.Written.{met, object_written, separated}
+use Rattle.kr_report.specs.Joined.{separated}
+use Rattle.kr_report_structures.specs.Written.{met, object_written}
 use Rattle.kr_report_structures.proofs.Objects.{found_is, inside, is_numbered, written_more}
-use Rattle.kr_report_structures.proofs.Slots.{one_added, some_any}
+use Rattle.kr_report.proofs.Joined.{some_any}
+use Rattle.kr_report_structures.proofs.Slots.{one_added}
 use Rattle.kr_report_structures.proofs.structure.add_objects.Goals as goal
 
-pub numbered-requires : goal.numbered-requires
-numbered-requires c =
+pub numbered-object-requires : goal.numbered-object-requires
+numbered-object-requires c =
     let b = bare c.args.layout.now in
     let k = c.loop-number.number-index in
     (get_or (met b c.args.vector.now) k nobody, is_numbered b c.requires.well c.args.vector.now c.args.numbers.now c.requires.numbers k c.loop-number-test.true)
@@ -26,8 +28,8 @@ loop-number-preserved c =
     let k = c.loop-number.number-index in
     let line = line_bytes c.loop-number.line in
     let any = c.loop-number.any in
-    let o = object_of c.in_ok-object.object in
-    let here = found_is b c.requires.well v c.args.numbers.now c.requires.numbers k c.loop-number-test.true o c.in_ok-object.ensures in
+    let o = object_of c.numbered-object.result in
+    let here = found_is b c.requires.well v c.args.numbers.now c.requires.numbers k c.loop-number-test.true o c.numbered-object.ensures in
     let rest = map w (drop (k + 1) (met b v)) in
     written_more (codes " ") any true (line_bytes c.args.line.now) line (line_bytes c.add_object.new.line) (map w (met b v)) (w o ∷ []) rest
     (c.loop-number.invariant

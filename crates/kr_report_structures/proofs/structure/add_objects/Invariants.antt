@@ -3,7 +3,8 @@ use Rattle.std.specs.Prelude.{codes, map}
 use Rattle.kr_space_layout.specs.Bounds.{bare}
 use Rattle.kr_space_problem.specs.Posed.{posed}
 use Rattle.kr_text.specs.Lines.{line_bytes}
-use Rattle.kr_report_structures.specs.Written.{met, object_written, separated}
+use Rattle.kr_report.specs.Joined.{separated}
+use Rattle.kr_report_structures.specs.Written.{met, object_written}
 use Rattle.kr_report_structures.proofs.structure.add_objects.Given as goal
 
 -- what is left comes behind what is written

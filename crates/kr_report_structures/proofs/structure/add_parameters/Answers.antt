@@ -9,9 +9,10 @@ use Rattle.kr_build.proofs.Rows.{roots_inside}
 use Rattle.kr_space_problem.specs.Posed.{posed}
 use Rattle.kr_report.specs.Texts.{in_parentheses, value_text}
 use Rattle.kr_text.specs.Lines.{line_bytes}
-use Rattle.kr_report_structures.specs.Written.{parameter_written, separated}
+use Rattle.kr_report.specs.Joined.{separated}
+use Rattle.kr_report_structures.specs.Written.{parameter_written}
 use Rattle.kr_report_structures.proofs.Objects.{parameter_same, parameters_same, parenthesised, written_all, written_more}
-use Rattle.kr_report_structures.proofs.Slots.{some_any}
+use Rattle.kr_report.proofs.Joined.{some_any}
 use Rattle.kr_report_structures.proofs.structure.add_parameters.Goals as goal
 
 pub overflow_cast-count : goal.overflow_cast-count

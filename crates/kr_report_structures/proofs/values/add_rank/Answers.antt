@@ -1,4 +1,4 @@
-use Rattle.std.proofs.Common.{rules, ◌≡◌, ◌++◌, OnOk, decimal, ℕ, List, [], ◌∷◌, subst}
+use Rattle.std.proofs.Common.{rules, ◌≡◌, ◌++◌, OnOk, decimal, ℕ, List, ◌∷◌, subst}
 use Rattle.std.proofs.lemmas.Fmt.{decimal_digit}
 use Rattle.kr_text.specs.Lines.{line_bytes}
 use Rattle.kr_report_structures.proofs.values.add_rank.Goals as goal

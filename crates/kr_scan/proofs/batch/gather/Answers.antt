@@ -20,6 +20,7 @@ loop-why-init g c =
       order = refl;
       ending = refl;
       upto = refl;
+      tester = refl;
       counted = omega arith;
       low = omega (arith, c.requires.none, c.requires.some);
       front = ([], at_start (all_entries P) c.args.span.now.cut c.args.span.now.upto c.args.most c.args.rows.now.items c.args.tried.now c.requires.no_rows c.requires.none c.requires.some);
@@ -59,7 +60,7 @@ returns-then-is_spent-clause-gathered g c =
     let e = entry_at P v in
     let rest = left P upto new in
     let spent = spent_as P v ending true found.ends (subst (λ (b : Bool). IsSpent ending b) c.if-is_spent.true c.is_spent.ensures) in
-    at_spent all c.args.span.now.cut c.args.span.now.upto c.args.most done rest (left P upto cut) c.loop-why.rows.items c.loop-why.tried is e new c.add_row.new.rows.items found.entries spent found.key c.in_ok-add_row.ensures
+    at_spent all c.args.span.now.cut c.args.span.now.upto c.args.most done rest (left P upto cut) c.loop-why.rows.items c.loop-why.tried is e new c.add_row.new.rows.items found.entries spent found.key c.in_ok-add_row.ensures.rows
 
 pub returns-then-tried-most-clause-gathered : goal.returns-then-tried-most-clause-gathered
 returns-then-tried-most-clause-gathered g c =
@@ -79,7 +80,7 @@ returns-then-tried-most-clause-gathered g c =
     let e = entry_at P v in
     let rest = left P upto new in
     let unspent = spent_as P v ending false found.ends (subst (λ (b : Bool). IsSpent ending b) c.if-is_spent.false c.is_spent.ensures) in
-    at_full all c.args.span.now.cut c.args.span.now.upto c.args.most done rest (left P upto cut) c.loop-why.rows.items c.loop-why.tried is e new c.add_row.new.rows.items found.entries unspent c.if-tried-most.true found.key c.in_ok-add_row.ensures
+    at_full all c.args.span.now.cut c.args.span.now.upto c.args.most done rest (left P upto cut) c.loop-why.rows.items c.loop-why.tried is e new c.add_row.new.rows.items found.entries unspent c.if-tried-most.true found.key c.in_ok-add_row.ensures.rows
 
 pub loop-why-preserved : goal.loop-why-preserved
 loop-why-preserved g c =
@@ -100,12 +101,13 @@ loop-why-preserved g c =
     let rest = left P upto new in
     let unspent = spent_as P v ending false found.ends (subst (λ (b : Bool). IsSpent ending b) c.if-is_spent.false c.is_spent.ensures) in
     let low : c.loop-why.tried + 1 < c.args.most = omega (arith, inv.low, c.if-tried-most.false) in
-    let more = one_more all c.args.span.now.cut c.args.span.now.upto c.args.most done rest (left P upto cut) c.loop-why.rows.items c.loop-why.tried is e c.add_row.new.rows.items found.entries unspent c.in_ok-add_row.ensures low in
+    let more = one_more all c.args.span.now.cut c.args.span.now.upto c.args.most done rest (left P upto cut) c.loop-why.rows.items c.loop-why.tried is e c.add_row.new.rows.items found.entries unspent c.in_ok-add_row.ensures.rows low in
     record {
       space = c.next.ensures.space ∙ inv.space;
       order = c.next.ensures.order ∙ inv.order;
       ending = c.next.ensures.ending ∙ inv.ending;
       upto = c.next.ensures.upto ∙ inv.upto;
+      tester = c.add_row.ensures.tester ∙ inv.tester;
       counted = omega (arith, inv.counted, c.in-Ok-Found.ensures.runs);
       low = low;
       front = (

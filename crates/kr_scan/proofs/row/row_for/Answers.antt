@@ -1,6 +1,8 @@
-use Rattle.std.proofs.Common.{◌∙◌, sym, subst}
+use Rattle.std.proofs.Common.{◌≡◌, ◌∙◌, sym, subst}
 use Rattle.kr_mean.specs.Space.{Space, IsVector}
+use Rattle.kr_mean.specs.Verdicts.{verdict_of}
 use Rattle.kr_space_problem.specs.Posed.{posed}
+use Rattle.kr_space_problem.specs.declared.problem.Problem.{Problem}
 use Rattle.kr_judge_prepared.proofs.Laid.{space_same, well_formed}
 use Rattle.kr_scan.proofs.Rows.{row_is, structure_same}
 use Rattle.kr_scan.proofs.row.row_for.Goals as goal
@@ -12,9 +14,10 @@ pub structure_of-requires-clause-vector : goal.structure_of-requires-clause-vect
 structure_of-requires-clause-vector g c =
     subst (λ (s : Space). IsVector s (g.C.Candidates.vector c.args.candidate.now)) (space_same (posed c.args.prepared.now.problem) c.layout-layout.result.now c.layout-layout.ensures.laid) c.requires.vector
 
-pub returns : goal.returns
-returns g c =
+pub returns-clause-row : goal.returns-clause-row
+returns-clause-row g c =
     let P = posed c.args.prepared.now.problem in
     let v = g.C.Candidates.vector c.args.candidate.now in
-    row_is P v c.in_ok-key.key c.in_ok-structure.structure c.requires.mode (c.in_ok-key.ensures ∙ c.requires.key)
+    let verdict = subst (λ (p : Problem). c.in_ok-verdict.verdict ≡ verdict_of (posed p) v) c.requires.tester c.in_ok-verdict.ensures.verdict in
+    row_is P v c.in_ok-key.key c.in_ok-structure.structure c.in_ok-verdict.verdict verdict (c.in_ok-key.ensures ∙ c.requires.key)
     (c.in_ok-structure.ensures ∙ sym (structure_same P c.layout-layout.result.now v c.layout-layout.ensures.laid))

@@ -1,0 +1,163 @@
+-- What is answered of the parts of a test.
+use Rattle.std.proofs.Common.{◌≡◌, ◌<◌, ℕ, ◌+◌, List, [], ◌∷◌, ◌++◌, length, Result, Ok, Err, Option, Some, None, refl, sym, ap, ◌∙◌, subst, append_assoc, get_or}
+use Rattle.std.specs.Prelude.{IfOk, drop, map}
+use Rattle.std.proofs.lemmas.List.{drop_more, map-append}
+use Rattle.kr_base.specs.declared.memory.NoMemory.{NoMemory}
+use Rattle.kr_base.specs.declared.place.Place.{Place}
+use Rattle.kr_value.specs.declared.value.Value.{Value}
+use Rattle.kr_mean.specs.declared.kind.Kind.{Kind}
+use Rattle.kr_mean.specs.declared.kind.Verdict.{Verdict}
+use Rattle.kr_mean.specs.declared.kind.Verdict.TheVariants.{CheckTrap, Ensures, RepOk}
+use Rattle.kr_mean.specs.Steps.{Stop, Old, State, Outcome, give}
+use Rattle.kr_mean.specs.Verdicts.{judged_as, then_judged, where_holds}
+use Rattle.kr_code.specs.declared.code.Code.{Code}
+use Rattle.kr_code.specs.Doing.{Doing, IsMeaning}
+use Rattle.kr_judge_prepared.specs.declared.contract.OldCode.{OldCode}
+use Rattle.kr_run_state.specs.declared.world.World.{World}
+use Rattle.kr_run_state.specs.declared.world.End.{End}
+use Rattle.kr_run_state.specs.declared.world.Halt.{Halt}
+use Rattle.kr_run_state.specs.declared.world.Halt.TheVariants.{Ended}
+use Rattle.kr_run_state.specs.Shown.{local_of, old_of}
+use Rattle.kr_run_state.specs.Worlds.{Others, Keeps, state_of}
+use Rattle.kr_run_state.specs.declared.world.Local.{Local}
+use Rattle.kr_run_state.specs.declared.world.Old.{Old as OldValue}
+use Rattle.kr_run.specs.Answers.{Answers}
+use Rattle.kr_contract.specs.Tests.{Decides, Holds, IsPlain, checked_at, ended_as, ensured_at, olds_at, shown_to}
+use Rattle.kr_contract.proofs.Judged.{judged_end, judged_then, then_same}
+
+-- ---- from what the machine answers
+
+module _ (code : Code) (before w : World) (o : Doing → Others → Outcome Value) (trap : Kind → Verdict) (plain : IsPlain before) where
+  stays : Keeps before w None → IsPlain w
+  stays k = record { none = k.same plain.frozen ∙ plain.none; frozen = k.frozen plain.frozen }
+
+  pub decided : (v : Value) → Answers code (Ok v) w before o → Decides code (Ok v) w (λ d. then_judged trap (o d None))
+  decided v a =
+      let h = a None tt in
+      (stays h.0, λ d m next. ap (λ (x : Outcome Value). judged_as trap x.said x.after next) (h.1 d m))
+
+  pub ended : (h : Halt) (e : End) (verdict : Verdict) → h ≡ Ended e → verdict ≡ ended_as trap e → Answers code (Err h) w before o → Decides {A = Value} code (Err verdict) w (λ d. then_judged trap (o d None))
+  ended h e verdict is same a =
+      let k = subst (λ (g : Halt). Answers code (Err g) w before o) is a None tt in
+      λ d m next. ap (λ (r : Result Value Stop). judged_as trap r (o d None).after next) (k.1 d m).said ∙ (judged_end trap e (o d None).after next ∙ sym same)
+
+-- ---- values of `\old`s
+
+-- what is left of the `\old`s, behind values that are there
+abbrev pub OldsLead : Code → List OldCode → State → List OldCode → List OldValue → State → Type 0
+OldsLead code all s rest values t =
+    (d : Doing) → IsMeaning code d → (next : List Old → State → Verdict) → then_judged CheckTrap (olds_at d all s) next ≡ then_judged CheckTrap (olds_at d rest t) (λ os u. next (map old_of values ++ os) u)
+
+-- one and then the others
+olds_step : (d : Doing) (o : OldCode) (os : List OldCode) (s : State) (next : List Old → State → Verdict)
+    → then_judged CheckTrap (olds_at d (o ∷ os) s) next ≡ then_judged CheckTrap (d.value o.operand s) (λ v t. then_judged CheckTrap (olds_at d os t) (λ vs u. next (record { place = o.place; value = v } ∷ vs) u))
+olds_step d o os s next =
+    judged_then CheckTrap (d.value o.operand) _ s next
+    ∙ then_same CheckTrap (d.value o.operand s) _ _ (λ v t. judged_then CheckTrap (olds_at d os) _ t next)
+
+-- one more value
+olds_more : (code : Code) (all : List OldCode) (s : State) (o : OldCode) (os : List OldCode) (values : List OldValue) (t : State) (x : OldValue) (w : World) → x.place ≡ o.place
+    → OldsLead code all s (o ∷ os) values t → Decides code (Ok x.value) w (λ d. then_judged CheckTrap (d.value o.operand t)) → OldsLead code all s os (values ++ x ∷ []) (state_of w)
+olds_more code all s o os values t x w at h k = λ d m next.
+    h d m next
+    ∙ (olds_step d o os t (λ vs u. next (map old_of values ++ vs) u)
+    ∙ (k.1 d m (λ v u. then_judged CheckTrap (olds_at d os u) (λ vs z. next (map old_of values ++ record { place = o.place; value = v } ∷ vs) z))
+    ∙ then_same CheckTrap (olds_at d os (state_of w)) _ _ (λ vs u. ap (λ (xs : List Old). next xs u) (behind vs))))
+  where
+    y : Old
+    y = record { place = o.place; value = x.value }
+
+    is : y ≡ old_of x
+    is = ap (λ (p : Place). record { place = p; value = x.value }) (sym at)
+
+    behind : (vs : List Old) → map old_of values ++ y ∷ vs ≡ map old_of (values ++ x ∷ []) ++ vs
+    behind vs =
+        ap (λ (z : Old). map old_of values ++ z ∷ vs) is
+        ∙ (sym (append_assoc (map old_of values) (old_of x ∷ []) vs)
+        ∙ ap (λ (xs : List Old). xs ++ vs) (sym (map-append old_of values (x ∷ []))))
+
+-- one has ended the test
+olds_ended : (code : Code) (all : List OldCode) (s : State) (o : OldCode) (os : List OldCode) (values : List OldValue) (t : State) (verdict : Verdict) (w : World)
+    → OldsLead code all s (o ∷ os) values t → Decides {A = Value} code (Err verdict) w (λ d. then_judged CheckTrap (d.value o.operand t)) → Decides {A = List Old} code (Err verdict) w (λ d. then_judged CheckTrap (olds_at d all s))
+olds_ended code all s o os values t verdict w h k = λ d m next.
+    h d m next
+    ∙ (olds_step d o os t (λ vs u. next (map old_of values ++ vs) u)
+    ∙ k d m (λ v u. then_judged CheckTrap (olds_at d os u) (λ vs z. next (map old_of values ++ record { place = o.place; value = v } ∷ vs) z)))
+
+abbrev pub OldValued : Code → Result Value Verdict → World → OldCode → State → Type 0
+OldValued code said w o t = Decides code said w (λ d. then_judged CheckTrap (d.value o.operand t))
+
+-- the one at a position
+pub olds_next : (code : Code) (all : List OldCode) (s : State) (k : ℕ) (x : OldCode) (values items : List OldValue) (t : State) (v : Value) (said : Result Value Verdict) (w : World) → k < length all → said ≡ Ok v
+    → items ≡ values ++ record { place = (get_or all k x).place; value = v } ∷ [] → OldsLead code all s (drop k all) values t → OldValued code said w (get_or all k x) t → IsPlain w × OldsLead code all s (drop (k + 1) all) items (state_of w)
+olds_next code all s k x values items t v said w there is new lead told =
+    let o = get_or all k x in
+    let d = subst (λ (r : Result Value Verdict). OldValued code r w o t) is told in
+    let l = subst (λ (os : List OldCode). OldsLead code all s os values t) (drop_more all k x there) lead in (
+      d.0,
+      subst (λ (vs : List OldValue). OldsLead code all s (drop (k + 1) all) vs (state_of w)) (sym new) (olds_more code all s o (drop (k + 1) all) values t (record { place = o.place; value = v }) w refl l d),
+    )
+
+pub olds_stop : (code : Code) (all : List OldCode) (s : State) (k : ℕ) (x : OldCode) (values : List OldValue) (t : State) (verdict : Verdict) (said : Result Value Verdict) (w : World) → k < length all → said ≡ Err verdict
+    → OldsLead code all s (drop k all) values t → OldValued code said w (get_or all k x) t → Decides {A = List Old} code (Err verdict) w (λ d. then_judged CheckTrap (olds_at d all s))
+olds_stop code all s k x values t verdict said w there is lead told =
+    olds_ended code all s (get_or all k x) (drop (k + 1) all) values t verdict w (subst (λ (os : List OldCode). OldsLead code all s os values t) (drop_more all k x there) lead)
+    (subst (λ (r : Result Value Verdict). OldValued code r w (get_or all k x) t) is told)
+
+-- ---- postconditions
+
+-- what is left of the postconditions, from a number on
+abbrev pub EnsuredLead : Code → List ℕ → State → ℕ → List ℕ → State → Type 0
+EnsuredLead code all s n rest t = (d : Doing) → IsMeaning code d → ensured_at d 1 all s ≡ ensured_at d n rest t
+
+-- one holds
+ensured_more : (code : Code) (all : List ℕ) (s : State) (n i : ℕ) (is : List ℕ) (t : State) (w : World) → EnsuredLead code all s n (i ∷ is) t
+    → Holds code None w (λ d next. then_judged CheckTrap (d.value i t) (λ v u. where_holds v (Ensures n) (next u))) → EnsuredLead code all s (n + 1) is (state_of w)
+ensured_more code all s n i is t w h k = λ d m. h d m ∙ k.1 d m (λ u. ensured_at d (n + 1) is u)
+
+-- one doesn't hold
+ensured_ended : (code : Code) (all : List ℕ) (s : State) (n i : ℕ) (is : List ℕ) (t : State) (w : World) (verdict : Verdict) → EnsuredLead code all s n (i ∷ is) t
+    → Holds code (Some verdict) w (λ d next. then_judged CheckTrap (d.value i t) (λ v u. where_holds v (Ensures n) (next u))) → (d : Doing) → IsMeaning code d → verdict ≡ ensured_at d 1 all s
+ensured_ended code all s n i is t w verdict h k = λ d m. sym (h d m ∙ k d m (λ u. ensured_at d (n + 1) is u))
+
+abbrev pub EnsuresHold : Code → Option Verdict → World → ℕ → ℕ → State → Type 0
+EnsuresHold code said w n i t = Holds code said w (λ d next. then_judged CheckTrap (d.value i t) (λ v u. where_holds v (Ensures n) (next u)))
+
+-- the one at a position
+pub ensured_next : (code : Code) (all : List ℕ) (s : State) (n k : ℕ) (t : State) (said : Option Verdict) (w : World) → k < length all → said ≡ None
+    → EnsuredLead code all s n (drop k all) t → EnsuresHold code said w n (get_or all k 0) t → IsPlain w × EnsuredLead code all s (n + 1) (drop (k + 1) all) (state_of w)
+ensured_next code all s n k t said w there is lead told =
+    let d = subst (λ (r : Option Verdict). EnsuresHold code r w n (get_or all k 0) t) is told in
+    (d.0, ensured_more code all s n (get_or all k 0) (drop (k + 1) all) t w (subst (λ (is : List ℕ). EnsuredLead code all s n is t) (drop_more all k 0 there) lead) d)
+
+pub ensured_stop : (code : Code) (all : List ℕ) (s : State) (n k : ℕ) (t : State) (verdict : Verdict) (said : Option Verdict) (w : World) → k < length all → said ≡ Some verdict
+    → EnsuredLead code all s n (drop k all) t → EnsuresHold code said w n (get_or all k 0) t → (d : Doing) → IsMeaning code d → verdict ≡ ensured_at d 1 all s
+ensured_stop code all s n k t verdict said w there is lead told =
+    ensured_ended code all s n (get_or all k 0) (drop (k + 1) all) t w verdict (subst (λ (is : List ℕ). EnsuredLead code all s n is t) (drop_more all k 0 there) lead)
+    (subst (λ (r : Option Verdict). EnsuresHold code r w n (get_or all k 0) t) is told)
+
+-- ---- behind the body
+
+abbrev pub RepOkHolds : Code → Option Verdict → World → ℕ → State → Type 0
+RepOkHolds code said w i t = Holds code said w (λ d next. then_judged CheckTrap (d.value i t) (λ v u. where_holds v RepOk (next u)))
+
+pub rep_ok_fails : (code : Code) (i : ℕ) (ns : List ℕ) (olds : List Old) (given : Value) (t : State) (verdict : Verdict) (said : Option Verdict) (w : World) → said ≡ Some verdict → RepOkHolds code said w i t
+    → (d : Doing) → IsMeaning code d → verdict ≡ checked_at d i ns olds given t
+rep_ok_fails code i ns olds given t verdict said w is told d m =
+    sym (subst (λ (r : Option Verdict). RepOkHolds code r w i t) is told d m (λ u. ensured_at d 1 ns (shown_to olds given u)))
+
+pub rep_ok_holds : (code : Code) (i : ℕ) (ns all : List ℕ) (olds : List Old) (given : Value) (t : State) (said : Option Verdict) (w x : World) (r : Result Verdict NoMemory) → said ≡ None → RepOkHolds code said w i t
+    → state_of x ≡ shown_to olds given (state_of w) → ns ≡ all → IfOk r (λ verdict. (d : Doing) → IsMeaning code d → verdict ≡ ensured_at d 1 ns (state_of x)) → IfOk r (λ verdict. (d : Doing) → IsMeaning code d → verdict ≡ checked_at d i all olds given t)
+rep_ok_holds code i ns all olds given t said w x (Ok verdict) is told shown same h = λ d m.
+    h d m
+    ∙ (ap (λ (is : List ℕ). ensured_at d 1 is (state_of x)) same
+    ∙ (ap (ensured_at d 1 all) shown
+    ∙ sym ((subst (λ (r : Option Verdict). RepOkHolds code r w i t) is told).1 d m (λ u. ensured_at d 1 all (shown_to olds given u)))))
+rep_ok_holds code i ns all olds given t said w x (Err why) is told shown same h = tt
+
+-- ---- arguments
+
+-- the values of locals as the state has them
+pub values_in_state : (ls : List Local) → map (λ l. l.value) (map local_of ls) ≡ map (λ l. l.value) ls
+values_in_state [] = refl
+values_in_state (l ∷ ls) = ap (λ (vs : List Value). l.value ∷ vs) (values_in_state ls)

@@ -1,0 +1,37 @@
+-- How what is judged of runs follows one another.
+use Rattle.std.proofs.Common.{◌≡◌, Result, Ok, Err, refl, ap}
+use Rattle.kr_mean.specs.declared.kind.Kind.{Kind}
+use Rattle.kr_mean.specs.declared.kind.Verdict.{Verdict}
+use Rattle.kr_mean.specs.Steps.{Stop, Trapped, OutOfFuel, Stuck, State, Outcome, Run, bind, go_on}
+use Rattle.kr_mean.specs.Verdicts.{judged_as, then_judged}
+use Rattle.kr_run_state.specs.declared.world.End.{End}
+use Rattle.kr_run_state.specs.declared.world.End.TheVariants as ends
+use Rattle.kr_run_state.specs.Shown.{stop_of}
+use Rattle.kr_contract.specs.Tests.{ended_as}
+
+-- what follows may be said in another way
+pub judged_same : {A : Type 0} (trap : Kind → Verdict) (r : Result A Stop) (s : State) (f g : A → State → Verdict) → ((a : A) (t : State) → f a t ≡ g a t) → judged_as trap r s f ≡ judged_as trap r s g
+judged_same trap (Ok a) s f g h = h a s
+judged_same trap (Err (Trapped kind)) s f g h = refl
+judged_same trap (Err OutOfFuel) s f g h = refl
+judged_same trap (Err Stuck) s f g h = refl
+
+pub then_same : {A : Type 0} (trap : Kind → Verdict) (o : Outcome A) (f g : A → State → Verdict) → ((a : A) (t : State) → f a t ≡ g a t) → then_judged trap o f ≡ then_judged trap o g
+then_same trap o f g h = judged_same trap o.said o.after f g h
+
+-- one run and then another
+pub judged_then : {A B : Type 0} (trap : Kind → Verdict) (m : Run A) (f : A → Run B) (s : State) (next : B → State → Verdict) → then_judged trap (bind m f s) next ≡ then_judged trap (m s) (λ a t. then_judged trap (f a t) next)
+unfolding bind
+judged_then {A} {B} trap m f s next = go (m s).said
+  where
+    go : (r : Result A Stop) → then_judged trap (go_on r (m s).after (m s).reads f) next ≡ judged_as trap r (m s).after (λ a t. then_judged trap (f a t) next)
+    go (Ok a) = refl
+    go (Err (Trapped kind)) = refl
+    go (Err OutOfFuel) = refl
+    go (Err Stuck) = refl
+
+-- the end of a run
+pub judged_end : {A : Type 0} (trap : Kind → Verdict) (e : End) (s : State) (next : A → State → Verdict) → judged_as trap (Err (stop_of e)) s next ≡ ended_as trap e
+judged_end trap (ends.Trapped kind) s next = refl
+judged_end trap ends.OutOfFuel s next = refl
+judged_end trap ends.Stuck s next = refl

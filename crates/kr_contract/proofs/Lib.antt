@@ -1,0 +1,5 @@
+pub mod Judged
+pub mod Decided
+pub mod Programs
+pub mod Verdicts
+pub mod Beyond

@@ -1,0 +1,116 @@
+// The heap of a candidate, in the room of another candidate's.
+ghost use Rattle.std.specs.Prelude.{◌≡◌, ◌<◌, ◌^◌, OnOk, IfOk, false, true, length};
+ghost use Rattle.kr_mean.specs.Heaps.{heap_of};
+ghost use Rattle.kr_mean.specs.Problem.{slots};
+ghost use Rattle.kr_mean.specs.Space.{IsVector, space_of};
+ghost use Rattle.kr_mean.specs.WellFormed.{IsWellFormed};
+ghost use Rattle.kr_space_layout.specs.Bounds.{bare};
+ghost use Rattle.kr_contract.specs.Kept.{IsKept};
+
+use kr_base::NoMemory;
+use kr_build::{build, update_within};
+use kr_heap::Heap;
+use kr_space_layout::Layout;
+use kr_vector::{Slot, Vector};
+use std::alloc::Global;
+
+/// A heap that is kept from candidate to candidate: where it is built, it is this vector's.
+#[derive(Drop)]
+pub struct Kept {
+    pub heap: Heap,
+    pub vector: Vector,
+    pub is_built: bool,
+}
+
+impl Kept {
+    /// Nothing is built yet.
+    pub(crate) fn new(alloc: Global) -> Result<Kept, NoMemory>
+        ensures { IfOk result (λ kept. kept.is_built ≡ false) }
+    {
+        Ok(Kept {
+            vector: Vector::zero(alloc, 0)?,
+            heap: Heap::new(alloc),
+            is_built: false,
+        })
+    }
+}
+
+/// Gets so many slots, where it has others.
+pub(crate) fn fit(alloc: Global, vector: &mut Vector, slots: u32) -> Result<(), NoMemory>
+    ensures { OnOk result (length vector.new ≡ slots) }
+{
+    if vector.len() != slots as usize {
+        *vector = Vector::zero(alloc, slots as usize)?;
+    }
+    Ok(())
+}
+
+/// Becomes the same candidate.
+fn copy(copy: &mut Vector, layout: &Layout, vector: &Vector)
+    requires vector { IsVector (space_of (bare layout.now)) vector.now }
+    requires long { length copy.old ≡ length (slots (bare layout.now)) }
+    ensures { copy.new ≡ vector.now }
+{
+    'each: for slot in 0..layout.slots() {
+        copy.set(Slot(slot), vector.get(Slot(slot)));
+    }
+}
+
+/// Builds a candidate's heap anew.
+fn build_anew(
+    alloc: Global,
+    kept: &mut Kept,
+    layout: &Layout,
+    vector: &Vector,
+) -> Result<(), NoMemory>
+    requires well { IsWellFormed (bare layout.now) }
+    requires vector { IsVector (space_of (bare layout.now)) vector.now }
+    requires small { length (slots (bare layout.now)) < 2 ^ 31 }
+    ensures kept { IsKept (bare layout.now) kept.new }
+    ensures heap { OnOk result (kept.new.heap ≡ heap_of (bare layout.now) vector.now) }
+{
+    kept.is_built = false;
+    fit(alloc, &mut kept.vector, layout.slots())?;
+    kept.heap = build(alloc, layout, vector)?;
+    copy(&mut kept.vector, layout, vector);
+    kept.is_built = true;
+    Ok(())
+}
+
+/// Brings the heap of one candidate to another.
+fn update(kept: &mut Kept, layout: &Layout, vector: &Vector) -> Result<(), NoMemory>
+    requires well { IsWellFormed (bare layout.now) }
+    requires vector { IsVector (space_of (bare layout.now)) vector.now }
+    requires small { length (slots (bare layout.now)) < 2 ^ 31 }
+    requires built { kept.old.is_built ≡ true }
+    requires kept { IsKept (bare layout.now) kept.old }
+    ensures kept { IsKept (bare layout.now) kept.new }
+    ensures heap { OnOk result (kept.new.heap ≡ heap_of (bare layout.now) vector.now) }
+{
+    kept.is_built = false;
+    let slots = layout.slots();
+    update_within(&mut kept.heap, &mut kept.vector, layout, vector, 0, slots)?;
+    kept.is_built = true;
+    Ok(())
+}
+
+/// Becomes the heap of a candidate. Once one was built, it takes no memory but for what is longer in this candidate.
+pub(crate) fn bring(
+    alloc: Global,
+    kept: &mut Kept,
+    layout: &Layout,
+    vector: &Vector,
+) -> Result<(), NoMemory>
+    requires well { IsWellFormed (bare layout.now) }
+    requires vector { IsVector (space_of (bare layout.now)) vector.now }
+    requires small { length (slots (bare layout.now)) < 2 ^ 31 }
+    requires kept { IsKept (bare layout.now) kept.old }
+    ensures kept { IsKept (bare layout.now) kept.new }
+    ensures heap { OnOk result (kept.new.heap ≡ heap_of (bare layout.now) vector.now) }
+{
+    if kept.is_built {
+        update(kept, layout, vector)
+    } else {
+        build_anew(alloc, kept, layout, vector)
+    }
+}

@@ -1,0 +1,181 @@
+// The parts of a test: an expression, a condition, the values of `\old`s, the body, the postconditions.
+ghost use Rattle.std.specs.Prelude.{◌≡◌, IfOk, OnOk, map};
+ghost use Rattle.kr_code.specs.Doing.{Doing, IsMeaning};
+ghost use Rattle.kr_mean.specs.declared.kind.Verdict.TheVariants.{CheckTrap, Trap};
+ghost use Rattle.kr_mean.specs.Verdicts.{then_judged, where_holds};
+ghost use Rattle.kr_run_state.specs.Shown.{old_of};
+ghost use Rattle.kr_run_state.specs.Worlds.{state_of};
+ghost use Rattle.kr_contract.specs.Tests.{Decides, Holds, IsPlain, body_at, ended_as, ensured_at, given_as, olds_at};
+
+use kr_base::NoMemory;
+use kr_classes_table::MethodId;
+use kr_code::Code;
+use kr_judge_prepared::OldCode;
+use kr_mean::Verdict;
+use kr_run_frames::Stack;
+use kr_run_method::{call, value_of};
+use kr_run_state::{End, Halt, Local, Old, World};
+use kr_value::Value;
+use std::alloc::Global;
+
+/// The verdict where an `\old`, `repOk` or a postcondition ends so.
+fn check_ended(end: End) -> Verdict
+    ensures { result ≡ ended_as CheckTrap end }
+{
+    match end {
+        End::Trapped(kind) => Verdict::CheckTrap(kind),
+        End::OutOfFuel => Verdict::Spent,
+        End::Stuck => Verdict::Spent,
+    }
+}
+
+/// The verdict where the method ends so.
+fn body_ended(end: End) -> Verdict
+    ensures { result ≡ ended_as Trap end }
+{
+    match end {
+        End::Trapped(kind) => Verdict::Trap(kind),
+        End::OutOfFuel => Verdict::Spent,
+        End::Stuck => Verdict::Spent,
+    }
+}
+
+/// What an expression of the contract gives, or the verdict.
+fn evaluate(
+    alloc: Global,
+    code: &Code,
+    world: &mut World,
+    stack: &mut Stack,
+    node: u32,
+) -> Result<Result<Value, Verdict>, NoMemory>
+    requires { IsPlain world.old }
+    ensures { IfOk result (λ said. Decides code.now said world.new (λ d. then_judged CheckTrap (d.value node (state_of world.old)))) }
+{
+    match value_of(alloc, code, world, stack, node) {
+        Ok(value) => Ok(Ok(value)),
+        Err(Halt::Ended(end)) => Ok(Err(check_ended(end))),
+        Err(Halt::Memory(why)) => Err(why),
+        // there are no candidates
+        Err(Halt::Written) => unreachable!(),
+    }
+}
+
+/// Nothing where a condition holds; else the verdict.
+pub(crate) fn check(
+    alloc: Global,
+    code: &Code,
+    world: &mut World,
+    stack: &mut Stack,
+    node: u32,
+    fails: Verdict,
+) -> Result<Option<Verdict>, NoMemory>
+    requires { IsPlain world.old }
+    ensures { IfOk result (λ said. Holds code.now said world.new (λ d next. then_judged CheckTrap (d.value node (state_of world.old)) (λ v t. where_holds v fails (next t)))) }
+{
+    match evaluate(alloc, code, world, stack, node)? {
+        Err(verdict) => return Ok(Some(verdict)),
+        Ok(value) => match value {
+            Value::Bool(truth) => {
+                if truth {
+                    return Ok(None);
+                }
+                return Ok(Some(fails));
+            }
+            Value::Int(_) => return Ok(Some(Verdict::Spent)),
+            Value::Null => return Ok(Some(Verdict::Spent)),
+            Value::Ref(_) => return Ok(Some(Verdict::Spent)),
+        },
+    }
+}
+
+/// The values of `\old`s come in place of others, each with its place.
+pub(crate) fn value_olds(
+    alloc: Global,
+    code: &Code,
+    world: &mut World,
+    stack: &mut Stack,
+    olds: &[OldCode],
+    values: &mut Vec<Old>,
+) -> Result<Result<(), Verdict>, NoMemory>
+    requires { IsPlain world.old }
+    ensures { IfOk result (λ said. Decides code.now (given_as (map old_of values.new.items) said) world.new (λ d. then_judged CheckTrap (olds_at d olds.now (state_of world.old)))) }
+{
+    values.clear();
+    'olds: for old in olds {
+        match evaluate(alloc, code, world, stack, old.operand)? {
+            Err(verdict) => return Ok(Err(verdict)),
+            Ok(value) => values.push(Old {
+                place: old.place,
+                value,
+            })?,
+        }
+    }
+    Ok(Ok(()))
+}
+
+/// The values of locals come in place of others.
+fn take_values(values: &mut Vec<Value>, locals: &[Local]) -> Result<(), NoMemory>
+    ensures { OnOk result (values.new.items ≡ map (λ l. l.value) locals.now) }
+{
+    values.clear();
+    for local in locals {
+        values.push(local.value)?;
+    }
+    Ok(())
+}
+
+/// What the method gives on `this`, with the locals as its arguments, or the verdict.
+pub(crate) fn run_body(
+    alloc: Global,
+    code: &Code,
+    world: &mut World,
+    stack: &mut Stack,
+    method: MethodId,
+    arguments: &mut Vec<Value>,
+) -> Result<Result<Value, Verdict>, NoMemory>
+    requires { IsPlain world.old }
+    ensures { IfOk result (λ said. Decides code.now said world.new (λ d. then_judged Trap (body_at code.now d method (state_of world.old)))) }
+{
+    take_values(arguments, world.locals.as_slice())?;
+    let this = world.this;
+    match call(
+        alloc,
+        code,
+        world,
+        stack,
+        method,
+        this,
+        arguments.as_slice(),
+    ) {
+        Ok(value) => Ok(Ok(value)),
+        Err(Halt::Ended(end)) => Ok(Err(body_ended(end))),
+        Err(Halt::Memory(why)) => Err(why),
+        // there are no candidates
+        Err(Halt::Written) => unreachable!(),
+    }
+}
+
+/// The verdict of the postconditions: the first that doesn't hold says it.
+pub(crate) fn check_all(
+    alloc: Global,
+    code: &Code,
+    world: &mut World,
+    stack: &mut Stack,
+    nodes: &[u32],
+) -> Result<Verdict, NoMemory>
+    requires { IsPlain world.old }
+    ensures { IfOk result (λ verdict. (d : Doing) → IsMeaning code.now d → verdict ≡ ensured_at d 1 nodes.now (state_of world.old)) }
+{
+    let mut number: u32 = 0;
+    'nodes: for node in nodes {
+        if number == u32::MAX {
+            return Err(NoMemory::at_limit(u64::from(number)));
+        }
+        number += 1;
+        match check(alloc, code, world, stack, *node, Verdict::Ensures(number))? {
+            Some(verdict) => return Ok(verdict),
+            None => {}
+        }
+    }
+    Ok(Verdict::Pass)
+}

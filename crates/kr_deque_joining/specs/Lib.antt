@@ -1,0 +1,5 @@
+pub mod Spans
+pub mod Breaks
+pub mod Listings
+pub mod Joined
+pub mod Checking

@@ -1,0 +1,4 @@
+pub mod Stated
+pub mod Parted
+pub mod Walked
+pub mod Added

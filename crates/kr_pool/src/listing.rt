@@ -1,0 +1,198 @@
+// A span listed by many workers.
+ghost use Rattle.std.specs.Prelude.{◌≡◌, ◌<◌, ◌≤◌, [], true, IfOk, OnOk};
+ghost use Rattle.kr_base.specs.declared.span.Bound.TheVariants.{At};
+ghost use Rattle.kr_base.specs.Bounds.{less};
+ghost use Rattle.kr_core.specs.Openings.{AreInside};
+ghost use Rattle.kr_board.specs.Closing.{all_closed};
+ghost use Rattle.kr_pool_desk.specs.Cutting.{cuts_for};
+ghost use Rattle.kr_pool_desk.specs.Leasing.{IsLeaseOf};
+ghost use Rattle.kr_pool_desk.specs.Listings.{listed_in, Lists};
+
+use crate::scanning::scan_part;
+use crate::seat::Seat;
+use crate::shared::Shared;
+use crate::working::work_at;
+use kr_base::{Cut, NoMemory, Span};
+use kr_board::{Board, Lease, Reported, Taken};
+use kr_io::Gate;
+use kr_pool_desk::{Desk, Run, cuts_for};
+use kr_survey::{Listing, Survey};
+use std::alloc::Global;
+use std::marker::Brand;
+use std::sync::Wait;
+use std::sync::ledger::Blank;
+use std::thread;
+use std::thread::Threads;
+
+// Scans one entry at a time and reports it, under a lease and the next ones, until a segment is done.
+fn follow_alone<R: Drop, N: Run<R>, S: Survey<Row = R>, W: Wait>(
+    rt: &W,
+    survey: &S,
+    scratch: &mut S::Scratch,
+    desk: &mut Desk<R, N>,
+    seat: &mut Seat<N>,
+    lease: Lease,
+) -> Result<(), NoMemory>
+    requires survey { S.all survey.now ≡ N.all }
+    requires made { S.made survey.now scratch.old }
+    requires lease { IsLeaseOf seat.old.number lease }
+    ensures made { S.made survey.now scratch.new }
+    ensures number { seat.new.number ≡ seat.old.number }
+{
+    let mut lease = lease;
+    for _ in rt.forever() {
+        let part = match scan_part(survey, scratch, &lease, 1) {
+            Err(why) => return Err(why),
+            Ok(part) => part,
+        };
+        match desk.report(seat.number, lease, part, &mut seat.calls) {
+            Err(refused) => return Err(refused.why),
+            Ok(Reported::Overrun(next)) => lease = next,
+            Ok(Reported::Go(next)) => lease = next,
+            Ok(Reported::Done) => return Ok(()),
+            Ok(Reported::Gone) => return Ok(()),
+            Ok(Reported::Moved(_)) => return Ok(()),
+        }
+    }
+    unreachable!()
+}
+
+// The caller goes on alone at the desk with what is left, if anything is.
+fn go_on_alone<R: Drop, N: Run<R>, S: Survey<Row = R>, W: Wait>(
+    rt: &W,
+    survey: &S,
+    desk: &mut Desk<R, N>,
+    seat: &mut Seat<N>,
+) -> Result<(), NoMemory>
+    requires survey { S.all survey.now ≡ N.all }
+    ensures finished { OnOk result (all_closed desk.new.0.core ≡ true) }
+{
+    if desk.is_finished() {
+        return Ok(());
+    }
+    let mut scratch = survey.scratch()?;
+    desk.release_all(&mut seat.calls);
+    for _ in rt.forever() {
+        if desk.is_finished() {
+            return Ok(());
+        }
+        match desk.take(seat.number, &mut seat.calls) {
+            Err(why) => return Err(why),
+            Ok(Taken::Lease(lease)) => {
+                match follow_alone(rt, survey, &mut scratch, desk, seat, lease) {
+                    Err(why) => return Err(why),
+                    Ok(()) => {}
+                }
+            }
+            Ok(Taken::Later) => desk.release_all(&mut seat.calls),
+            Ok(Taken::Finished) => {}
+        }
+    }
+    unreachable!()
+}
+
+// The listing; what the workers left undone the caller does alone.
+fn finish<R: Drop, N: Run<R>, S: Survey<Row = R>, W: Wait>(
+    rt: &W,
+    survey: &S,
+    desk: Desk<R, N>,
+    seat: Seat<N>,
+) -> Result<Listing<R>, NoMemory>
+    requires survey { S.all survey.now ≡ N.all }
+    ensures { IfOk result (Lists (listed_in N.all N.span)) }
+{
+    let mut desk = desk;
+    let mut seat = seat;
+    go_on_alone(rt, survey, &mut desk, &mut seat)?;
+    match desk.close() {
+        Ok(listing) => Ok(listing),
+        Err(_) => unreachable!(),
+    }
+}
+
+// All workers at once, each at its seat.
+fn work_all<
+    R: Drop + Send,
+    N: Run<R> + Send + Sync,
+    S: Survey<Row = R> + Sync,
+    G: Gate + Sync,
+    W: Threads + Wait + Sync,
+>(rt: &W, shared: &Shared<R, N>, survey: &S, seats: &mut [Seat<N>], gate: &G)
+    requires survey { S.all survey.now ≡ N.all }
+{
+    let count = seats.len();
+    if count == 0 {
+        return;
+    }
+    thread::for_each_mut(
+        rt,
+        seats,
+        count,
+        &|_i: usize, seat: &mut Seat<N>|
+            requires { S.all survey.now ≡ N.all }
+        { work_at(rt, shared, survey, seat, gate) },
+    );
+}
+
+// The same for a run that a type names.
+fn list_on<
+    R: Drop + Send,
+    N: Run<R> + Send + Sync,
+    S: Survey<Row = R> + Sync,
+    G: Gate + Sync,
+    W: Threads + Wait + Sync,
+>(
+    rt: &W,
+    alloc: Global,
+    survey: &S,
+    span: Span,
+    cuts: &[Cut],
+    workers: u32,
+    gate: &G,
+    blank: Blank,
+) -> Result<Listing<R>, NoMemory>
+    requires ledger { (blank.name ≡ N.name) × (blank.parts ≡ N.parts) }
+    requires workers { (N.parts ≡ workers) × (N.workers ≡ workers) }
+    requires some { 0 < workers }
+    requires survey { S.all survey.now ≡ N.all }
+    requires span { span ≡ N.span }
+    requires cuts { cuts.now ≡ N.cuts }
+    requires inside { AreInside cuts.now span }
+    requires opening { N.opening ≡ [] }
+    ensures { IfOk result (Lists (listed_in N.all N.span)) }
+{
+    survey.ascends();
+    let board = Board::new(alloc, survey, span, cuts)?;
+    let (shared, mut seats) = Shared::<R, N>::start(alloc, board, workers, blank)?;
+    work_all(rt, &shared, survey, seats.as_mut_slice(), gate);
+    match seats.pop() {
+        Some(seat) => finish(rt, survey, shared.into_desk(), seat),
+        None => unreachable!(),
+    }
+}
+
+/// The listing of a span, by so many workers in threads of their own: rows, number of entries and spent key are those of
+/// the survey's entries there, whatever the schedule.
+pub fn list_shared<S: Survey<Row: Drop + Send> + Sync, G: Gate + Sync, W: Threads + Wait + Sync>(
+    rt: &W,
+    alloc: Global,
+    survey: &S,
+    span: Span,
+    workers: u32,
+    gate: &G,
+) -> Result<Listing<S::Row>, NoMemory>
+    requires workers { (0 < workers) × (workers ≤ 64) }
+    ensures { IfOk result (Lists (listed_in (S.all survey.now) span)) }
+{
+    let cuts = cuts_for(alloc, &span, workers)?;
+    list_on::<S::Row, Brand, S, G, W>(
+        rt,
+        alloc,
+        survey,
+        span,
+        cuts.as_slice(),
+        workers,
+        gate,
+        Blank::new(u64::from(workers)),
+    )
+}

@@ -1,0 +1,119 @@
+-- What a seat is answered: leases of its own, under which something is left.
+use Rattle.std.proofs.Common.{◌≡◌, ℕ, List, [], ◌∷◌, true, false, not, cond, length, refl, sym, ap, ◌∙◌, subst, Option, Some, None}
+use Rattle.std.specs.Prelude.{if◌then◌else◌, is_none, ◌==◌}
+use Rattle.kr_base.specs.declared.span.Bound.{Bound}
+use Rattle.kr_base.specs.declared.span.Bound.TheVariants.{At, End}
+use Rattle.kr_base.specs.declared.span.Span.{Span}
+use Rattle.kr_base.specs.declared.entry.Entry.{Entry}
+use Rattle.kr_base.specs.Bounds.{less}
+use Rattle.kr_base.proofs.Bounds.{connected}
+use Rattle.kr_survey.specs.declared.part.Part.{Part}
+use Rattle.kr_core.specs.declared.segment.Segment.{Segment}
+use Rattle.kr_core.specs.declared.event.Event.{Event}
+use Rattle.kr_core.specs.declared.event.Event.TheVariants.{Report, Look}
+use Rattle.kr_core.specs.declared.event.Lease.{Lease}
+use Rattle.kr_core.specs.declared.event.Reply.TheVariants.{Noted}
+use Rattle.kr_core.specs.States.{State, Each, is_same, is_owned, is_owned_by, has_remainder, segment_of}
+use Rattle.kr_core.specs.Kept.{IsKept}
+use Rattle.kr_core.specs.Leases.{IsHeld, Leases}
+use Rattle.kr_core.specs.Openings.{opening}
+use Rattle.kr_core.proofs.Bools.{and-left, and-right, not-true, owner_known}
+use Rattle.kr_core.proofs.Ends.{kept_law}
+use Rattle.kr_core.proofs.Holding.{leases_law}
+use Rattle.kr_pool_desk.proofs.Honest.{runs_from_honest}
+use Rattle.kr_board.specs.Held.{Held}
+use Rattle.kr_board.specs.Boards.{Adds}
+use Rattle.kr_board.specs.Taking.{first_free, first_victim, grant, take_event, reply_of as take_reply}
+use Rattle.kr_board.specs.Reporting.{refusal, refusal_of, refusal_at, report_event, reply_of as report_reply, IsRefusal}
+use Rattle.kr_board.specs.declared.board.taking.Taken.{Taken}
+use Rattle.kr_board.specs.declared.board.taking.Taken.TheVariants.{Lease as Leased, Later, Finished}
+use Rattle.kr_board.specs.declared.board.reporting.Reported.{Reported}
+use Rattle.kr_board.specs.declared.board.reporting.Reported.TheVariants.{Gone, Moved, Overrun, Done, Go}
+use Rattle.kr_pool_desk.specs.Runs.{IsRun}
+use Rattle.kr_pool_desk.specs.Leasing.{IsLeaseOf, Takes, Reports}
+
+held-ahead : (seat n : ℕ) (s : State) (lease : Lease) → IsHeld seat n s lease → IsLeaseOf seat lease
+held-ahead seat n s lease h = record { seat_is = h.seat_is; ahead = h.remains }
+
+granted : (seat next : ℕ) (f v : Option Segment) (s : State) (taken : Taken) → Leases (grant seat next f v) s (take_reply taken) → Takes seat taken
+granted seat next (Some g) v s (Leased lease) h = held-ahead seat g.number s lease h
+granted seat next None (Some g) s (Leased lease) h = held-ahead seat next s lease h
+granted seat next None None s (Leased lease) h = absurd (cc (h))
+granted seat next f v s Later h = tt
+granted seat next f v s Finished h = tt
+
+pub takes : {R : Type 0} (all : List (Entry R)) (span : Span) (cuts : List (List ℕ)) (ops : List Event) (workers calls seat : ℕ) (old new : Held R) (taken : Taken)
+    → IsRun all span cuts ops workers old calls → Adds old (take_event seat old.core) (take_reply taken) [] new → Takes seat taken
+takes all span cuts ops workers calls seat old new taken k adds =
+    let runs = runs_from_honest all (opening span cuts) old.log old.core k.board.honest in
+    granted seat old.core.next (first_free old.core) (first_victim old.core) new.core taken
+    (leases_law span cuts old.log old.core (take_event seat old.core) (take_reply taken) new.core k.inside runs adds.step)
+
+-- of the segment found, what holds of each
+each-found : (P : Segment → Type 0) (n : ℕ) (ss : List Segment) (g : Segment) → Each P ss → segment_of n ss ≡ Some g → P g
+each-found P n [] g h q = absurd (cc (q))
+each-found P n (s ∷ ss) g h q =
+    elim (s.number == n) as (λ b. cond b (Some s) (segment_of n ss) ≡ Some g → P g) [
+      | true ↦ λ e. let same : s ≡ g = cc (e) in subst P same h.0
+      | false ↦ λ e. each-found P n ss g h.1 e
+    ] q
+
+overrun-at : (mark upto : Bound) (lease next : Lease) (reach : Bound) → less mark upto ≡ true → refusal_at mark upto lease reach ≡ Some (Overrun next) → IsLeaseOf lease.seat next
+overrun-at End upto lease next reach rem q = absurd (cc (q))
+overrun-at (At m) upto lease next reach rem q =
+    elim (is_same (At m) (At lease.mark)) as (λ b. is_same (At m) (At lease.mark) ≡ b
+    → (if not b then Some (Moved m) else (if less upto reach then Some (Overrun (record lease { upto = upto })) else None)) ≡ Some (Overrun next) → IsLeaseOf lease.seat next) [
+      | true ↦ λ e r.
+          let one = not-true (less (At m) (At lease.mark)) (and-left (not (less (At m) (At lease.mark))) (not (less (At lease.mark) (At m))) e) in
+          let two = not-true (less (At lease.mark) (At m)) (and-right (not (less (At m) (At lease.mark))) (not (less (At lease.mark) (At m))) e) in
+          let same : At m ≡ At lease.mark = connected (At m) (At lease.mark) one two in
+          elim (less upto reach) as (λ t. (if t then Some (Overrun (record lease { upto = upto })) else None) ≡ Some (Overrun next) → IsLeaseOf lease.seat next) [
+            | true ↦ λ w.
+                let is : record lease { upto = upto } ≡ next = cc (w) in
+                subst (λ (l : Lease). IsLeaseOf lease.seat l) is (record { seat_is = refl; ahead = ap (λ (b : Bound). less b upto) (sym same) ∙ rem })
+            | false ↦ λ w. absurd (cc (w))
+          ] r
+      | false ↦ λ e r. absurd (cc (r))
+    ] refl q
+
+overrun-of : (s : State) (o : Option Segment) (n : ℕ) (lease next : Lease) (reach : Bound) → IsKept s → segment_of n s.segments ≡ o → refusal_of o lease reach ≡ Some (Overrun next) → IsLeaseOf lease.seat next
+overrun-of s None n lease next reach k found q = absurd (cc (q))
+overrun-of s (Some g) n lease next reach k found q =
+    elim (is_owned_by lease.seat g.owner) as (λ b. is_owned_by lease.seat g.owner ≡ b → (if not b then Some Gone else refusal_at g.mark g.upto lease reach) ≡ Some (Overrun next) → IsLeaseOf lease.seat next) [
+      | true ↦ λ e r.
+          overrun-at g.mark g.upto lease next reach (each-found (λ g. is_owned g.owner ≡ true → has_remainder g ≡ true) n s.segments g k.owned_remains found (owner_known lease.seat g.owner e)) r
+      | false ↦ λ e r. absurd (cc (r))
+    ] refl q
+
+-- taken in
+taken-in : (seat n : ℕ) (reach : Bound) (s : State) (reported : Reported) → Leases (Report seat n reach 0 0 false) s (report_reply reported) → Reports seat reported
+taken-in seat n reach s Gone h = tt
+taken-in seat n reach s (Moved mark) h = tt
+taken-in seat n reach s (Overrun lease) h = absurd h
+taken-in seat n reach s Done h = tt
+taken-in seat n reach s (Go lease) h = held-ahead seat n s lease h.1
+
+-- looked at
+looked : (seat : ℕ) (old : State) (lease : Lease) (reach : Bound) (reported : Reported) → lease.seat ≡ seat → IsKept old → refusal old lease reach ≡ Some reported → report_reply reported ≡ Noted → Reports seat reported
+looked seat old lease reach Gone is k q h = tt
+looked seat old lease reach (Moved mark) is k q h = tt
+looked seat old lease reach (Overrun next) is k q h =
+    subst (λ (n : ℕ). IsLeaseOf n next) is (overrun-of old (segment_of lease.segment old.segments) lease.segment lease next reach k refl q)
+looked seat old lease reach Done is k q h = tt
+looked seat old lease reach (Go next) is k q h = absurd (cc (h))
+
+reported-by : {R : Type 0} (o : Option Reported) (seat : ℕ) (old new : State) (lease : Lease) (part : Part R) (reported : Reported) → lease.seat ≡ seat → IsKept old → refusal old lease part.reach ≡ o
+    → IsRefusal o reported
+    → Leases (if is_none o then Report lease.seat lease.segment part.reach (length part.rows) part.tried part.spent else Look lease.seat) new (report_reply reported) → Reports seat reported
+reported-by None seat old new lease part reported is k q r h = subst (λ (n : ℕ). Reports n reported) is (taken-in lease.seat lease.segment part.reach new reported h)
+reported-by (Some x) seat old new lease part reported is k q r h =
+    looked seat old lease part.reach reported is k (q ∙ ap (λ (y : Reported). Some y) (sym r)) h
+
+pub reports : {R : Type 0} (all : List (Entry R)) (span : Span) (cuts : List (List ℕ)) (ops : List Event) (workers calls seat : ℕ) (old new : Held R) (lease : Lease) (part : Part R) (reported : Reported)
+    → IsRun all span cuts ops workers old calls → lease.seat ≡ seat → IsRefusal (refusal old.core lease part.reach) reported
+    → Adds old (report_event old.core lease part) (report_reply reported) part.rows new → Reports seat reported
+reports all span cuts ops workers calls seat old new lease part reported k is r adds =
+    let runs = runs_from_honest all (opening span cuts) old.log old.core k.board.honest in
+    let kept = kept_law span cuts old.log old.core k.inside runs in
+    reported-by (refusal old.core lease part.reach) seat old.core new.core lease part reported is kept refl r
+    (leases_law span cuts old.log old.core (report_event old.core lease part) (report_reply reported) new.core k.inside runs adds.step)

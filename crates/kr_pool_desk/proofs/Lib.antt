@@ -1,0 +1,6 @@
+pub mod Whole
+pub mod Growing
+pub mod Released
+pub mod Leased
+pub mod Cuts
+pub mod Honest

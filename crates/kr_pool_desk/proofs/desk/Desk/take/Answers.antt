@@ -1,0 +1,16 @@
+use Rattle.kr_pool_desk.proofs.Growing.{run-more, take-shared}
+use Rattle.kr_pool_desk.proofs.Leased.{takes}
+use Rattle.kr_pool_desk.proofs.desk.Desk.take.Goals as goal
+
+pub invariant_of-self-in-Ok : goal.invariant_of-self-in-Ok
+invariant_of-self-in-Ok g c =
+    let n = g.N.Run in let m = g.N.Crew in
+    let old = c.self.inside.board in
+    let k = c.self.invariant in
+    run-more n.all n.span n.cuts n.opening m.workers c.self.inside.calls.total c.add.new.self.total old c.take.new.self _ _ _ k c.in-Ok.ensures.event (c.in-Ok.ensures.stays n.all n.span n.cuts k.ascends k.inside k.board)
+    (take-shared m.workers c.args.seat old.core c.requires.below) c.add.ensures.total
+
+pub returns-in-Ok-clause-lease : goal.returns-in-Ok-clause-lease
+returns-in-Ok-clause-lease g c =
+    let n = g.N.Run in let m = g.N.Crew in
+    takes n.all n.span n.cuts n.opening m.workers c.self.inside.calls.total c.args.seat c.self.inside.board c.take.new.self c.in-Ok.taken c.self.invariant c.in-Ok.ensures.event

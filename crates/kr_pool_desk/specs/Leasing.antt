@@ -1,0 +1,26 @@
+-- Between crates: leases as a seat works with them.
+use Rattle.std.specs.Prelude.{◌≡◌, ℕ, true}
+use Rattle.kr_base.specs.declared.span.Bound.TheVariants.{At}
+use Rattle.kr_base.specs.Bounds.{less}
+use Rattle.kr_core.specs.declared.event.Lease.{Lease}
+use Rattle.kr_board.specs.declared.board.taking.Taken.{Taken}
+use Rattle.kr_board.specs.declared.board.taking.Taken.TheVariants.{Lease as Leased, Later, Finished}
+use Rattle.kr_board.specs.declared.board.reporting.Reported.{Reported}
+use Rattle.kr_board.specs.declared.board.reporting.Reported.TheVariants.{Gone, Moved, Overrun, Done, Go}
+
+-- a lease of the seat, under which something is left to scan
+pub record IsLeaseOf (seat : ℕ) (lease : Lease) : Type 0 where
+  pub seat_is : lease.seat ≡ seat
+  pub ahead : less (At lease.mark) lease.upto ≡ true
+
+abbrev pub Takes : ℕ → Taken → Type 0
+Takes seat (Leased lease) = IsLeaseOf seat lease
+Takes seat Later = Unit {0}
+Takes seat Finished = Unit {0}
+
+abbrev pub Reports : ℕ → Reported → Type 0
+Reports seat Gone = Unit {0}
+Reports seat (Moved mark) = Unit {0}
+Reports seat (Overrun lease) = IsLeaseOf seat lease
+Reports seat Done = Unit {0}
+Reports seat (Go lease) = IsLeaseOf seat lease

@@ -1,0 +1,4 @@
+pub mod Runs
+pub mod Listings
+pub mod Leasing
+pub mod Cutting

@@ -1,0 +1,39 @@
+// Which run it is that workers share.
+ghost use Rattle.std.specs.Prelude.{List, ℕ, []};
+ghost use Rattle.kr_base.specs.declared.span.Bound.TheVariants.{End};
+ghost use Rattle.kr_base.specs.declared.span.Span.{Span};
+ghost use Rattle.kr_base.specs.declared.entry.Entry.{Entry};
+ghost use Rattle.kr_core.specs.declared.event.Event.{Event};
+
+use std::marker::Brand;
+use std::sync::ledger::Ledger;
+
+/// How many workers there are, whose calls a ledger counts.
+pub trait Crew: Ledger {
+    ghost workers: { ℕ };
+}
+
+impl Crew for Brand {
+    ghost workers = { 0 };
+}
+
+/// Of which entries, span and cuts, and with which log at its start.
+pub trait Run<R>: Crew {
+    ghost all: { List (Entry R) };
+
+    ghost span: { Span };
+
+    ghost cuts: { List (List ℕ) };
+
+    ghost opening: { List Event };
+}
+
+impl<R> Run<R> for Brand {
+    ghost all = { [] };
+
+    ghost span = { record { after = []; upto = End } };
+
+    ghost cuts = { [] };
+
+    ghost opening = { [] };
+}

@@ -1,0 +1,11 @@
+//! The board that workers share, as it lies under their lock: with the count of its calls, and what it keeps while nobody
+//! holds it.
+#![tactic(auto)]
+
+mod crew;
+mod cutting;
+mod desk;
+
+pub use crew::{Crew, Run};
+pub use cutting::cuts_for;
+pub use desk::Desk;

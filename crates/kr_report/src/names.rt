@@ -1,0 +1,79 @@
+// Names of fields and parameters, as structures have them.
+ghost use Rattle.std.specs.Prelude.{◌≡◌, ◌<◌, ◌∷◌, [], All, IfSome, MatchOption, length, map};
+ghost use Rattle.std.proofs.Common.{get_or};
+ghost use Rattle.kr_ast.specs.Arena.{AreNamesIn, name_in, tree_in};
+ghost use Rattle.kr_classes_members.specs.Shown.{IsField, IsMethod, field_name as name_of};
+ghost use Rattle.kr_classes_table.specs.Table.{items};
+ghost use Rattle.kr_report.specs.Names.{listed_names, name_under, names_of};
+
+use kr_ast::{Name, Node, Tree, tree_of};
+use kr_classes_members::{Field, Method};
+
+/// The name of a field by its position; empty where there is none.
+pub fn field_name_among<'t>(trees: &'t [Tree], fields: &[Field], position: u32) -> &'t [u8]
+    requires { All (IsField trees.now) fields.now }
+    ensures { result.now ≡ get_or (map (name_of trees.now) fields.now) position [] }
+{
+    match fields.get(position as usize) {
+        None => b"",
+        Some(field) => tree_of(trees, field.file).name(field.name),
+    }
+}
+
+/// The first item of a list and what is behind it.
+fn first_item(tree: &Tree, list: u32) -> Option<(u32, u32)>
+    requires { list < length tree.now.entries }
+    ensures within { IfSome result (λ p. p.0 < length tree.now.entries) }
+    ensures behind { IfSome result (λ p. p.1 < list) }
+    ensures shown { MatchOption result (items (tree_in tree.now list) ≡ []) (λ p. items (tree_in tree.now list) ≡ tree_in tree.now p.0 ∷ items (tree_in tree.now p.1)) }
+{
+    match tree.entry(list).node {
+        Node::Cons { first, rest } => Some((first, rest)),
+        _ => None,
+    }
+}
+
+/// The name of a parameter.
+fn name_at(tree: &Tree, node: u32) -> Option<Name>
+    requires { node < length tree.now.entries }
+    ensures within { IfSome result (λ n. AreNamesIn tree.now.text (n ∷ [])) }
+    ensures shown { MatchOption result (name_under (tree_in tree.now node) ≡ []) (λ n. name_under (tree_in tree.now node) ≡ name_in tree.now.text n ∷ []) }
+{
+    match tree.entry(node).node {
+        Node::Parameter { name, .. } => Some(name),
+        _ => None,
+    }
+}
+
+/// The name of the parameter of this number in a list; empty where there is none.
+fn listed_name(tree: &Tree, list: u32, number: u32) -> &[u8]
+    requires { list < length tree.now.entries }
+    ensures { result.now ≡ get_or (listed_names tree.now list) number [] }
+{
+    let mut at = list;
+    let mut left = number;
+    while let Some((item, rest)) = first_item(tree, at) {
+        match name_at(tree, item) {
+            None => {}
+            Some(name) => {
+                if left == 0 {
+                    return tree.name(name);
+                }
+                left -= 1;
+            }
+        }
+        at = rest;
+    }
+    b""
+}
+
+/// The name of a method's parameter by its number; empty where there is none.
+pub fn parameter_name_of(trees: &[Tree], method: Option<Method>, number: u32) -> &[u8]
+    requires { IfSome method (IsMethod trees.now) }
+    ensures { result.now ≡ get_or (names_of trees.now method) number [] }
+{
+    match method {
+        None => b"",
+        Some(method) => listed_name(tree_of(trees, method.file), method.parameters, number),
+    }
+}

@@ -1,0 +1,6 @@
+pub mod Fronts
+pub mod Absent
+pub mod Pieces
+pub mod Fresh
+pub mod Meant
+pub mod Arguments

@@ -1,0 +1,14 @@
+//! Rows of a report, put into a sink. Nothing here takes memory.
+#![tactic(auto)]
+
+mod front;
+mod laws;
+mod objects;
+mod parameters;
+mod parts;
+mod places;
+mod rows;
+mod values;
+
+pub use laws::worked_law;
+pub use rows::{row_text, structure_text};

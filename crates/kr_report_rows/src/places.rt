@@ -1,0 +1,123 @@
+// Slots and objects of a layout, also where they aren't there.
+ghost use Rattle.std.specs.Prelude.{◌≡◌};
+ghost use Rattle.kr_iso.specs.Objects.{object_of, shown};
+ghost use Rattle.kr_mean.specs.Heaps.{is_same_object};
+ghost use Rattle.kr_mean.specs.Places.{place_of};
+ghost use Rattle.kr_mean.specs.Problem.{all_objects, domain_at, slot_at};
+ghost use Rattle.std.proofs.Common.{get_or};
+ghost use Rattle.kr_space_layout.specs.Bounds.{bare};
+ghost use Rattle.kr_report.specs.Texts.{no_domain_object};
+ghost use Rattle.kr_report_rows.specs.Parts.{number_in, spot_in, spot_of};
+
+use kr_iso::Object;
+use kr_space_layout::Layout;
+use kr_value::{Class, Obj, SlotPlace, Spot};
+
+/// Whose slot it is, if it is an object's; of a slot that isn't there nobody's.
+#[tactic(auto, using(crate::proofs::Absent::no_owner))]
+fn owner_of(layout: &Layout, slot: u32) -> Option<Object>
+    ensures { shown result ≡ (slot_at (bare layout.now) slot).owner }
+{
+    if slot >= layout.slots() {
+        return None;
+    }
+    layout.owner(slot)
+}
+
+/// Where it stands; of a slot that isn't there `this`.
+#[tactic(auto, using(crate::proofs::Absent::no_place))]
+fn place_of(layout: &Layout, slot: u32) -> SlotPlace
+    ensures { place_of result ≡ (slot_at (bare layout.now) slot).place }
+{
+    if slot >= layout.slots() {
+        return SlotPlace::This;
+    }
+    layout.place(slot)
+}
+
+/// The bytes of the name of a class domain's class or array type; empty where there is none.
+#[tactic(auto, using(crate::proofs::Absent::no_name))]
+pub(crate) fn name_of(layout: &Layout, domain: u32) -> &[u8]
+    ensures { result.now ≡ (domain_at (bare layout.now) domain).name }
+{
+    if domain as usize >= layout.domains() {
+        return b"";
+    }
+    layout.name(domain)
+}
+
+/// What the objects of a class domain are of.
+#[tactic(auto, using(crate::proofs::Absent::no_class))]
+pub(crate) fn class_of(layout: &Layout, domain: u32) -> Class
+    ensures { result ≡ (domain_at (bare layout.now) domain).class }
+{
+    if domain as usize >= layout.domains() {
+        return Class::Object(0);
+    }
+    layout.class(domain)
+}
+
+/// The object of a number; where there is none, that of the number 0 in the first class domain.
+pub(crate) fn numbered(layout: &Layout, number: Obj) -> Object
+    ensures { object_of result ≡ get_or (all_objects (bare layout.now)) number no_domain_object }
+{
+    match layout.numbered(number) {
+        Some(object) => object,
+        None => Object {
+            domain: 0,
+            number: 0,
+        },
+    }
+}
+
+/// Whether two objects are the same.
+pub(crate) fn are_same(one: Object, other: Object) -> bool
+    ensures { result ≡ is_same_object (object_of one) (object_of other) }
+{
+    one.domain == other.domain && one.number == other.number
+}
+
+/// The spot of an object's slot.
+fn spot_in(place: SlotPlace) -> Option<Spot>
+    ensures { result ≡ spot_in (place_of place) }
+{
+    match place {
+        SlotPlace::This => None,
+        SlotPlace::Parameter(_) => None,
+        SlotPlace::At(_, spot) => Some(spot),
+    }
+}
+
+/// The number of a parameter's slot.
+fn number_in(place: SlotPlace) -> Option<u32>
+    ensures { result ≡ number_in (place_of place) }
+{
+    match place {
+        SlotPlace::This => None,
+        SlotPlace::Parameter(number) => Some(number),
+        SlotPlace::At(_, _) => None,
+    }
+}
+
+/// The spot that a slot is of an object, if it is the object's.
+pub(crate) fn spot_of(layout: &Layout, object: Object, slot: u32) -> Option<Spot>
+    ensures { result ≡ spot_of (bare layout.now) (object_of object) slot }
+{
+    match owner_of(layout, slot) {
+        None => None,
+        Some(owner) => {
+            if are_same(object, owner) {
+                spot_in(place_of(layout, slot))
+            } else {
+                None
+            }
+        }
+    }
+}
+
+/// The number of the parameter whose slot it is, if it is one's.
+pub(crate) fn parameter_at(layout: &Layout, slot: u32) -> Option<u32>
+    ensures { result ≡ number_in (slot_at (bare layout.now) slot).place }
+{
+    number_in(place_of(layout, slot))
+}

@@ -1,0 +1,133 @@
+-- No evaluation that typing accepts is stuck.
+use Rattle.std.proofs.Common.{◌≡◌, ◌≤◌, ℕ, length, Bool, true, false, List, [], ◌∷◌, Some, None, Result, Ok, Err, refl, sym, ap, ◌∙◌, subst, arith}
+use Rattle.std.specs.Prelude.{IfOk, if◌then◌else◌, map}
+use Rattle.kr_base.specs.declared.memory.NoMemory.{NoMemory}
+use Rattle.kr_base.specs.declared.place.Place.{Place}
+use Rattle.kr_ast.specs.Tree.{Tree}
+use Rattle.kr_value.specs.declared.value.Value.{Value}
+use Rattle.kr_value.specs.Heaps.{Heap}
+use Rattle.kr_classes_table.specs.Types.{JavaType, is_void}
+use Rattle.kr_classes_table.specs.Table as tables
+use Rattle.kr_types_meaning.specs.Scopes.{Part, Requiring, Ensuring, Scope, in_contract, in_old}
+use Rattle.kr_types_meaning.specs.Rules.{is_ensuring}
+use Rattle.kr_mean.specs.Program.{Program, method_scope}
+use Rattle.kr_mean.specs.Steps.{Stop, Trapped, OutOfFuel, Stuck, State, plain_local}
+use Rattle.kr_mean.specs.Meaning.{value}
+use Rattle.kr_mean.specs.Code.{Node}
+use Rattle.kr_mean.specs.Verdicts.{OldNode, olds_of}
+use Rattle.kr_code.specs.declared.code.Code.{Code}
+use Rattle.kr_code.specs.Resolved.{Numbering, IsCodeOf}
+use Rattle.kr_laws_safety.specs.Claims.{IsScope, is_target}
+use Rattle.kr_laws_safety.specs.Fits.{AreOf}
+use Rattle.kr_laws_safety.specs.Triples.{AreOlds, Fixed, IsStateOf, type_of_old, values_in}
+use Rattle.kr_laws_safety.specs.Typed.{IsTypedProgram, Olds, types_in, IsMethod}
+use Rattle.kr_laws_safety.specs.Tested.{IsCondition, IsOld, old_type, old_types, type_or_none}
+use Rattle.kr_laws_safety.proofs.Calls.{parameter_types, parameter_variables}
+use Rattle.kr_laws_safety.proofs.Glue.{typed_at}
+use Rattle.kr_laws_safety.proofs.Runs.{contract_boolean, fine_said, value_safe}
+use Rattle.kr_laws_safety.proofs.Targets.{assignable_itself}
+use Rattle.kr_run_state.specs.declared.world.End.TheVariants as stops
+use Rattle.kr_run_method.specs.declared.executed.Env.{Env}
+use Rattle.kr_run_method.specs.declared.executed.Executed.{Executed}
+use Rattle.kr_run_method.specs.Executed.{ending_of}
+use Rattle.kr_run_method.specs.Evaluated.{evaluated, places_of, seen, with_places}
+use Rattle.kr_run_method.specs.Fits.{IsEvaluatedUnstuck, IsEvaluation, IsExpression, IsSeen, ensured, held, required}
+
+values_plain : (vs : List Value) → values_in (map plain_local vs) ≡ vs
+values_plain [] = refl
+values_plain (v ∷ vs) = ap (λ (ws : List Value). v ∷ ws) (values_plain vs)
+
+-- values of `\old`s by position are values by their places
+olds_fit : (table : tables.Table) (types : List JavaType) (os : List OldNode) (vs : List Value) → AreOf table types (map old_type os) vs → AreOlds table types (old_types os) (with_places (places_of os) vs)
+olds_fit table types [] vs h = tt
+olds_fit table types (o ∷ os) (v ∷ vs) h = (refl, h.0, olds_fit table types os vs h.1)
+olds_fit table types (o ∷ os) [] h = absurd h
+
+no_stuck : (r : Result Value Stop) → (r ≡ Err Stuck → ⊥) → ending_of false r ≡ Err stops.Stuck → ⊥
+no_stuck (Ok v) h e = cc (e)
+no_stuck (Err (Trapped k)) h e = cc (e)
+no_stuck (Err OutOfFuel) h e = cc (e)
+no_stuck (Err Stuck) h e = h refl
+
+module _ (program : Program) (facts : IsTypedProgram program) (m : tables.Method) (env : Env) (heap : Heap) (fuel : ℕ) where
+  abbrev olds : List OldNode
+  olds = olds_of program m
+
+  -- what no evaluation changes: the types of the result and of the values of `\old`s, where a postcondition sees them
+  abbrev fixed : Bool → Fixed
+  fixed false = record { candidates = 0; result = None; olds = [] }
+  fixed true = record { candidates = 0; result = if is_void m.result then None else Some m.result; olds = old_types olds }
+
+  abbrev state : State
+  state = seen (places_of olds) env heap fuel
+
+  abbrev Unstuck : Node → Type 0
+  Unstuck e = (value program e.scope e.tree state).said ≡ Err Stuck → ⊥
+
+  module _ (e : Node) (call : IsEvaluation program m e env heap) where
+    method : IsMethod program m
+    method = (facts.methods call.class call.name m call.named).0
+
+    started : (b : Bool) → IsSeen program m call.types env b → IsStateOf program (fixed b) call.types (if m.is_static then None else Some m.class) (types_in m.parameters) state
+    started b s = record {
+      heap = call.objects;
+      this_is = call.this;
+      locals_are = subst (λ (vs : List Value). AreOf program.table call.types (types_in m.parameters) vs) (sym (values_plain env.arguments.items)) call.arguments;
+      result = results b s;
+      olds = values b s;
+      candidates = none b;
+      enough = few b;
+    }
+      where
+        results : (b : Bool) → IsSeen program m call.types env b → Rattle.kr_laws_safety.specs.Triples.IsResult program.table call.types (fixed b).result env.result
+        results false s = tt
+        results true s = s.0
+
+        values : (b : Bool) → IsSeen program m call.types env b → AreOlds program.table call.types (fixed b).olds state.olds
+        values false s = tt
+        values true s = olds_fit program.table call.types olds env.olds.items s.1
+
+        none : (b : Bool) → 0 ≡ (fixed b).candidates
+        none false = refl
+        none true = refl
+
+        few : (b : Bool) → (fixed b).candidates ≤ length heap
+        few false = omega arith
+        few true = omega arith
+
+    result_known : is_ensuring Ensuring ≡ true → is_void m.result ≡ false → (fixed true).result ≡ Some m.result
+    result_known x n = ap (λ (b : Bool). if b then None else Some m.result) n
+
+    condition : (b : Bool) (part : Part) (t : Tree) → (is_ensuring part ≡ true → is_void m.result ≡ false → (fixed b).result ≡ Some m.result) → IsSeen program m call.types env b
+        → IsCondition program (type_of_old (fixed b).olds) (record { scope = in_contract part (method_scope program m); tree = t }) → Unstuck (record { scope = in_contract part (method_scope program m); tree = t })
+    condition b part t result s h =
+        let safe = (contract_boolean program (fixed b) facts m part method result (t ∷ []) (h, tt)).0 call.types in
+        fine_said program (fixed b) call.types (if m.is_static then None else Some m.class) _ (value program (in_contract part (method_scope program m)) t state).said (value program (in_contract part (method_scope program m)) t state).after (safe.by state (started b s))
+
+    holds : (o : OldNode) → o.scope ≡ in_old (in_contract Ensuring (method_scope program m)) → IsOld program o → Unstuck (record { scope = o.scope; tree = o.tree })
+    holds o at h = subst (λ (z : Scope). IsOld program (record { place = o.place; scope = z; tree = o.tree }) → Unstuck (record { scope = z; tree = o.tree })) (sym at) inside h
+      where
+        s : Scope
+        s = in_old (in_contract Ensuring (method_scope program m))
+
+        inside : IsOld program (record { place = o.place; scope = s; tree = o.tree }) → Unstuck (record { scope = s; tree = o.tree })
+        inside h =
+            let k : IsScope program (fixed false) s = (refl, refl, parameter_variables m.parameters method.parameters, method.result, λ x y. absurd (cc (y))) in
+            let x = typed_at program (fixed false) facts s o.tree k (h.code (type_of_old [])) h.unbroken in
+            let target = ap is_target (sym (ap type_or_none x.known)) ∙ h.target in
+            let safe = value_safe program (fixed false) facts s o.tree k (h.code (type_of_old [])) h.unbroken call.types x.type x.type x.known target (assignable_itself program.table x.type target) in
+            let at = subst (λ (ls : List JavaType). IsStateOf program (fixed false) call.types (if m.is_static then None else Some m.class) ls state) (sym (parameter_types m.parameters)) (started false tt) in
+            fine_said program (fixed false) call.types (if m.is_static then None else Some m.class) _ (value program s o.tree state).said (value program s o.tree state).after (safe.by state at)
+
+    by_kind : (n : Node) (b : Bool) → IsExpression program m n b → IsSeen program m call.types env b → Unstuck n
+    by_kind n b (required t h) s = condition false Requiring t (λ x. absurd (cc (x))) tt (h (type_of_old []))
+    by_kind n b (ensured t h) s = condition true Ensuring t result_known s h
+    by_kind n b (held o at h) s = holds o at h
+
+    pub evaluation_never_stuck : (evaluated program m e env heap fuel).end ≡ Err stops.Stuck → ⊥
+    evaluation_never_stuck x = no_stuck (value program e.scope e.tree state).said (by_kind e call.is_ensured call.expression call.seen) x
+
+pub evaluated_in_typed_programs : (code : Code) (node : ℕ) (places : List Place) (env : Env) (heap : Heap) (fuel : ℕ) (r : Result Executed NoMemory)
+    → IfOk r (λ run. (program : Program) (n : Numbering) (m : tables.Method) → IsCodeOf program code n → places ≡ places_of (olds_of program m) → run ≡ evaluated program m (n.origin node) env heap fuel) → IfOk r (IsEvaluatedUnstuck code node places env heap)
+evaluated_in_typed_programs code node places env heap fuel (Ok run) h = λ program n m is at facts call e. evaluation_never_stuck program facts m env heap fuel (n.origin node) call (sym (ap (λ (x : Executed). x.end) (h program n m is at)) ∙ e)
+evaluated_in_typed_programs code node places env heap fuel (Err e) h = tt

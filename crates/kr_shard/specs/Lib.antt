@@ -1,0 +1,4 @@
+pub mod Rows
+pub mod Merging
+pub mod Placing
+pub mod Answers

@@ -1,0 +1,5 @@
+pub mod Rows
+pub mod Lines
+pub mod Shards
+pub mod Texts
+pub mod Stages
