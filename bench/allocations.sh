@@ -2,6 +2,7 @@
 # Makes each allocation of a call of the built program fail in turn, and says how many there were.
 #
 #     bench/allocations.sh [FIN SOURCE..]     what is listed, the cell of examples/ where it isn't said
+#     bench/allocations.sh --test METHOD FIN SOURCE..     what is tested
 #
 # Each run has to end as the whole listing does; or with status 8 and rows of it, from the first one on or none, and then
 # `out of memory`; or, as long as it is the program's own words that are refused memory, with status 8 and no line. It stops
@@ -9,14 +10,21 @@
 # library's, refuses. It needs bash 5, a C compiler as cc, and the program (run ./korat once); a listing of the cell has some
 # 300 allocations.
 top="$(cd "$(dirname "$(readlink -f "$0")")/.." && pwd)"
+method=
+if [ "${1-}" = --test ]; then
+    method=$2
+    shift 2
+fi
 files=("$@")
 [ ${#files[@]} -gt 0 ] || files=("$top/examples/cell/fin.toml" "$top/examples/cell/Cell.java")
+words=(list "${files[@]}")
+[ -z "$method" ] || words=(test "${files[0]}" "$method" "${files[@]:1}")
 set --
 source "$top/bench/common.sh"
 source "$top/bench/refusing.sh"
 
 whole="$work/whole"
-"$program" list "${files[@]}" >"$whole"
+"$program" "${words[@]}" >"$whole"
 ends=$?
 
 # Whether what was written is rows of the listing, from the first one on, and `out of memory`.
@@ -26,13 +34,13 @@ is_front() {
     head -n -1 "$whole" | head -n "$(wc -l <"$work/front")" | cmp -s - "$work/front"
 }
 
-[ "$(refuse 0 "$program" list "${files[@]}")" = "$ends" ] && cmp -s "$whole" "$work/out" || exit 1
+[ "$(refuse 0 "$program" "${words[@]}")" = "$ends" ] && cmp -s "$whole" "$work/out" || exit 1
 all=$(cat "$work/made")
 same=0
 silent=0
 told=0
 for ((number = 1; number <= all; number++)); do
-    status=$(refuse "$number" "$program" list "${files[@]}")
+    status=$(refuse "$number" "$program" "${words[@]}")
     if [ "$status" = "$ends" ] && cmp -s "$whole" "$work/out"; then
         same=$((same + 1))
     elif [ "$status" = 8 ] && [ "$told" = 0 ] && [ ! -s "$work/out" ]; then

@@ -48,4 +48,25 @@ class SearchTree {
         if (below != null && node.key >= below.key) return false;
         return isOrdered(node.left, above, node) && isOrdered(node.right, node, below);
     }
+
+    // Turns the root to the right: its left child comes to stand above it.
+    //@ requires root != null && root.left != null;
+    //@ ensures root == \old(root.left) && root.right == \old(root);
+    //@ ensures root.right.left == \old(root.left.right);
+    void rotateRight() {
+        Node above = root.left;
+        root.left = above.right;
+        above.right = root;
+        root = above;
+    }
+
+    // The same, wrong on purpose: the tree between the two is forgotten.
+    //@ requires root != null && root.left != null;
+    //@ ensures root == \old(root.left) && root.right == \old(root);
+    void rotateOver() {
+        Node above = root.left;
+        root.left = null;
+        above.right = root;
+        root = above;
+    }
 }

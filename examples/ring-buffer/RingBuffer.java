@@ -14,4 +14,29 @@ class RingBuffer {
         }
         return true;
     }
+
+    // Takes the first element away, and makes its place free.
+    //@ requires count > 0;
+    //@ ensures \result == \old(slots[first]);
+    //@ ensures count == \old(count) - 1;
+    //@ ensures count == 0 || first == \old((first + 1) % slots.length);
+    int remove() {
+        int element = slots[first];
+        slots[first] = 0;
+        count--;
+        first = count == 0 ? 0 : (first + 1) % slots.length;
+        return element;
+    }
+
+    // The same, wrong on purpose: it runs out of the array's end.
+    //@ requires count > 0;
+    //@ ensures \result == \old(slots[first]);
+    //@ ensures count == \old(count) - 1;
+    int removeOver() {
+        int element = slots[first];
+        slots[first] = 0;
+        count--;
+        first++;
+        return element;
+    }
 }

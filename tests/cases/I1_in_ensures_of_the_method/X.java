@@ -1,0 +1,3 @@
+class Cell { int v; boolean repOk() { return true; } boolean touch() { v = 1; return true; }
+  //@ ensures touch();
+  void inc() { } }

@@ -1,0 +1,3 @@
+class Cell extends B { int v; boolean repOk() { return true; }
+  void w(int y) { } }
+class B { void w(int x) { } }

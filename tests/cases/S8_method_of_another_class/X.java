@@ -1,0 +1,2 @@
+class Cell { int v; boolean repOk() { return true; } }
+class D { void w() { } }

@@ -1,0 +1,3 @@
+class Cell { int v; boolean repOk() { return true; }
+  //@ ensures v;
+  int inc() { return 1; } }

@@ -1,0 +1,3 @@
+class Cell { int v; boolean repOk() { return true; }
+  //@ ensures true;
+  static void inc() { } }

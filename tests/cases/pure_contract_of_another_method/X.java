@@ -1,0 +1,4 @@
+class Cell { int v; boolean repOk() { return true; } boolean touch() { v = 1; return true; }
+  //@ requires touch();
+  void inc() { }
+  void other() { v = 7; } }

@@ -1,0 +1,3 @@
+class P { P l; P r; boolean repOk() { return true; }
+  //@ ensures l == \old(r) && r == \old(l);
+  void wrong() { l = r; r = l; } }

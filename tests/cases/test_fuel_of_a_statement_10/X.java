@@ -1,0 +1,7 @@
+class Cell {
+  int v;
+  boolean repOk() { return true; }
+  //@ ensures v == 0;
+  //@ ensures v == 0;
+  void inc() { ; }
+}

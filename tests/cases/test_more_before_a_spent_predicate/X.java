@@ -1,0 +1,6 @@
+class Cell {
+  int v;
+  boolean repOk() { while (v == 2) {} return true; }
+  //@ ensures v == 9;
+  void inc() { ; }
+}

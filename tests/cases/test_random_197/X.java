@@ -1,0 +1,36 @@
+import java.util.*;
+class Box { int w = 5; Box(int x) { w = w + x; } }
+class Node {
+  int v;
+  Node next;
+  int val2(int z) { return z + v; }
+  int val(int q) { return q + v; }
+}
+class Sub extends Node {
+  Node other;
+  int val(int q) { return super.val(q) + (other == null ? 0 : other.v); }
+}
+class R {
+  static final int K = 3 * (4 - 1);
+  int a;
+  boolean f;
+  Node n;
+  static int st(int x) { return x * K - (x >> 1); }
+  int h(int x, int y) { return f ? x : y; }
+  boolean repOk() {
+    int v1 = (f ? n.val(a) : a);
+    return true;
+  }
+  //@ ensures \result != (4 >>> a);
+  //@ requires (f ? f : (a < a));
+  //@ ensures \result == o.val(x);
+  int m(int x, Node o) {
+    if ((o == n.next)) {
+    } else {
+      f = (h(a, x) != (-1 + 31));
+      a += 1;
+    }
+    ;
+    return (x++);
+  }
+}

@@ -1,0 +1,6 @@
+class Cell {
+  int v;
+  boolean repOk() { return true; }
+  //@ requires v == 0;
+  void inc() { v = 1; }
+}
