@@ -1,0 +1,9 @@
+//! Tests of listings by many workers.
+#![tactic(auto)]
+
+#[cfg(test)]
+mod gates;
+#[cfg(test)]
+mod listing;
+#[cfg(test)]
+mod surveys;

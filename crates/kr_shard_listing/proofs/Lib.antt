@@ -1,0 +1,3 @@
+pub mod Sorted
+pub mod Parts
+pub mod Law
