@@ -79,14 +79,30 @@ count $? "a class of the subset isn't left as it is"
 count $? "something is written beside the folder"
 rm -r adapted
 
+# An example with methods under test is left with one of them at a time: with each it lists and tests as it did. Any other is
+# left as it is.
 for folder in "$top"/examples/*/; do
-    adapt "$folder/fin.toml" "$folder"/*.java -o adapted
-    ended=$?
-    for source in "$folder"/*.java; do
-        cmp -s "$source" "adapted/$(basename "$source")" || ended=1
+    ended=0
+    adapted=0
+    for tested in "$folder"/test.*; do
+        [ -f "$tested" ] || continue
+        adapted=1
+        method=${tested##*.}
+        adapt --method "$method" "$folder/fin.toml" "$folder"/*.java -o adapted || ended=1
+        if [ -x "$korat" ]; then
+            "$korat" list adapted/fin.toml adapted/*.java | cmp -s - "$folder/expected" || ended=1
+            "$korat" test adapted/fin.toml "$method" adapted/*.java | cmp -s - "$tested" || ended=1
+        fi
+        rm -r adapted
     done
+    if [ "$adapted" = 0 ]; then
+        adapt "$folder/fin.toml" "$folder"/*.java -o adapted || ended=1
+        for source in "$folder"/*.java; do
+            cmp -s "$source" "adapted/$(basename "$source")" || ended=1
+        done
+        rm -r adapted
+    fi
     count $ended "examples/$(basename "$folder") isn't left as it is"
-    rm -rf adapted
 done
 
 # ---- what is rewritten

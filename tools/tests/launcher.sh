@@ -44,7 +44,7 @@ made=checkout/crates/korat/out/korat
 # ---- words that are no command
 
 synopsis=$("$top/korat" 2>&1 >/dev/null)
-[ "$(grep -c 'korat \(list\|check\|demo\) ' <<<"$synopsis")" = 3 ] && [ "$(wc -l <<<"$synopsis")" = 3 ]
+[ "$(grep -c 'korat \(list\|test\|check\|demo\) ' <<<"$synopsis")" = 4 ] && [ "$(wc -l <<<"$synopsis")" = 4 ]
 count $? "the synopsis: $synopsis"
 [ "$(sed 's/^usage: //; s/^ *//' <<<"$synopsis")" = "$(sed -n 's/^    \(korat .*\)/\1/p' "$top/docs/COMMAND_LINE.md")" ]
 count $? "the synopsis isn't that of docs/COMMAND_LINE.md"
@@ -73,7 +73,7 @@ no_commands() {
     no_command LIST fin.toml A.java
     no_command lis fin.toml A.java
     no_command "list " fin.toml A.java
-    no_command test fin.toml A.java
+    no_command tests fin.toml A.java
     no_command -- list fin.toml A.java
     no_command --limit 3 list fin.toml A.java
     no_command '[' fin.toml

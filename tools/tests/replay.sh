@@ -300,10 +300,10 @@ END
     count $? "the tests with $1 on $3: $(head -c 600 ../ran)"
 }
 
-sed 's/^    boolean repOk/    void insert(int value) { Node node = new Node(); node.value = value; node.next = head; head = node; size++; }\n&/' \
+sed 's/^    boolean repOk/    void push(int value) { Node node = new Node(); node.value = value; node.next = head; head = node; size++; }\n&/' \
     "$list/SortedList.java" >SortedList.java
-junit 'insert(3)' "$list/fin.toml" SortedList.java '' '1 9' <"$list/expected"
-junit 'insert(1)' "$list/fin.toml" SortedList.java '' '10 0' <"$list/expected"
+junit 'push(3)' "$list/fin.toml" SortedList.java '' '1 9' <"$list/expected"
+junit 'push(1)' "$list/fin.toml" SortedList.java '' '10 0' <"$list/expected"
 junit 'repOk()' "$top/examples/two-stack-queue/fin.toml" "$top/examples/two-stack-queue/TwoStackQueue.java" '' '49 0' <"$top/examples/two-stack-queue/expected"
 junit 'equals(null)' odd.toml my/own/Odd.java my.own. "$(yes 'looked at' | head -n 8)
 8 0" <odd
