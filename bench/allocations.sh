@@ -1,15 +1,20 @@
 #!/usr/bin/env bash
 # Makes each allocation of a call of the built program fail in turn, and says how many there were.
 #
-#     bench/allocations.sh [FIN SOURCE..]     what is listed, the cell of examples/ where it isn't said
-#     bench/allocations.sh --test METHOD FIN SOURCE..     what is tested
+#     bench/allocations.sh [--workers N] [FIN SOURCE..]     what is listed, the cell of examples/ where it isn't said
+#     bench/allocations.sh [--workers N] --test METHOD FIN SOURCE..     what is tested
 #
 # Each run has to end as the whole listing does; or with status 8 and rows of it, from the first one on or none, and then
 # `out of memory`; or, as long as it is the program's own words that are refused memory, with status 8 and no line. It stops
 # with status 1 at the first run that doesn't. It proves nothing. A malloc of its own, which is loaded before the C
 # library's, refuses. It needs bash 5, a C compiler as cc, and the program (run ./korat once); a listing of the cell has some
-# 300 allocations.
+# 300 allocations. Several workers don't always make as many allocations, nor in the same order: what is said holds of each run.
 top="$(cd "$(dirname "$(readlink -f "$0")")/.." && pwd)"
+workers=
+if [ "${1-}" = --workers ]; then
+    workers=$2
+    shift 2
+fi
 method=
 if [ "${1-}" = --test ]; then
     method=$2
@@ -19,6 +24,7 @@ files=("$@")
 [ ${#files[@]} -gt 0 ] || files=("$top/examples/cell/fin.toml" "$top/examples/cell/Cell.java")
 words=(list "${files[@]}")
 [ -z "$method" ] || words=(test "${files[0]}" "$method" "${files[@]:1}")
+[ -z "$workers" ] || words+=(--workers "$workers")
 set --
 source "$top/bench/common.sh"
 source "$top/bench/refusing.sh"

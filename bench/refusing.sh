@@ -7,13 +7,13 @@ cat >"$work/refusing.c" <<'SOURCE'
 extern void *__libc_malloc(size_t size);
 extern void *__libc_realloc(void *old, size_t size);
 static long refused = -1, made = 0;
+/* Threads may allocate at once; the first allocation comes before there is another thread. */
 static int is_refused(void) {
     if (refused < 0) {
         const char *number = getenv("REFUSED");
         refused = number ? atol(number) : 0;
     }
-    made += 1;
-    return made == refused;
+    return __atomic_add_fetch(&made, 1, __ATOMIC_SEQ_CST) == refused;
 }
 void *malloc(size_t size) { return is_refused() ? NULL : __libc_malloc(size); }
 void *realloc(void *old, size_t size) { return is_refused() ? NULL : __libc_realloc(old, size); }

@@ -44,7 +44,7 @@ made=checkout/crates/korat/out/korat
 # ---- words that are no command
 
 synopsis=$("$top/korat" 2>&1 >/dev/null)
-[ "$(grep -c 'korat \(list\|test\|check\|demo\) ' <<<"$synopsis")" = 4 ] && [ "$(wc -l <<<"$synopsis")" = 4 ]
+[ "$(grep -c 'korat \(list\|test\|check\|demo\|shard\|merge\) ' <<<"$synopsis")" = 6 ] && [ "$(wc -l <<<"$synopsis")" = 6 ]
 count $? "the synopsis: $synopsis"
 [ "$(sed 's/^usage: //; s/^ *//' <<<"$synopsis")" = "$(sed -n 's/^    \(korat .*\)/\1/p' "$top/docs/COMMAND_LINE.md")" ]
 count $? "the synopsis isn't that of docs/COMMAND_LINE.md"

@@ -5,7 +5,9 @@ use korat_top::{NoWords, run, start};
 use kr_base::{NoMemory, Words};
 use kr_io::{MemFile, MemFiles, MemSink, OpenGate};
 use std::alloc::{AllocError, Global};
+use std::sync::Wait;
 use std::test::Fail;
+use std::thread::Threads;
 
 const CELL: &str = "class Cell { int v; boolean repOk() { return v > 0; } }";
 
@@ -79,7 +81,8 @@ pub(crate) fn sink_of(
 }
 
 /// Whether a call with these words ends so, and has written just this.
-pub(crate) fn ends(
+pub(crate) fn ends<W: Threads + Wait + Sync>(
+    rt: &W,
     alloc: Global,
     words: &[&str],
     files: &mut MemFiles,
@@ -88,12 +91,13 @@ pub(crate) fn ends(
     text: &[u8],
 ) -> Result<bool, NoMemory> {
     let words = words_of(alloc, words)?;
-    let ended = run(&(), alloc, &words, files, out, &OpenGate);
+    let ended = run(rt, alloc, &words, files, out, &OpenGate);
     Ok(ended == status && out.bytes() == text)
 }
 
 /// The same over the cell's files with this source, of which some reads fail.
-fn ends_over(
+fn ends_over<W: Threads + Wait + Sync>(
+    rt: &W,
     alloc: Global,
     words: &[&str],
     source: &str,
@@ -104,11 +108,12 @@ fn ends_over(
 ) -> Result<bool, NoMemory> {
     let files = [("fin.toml", FIN), ("Cell.java", source)];
     let mut files = files_of(alloc, &files, failing)?;
-    ends(alloc, words, &mut files, out, status, text)
+    ends(rt, alloc, words, &mut files, out, status, text)
 }
 
 /// The same over the cell's files, into an output of this room that takes so many bytes a put.
-fn ends_into(
+fn ends_into<W: Threads + Wait + Sync>(
+    rt: &W,
     alloc: Global,
     words: &[&str],
     room: usize,
@@ -120,7 +125,7 @@ fn ends_into(
     requires { 0 < step }
 {
     let mut out = sink_of(alloc, room, step, failing)?;
-    ends_over(alloc, words, CELL, &[], &mut out, status, text)
+    ends_over(rt, alloc, words, CELL, &[], &mut out, status, text)
 }
 
 #[test]
@@ -153,7 +158,16 @@ fn small_steps(rt: HostRuntime) -> Result<(), Fail> {
     ];
     for step in 1..6usize {
         for (words, status, text) in rows {
-            let ended = ends_into(rt.alloc(), words, 1024, step, &[], status, text.as_bytes())?;
+            let ended = ends_into(
+                &rt,
+                rt.alloc(),
+                words,
+                1024,
+                step,
+                &[],
+                status,
+                text.as_bytes(),
+            )?;
             assert!(rt; ended, "{step}, {text}");
         }
     }
@@ -161,9 +175,16 @@ fn small_steps(rt: HostRuntime) -> Result<(), Fail> {
 }
 
 /// Whether a call over the counter's files ends so.
-fn counts(alloc: Global, words: &[&str], status: u8, text: &str) -> Result<bool, NoMemory> {
+fn counts<W: Threads + Wait + Sync>(
+    rt: &W,
+    alloc: Global,
+    words: &[&str],
+    status: u8,
+    text: &str,
+) -> Result<bool, NoMemory> {
     let mut out = sink_of(alloc, 1024, 1024, &[])?;
     ends_over(
+        rt,
         alloc,
         words,
         COUNTER,
@@ -199,7 +220,7 @@ fn tests_of_a_method(rt: HostRuntime) -> Result<(), Fail> {
         ),
     ];
     for (words, status, text) in rows {
-        assert!(rt; counts(rt.alloc(), words, status, text)?, "{text}");
+        assert!(rt; counts(&rt, rt.alloc(), words, status, text)?, "{text}");
     }
     Ok(())
 }
@@ -223,6 +244,7 @@ fn failing_puts(rt: HostRuntime) -> Result<(), Fail> {
     for (words, room, step, failing, front) in rows {
         assert!(rt; step > 0);
         let ended = ends_into(
+            &rt,
             rt.alloc(),
             words,
             room,
@@ -241,18 +263,25 @@ fn full_outputs(rt: HostRuntime) -> Result<(), Fail> {
     let whole = LISTED.as_bytes();
     for room in 0..whole.len() {
         assert!(rt;
-            ends_into(rt.alloc(), &LIST, room, 5, &[], 7, &whole[..room])?,
+            ends_into(&rt, rt.alloc(), &LIST, room, 5, &[], 7, &whole[..room])?,
             "{room}"
         );
     }
-    assert!(rt; ends_into(rt.alloc(), &LIST, whole.len(), 5, &[], 0, whole)?);
+    assert!(rt; ends_into(&rt, rt.alloc(), &LIST, whole.len(), 5, &[], 0, whole)?);
     Ok(())
 }
 
 /// Whether the listing ends so over the cell's files with this source, of which a read fails.
-fn fails(alloc: Global, source: &str, failing: u32, text: &str) -> Result<bool, NoMemory> {
+fn fails<W: Threads + Wait + Sync>(
+    rt: &W,
+    alloc: Global,
+    source: &str,
+    failing: u32,
+    text: &str,
+) -> Result<bool, NoMemory> {
     let mut out = sink_of(alloc, 1024, 1024, &[])?;
     ends_over(
+        rt,
         alloc,
         &LIST,
         source,
@@ -271,13 +300,14 @@ fn failing_reads(rt: HostRuntime) -> Result<(), Fail> {
         (2, CELL, "read fault Cell.java\n"),
         (2, TWO_FIELDS, "read fault Cell.java\n"),
     ] {
-        assert!(rt; fails(rt.alloc(), source, failing, text)?, "{text}");
+        assert!(rt; fails(&rt, rt.alloc(), source, failing, text)?, "{text}");
     }
     Ok(())
 }
 
 /// Whether a call that was given these words, or none, ends so.
-fn starts(
+fn starts<W: Threads + Wait + Sync>(
+    rt: &W,
     alloc: Global,
     words: Result<Words, NoWords>,
     status: u8,
@@ -285,21 +315,27 @@ fn starts(
 ) -> Result<bool, NoMemory> {
     let mut out = sink_of(alloc, 1024, 1024, &[])?;
     let mut files = files_of(alloc, &[("fin.toml", FIN), ("Cell.java", CELL)], &[])?;
-    let ended = start(&(), alloc, words, &mut files, &mut out, &OpenGate);
+    let ended = start(rt, alloc, words, &mut files, &mut out, &OpenGate);
     Ok(ended == status && out.bytes() == text.as_bytes())
 }
 
-fn starts_with(alloc: Global, words: &[&str], status: u8, text: &str) -> Result<bool, NoMemory> {
+fn starts_with<W: Threads + Wait + Sync>(
+    rt: &W,
+    alloc: Global,
+    words: &[&str],
+    status: u8,
+    text: &str,
+) -> Result<bool, NoMemory> {
     let words = words_of(alloc, words)?;
-    starts(alloc, Ok(words), status, text)
+    starts(rt, alloc, Ok(words), status, text)
 }
 
 #[test]
 fn given_words(rt: HostRuntime) -> Result<(), Fail> {
-    assert!(rt; starts_with(rt.alloc(), &LIST, 0, LISTED)?);
-    assert!(rt; starts_with(rt.alloc(), &["", "list"], 2, "usage fault\n")?);
-    assert!(rt; starts(rt.alloc(), Err(NoWords::NotText), 2, "usage fault\n")?);
+    assert!(rt; starts_with(&rt, rt.alloc(), &LIST, 0, LISTED)?);
+    assert!(rt; starts_with(&rt, rt.alloc(), &["", "list"], 2, "usage fault\n")?);
+    assert!(rt; starts(&rt, rt.alloc(), Err(NoWords::NotText), 2, "usage fault\n")?);
     let lacking = NoMemory::from(AllocError);
-    assert!(rt; starts(rt.alloc(), Err(NoWords::Memory(lacking)), 8, "")?);
+    assert!(rt; starts(&rt, rt.alloc(), Err(NoWords::Memory(lacking)), 8, "")?);
     Ok(())
 }

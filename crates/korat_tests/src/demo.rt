@@ -4,10 +4,13 @@ use crate::calls::{ends, files_of, sink_of};
 use kr_base::NoMemory;
 use kr_demo::{demo_finitization, demo_source};
 use std::alloc::Global;
+use std::sync::Wait;
 use std::test::Fail;
+use std::thread::Threads;
 
 /// Whether the demo of so many nodes ends so and writes this, into an output of so many bytes.
-fn demo_ends(
+fn demo_ends<W: Threads + Wait + Sync>(
+    rt: &W,
     alloc: Global,
     nodes: &str,
     room: usize,
@@ -17,6 +20,7 @@ fn demo_ends(
     let mut out = sink_of(alloc, room, 4, &[])?;
     let mut files = files_of(alloc, &[], &[1])?;
     ends(
+        rt,
         alloc,
         &["demo", nodes],
         &mut files,
@@ -34,7 +38,10 @@ fn few_nodes(rt: HostRuntime) -> Result<(), Fail> {
         ("3", 1024, 0, "nodes 3 valid 5\n"),
         ("1", 15, 7, "nodes 1 valid 1"),
     ] {
-        assert!(rt; demo_ends(rt.alloc(), nodes, room, status, text)?, "{text}");
+        assert!(rt;
+            demo_ends(&rt, rt.alloc(), nodes, room, status, text)?,
+            "{text}"
+        );
     }
     Ok(())
 }

@@ -1,39 +1,51 @@
 -- What was found for a command, and the statuses of refusals.
-use Rattle.std.proofs.Common.{◌≡◌, ◌∙◌, ℕ, ◌<◌, List, [], ◌∷◌, ap, arith, refl, subst, sym}
-use Rattle.std.specs.Prelude.{None, Some, Option, Result, Ok, Err}
+use Rattle.std.proofs.Common.{false, ◌≡◌, ◌∙◌, ℕ, List, [], ◌∷◌, ap, arith, inl, refl, subst, sym}
+use Rattle.std.specs.Prelude.{Some, Option, Result, Ok, Err}
 use Rattle.kr_mean.specs.declared.mode.Mode.{Mode}
 use Rattle.kr_mean.specs.declared.mode.Mode.TheVariants.{List as Listing, Method as Testing}
 use Rattle.kr_args.specs.declared.forms.Ask.{Ask}
 use Rattle.kr_args.specs.declared.forms.Command.{Command}
 use Rattle.kr_args.specs.declared.forms.Command.TheVariants as commands
-use Rattle.kr_ast.specs.Tree.{Tree}
 use Rattle.kr_demo.specs.Texts.{source_text, finitization_text}
-use Rattle.kr_fin.specs.declared.document.FinDoc.{FinDoc}
 use Rattle.kr_mean.specs.Problem as means
-use Rattle.kr_space_meaning.specs.Bounds.{problem_of}
-use Rattle.kr_space_meaning.specs.Meaning.{faults_of, meaning, unless}
-use Rattle.kr_space_meaning.specs.Order.{Fault, least, rule_code}
-use Rattle.kr_space.specs.Refusals.{Refuses}
-use Rattle.kr_space_meaning.specs.declared.refusal.SpaceRule.{SpaceRule}
-use Rattle.kr_base.specs.declared.refusal.RefusalOf.{RefusalOf}
-use Rattle.kr_base.specs.declared.refusal.RefusalOf.TheVariants as of
 use Rattle.kr_space_problem.specs.Posed.{posed}
 use Rattle.kr_space_problem.specs.declared.problem.Problem.{Problem}
-use Rattle.korat_top.specs.declared.refusal.InputFile.{InputFile}
-use Rattle.korat_top.specs.declared.refusal.InputFile.TheVariants as input
-use Rattle.korat_top.specs.declared.refusal.Stop.{Stop}
-use Rattle.korat_top.specs.declared.refusal.Stop.TheVariants.{Read, Refused, Memory}
-use Rattle.korat_top.specs.Refusals.{Inputs, Refusal, name_of, refusal_of, status_of_file}
-use Rattle.korat_top.specs.Steps.{Held, Checks, Reads, AllTold}
-use Rattle.korat_top.specs.Chains.{from_texts, spacing}
-use Rattle.korat_top.specs.Answer.{IsTold, ReadsFor, files_of, inputs_of, steps_of}
-use Rattle.korat_top.specs.Found.{FindsIn, Finds, Meets, StopsBy, StopsOf}
-use Rattle.korat_top.proofs.Chained.{to_checks, to_judges}
+use Rattle.korat_top_files.specs.declared.refusal.InputFile.{InputFile}
+use Rattle.korat_top_files.specs.declared.refusal.InputFile.TheVariants as input
+use Rattle.korat_top_files.specs.declared.refusal.Stop.{Stop}
+use Rattle.korat_top_files.specs.declared.refusal.Stop.TheVariants.{Read, Refused, Memory}
+use Rattle.korat_top_files.specs.Refusals.{Inputs, Refusal, files_of, name_of, refusal_of, status_of_file}
+use Rattle.korat_top_files.specs.Steps.{Held, Checks, Reads, AllTold}
+use Rattle.korat_top_files.specs.Chains.{from_texts}
+use Rattle.korat_top.specs.Answer.{IsTold, ReadsFor, inputs_of, steps_of}
+use Rattle.korat_top_files.specs.Found.{FindsIn, Meets}
+use Rattle.korat_top.specs.Ends.{IsGiven}
+use Rattle.korat_top_reports.specs.Reports.{PosesProblem, is_alone}
+use Rattle.korat_top.specs.Found.{Finds}
+use Rattle.korat_top_files.proofs.Chained.{to_checks, to_judges}
 
 -- a refusal ends with 3 or 4
-pub refused_low : (file : InputFile) → status_of_file file < 6
-refused_low input.Finitization = omega arith
-refused_low (input.Source n) = omega arith
+pub refused_low : (file : InputFile) → IsGiven (status_of_file file)
+refused_low input.Finitization = inl (omega arith)
+refused_low (input.Source n) = inl (omega arith)
+
+-- a command that puts no shards together poses a problem
+pub poses_problem : (command : Command) → ((files : List (List ℕ)) → command ≡ commands.Merge files → ⊥) → PosesProblem command
+poses_problem (commands.List ask) h = tt
+poses_problem (commands.Test method ask) h = tt
+poses_problem (commands.Check fin sources) h = tt
+poses_problem (commands.Demo n workers) h = tt
+poses_problem (commands.Shard ask) h = tt
+poses_problem (commands.Merge files) h = h files refl
+
+-- so does one of several workers, or with a trace
+pub shared_poses : (command : Command) → is_alone command ≡ false → PosesProblem command
+shared_poses (commands.List ask) h = tt
+shared_poses (commands.Test method ask) h = tt
+shared_poses (commands.Check fin sources) h = tt
+shared_poses (commands.Demo n workers) h = tt
+shared_poses (commands.Shard ask) h = tt
+shared_poses (commands.Merge files) h = absurd (cc (h))
 
 pub refused_no_usage : (file : InputFile) → status_of_file file ≡ 2 → ⊥
 refused_no_usage input.Finitization e = omega (arith, e)
@@ -63,6 +75,11 @@ pub list_found : {F : Type 0} (held : F → Held) (faults : F → ℕ) (last : F
 list_found held faults last ask files files' r h =
     checks_found held faults last (commands.List ask) Listing (files_of ask.fin ask.sources) files files' r (λ x c. c) (λ t. t) (λ file s. s) refl h
 
+pub shard_found : {F : Type 0} (held : F → Held) (faults : F → ℕ) (last : F → Option (List ℕ)) (ask : Ask) (files files' : F) (r : Result Problem Stop)
+    → FindsIn held faults last Listing (files_of ask.fin ask.sources) files files' r → Finds held faults last (commands.Shard ask) files files' r
+shard_found held faults last ask files files' r h =
+    checks_found held faults last (commands.Shard ask) Listing (files_of ask.fin ask.sources) files files' r (λ x c. c) (λ t. t) (λ file s. s) refl h
+
 pub test_found : {F : Type 0} (held : F → Held) (faults : F → ℕ) (last : F → Option (List ℕ)) (method : List ℕ) (ask : Ask) (files files' : F) (r : Result Problem Stop)
     → FindsIn held faults last (Testing method) (files_of ask.fin ask.sources) files files' r → Finds held faults last (commands.Test method ask) files files' r
 test_found held faults last method ask files files' r h =
@@ -74,26 +91,9 @@ check_found held faults last fin sources files files' r h =
     checks_found held faults last (commands.Check fin sources) Listing (files_of fin sources) files files' r (λ x c. c) (λ t. t) (λ file s. s) refl h
 
 -- the demo's texts have the steps of files
-pub demo_found : {F : Type 0} (held : F → Held) (faults : F → ℕ) (last : F → Option (List ℕ)) (n : ℕ) (files files' : F) (r : Result Problem Stop)
-    → Meets (from_texts Listing (finitization_text n) (source_text n ∷ [])) posed r → Finds held faults last (commands.Demo n) files files' r
-demo_found held faults last n files files' (Ok f) h = λ t. to_judges Listing (finitization_text n) (source_text n ∷ []) (Ok (posed f)) h
-demo_found held faults last n files files' (Err (Refused x)) h = λ t. to_judges Listing (finitization_text n) (source_text n ∷ []) (Err (refusal_of x)) h
-demo_found held faults last n files files' (Err (Read failed)) h = absurd h
-demo_found held faults last n files files' (Err (Memory why)) h = tt
-
--- ---- what a program and a document come to
-
-pub posed_made : (mode : Mode) (files : List Tree) (document : FinDoc) (p : Problem) → least (faults_of files document mode) ≡ None → posed p ≡ problem_of files document mode → spacing mode files document (Ok (posed p))
-unfolding meaning
-posed_made mode files document p none is = ap (λ (o : Option Fault). unless o (problem_of files document mode)) none ∙ ap Ok (sym is)
-
-pub posed_stops : (mode : Mode) (files : List Tree) (document : FinDoc) (refusal : RefusalOf SpaceRule) (stop : Stop) → Refuses (least (faults_of files document mode)) refusal → StopsOf rule_code refusal stop
-    → StopsBy (spacing mode files document) stop
-unfolding meaning
-posed_stops mode files document (of.Broken fault) stop h s =
-    subst (StopsBy (spacing mode files document)) (sym s.1) (fault, ap (λ (o : Option Fault). unless o (problem_of files document mode)) h, s.2)
-posed_stops mode files document (of.NoMemory why) stop h s = subst (StopsBy (spacing mode files document)) (sym s) tt
-
--- work that stops comes to that
-pub meets_stop : {A : Type 0} (steps : Result A Refusal → Type 0) (seen : Problem → A) (r : Result Problem Stop) (stop : Stop) → r ≡ Err stop → StopsBy steps stop → Meets steps seen r
-meets_stop steps seen r stop e h = subst (Meets steps seen) (sym e) h
+pub demo_found : {F : Type 0} (held : F → Held) (faults : F → ℕ) (last : F → Option (List ℕ)) (n workers : ℕ) (files files' : F) (r : Result Problem Stop)
+    → Meets (from_texts Listing (finitization_text n) (source_text n ∷ [])) posed r → Finds held faults last (commands.Demo n workers) files files' r
+demo_found held faults last n workers files files' (Ok f) h = λ t. to_judges Listing (finitization_text n) (source_text n ∷ []) (Ok (posed f)) h
+demo_found held faults last n workers files files' (Err (Refused x)) h = λ t. to_judges Listing (finitization_text n) (source_text n ∷ []) (Err (refusal_of x)) h
+demo_found held faults last n workers files files' (Err (Read failed)) h = absurd h
+demo_found held faults last n workers files files' (Err (Memory why)) h = tt

@@ -1,5 +1,5 @@
 -- How a call ends, by what it came to.
-use Rattle.std.proofs.Common.{◌≡◌, ℕ, ◌<◌, ◌≤◌, ◌⊎◌, ◌++◌, [], List, refl, sym, ◌∙◌, subst, inl, inr, arith}
+use Rattle.std.proofs.Common.{◌≡◌, ℕ, ◌<◌, ◌≤◌, ◌⊎◌, ◌++◌, [], List, refl, sym, ◌∙◌, subst, inl, inr, lit≤, arith}
 use Rattle.std.specs.Prelude.{Option, Some, None, Result, Ok, Err, is_ok, if◌then◌else◌}
 use Rattle.std.proofs.lemmas.Bool.Decides.{leb_tells}
 use Rattle.kr_base.specs.Causes.{Rose}
@@ -9,8 +9,8 @@ use Rattle.kr_report.specs.Reports.{Answer, bytes_of, line_answer}
 use Rattle.kr_report.specs.Endings.{front_of, MayBegin, EndsListing}
 use Rattle.kr_args.specs.declared.forms.Command.{Command}
 use Rattle.korat_top.specs.Answer.{IsAnswer, IsTold, ReadsFor, usage}
-use Rattle.korat_top.specs.Steps.{Held}
-use Rattle.korat_top.specs.Ends.{Outside, seen, Wrote, Broke, IsFront, MayTell, EndsFor, IsComplete}
+use Rattle.korat_top_files.specs.Steps.{Held}
+use Rattle.korat_top.specs.Ends.{IsGiven, Outside, seen, Wrote, Broke, IsFront, MayTell, EndsFor, IsComplete}
 
 -- what was put into a sink, as it is seen
 abbrev Wrotes : {T E : Type 0} → Outside → Outside → List ℕ → Result T E → Type 0
@@ -29,29 +29,40 @@ pub writes_seen : {F K T E : Type 0} (held : F → Held) (read_faults : F → �
 writes_seen held read_faults last taken faults files files' out out' text (Ok v) x = added_seen held read_faults last taken faults files files' out out' text x
 writes_seen held read_faults last taken faults files files' out out' text (Err v) x = stopped_seen held read_faults last taken faults files files' out out' text x
 
+low_known : (n : ℕ) → IsGiven n → n ≤ 9
+low_known n (inl h) = omega (arith, h)
+low_known n (inr h) = omega (arith, h)
+
+not_given : (n m : ℕ) → n ≡ m → 6 ≤ m → m ≤ 8 → IsGiven n → ⊥
+not_given n m e low high (inl h) = omega (arith, e, low, h)
+not_given n m e low high (inr h) = omega (arith, e, high, h)
+
+pub low_given : (n : ℕ) → n < 6 → IsGiven n
+low_given n h = inl h
+
 module _ (before after : Outside) (status : ℕ) where
   -- an answer's status
   given_end : (command : Command) (answer : Answer)
-      → (IsTold before.held (Some command) → IsAnswer before.held (Some command) answer) → status ≡ answer.status → (status ≡ 2 → ⊥) → status < 6 → after.read_faults ≡ before.read_faults → Wrote before after (bytes_of answer)
+      → (IsTold before.held (Some command) → IsAnswer before.held (Some command) answer) → status ≡ answer.status → (status ≡ 2 → ⊥) → IsGiven status → after.read_faults ≡ before.read_faults → Wrote before after (bytes_of answer)
       → EndsFor (Some command) before after status
   given_end command answer told e no_usage low reads x = record {
-    known = omega (arith, low);
+    known = low_known status low;
     given = λ _ t. record { answer = answer; is_answer = told t; status_is = e; written = x };
     usage = λ f. absurd (no_usage f);
     no_command = λ f. absurd (cc (f));
-    read_fault = λ f. absurd (omega (arith, low, f));
+    read_fault = λ f. absurd (not_given status 6 f (lit≤ tt) (lit≤ tt) low);
     no_write_fault = λ _. x.no_fault;
     no_read_fault = λ _ _. reads;
-    write_fault = λ f. absurd (omega (arith, low, f));
-    front = λ f _. absurd (omega (arith, low, f));
-    memory = λ f. absurd (omega (arith, low, f));
+    write_fault = λ f. absurd (not_given status 7 f (lit≤ tt) (lit≤ tt) low);
+    front = λ f _. absurd (not_given status 7 f (lit≤ tt) (lit≤ tt) low);
+    memory = λ f. absurd (not_given status 8 f (lit≤ tt) (lit≤ tt) low);
   }
 
   -- a fault of the sink
   fault_end : (asked : Option Command) (text : List ℕ) → (IsTold before.held asked → MayTell before.held asked text) → Broke before after text → status ≡ 7 → EndsFor asked before after status
   fault_end asked text may x e = record {
     known = omega (arith, e);
-    given = λ f _. absurd (omega (arith, e, f));
+    given = λ f _. absurd (not_given status 7 e (lit≤ tt) (lit≤ tt) f);
     usage = λ f. absurd (omega (arith, e, f));
     no_command = λ _. inr (inl e);
     read_fault = λ f. absurd (omega (arith, e, f));
@@ -68,7 +79,7 @@ module _ (before after : Outside) (status : ℕ) where
       → EndsFor asked before after status
   memory_end asked rows front reads x e = record {
     known = omega (arith, e);
-    given = λ f _. absurd (omega (arith, e, f));
+    given = λ f _. absurd (not_given status 8 e (lit≤ tt) (lit≤ tt) f);
     usage = λ f. absurd (omega (arith, e, f));
     no_command = λ _. inr (inr e);
     read_fault = λ f. absurd (omega (arith, e, f));
@@ -81,10 +92,10 @@ module _ (before after : Outside) (status : ℕ) where
 
   -- an answer that is put
   pub put_answer : {T E : Type 0} (command : Command) (answer : Answer) (r : Result T E)
-      → (IsTold before.held (Some command) → IsAnswer before.held (Some command) answer) → (answer.status ≡ 2 → ⊥) → answer.status < 6 → after.read_faults ≡ before.read_faults
+      → (IsTold before.held (Some command) → IsAnswer before.held (Some command) answer) → (answer.status ≡ 2 → ⊥) → IsGiven answer.status → after.read_faults ≡ before.read_faults
       → Wrotes before after (bytes_of answer) r → status ≡ (if is_ok r then answer.status else 7)
       → EndsFor (Some command) before after status
-  put_answer command answer (Ok v) told no_usage low reads x e = given_end command answer told e (λ f. no_usage (sym e ∙ f)) (omega (arith, low, e)) reads x
+  put_answer command answer (Ok v) told no_usage low reads x e = given_end command answer told e (λ f. no_usage (sym e ∙ f)) (subst IsGiven (sym e) low) reads x
   put_answer command answer (Err v) told no_usage low reads x e = fault_end (Some command) (bytes_of answer) (λ t. inl (answer, told t, refl)) x e
 
   -- words that are no command
@@ -112,7 +123,7 @@ module _ (before after : Outside) (status : ℕ) where
       → EndsFor (Some command) before after status
   put_read_fault command name (Ok v) read named cause x e = record {
     known = omega (arith, e);
-    given = λ f _. absurd (omega (arith, e, f));
+    given = λ f _. absurd (not_given status 6 e (lit≤ tt) (lit≤ tt) f);
     usage = λ f. absurd (omega (arith, e, f));
     no_command = λ f. absurd (cc (f));
     read_fault = λ _. record { command = command; name = name; asked_for = refl; read = read; named = named; cause = cause; written = x };
@@ -133,38 +144,6 @@ may_tell : (held : Held) (asked : Option Command) (answer : Answer) (text : List
 may_tell held asked answer text is (inl e) = inl (answer, is, e)
 may_tell held asked answer text is (inr m) = inr (inr (front_of answer m.0, inr (answer, is, m.0, refl), m.1))
 
--- a line that is put
-pub line_listing : {K T E : Type 0} (taken : K → Option (List ℕ)) (faults : K → ℕ) (a b : K) (text : List ℕ) (status : ℕ) (r : Result T E) → Writes taken faults a b text r → status ≡ (if is_ok r then 0 else 7)
-    → EndsListing taken faults (line_answer 0 text) a b status
-line_listing taken faults a b text status (Ok v) x e = record {
-  known = inl e;
-  whole = λ _. (e, x);
-  fault = λ f. absurd (omega (arith, e, f));
-  memory = λ f. absurd (omega (arith, e, f));
-}
-line_listing taken faults a b text status (Err v) x e = record {
-  known = inr (inr (inr (inl e)));
-  whole = λ f. absurd (omega (arith, e, f));
-  fault = λ _. (text, inl refl, x);
-  memory = λ f. absurd (omega (arith, e, f));
-}
-
--- want of memory before the first row
-pub memory_listing : {K T E : Type 0} (taken : K → Option (List ℕ)) (faults : K → ℕ) (a b : K) (answer : Answer) (status : ℕ) (r : Result T E) → Writes taken faults a b memory_text r → status ≡ (if is_ok r then 8 else 7)
-    → EndsListing taken faults answer a b status
-memory_listing taken faults a b answer status (Ok v) x e = record {
-  known = inr (inr (inr (inr e)));
-  whole = λ f. absurd (omega (arith, e, f));
-  fault = λ f. absurd (omega (arith, e, f));
-  memory = λ _. (0, x);
-}
-memory_listing taken faults a b answer status (Err v) x e = record {
-  known = inr (inr (inr (inl e)));
-  whole = λ f. absurd (omega (arith, e, f));
-  fault = λ _. (memory_text, inr (0, refl), x);
-  memory = λ f. absurd (omega (arith, e, f));
-}
-
 -- a listing that ended
 pub end_listing : {F K : Type 0} (held : F → Held) (read_faults : F → ℕ) (last : F → Option (List ℕ)) (taken : K → Option (List ℕ)) (faults : K → ℕ) (command : Command) (files files' : F) (out out' : K) (status : ℕ) (answer : Answer)
     → (IsTold (held files) (Some command) → IsAnswer (held files) (Some command) answer) → read_faults files' ≡ read_faults files → EndsListing taken faults answer out out' status
@@ -180,7 +159,7 @@ end_listing {F} {K} held read_faults last taken faults command files files' out 
     whole : status < 6 → (status ≡ 2 → ⊥) → EndsFor (Some command) before after status
     whole low no_usage =
         let w = x.whole low in
-        given_end before after status command answer told w.0 no_usage low reads (added_seen held read_faults last taken faults files files' out out' (bytes_of answer) w.1)
+        given_end before after status command answer told w.0 no_usage (inl low) reads (added_seen held read_faults last taken faults files files' out out' (bytes_of answer) w.1)
 
     by_case : (status ≡ 0) ⊎ (status ≡ 1) ⊎ (status ≡ 5) ⊎ (status ≡ 7) ⊎ (status ≡ 8) → EndsFor (Some command) before after status
     by_case (inl e) = whole (omega (arith, e)) (λ f. omega (arith, e, f))
@@ -194,12 +173,15 @@ end_listing {F} {K} held read_faults last taken faults command files files' out 
         memory_end before after status (Some command) (front_of answer m.0) (λ t. inr (answer, told t, m.0, refl)) reads
         (added_seen held read_faults last taken faults files files' out out' (front_of answer m.0 ++ memory_text) m.1) e
 
-split : (n : ℕ) → n ≤ 8 → (n < 6) ⊎ (n ≡ 6) ⊎ (n ≡ 7) ⊎ (n ≡ 8)
+split : (n : ℕ) → n ≤ 9 → IsGiven n ⊎ (n ≡ 6) ⊎ (n ≡ 7) ⊎ (n ≡ 8)
 split n h = elim (leb_tells n 5) [
-  | inl a ↦ inl (omega (arith, a.1))
+  | inl a ↦ inl (inl (omega (arith, a.1)))
   | inr a ↦ elim (leb_tells n 6) [
     | inl b ↦ inr (inl (omega (arith, a.1, b.1)))
-    | inr b ↦ elim (leb_tells n 7) [ inl d ↦ inr (inr (inl (omega (arith, b.1, d.1)))) | inr d ↦ inr (inr (inr (omega (arith, d.1, h)))) ]
+    | inr b ↦ elim (leb_tells n 7) [
+      | inl d ↦ inr (inr (inl (omega (arith, b.1, d.1))))
+      | inr d ↦ elim (leb_tells n 8) [ inl e ↦ inr (inr (inr (omega (arith, d.1, e.1)))) | inr e ↦ inl (inr (omega (arith, e.1, h))) ]
+    ]
   ]
 ]
 

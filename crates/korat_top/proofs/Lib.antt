@@ -1,9 +1,5 @@
-pub mod Small
 pub mod Calls
-pub mod Classes
-pub mod Outcomes
-pub mod Chained
-pub mod Told
 pub mod Answered
 pub mod OneAnswer
-pub mod Examples
+pub mod Sharding
+pub mod Stopping

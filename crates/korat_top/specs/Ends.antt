@@ -1,12 +1,14 @@
 -- To be believed: how a call ends: by its status, what was written and why.
-use Rattle.std.specs.Prelude.{◌≡◌, ℕ, ◌<◌, ◌≤◌, ◌⊎◌, List, [], ◌++◌, Option, Some, None}
+use Rattle.std.specs.Prelude.{◌≡◌, ℕ, ◌<◌, ◌≤◌, ◌⊎◌, List, [], ◌++◌, Bool, true, false, Option, Some, None}
 use Rattle.kr_base.specs.Causes.{Rose}
 use Rattle.kr_base.specs.Told.{Added, Stopped}
 use Rattle.kr_report.specs.Texts.{read_fault_text, memory_text}
 use Rattle.kr_report.specs.Reports.{Answer, bytes_of}
 use Rattle.kr_report.specs.Endings.{front_of}
 use Rattle.kr_args.specs.declared.forms.Command.{Command}
-use Rattle.korat_top.specs.Steps.{Held}
+use Rattle.korat_top_files.specs.Steps.{Held}
+use Rattle.kr_report_shared.specs.Traced.{followed_by}
+use Rattle.korat_top_reports.specs.Reports.{is_traced}
 use Rattle.korat_top.specs.Answer.{IsAnswer, IsTold, ReadsFor}
 
 -- ---- what is outside
@@ -33,6 +35,10 @@ abbrev pub Broke : Outside → Outside → List ℕ → Type 0
 Broke before after text = Stopped (λ (o : Outside). o.taken) (λ (o : Outside). o.write_faults) before after text
 
 -- ---- how a call ends
+
+-- the status of an answer
+abbrev pub IsGiven : ℕ → Type 0
+IsGiven status = (status < 6) ⊎ (status ≡ 9)
 
 -- The words' answer was given: its status, and exactly its bytes.
 pub record Gives (asked : Option Command) (before after : Outside) (status : ℕ) : Type 0 where
@@ -76,9 +82,9 @@ pub record TellsMemory (asked : Option Command) (before after : Outside) : Type 
 
 -- How a call ends whose words ask for this, by what is outside before and after it.
 pub record EndsFor (asked : Option Command) (before after : Outside) (status : ℕ) : Type 0 where
-  pub known : status ≤ 8
-  -- 0 to 5: where the files' bytes are told, it is the answer's status, with exactly its bytes
-  pub given : status < 6 → IsTold before.held asked → Gives asked before after status
+  pub known : status ≤ 9
+  -- 0 to 5, and 9: where the files' bytes are told, it is the answer's status, with exactly its bytes
+  pub given : IsGiven status → IsTold before.held asked → Gives asked before after status
   -- 2, whatever is told of the files: only the words give no command, and such words end with 2, 7 or 8
   pub usage : status ≡ 2 → asked ≡ None
   pub no_command : asked ≡ None → (status ≡ 2) ⊎ (status ≡ 7) ⊎ (status ≡ 8)
@@ -99,6 +105,16 @@ IsComplete asked before after status =
     IsTold before.held asked → (Rose before.read_faults after.read_faults → ⊥) → (Rose before.write_faults after.write_faults → ⊥)
     → (status ≡ 8) ⊎ Gives asked before after status
 
--- Words and files have at most one answer.
+-- a trace is asked for
+abbrev pub traces : Option Command → Bool
+traces None = false
+traces (Some command) = is_traced command
+
+-- two answers are one; with `--trace` they are one report, each with what stands behind it
+abbrev pub AreOne : Bool → Answer → Answer → Type 0
+AreOne false one other = one ≡ other
+AreOne true one other = (report : Answer) × (a : List ℕ) × (b : List ℕ) × (one ≡ followed_by a report) × (other ≡ followed_by b report)
+
+-- Words and files have at most one answer, but for the log behind it.
 abbrev pub OneAnswer : Type 0
-OneAnswer = (held : Held) (asked : Option Command) (one other : Answer) → IsAnswer held asked one → IsAnswer held asked other → one ≡ other
+OneAnswer = (held : Held) (asked : Option Command) (one other : Answer) → IsAnswer held asked one → IsAnswer held asked other → AreOne (traces asked) one other

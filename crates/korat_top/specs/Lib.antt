@@ -1,11 +1,8 @@
 pub use Rattle.kr_base.specs.Causes
 pub use Rattle.kr_base.specs.Told
 pub use Rattle.kr_io.specs.Reads
-pub mod Refusals
-pub mod Steps
-pub mod Chains
 pub mod Answer
 pub mod Ends
 pub mod Starts
 pub mod Found
-pub mod Examples
+pub mod Stops

@@ -11,6 +11,8 @@ use kr_io::{Files, Gate};
 use std::alloc::{AllocError, Global};
 use std::env::Args;
 use std::io;
+use std::sync::Wait;
+use std::thread::Threads;
 
 /// Why the program has no words.
 #[derive(Clone, Copy, PartialEq, Eq)]
@@ -67,8 +69,8 @@ pub fn words_of(alloc: Global, given: io::Result<Args>) -> Result<Words, NoWords
 
 /// Serves the words that the program was given. Words that aren't text are no command. Where there is no memory for
 /// them, nothing is read or written.
-pub fn start<R, F: Files, K: Sink, G: Gate + Sync>(
-    rt: &R,
+pub fn start<W: Threads + Wait + Sync, F: Files, K: Sink, G: Gate + Sync>(
+    rt: &W,
     alloc: Global,
     words: Result<Words, NoWords>,
     files: &mut F,

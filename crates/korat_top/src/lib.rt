@@ -4,12 +4,11 @@
 mod find;
 mod given;
 mod laws;
-mod refusal;
+mod merge;
 mod report;
-mod rules;
-mod sources;
+mod stop;
 mod top;
 
 pub use given::{NoWords, start, words_of};
-pub use laws::{one_answer, worked_lines};
+pub use laws::one_answer;
 pub use top::run;

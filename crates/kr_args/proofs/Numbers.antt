@@ -17,7 +17,7 @@ both_true true b h = (refl, h)
 both_true false b h = absurd (cc (h))
 
 -- a text that is read as a number within the limits is what is written of it
-number_text : (low high : ℕ) (text : List ℕ) (n : ℕ) → number_in low high text ≡ Some n → (text ≡ decimal n) × (low ≤ n) × (n ≤ high)
+pub number_text : (low high : ℕ) (text : List ℕ) (n : ℕ) → number_in low high text ≡ Some n → (text ≡ decimal n) × (low ≤ n) × (n ≤ high)
 number_text low high text n = go (bytes_eq (decimal (digits_value 10 text)) text && (nat_le low (digits_value 10 text) && nat_le (digits_value 10 text) high)) refl
   where
     go : (t : Bool) → (bytes_eq (decimal (digits_value 10 text)) text && (nat_le low (digits_value 10 text) && nat_le (digits_value 10 text) high)) ≡ t

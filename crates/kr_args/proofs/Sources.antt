@@ -1,6 +1,6 @@
 -- A command that reads files has from one source to the most: a walk that breaks no rule has no use of their argument with
 -- fewer or more, and one use alone.
-use Rattle.std.proofs.Common.{◌≡◌, ◌∙◌, ◌&&◌, ◌||◌, ◌≤◌, ◌++◌, ℕ, Bool, true, false, true≢false, List, [], ◌∷◌, Option, Some, None, arith, eqb, length, nat_lt, refl, subst, sym, ap}
+use Rattle.std.proofs.Common.{◌≡◌, ◌∙◌, ◌&&◌, ◌||◌, ◌≤◌, ◌++◌, ◌⊎◌, inl, inr, ℕ, Bool, true, false, true≢false, List, [], ◌∷◌, Option, Some, None, arith, eqb, length, nat_lt, refl, subst, sym}
 use Rattle.std.specs.Prelude.{IfSome, codes, find, fold, if◌then◌else◌, not, option_and_then, option_map}
 use Rattle.std.specs.List.{AllByRecursion, list_all}
 use Rattle.std.specs.Option.{option_map_or}
@@ -14,16 +14,16 @@ use Rattle.clap.specs.Simple.{App, Shape, argument_words, built, entered, label_
 use Rattle.clap.specs.Faults.{action_fault, entered_fault, fault_of, level_fault, repeat_fault, use_fault, values_fault, walk_fault}
 use Rattle.clap.specs.declared.builder.action.ArgAction.{ArgAction}
 use Rattle.clap.specs.declared.builder.action.ArgAction.TheVariants as actions
-use Rattle.clap.specs.declared.builder.value_parser.Reading.{Reading}
-use Rattle.clap.specs.declared.parser.matches.ValueSource.TheVariants.{CommandLine}
+use Rattle.clap.specs.declared.parser.matches.ValueSource.{ValueSource}
+use Rattle.clap.specs.declared.parser.matches.ValueSource.TheVariants.{CommandLine, DefaultValue}
 use Rattle.clap.specs.declared.error.kind.ErrorKind.TheVariants as kind
 use Rattle.clap.proofs.OnLiterals.{clap_on_literals}
 use Rattle.kr_args.specs.Definition.{MOST_SOURCES, korat_app}
 use Rattle.kr_args.specs.Sources.{AreSources, HasSources}
-use Rattle.kr_args.specs.Reading.{Files, Range, ask_in, ask_with, check_in, command_in, command_of, demo_in, files_in, files_with, list_in, named_in, number_in, range_in, test_in, test_with}
+use Rattle.kr_args.specs.Reading.{Files, Range, ask_in, ask_with, check_in, command_in, command_of, demo_in, demo_with, files_in, files_with, list_in, merge_in, named_in, number_in, range_in, shard_in, span_in, test_in, test_with, flag_in, workers_in}
 use Rattle.kr_args.specs.declared.forms.Ask.{Ask}
 use Rattle.kr_args.specs.declared.forms.Command.TheVariants as commands
-use Rattle.kr_args.proofs.Walks.{IsOf, Keeps, both_none, level_kept}
+use Rattle.kr_args.proofs.Walks.{Keeps, both_none, level_kept}
 
 both_true : (a b : Bool) → (a && b) ≡ true → (a ≡ true) × (b ≡ true)
 both_true true b h = (refl, h)
@@ -111,12 +111,42 @@ set_is actions.HelpShort e = absurd (cc (e))
 set_is actions.HelpLong e = absurd (cc (e))
 set_is actions.Version e = absurd (cc (e))
 
+abbrev is_flag : ArgAction → Bool
+is_flag actions.SetTrue = true
+is_flag _ = false
+
+flag_is : (action : ArgAction) → is_flag action ≡ true → action ≡ actions.SetTrue
+flag_is actions.SetTrue e = refl
+flag_is actions.Set e = absurd (cc (e))
+flag_is actions.Append e = absurd (cc (e))
+flag_is actions.SetFalse e = absurd (cc (e))
+flag_is actions.Count e = absurd (cc (e))
+flag_is actions.Help e = absurd (cc (e))
+flag_is actions.HelpShort e = absurd (cc (e))
+flag_is actions.HelpLong e = absurd (cc (e))
+flag_is actions.Version e = absurd (cc (e))
+
 abbrev is_ranged : Rule → Bool
 is_ranged a = eqb (unwrap_or_range a.range).start_inclusive 1 && eqb (most_values a) MOST_SOURCES
 
--- it is used once at most, has no default, and if it is that of the sources, from one value to the most
+-- it has values, is used once at most, has no default, and if it is that of the sources, from one value to the most
+abbrev is_valued : Rule → Bool
+is_valued a = is_set (action_of a) && (is_empty a.defaults && (not (is_source a.id) || is_ranged a))
+
+-- it is a flag, and not that of the sources
+abbrev is_switch : Rule → Bool
+is_switch a = is_flag (action_of a) && not (is_source a.id)
+
 abbrev is_plain : Rule → Bool
-is_plain a = is_set (action_of a) && (is_empty a.defaults && (not (is_source a.id) || is_ranged a))
+is_plain a = is_valued a || is_switch a
+
+either : (a b : Bool) → (a || b) ≡ true → (a ≡ true) ⊎ (b ≡ true)
+either true b h = inl refl
+either false b h = inr h
+
+not_true : (a : Bool) → not a ≡ true → a ≡ false
+not_true false h = refl
+not_true true h = absurd (true≢false (sym h))
 
 abbrev are_plain : Shape → Bool
 are_plain s = not s.args_override_self && list_all is_plain s.rules
@@ -163,15 +193,13 @@ set_bounded again a values rows no_more ranged range once h = by_source (is_sour
         new_bounded a.id (more_values CommandLine (values_or_missing a values)) (row ∷ []) ((λ s. fitting values within), tt)
         (without a.id rows) (absent_without a.id rows absent) (new_bounded a.id (λ _. []) [] tt rows absent h)
 
--- a use that breaks no rule
-uses_kept : (s : Shape) → are_plain s ≡ true → Keeps s.rules s.args_override_self AreBounded
-uses_kept s plain a values rows of none h =
-    let shape = both_true (not s.args_override_self) (list_all is_plain s.rules) plain in
-    let rule = found_passes is_plain of.0 s.rules a shape.1 of.1 in
+use_kept : (s : Shape) → not s.args_override_self ≡ true → (a : Rule) (values : List Text) (rows : List Row) → is_valued a ≡ true → use_fault s.args_override_self a values rows ≡ []
+    → AreBounded rows → AreBounded (used a values rows)
+use_kept s over a values rows rule none h =
     let first = both_true (is_set (action_of a)) (is_empty a.defaults && (not (is_source a.id) || is_ranged a)) rule in
     let second = both_true (is_empty a.defaults) (not (is_source a.id) || is_ranged a) first.1 in
     let action = set_is (action_of a) first.0 in
-    let once = once_only s.args_override_self shape.0 in
+    let once = once_only s.args_override_self over in
     let each = both_none (range_kinds (unwrap_or_range a.range).start_inclusive (most_values a) (length values)) _ none in
     let acted = subst (λ (act : ArgAction). action_fault act s.args_override_self a (values_or_missing a values) rows ≡ []) action each.1 in
     let repeated = both_none (repeat_fault s.args_override_self a.id rows) (values_fault a (values_or_missing a values)) acted in
@@ -182,10 +210,37 @@ uses_kept s plain a values rows of none h =
     once_only false e = refl
     once_only true e = absurd (true≢false (sym e))
 
+-- rows of another argument come in
+other_values : (source : ValueSource) (a : Rule) (values : List Text) (rows : List Row) → is_source a.id ≡ false → AreBounded rows
+    → AreBounded (with_values a.id (reading_by a) source values rows)
+other_values source a values rows is h =
+    other_bounded a.id (more_values source values) (row ∷ []) is (λ t e. ((λ s. absurd (true≢false (sym s ∙ e))), tt)) ((λ s. absurd (true≢false (sym s ∙ is))), tt) rows h
+  where
+    row : Row
+    row = record { id = a.id; values = values; count = None; source = Some source; reading = reading_by a }
+
+flag_bounded : (a : Rule) (values : List Text) (rows : List Row) → is_switch a ≡ true → AreBounded rows
+    → AreBounded (used_as (action_of a) a.id (reading_by a) (values_or_missing a values) rows)
+flag_bounded a values rows switch h =
+    let both = both_true (is_flag (action_of a)) (not (is_source a.id)) switch in
+    let is = not_true (is_source a.id) both.1 in
+    let none : (t : Row) → is_source t.id ≡ false → AreBounded [] = λ t e. tt in
+    subst (λ (act : ArgAction). AreBounded (used_as act a.id (reading_by a) (values_or_missing a values) rows)) (sym (flag_is (action_of a) both.0))
+    (other_values CommandLine a (values_or_missing a values) (without a.id rows) is (other_bounded a.id (λ _. []) [] is none tt rows h))
+
+-- a use that breaks no rule
+uses_kept : (s : Shape) → are_plain s ≡ true → Keeps s.rules s.args_override_self AreBounded
+uses_kept s plain a values rows of none h =
+    let shape = both_true (not s.args_override_self) (list_all is_plain s.rules) plain in
+    elim (either (is_valued a) (is_switch a) (found_passes is_plain of.0 s.rules a shape.1 of.1)) [
+      | inl valued ↦ use_kept s shape.0 a values rows valued none h
+      | inr switch ↦ flag_bounded a values rows switch h
+    ]
+
 -- ---- the rows of a level
 
-default_bounded : (a : Rule) (rows : List Row) → is_empty a.defaults ≡ true → AreBounded rows → AreBounded (with_default rows a)
-default_bounded a rows none h = by_row (has_row a.id rows)
+valued_default : (a : Rule) (rows : List Row) → is_empty a.defaults ≡ true → AreBounded rows → AreBounded (with_default rows a)
+valued_default a rows none h = by_row (has_row a.id rows)
   where
     by_defaults : (texts : List Text) → is_empty texts ≡ true → AreBounded (default_rows a.id (reading_by a) texts rows)
     by_defaults [] e = h
@@ -195,13 +250,30 @@ default_bounded a rows none h = by_row (has_row a.id rows)
     by_row true = h
     by_row false = by_defaults a.defaults none
 
+switch_default : (a : Rule) (rows : List Row) → is_source a.id ≡ false → AreBounded rows → AreBounded (with_default rows a)
+switch_default a rows other h = by_row (has_row a.id rows)
+  where
+    by_defaults : (texts : List Text) → AreBounded (default_rows a.id (reading_by a) texts rows)
+    by_defaults [] = h
+    by_defaults (t ∷ texts) = other_values DefaultValue a (t ∷ texts) rows other h
+
+    by_row : (b : Bool) → AreBounded (if b then rows else default_rows a.id (reading_by a) a.defaults rows)
+    by_row true = h
+    by_row false = by_defaults a.defaults
+
+default_bounded : (a : Rule) (rows : List Row) → is_plain a ≡ true → AreBounded rows → AreBounded (with_default rows a)
+default_bounded a rows plain h = elim (either (is_valued a) (is_switch a) plain) [
+  | inl valued ↦
+      let first = both_true (is_set (action_of a)) (is_empty a.defaults && (not (is_source a.id) || is_ranged a)) valued in
+      valued_default a rows (both_true (is_empty a.defaults) (not (is_source a.id) || is_ranged a) first.1).0 h
+  | inr switch ↦ switch_default a rows (not_true (is_source a.id) (both_true (is_flag (action_of a)) (not (is_source a.id)) switch).1) h
+]
+
 defaults_bounded : (c : List Rule) (rows : List Row) → list_all is_plain c ≡ true → AreBounded rows → AreBounded (fold with_default rows c)
 defaults_bounded [] rows plain h = h
 defaults_bounded (a ∷ c) rows plain h =
     let each = both_true (is_plain a) (list_all is_plain c) plain in
-    let first = both_true (is_set (action_of a)) (is_empty a.defaults && (not (is_source a.id) || is_ranged a)) each.0 in
-    let second = both_true (is_empty a.defaults) (not (is_source a.id) || is_ranged a) first.1 in
-    defaults_bounded c (with_default rows a) each.1 (default_bounded a rows second.0 h)
+    defaults_bounded c (with_default rows a) each.1 (default_bounded a rows each.0 h)
 
 level_bounded : (s : Shape) (words : List Text) → are_plain s ≡ true → level_fault s [] nothing_held words false [] ≡ [] → AreBounded (rows_after s.rules [] words)
 level_bounded s words plain none =
@@ -241,10 +313,11 @@ files_bounded None sources h = tt
 files_bounded (Some fin) None h = tt
 files_bounded (Some fin) (Some sources) h = h
 
-ask_bounded : (files : Option Files) (range : Option Range) → IfSome files (λ f. AreSources f.1) → IfSome (ask_with files range) (λ ask. AreSources ask.sources)
-ask_bounded None range h = tt
-ask_bounded (Some files) None h = tt
-ask_bounded (Some files) (Some range) h = h
+ask_bounded : (files : Option Files) (range : Option Range) (workers : Option ℕ) (trace : Bool) → IfSome files (λ f. AreSources f.1) → IfSome (ask_with files range workers trace) (λ ask. AreSources ask.sources)
+ask_bounded None range workers trace h = tt
+ask_bounded (Some files) None workers trace h = tt
+ask_bounded (Some files) (Some range) None trace h = tt
+ask_bounded (Some files) (Some range) (Some workers) trace h = h
 
 list_bounded : (ask : Option Ask) → IfSome ask (λ a. AreSources a.sources) → IfSome (option_map commands.List ask) HasSources
 list_bounded None h = tt
@@ -259,25 +332,42 @@ check_bounded : (files : Option Files) → IfSome files (λ f. AreSources f.1) �
 check_bounded None h = tt
 check_bounded (Some files) h = h
 
-demo_bounded : (n : Option ℕ) → IfSome (option_map commands.Demo n) HasSources
-demo_bounded None = tt
-demo_bounded (Some n) = tt
+demo_bounded : (n workers : Option ℕ) → IfSome (demo_with n workers) HasSources
+demo_bounded None workers = tt
+demo_bounded (Some n) None = tt
+demo_bounded (Some n) (Some workers) = tt
+
+shard_bounded : (ask : Option Ask) → IfSome ask (λ a. AreSources a.sources) → IfSome (option_map commands.Shard ask) HasSources
+shard_bounded None h = tt
+shard_bounded (Some ask) h = h
+
+merge_bounded : (files : Option (List Text)) → IfSome (option_map commands.Merge files) HasSources
+merge_bounded None = tt
+merge_bounded (Some files) = tt
 
 named_bounded : (name : Text) (rows : List Row) → AreBounded rows → IfSome (named_in name rows) HasSources
-named_bounded name rows h = by_name (bytes_eq name (codes "list")) (bytes_eq name (codes "test")) (bytes_eq name (codes "check")) (bytes_eq name (codes "demo"))
+named_bounded name rows h = by_name (bytes_eq name (codes "list")) (bytes_eq name (codes "test")) (bytes_eq name (codes "check")) (bytes_eq name (codes "demo")) (bytes_eq name (codes "shard")) (bytes_eq name (codes "merge"))
   where
+    workers : Option ℕ
+    workers = workers_in (first_of (codes "workers") rows)
+
     files : IfSome (files_in rows) (λ f. AreSources f.1)
     files = files_bounded (first_of (codes "fin") rows) (all_of (codes "source") rows) (found_bounded rows h)
 
     asks : IfSome (ask_in rows) (λ a. AreSources a.sources)
-    asks = ask_bounded (files_in rows) (range_in rows) files
+    asks = ask_bounded (files_in rows) (range_in rows) workers (flag_in (first_of (codes "trace") rows)) files
 
-    by_name : (a b c d : Bool) → IfSome (if a then list_in rows else (if b then test_in rows else (if c then check_in rows else (if d then demo_in rows else None)))) HasSources
-    by_name true b c d = list_bounded (ask_in rows) asks
-    by_name false true c d = test_bounded (first_of (codes "method") rows) (ask_in rows) asks
-    by_name false false true d = check_bounded (files_in rows) files
-    by_name false false false true = demo_bounded (option_and_then (number_in 1 12) (first_of (codes "nodes") rows))
-    by_name false false false false = tt
+    spans : IfSome (ask_with (files_in rows) (span_in rows) workers false) (λ a. AreSources a.sources)
+    spans = ask_bounded (files_in rows) (span_in rows) workers false files
+
+    by_name : (a b c d e f : Bool) → IfSome (if a then list_in rows else (if b then test_in rows else (if c then check_in rows else (if d then demo_in rows else (if e then shard_in rows else (if f then merge_in rows else None)))))) HasSources
+    by_name true b c d e f = list_bounded (ask_in rows) asks
+    by_name false true c d e f = test_bounded (first_of (codes "method") rows) (ask_in rows) asks
+    by_name false false true d e f = check_bounded (files_in rows) files
+    by_name false false false true e f = demo_bounded (option_and_then (number_in 1 12) (first_of (codes "nodes") rows)) workers
+    by_name false false false false true f = shard_bounded (ask_with (files_in rows) (span_in rows) workers false) spans
+    by_name false false false false false true = merge_bounded (all_of (codes "file") rows)
+    by_name false false false false false false = tt
 
 command_bounded : (met : Option (Text × List Row)) → IfSome met (λ m. AreBounded m.1) → IfSome (command_in met) HasSources
 command_bounded None h = tt

@@ -1,6 +1,6 @@
 -- What a walk over words that breaks no rule keeps: whatever each use of an argument keeps that breaks none.
 use Rattle.std.proofs.Common.{◌≡◌, ◌&&◌, ℕ, zero, suc, Bool, true, false, List, [], ◌∷◌, Option, Some, None, length, refl}
-use Rattle.std.specs.Prelude.{codes, drop, encode_utf8, find, fold, if◌then◌else◌, is_some, not, slice_get}
+use Rattle.std.specs.Prelude.{drop, encode_utf8, find, fold, if◌then◌else◌, is_some, not, slice_get}
 use Rattle.std.specs.Option.{option_map_or}
 use Rattle.std.specs.Str.{bytes_eq, chars}
 use Rattle.clap.specs.Lexer.{long_of, short_of}

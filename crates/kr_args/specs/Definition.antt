@@ -2,6 +2,7 @@
 use Rattle.std.specs.Prelude.{ℕ, true, Some, codes}
 use Rattle.clap.specs.Words.{App, Rule, Text, new_app, new_rule, with_rule, with_subcommand}
 use Rattle.clap.specs.Simple.{on_top}
+use Rattle.clap.specs.declared.builder.action.ArgAction.TheVariants.{SetTrue}
 
 -- one word that has to be there
 abbrev pub word_rule : Text → Rule
@@ -22,25 +23,60 @@ sources_rule = record (new_rule (codes "source")) {
 abbrev pub option_rule : Text → Rule
 option_rule name = record (new_rule name) { long = Some name }
 
+-- `--name`, which is there or isn't
+abbrev pub flag_rule : Text → Rule
+flag_rule name = record (option_rule name) { action = Some SetTrue }
+
+-- the most shards that are put together
+abbrev pub MOST_SHARDS : ℕ
+MOST_SHARDS = 64
+
+-- from 1 word to the most
+abbrev pub shards_rule : Rule
+shards_rule = record (new_rule (codes "file")) {
+  required = true;
+  range = Some (record { start_inclusive = 1; end_inclusive = MOST_SHARDS });
+}
+
+-- `[--from CUT] [--to CUT]`, the span whose entries are wanted
+abbrev pub with_span : App → App
+with_span command = with_rule (with_rule command (option_rule (codes "from"))) (option_rule (codes "to"))
+
 -- `[--from CUT] [--to CUT] [--limit N]`, which entries are wanted
 abbrev pub with_range : App → App
-with_range command = with_rule (with_rule (with_rule command (option_rule (codes "from"))) (option_rule (codes "to"))) (option_rule (codes "limit"))
+with_range command = with_rule (with_span command) (option_rule (codes "limit"))
 
--- `list FIN SOURCE.. [--from CUT] [--to CUT] [--limit N]`
+-- `[--workers N]`, how many search at once
+abbrev pub with_workers : App → App
+with_workers command = with_rule command (option_rule (codes "workers"))
+
+-- the options of a listing and of a test: `[--from CUT] [--to CUT] [--limit N] [--workers N] [--trace]`
+abbrev pub with_options : App → App
+with_options command = with_rule (with_workers (with_range command)) (flag_rule (codes "trace"))
+
+-- `list FIN SOURCE..` with its options
 abbrev pub list_app : App
-list_app = with_range (with_rule (with_rule (new_app (codes "list")) (word_rule (codes "fin"))) sources_rule)
+list_app = with_options (with_rule (with_rule (new_app (codes "list")) (word_rule (codes "fin"))) sources_rule)
 
--- `test FIN METHOD SOURCE.. [--from CUT] [--to CUT] [--limit N]`
+-- `test FIN METHOD SOURCE..` with its options
 abbrev pub test_app : App
-test_app = with_range (with_rule (with_rule (with_rule (new_app (codes "test")) (word_rule (codes "fin"))) (word_rule (codes "method"))) sources_rule)
+test_app = with_options (with_rule (with_rule (with_rule (new_app (codes "test")) (word_rule (codes "fin"))) (word_rule (codes "method"))) sources_rule)
 
 -- `check FIN SOURCE..`
 abbrev pub check_app : App
 check_app = with_rule (with_rule (new_app (codes "check")) (word_rule (codes "fin"))) sources_rule
 
--- `demo N`
+-- `demo N [--workers N]`
 abbrev pub demo_app : App
-demo_app = with_rule (new_app (codes "demo")) (word_rule (codes "nodes"))
+demo_app = with_workers (with_rule (new_app (codes "demo")) (word_rule (codes "nodes")))
+
+-- `shard FIN SOURCE.. [--from CUT] [--to CUT] [--workers N]`
+abbrev pub shard_app : App
+shard_app = with_workers (with_span (with_rule (with_rule (new_app (codes "shard")) (word_rule (codes "fin"))) sources_rule))
+
+-- `merge FILE..`
+abbrev pub merge_app : App
+merge_app = with_rule (new_app (codes "merge")) shards_rule
 
 -- no help, no version, and a command has to be there
 abbrev pub bare_app : App
@@ -52,5 +88,10 @@ bare_app = on_top (λ s. record s {
   subcommand_required = true;
 }) (new_app (codes "korat"))
 
+-- the commands on listings and methods, on problems, and the demo
+abbrev pub main_app : App
+main_app = with_subcommand (with_subcommand (with_subcommand (with_subcommand bare_app list_app.top) test_app.top) check_app.top) demo_app.top
+
+-- and those on shards
 abbrev pub korat_app : App
-korat_app = with_subcommand (with_subcommand (with_subcommand (with_subcommand bare_app list_app.top) test_app.top) check_app.top) demo_app.top
+korat_app = with_subcommand (with_subcommand main_app shard_app.top) merge_app.top

@@ -1,4 +1,4 @@
 pub mod Definition
 pub mod Reading
 pub mod Sources
-pub mod Worked
+pub mod Workers

@@ -1,5 +1,5 @@
 -- To be believed: what words mean: clap's matches of them, read as a command.
-use Rattle.std.specs.Prelude.{◌&&◌, ℕ, List, [], map, Option, Some, None, codes, decimal, if◌then◌else◌, option_map, option_and_then, nat_le}
+use Rattle.std.specs.Prelude.{◌&&◌, ℕ, Bool, false, List, [], map, Option, Some, None, codes, decimal, if◌then◌else◌, option_map, option_and_then, nat_le}
 use Rattle.std.specs.Borrow.{Bor}
 use Rattle.std.specs.Str.{bytes_eq}
 use Rattle.std.specs.Str.Parse.{digits_value}
@@ -7,6 +7,7 @@ use Rattle.clap.specs.Words.{Row, Text, all_of, fault_of, first_of, subcommand_o
 use Rattle.clap.specs.Walk.{is_empty}
 use Rattle.kr_base.specs.declared.span.Bound.{Bound}
 use Rattle.kr_base.specs.declared.span.Bound.TheVariants.{At, End}
+use Rattle.kr_base.specs.Bounds.{less}
 use Rattle.kr_base.specs.Parsing.{cut_of}
 use Rattle.kr_args.specs.Definition.{korat_app}
 use Rattle.kr_args.specs.declared.forms.Ask.{Ask}
@@ -36,6 +37,16 @@ abbrev pub limit_in : Option Text → Option ℕ
 limit_in None = Some 4294967295
 limit_in (Some text) = number_in 1 4294967295 text
 
+-- one where none is given
+abbrev pub workers_in : Option Text → Option ℕ
+workers_in None = Some 1
+workers_in (Some text) = number_in 1 64 text
+
+-- whether a flag is there: clap gives it a value in any case
+abbrev pub flag_in : Option Text → Bool
+flag_in None = false
+flag_in (Some text) = bytes_eq text (codes "true")
+
 -- ---- matches
 
 -- the files that a command reads: the finitization, and the sources
@@ -60,12 +71,20 @@ range_with _ _ _ = None
 abbrev pub range_in : List Row → Option Range
 range_in rows = range_with (from_in (first_of (codes "from") rows)) (to_in (first_of (codes "to") rows)) (limit_in (first_of (codes "limit") rows))
 
-abbrev pub ask_with : Option Files → Option Range → Option Ask
-ask_with (Some files) (Some range) = Some (record { fin = files.0; sources = files.1; from = range.0; to = range.1; limit = range.2 })
-ask_with _ _ = None
+abbrev pub ask_with : Option Files → Option Range → Option ℕ → Bool → Option Ask
+ask_with (Some files) (Some range) (Some workers) trace = Some (record {
+  fin = files.0;
+  sources = files.1;
+  from = range.0;
+  to = range.1;
+  limit = range.2;
+  workers = workers;
+  trace = trace;
+})
+ask_with _ _ _ _ = None
 
 abbrev pub ask_in : List Row → Option Ask
-ask_in rows = ask_with (files_in rows) (range_in rows)
+ask_in rows = ask_with (files_in rows) (range_in rows) (workers_in (first_of (codes "workers") rows)) (flag_in (first_of (codes "trace") rows))
 
 abbrev pub list_in : List Row → Option Command
 list_in rows = option_map commands.List (ask_in rows)
@@ -81,17 +100,34 @@ test_in rows = test_with (first_of (codes "method") rows) (ask_in rows)
 abbrev pub check_in : List Row → Option Command
 check_in rows = option_map (λ files. commands.Check files.0 files.1) (files_in rows)
 
-abbrev pub demo_with : Option Text → Option Command
-demo_with nodes = option_map commands.Demo (option_and_then (number_in 1 12) nodes)
+abbrev pub demo_with : Option ℕ → Option ℕ → Option Command
+demo_with (Some n) (Some workers) = Some (commands.Demo n workers)
+demo_with _ _ = None
 
 abbrev pub demo_in : List Row → Option Command
-demo_in rows = demo_with (first_of (codes "nodes") rows)
+demo_in rows = demo_with (option_and_then (number_in 1 12) (first_of (codes "nodes") rows)) (workers_in (first_of (codes "workers") rows))
+
+-- the keys of a span, above the first and not above the second, without a limit; none where the first isn't below the second
+abbrev pub span_with : Option (List ℕ) → Option Bound → Option Range
+span_with (Some from) (Some to) = if less (At from) to then Some (from, to, 4294967295) else None
+span_with _ _ = None
+
+abbrev pub span_in : List Row → Option Range
+span_in rows = span_with (from_in (first_of (codes "from") rows)) (to_in (first_of (codes "to") rows))
+
+abbrev pub shard_in : List Row → Option Command
+shard_in rows = option_map commands.Shard (ask_with (files_in rows) (span_in rows) (workers_in (first_of (codes "workers") rows)) false)
+
+abbrev pub merge_in : List Row → Option Command
+merge_in rows = option_map commands.Merge (all_of (codes "file") rows)
 
 abbrev pub named_in : Text → List Row → Option Command
 named_in name rows = if bytes_eq name (codes "list") then list_in rows
     else (if bytes_eq name (codes "test") then test_in rows
     else (if bytes_eq name (codes "check") then check_in rows
-    else (if bytes_eq name (codes "demo") then demo_in rows else None)))
+    else (if bytes_eq name (codes "demo") then demo_in rows
+    else (if bytes_eq name (codes "shard") then shard_in rows
+    else (if bytes_eq name (codes "merge") then merge_in rows else None)))))
 
 abbrev pub command_in : Option (Text × List Row) → Option Command
 command_in = option_and_then (λ p. named_in p.0 p.1)

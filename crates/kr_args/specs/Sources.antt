@@ -13,4 +13,6 @@ abbrev pub HasSources : Command → Type 0
 HasSources (commands.List ask) = AreSources ask.sources
 HasSources (commands.Test method ask) = AreSources ask.sources
 HasSources (commands.Check fin sources) = AreSources sources
-HasSources (commands.Demo n) = Unit {0}
+HasSources (commands.Demo n workers) = Unit {0}
+HasSources (commands.Shard ask) = AreSources ask.sources
+HasSources (commands.Merge files) = Unit {0}

@@ -1,13 +1,19 @@
 // What clap makes of the words, read as a command.
-ghost use Rattle.std.specs.Prelude.{◌≡◌, ◌≢◌, Some, None, IfOk, MatchResult};
+ghost use Rattle.std.specs.Prelude.{◌≡◌, ◌≢◌, Some, None, IfOk, MatchResult, option_and_then};
 ghost use Rattle.clap.specs.Words.{kind_of, subcommand_rows_of, found_of, rows_of, first_of, all_of};
 ghost use Rattle.clap.specs.declared.error.ErrorKind.TheVariants.{OutOfMemory};
-ghost use Rattle.kr_args.specs.Reading.{text_in, texts_in, files_in, range_in, ask_in, list_in, test_in, check_in, demo_in, demo_with, named_in, command_in, command_of};
+ghost use Rattle.kr_base.specs.declared.span.Bound.TheVariants.{At as AtCut};
+ghost use Rattle.kr_base.specs.Bounds.{less};
+ghost use Rattle.kr_args.specs.Reading.{number_in, text_in, texts_in, files_in, range_in, ask_in, list_in, test_in, check_in, demo_in, demo_with, span_in, shard_in, merge_in, named_in, command_in, command_of};
 ghost use Rattle.kr_args.specs.Sources.{HasSources};
+ghost use Rattle.kr_args.specs.Workers.{HasWorkers};
 
 use crate::definition::whole_definition;
 use crate::forms::{ArgRefusal, Ask, Command, Word};
-use crate::values::{read_files, read_from, read_limit, read_number, read_to, read_word};
+use crate::values::{
+    read_files, read_flag, read_from, read_limit, read_number, read_to, read_word, read_words,
+    read_workers,
+};
 use clap::error::ErrorKind;
 use clap::{ArgMatches, Error};
 use kr_base::{Bound, Cut, NoMemory, Words};
@@ -56,14 +62,17 @@ fn read_ask(alloc: Global, matches: &ArgMatches<'_>) -> Result<Ask, ArgRefusal>
     ensures { let wanted = ask_in (rows_of (found_of matches.now)) in
         MatchResult result (λ ask. wanted ≡ Some ask) (λ e. e ≡ ArgRefusal.Usage → wanted ≡ None) }
 {
-    let (fin, sources) = read_sources(alloc, matches)?;
+    let workers = read_workers(text_of(matches, "workers"))?;
     let range = read_range(alloc, matches)?;
+    let (fin, sources) = read_sources(alloc, matches)?;
     Ok(Ask {
         fin,
         sources,
         from: range.from,
         to: range.to,
         limit: range.limit,
+        workers,
+        trace: read_flag(text_of(matches, "trace")),
     })
 }
 
@@ -91,15 +100,15 @@ fn read_check(alloc: Global, matches: &ArgMatches<'_>) -> Result<Command, ArgRef
     Ok(Command::Check { fin, sources })
 }
 
-fn demo_from(nodes: Option<&str>) -> Result<Command, ArgRefusal>
-    ensures { let wanted = demo_with (text_in nodes.entry) in
-        MatchResult result (λ command. wanted ≡ Some command) (λ e. wanted ≡ None) }
+fn read_nodes(nodes: Option<&str>) -> Result<u32, ArgRefusal>
+    ensures { let wanted = option_and_then (number_in 1 12) (text_in nodes.entry) in
+        MatchResult result (λ n. wanted ≡ Some n) (λ e. wanted ≡ None) }
 {
     let Some(nodes) = nodes else {
         return Err(ArgRefusal::Usage);
     };
     match read_number(1, 12, nodes) {
-        Some(n) => Ok(Command::Demo { n }),
+        Some(n) => Ok(n),
         None => Err(ArgRefusal::Usage),
     }
 }
@@ -108,7 +117,62 @@ fn read_demo(matches: &ArgMatches<'_>) -> Result<Command, ArgRefusal>
     ensures { let wanted = demo_in (rows_of (found_of matches.now)) in
         MatchResult result (λ command. wanted ≡ Some command) (λ e. wanted ≡ None) }
 {
-    demo_from(text_of(matches, "nodes"))
+    let n = read_nodes(text_of(matches, "nodes"))?;
+    let workers = read_workers(text_of(matches, "workers"))?;
+    Ok(Command::Demo { n, workers })
+}
+
+/// Whether a cut is below a bound.
+#[tactic(auto, unfolding(kr_base::specs::Bounds::less))]
+fn is_cut_below(cut: &Cut, bound: &Bound) -> bool
+    ensures { result ≡ less (AtCut cut.now) bound.now }
+{
+    match bound {
+        Bound::End => true,
+        Bound::At(other) => cut.is_below(other),
+    }
+}
+
+fn read_span(alloc: Global, matches: &ArgMatches<'_>) -> Result<Range, ArgRefusal>
+    ensures { let wanted = span_in (rows_of (found_of matches.now)) in
+        MatchResult result (λ range. wanted ≡ Some (range.from, range.to, range.limit)) (λ e. e ≡ ArgRefusal.Usage → wanted ≡ None) }
+{
+    let from = read_from(alloc, text_of(matches, "from"))?;
+    let to = read_to(alloc, text_of(matches, "to"))?;
+    if is_cut_below(&from, &to) {
+        Ok(Range {
+            from,
+            to,
+            limit: u32::MAX,
+        })
+    } else {
+        Err(ArgRefusal::Usage)
+    }
+}
+
+fn read_shard(alloc: Global, matches: &ArgMatches<'_>) -> Result<Command, ArgRefusal>
+    ensures { let wanted = shard_in (rows_of (found_of matches.now)) in
+        MatchResult result (λ command. wanted ≡ Some command) (λ e. e ≡ ArgRefusal.Usage → wanted ≡ None) }
+{
+    let workers = read_workers(text_of(matches, "workers"))?;
+    let range = read_span(alloc, matches)?;
+    let (fin, sources) = read_sources(alloc, matches)?;
+    Ok(Command::Shard(Ask {
+        fin,
+        sources,
+        from: range.from,
+        to: range.to,
+        limit: range.limit,
+        workers,
+        trace: false,
+    }))
+}
+
+fn read_merge(alloc: Global, matches: &ArgMatches<'_>) -> Result<Command, ArgRefusal>
+    ensures { let wanted = merge_in (rows_of (found_of matches.now)) in
+        MatchResult result (λ command. wanted ≡ Some command) (λ e. e ≡ ArgRefusal.Usage → wanted ≡ None) }
+{
+    Ok(Command::Merge(read_words(alloc, texts_of(matches, "file"))?))
 }
 
 /// The command of a name with these matches.
@@ -124,6 +188,10 @@ fn read_named(alloc: Global, name: &str, matches: &ArgMatches<'_>) -> Result<Com
         read_check(alloc, matches)
     } else if name == "demo" {
         read_demo(matches)
+    } else if name == "shard" {
+        read_shard(alloc, matches)
+    } else if name == "merge" {
+        read_merge(alloc, matches)
     } else {
         Err(ArgRefusal::Usage)
     }
@@ -164,6 +232,7 @@ pub fn command(alloc: Global, words: &Words) -> Result<Command, ArgRefusal>
     ensures means { let wanted = command_of words.now in
         MatchResult result (λ command. wanted ≡ Some command) (λ e. e ≡ ArgRefusal.Usage → wanted ≡ None) }
     ensures sources { IfOk result HasSources }
+    ensures workers { IfOk result HasWorkers }
 {
     let definition = whole_definition(alloc)?;
     match definition.try_get_matches_from(words.texts()) {

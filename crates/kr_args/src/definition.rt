@@ -1,10 +1,10 @@
 // The definition of the command line, as clap is given it.
-ghost use Rattle.std.specs.Prelude.{◌≡◌, false, IfOk};
+ghost use Rattle.std.specs.Prelude.{◌≡◌, codes, false, IfOk};
 ghost use Rattle.clap.specs.declared.builder.command.Command.TheViews.{out-Command as fields_of};
 ghost use Rattle.clap.specs.Words.{rule_of, app_of, with_rule, with_subcommand};
-ghost use Rattle.kr_args.specs.Definition.{sources_rule, option_rule, with_range as range_added, bare_app, list_app, test_app, check_app, demo_app, korat_app};
+ghost use Rattle.kr_args.specs.Definition.{sources_rule, shards_rule, option_rule, flag_rule, with_span as span_added, with_range as range_added, with_workers as workers_added, with_options as options_added, bare_app, list_app, test_app, check_app, demo_app, shard_app, merge_app, main_app, korat_app};
 
-use clap::{Arg, Command as Definition};
+use clap::{Arg, ArgAction, Command as Definition};
 use kr_base::NoMemory;
 use std::alloc::Global;
 
@@ -29,15 +29,64 @@ fn with_option<'a>(
     Ok(command.arg(Arg::new(alloc, name).long(name))?)
 }
 
+/// The shards: 1 to 64 words.
+fn shards_argument<'a>(alloc: Global) -> Arg<'a>
+    ensures rule { rule_of result ≡ shards_rule }
+    ensures local { result.global ≡ false }
+{
+    Arg::new(alloc, "file").required(true).num_args(1..=64)
+}
+
+/// `[--from CUT] [--to CUT]`, for a command without a global argument.
+fn with_span<'a>(alloc: Global, command: Definition<'a>) -> Result<Definition<'a>, NoMemory>
+    requires { (fields_of command).has_globals ≡ false }
+    ensures app { IfOk result (λ c. app_of c ≡ span_added (app_of command.entry)) }
+    ensures local { IfOk result (λ c. (fields_of c).has_globals ≡ false) }
+{
+    let command = with_option(alloc, command, "from")?;
+    with_option(alloc, command, "to")
+}
+
 /// `[--from CUT] [--to CUT] [--limit N]`, for a command without a global argument.
 fn with_range<'a>(alloc: Global, command: Definition<'a>) -> Result<Definition<'a>, NoMemory>
     requires { (fields_of command).has_globals ≡ false }
     ensures app { IfOk result (λ c. app_of c ≡ range_added (app_of command.entry)) }
     ensures local { IfOk result (λ c. (fields_of c).has_globals ≡ false) }
 {
-    let command = with_option(alloc, command, "from")?;
-    let command = with_option(alloc, command, "to")?;
+    let command = with_span(alloc, command)?;
     with_option(alloc, command, "limit")
+}
+
+/// `[--workers N]`, for a command without a global argument.
+fn with_workers<'a>(alloc: Global, command: Definition<'a>) -> Result<Definition<'a>, NoMemory>
+    requires { (fields_of command).has_globals ≡ false }
+    ensures app { IfOk result (λ c. app_of c ≡ workers_added (app_of command.entry)) }
+    ensures local { IfOk result (λ c. (fields_of c).has_globals ≡ false) }
+{
+    with_option(alloc, command, "workers")
+}
+
+/// `[--trace]`, for a command without a global argument.
+fn with_trace<'a>(alloc: Global, command: Definition<'a>) -> Result<Definition<'a>, NoMemory>
+    requires { (fields_of command).has_globals ≡ false }
+    ensures app { IfOk result (λ c. app_of c ≡ with_rule (app_of command.entry) (flag_rule (codes "trace"))) }
+    ensures local { IfOk result (λ c. (fields_of c).has_globals ≡ false) }
+{
+    let trace = Arg::new(alloc, "trace")
+        .long("trace")
+        .action(ArgAction::SetTrue);
+    Ok(command.arg(trace)?)
+}
+
+/// The options of a listing and of a test, for a command without a global argument.
+fn with_options<'a>(alloc: Global, command: Definition<'a>) -> Result<Definition<'a>, NoMemory>
+    requires { (fields_of command).has_globals ≡ false }
+    ensures app { IfOk result (λ c. app_of c ≡ options_added (app_of command.entry)) }
+    ensures local { IfOk result (λ c. (fields_of c).has_globals ≡ false) }
+{
+    let command = with_range(alloc, command)?;
+    let command = with_workers(alloc, command)?;
+    with_trace(alloc, command)
 }
 
 /// `list FIN SOURCE..` with its options.
@@ -49,7 +98,7 @@ fn list_definition<'a>(alloc: Global) -> Result<Definition<'a>, NoMemory>
     let command = Definition::new(alloc, "list")
         .arg(fin)?
         .arg(sources_argument(alloc))?;
-    with_range(alloc, command)
+    with_options(alloc, command)
 }
 
 /// `test FIN METHOD SOURCE..` with its options.
@@ -63,7 +112,7 @@ fn test_definition<'a>(alloc: Global) -> Result<Definition<'a>, NoMemory>
         .arg(fin)?
         .arg(method)?
         .arg(sources_argument(alloc))?;
-    with_range(alloc, command)
+    with_options(alloc, command)
 }
 
 /// `check FIN SOURCE..`.
@@ -79,13 +128,35 @@ fn check_definition<'a>(alloc: Global) -> Result<Definition<'a>, NoMemory>
     )
 }
 
-/// `demo N`.
+/// `demo N` with its option.
 fn demo_definition<'a>(alloc: Global) -> Result<Definition<'a>, NoMemory>
     ensures app { IfOk result (λ c. app_of c ≡ demo_app) }
     ensures local { IfOk result (λ c. (fields_of c).has_globals ≡ false) }
 {
     let count = Arg::new(alloc, "nodes").required(true);
-    Ok(Definition::new(alloc, "demo").arg(count)?)
+    let command = Definition::new(alloc, "demo").arg(count)?;
+    with_workers(alloc, command)
+}
+
+/// `shard FIN SOURCE..` with its options.
+fn shard_definition<'a>(alloc: Global) -> Result<Definition<'a>, NoMemory>
+    ensures app { IfOk result (λ c. app_of c ≡ shard_app) }
+    ensures local { IfOk result (λ c. (fields_of c).has_globals ≡ false) }
+{
+    let fin = Arg::new(alloc, "fin").required(true);
+    let command = Definition::new(alloc, "shard")
+        .arg(fin)?
+        .arg(sources_argument(alloc))?;
+    let command = with_span(alloc, command)?;
+    with_workers(alloc, command)
+}
+
+/// `merge FILE..`.
+fn merge_definition<'a>(alloc: Global) -> Result<Definition<'a>, NoMemory>
+    ensures app { IfOk result (λ c. app_of c ≡ merge_app) }
+    ensures local { IfOk result (λ c. (fields_of c).has_globals ≡ false) }
+{
+    Ok(Definition::new(alloc, "merge").arg(shards_argument(alloc))?)
 }
 
 /// The tool, still without its commands.
@@ -138,11 +209,29 @@ fn with_check<'a>(alloc: Global) -> Result<Definition<'a>, NoMemory>
     with_command(korat, check)
 }
 
-/// The tool with all its commands.
-pub(crate) fn whole_definition<'a>(alloc: Global) -> Result<Definition<'a>, NoMemory>
-    ensures { IfOk result (λ c. app_of c ≡ korat_app) }
+/// The tool with its first four commands.
+fn with_demo<'a>(alloc: Global) -> Result<Definition<'a>, NoMemory>
+    ensures { IfOk result (λ c. app_of c ≡ main_app) }
 {
     let korat = with_check(alloc)?;
     let demo = demo_definition(alloc)?;
     with_command(korat, demo)
+}
+
+/// The tool with its first five commands.
+fn with_shard<'a>(alloc: Global) -> Result<Definition<'a>, NoMemory>
+    ensures { IfOk result (λ c. app_of c ≡ with_subcommand main_app shard_app.top) }
+{
+    let korat = with_demo(alloc)?;
+    let shard = shard_definition(alloc)?;
+    with_command(korat, shard)
+}
+
+/// The tool with all its commands.
+pub(crate) fn whole_definition<'a>(alloc: Global) -> Result<Definition<'a>, NoMemory>
+    ensures { IfOk result (λ c. app_of c ≡ korat_app) }
+{
+    let korat = with_shard(alloc)?;
+    let merge = merge_definition(alloc)?;
+    with_command(korat, merge)
 }

@@ -38,8 +38,8 @@ impl Word {
     }
 }
 
-/// What a listing or a test is asked for: the files that it reads, the keys above `from` and not above `to`, and how many
-/// valid entries it writes at most.
+/// What a listing or a test is asked for: the files that it reads, the keys above `from` and not above `to`, how many
+/// valid entries it writes at most, how many search, and whether it says how they did.
 #[derive(Drop)]
 pub struct Ask {
     pub fin: Word,
@@ -47,6 +47,8 @@ pub struct Ask {
     pub from: Cut,
     pub to: Bound,
     pub limit: u32,
+    pub workers: u32,
+    pub trace: bool,
 }
 
 /// What a call is asked for.
@@ -59,7 +61,11 @@ pub enum Command {
     /// `check FIN SOURCE..`
     Check { fin: Word, sources: Words },
     /// `demo N`
-    Demo { n: u32 },
+    Demo { n: u32, workers: u32 },
+    /// `shard FIN SOURCE..`
+    Shard(Ask),
+    /// `merge FILE..`
+    Merge(Words),
 }
 
 /// Why words have no command.

@@ -4,8 +4,6 @@
 mod asking;
 mod definition;
 pub mod forms;
-mod laws;
 mod values;
 
 pub use asking::command;
-pub use laws::worked_words;

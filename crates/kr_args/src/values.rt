@@ -1,7 +1,7 @@
 // The values of arguments, read from their words.
 ghost use Rattle.std.specs.Prelude.{◌≡◌, ◌^◌, ◌<◌, Some, None, map, option_map, IfOk, MatchResult};
 ghost use Rattle.kr_base.specs.Parsing.{cut_of};
-ghost use Rattle.kr_args.specs.Reading.{number_in, text_in, texts_in, from_in, to_in, limit_in, files_with};
+ghost use Rattle.kr_args.specs.Reading.{number_in, text_in, texts_in, from_in, to_in, limit_in, workers_in, flag_in, files_with};
 
 use crate::forms::{ArgRefusal, Word};
 use itoa::Buffer;
@@ -77,6 +77,29 @@ pub(crate) fn read_limit(text: Option<&str>) -> Result<u32, ArgRefusal>
     }
 }
 
+/// How many search at once.
+pub(crate) fn read_workers(text: Option<&str>) -> Result<u32, ArgRefusal>
+    ensures { let wanted = workers_in (text_in text.entry) in MatchResult result (λ workers. wanted ≡ Some workers) (λ _. wanted ≡ None) }
+{
+    match text {
+        None => Ok(1),
+        Some(text) => match read_number(1, 64, text) {
+            Some(workers) => Ok(workers),
+            None => Err(ArgRefusal::Usage),
+        },
+    }
+}
+
+/// Whether a flag is there, by the value that it is given in any case.
+pub(crate) fn read_flag(text: Option<&str>) -> bool
+    ensures { result ≡ flag_in (text_in text.entry) }
+{
+    match text {
+        None => false,
+        Some(text) => text == "true",
+    }
+}
+
 /// The word that is given.
 pub(crate) fn read_word(alloc: Global, text: Option<&str>) -> Result<Word, ArgRefusal>
     ensures { let wanted = text_in text.entry in
@@ -96,6 +119,17 @@ fn copy_texts(alloc: Global, texts: &[&str]) -> Result<Words, NoMemory>
         copies.push(text)?;
     }
     Ok(copies)
+}
+
+/// The words of an argument.
+pub(crate) fn read_words(alloc: Global, texts: Option<&[&str]>) -> Result<Words, ArgRefusal>
+    ensures { let wanted = texts_in texts.entry in
+        MatchResult result (λ words. wanted ≡ Some words) (λ e. e ≡ ArgRefusal.Usage → wanted ≡ None) }
+{
+    match texts {
+        Some(texts) => Ok(copy_texts(alloc, texts)?),
+        None => Err(ArgRefusal::Usage),
+    }
 }
 
 /// The files that a command reads: the finitization, and the sources.

@@ -14,7 +14,7 @@ mod splitting;
 mod taking;
 
 use crate::edits::{edit_of, empty_lists, make_room, write};
-pub use closing::Closed;
+pub use closing::{Closed, Logged};
 use kr_base::{Cut, NoMemory, Span};
 use kr_core::{Core, CoreRefusal, Event, Reply, Segment};
 use kr_survey::Survey;

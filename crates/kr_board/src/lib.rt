@@ -7,7 +7,7 @@ mod edits;
 mod laws;
 mod parts;
 
-pub use board::{Board, Closed, GivenUp, Refused, Reported, Taken};
+pub use board::{Board, Closed, GivenUp, Logged, Refused, Reported, Taken};
 pub use kr_core::{Event, Lease, Segment};
 pub use laws::{board_law, part_law};
 pub use parts::is_possible;

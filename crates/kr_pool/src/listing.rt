@@ -2,20 +2,20 @@
 ghost use Rattle.std.specs.Prelude.{◌≡◌, ◌<◌, ◌≤◌, [], true, IfOk, OnOk};
 ghost use Rattle.kr_base.specs.declared.span.Bound.TheVariants.{At};
 ghost use Rattle.kr_base.specs.Bounds.{less};
-ghost use Rattle.kr_core.specs.Openings.{AreInside};
+ghost use Rattle.kr_core.specs.Openings.{AreInside, opening};
 ghost use Rattle.kr_board.specs.Closing.{all_closed};
 ghost use Rattle.kr_pool_desk.specs.Cutting.{cuts_for};
 ghost use Rattle.kr_pool_desk.specs.Leasing.{IsLeaseOf};
 ghost use Rattle.kr_pool_desk.specs.Listings.{listed_in, Lists};
+ghost use Rattle.kr_pool_desk.specs.Traces.{Finishes, IsTrace};
 
 use crate::scanning::scan_part;
-use crate::seat::Seat;
-use crate::shared::Shared;
 use crate::working::work_at;
 use kr_base::{Cut, NoMemory, Span};
-use kr_board::{Board, Lease, Reported, Taken};
+use kr_board::{Board, Lease, Logged, Reported, Taken};
 use kr_io::Gate;
 use kr_pool_desk::{Desk, Run, cuts_for};
+use kr_pool_shared::{Seat, Shared};
 use kr_survey::{Listing, Survey};
 use std::alloc::Global;
 use std::marker::Brand;
@@ -91,21 +91,22 @@ fn go_on_alone<R: Drop, N: Run<R>, S: Survey<Row = R>, W: Wait>(
     unreachable!()
 }
 
-// The listing; what the workers left undone the caller does alone.
+// The listing and the log; what the workers left undone the caller does alone.
 fn finish<R: Drop, N: Run<R>, S: Survey<Row = R>, W: Wait>(
     rt: &W,
     survey: &S,
     desk: Desk<R, N>,
     seat: Seat<N>,
-) -> Result<Listing<R>, NoMemory>
+) -> Result<Logged<R>, NoMemory>
     requires survey { S.all survey.now ≡ N.all }
-    ensures { IfOk result (Lists (listed_in N.all N.span)) }
+    ensures listing { IfOk result (λ logged. Lists (listed_in N.all N.span) logged.listing) }
+    ensures log { IfOk result (λ logged. Finishes N.all (opening N.span N.cuts) N.workers logged.log.items) }
 {
     let mut desk = desk;
     let mut seat = seat;
     go_on_alone(rt, survey, &mut desk, &mut seat)?;
     match desk.close() {
-        Ok(listing) => Ok(listing),
+        Ok(logged) => Ok(logged),
         Err(_) => unreachable!(),
     }
 }
@@ -150,7 +151,7 @@ fn list_on<
     workers: u32,
     gate: &G,
     blank: Blank,
-) -> Result<Listing<R>, NoMemory>
+) -> Result<Logged<R>, NoMemory>
     requires ledger { (blank.name ≡ N.name) × (blank.parts ≡ N.parts) }
     requires workers { (N.parts ≡ workers) × (N.workers ≡ workers) }
     requires some { 0 < workers }
@@ -159,7 +160,8 @@ fn list_on<
     requires cuts { cuts.now ≡ N.cuts }
     requires inside { AreInside cuts.now span }
     requires opening { N.opening ≡ [] }
-    ensures { IfOk result (Lists (listed_in N.all N.span)) }
+    ensures listing { IfOk result (λ logged. Lists (listed_in N.all N.span) logged.listing) }
+    ensures log { IfOk result (λ logged. Finishes N.all (opening N.span N.cuts) N.workers logged.log.items) }
 {
     survey.ascends();
     let board = Board::new(alloc, survey, span, cuts)?;
@@ -172,17 +174,19 @@ fn list_on<
 }
 
 /// The listing of a span, by so many workers in threads of their own: rows, number of entries and spent key are those of
-/// the survey's entries there, whatever the schedule.
-pub fn list_shared<S: Survey<Row: Drop + Send> + Sync, G: Gate + Sync, W: Threads + Wait + Sync>(
+/// the survey's entries there, whatever the schedule. The log with it says how the workers shared the span: honest steps
+/// by their seats, from the span as it was cut to where nothing is left to do.
+pub fn list_traced<S: Survey<Row: Drop + Send> + Sync, G: Gate + Sync, W: Threads + Wait + Sync>(
     rt: &W,
     alloc: Global,
     survey: &S,
     span: Span,
     workers: u32,
     gate: &G,
-) -> Result<Listing<S::Row>, NoMemory>
+) -> Result<Logged<S::Row>, NoMemory>
     requires workers { (0 < workers) × (workers ≤ 64) }
-    ensures { IfOk result (Lists (listed_in (S.all survey.now) span)) }
+    ensures listing { IfOk result (λ logged. Lists (listed_in (S.all survey.now) span) logged.listing) }
+    ensures log { IfOk result (λ logged. IsTrace (S.all survey.now) span workers logged.log.items) }
 {
     let cuts = cuts_for(alloc, &span, workers)?;
     list_on::<S::Row, Brand, S, G, W>(
@@ -195,4 +199,22 @@ pub fn list_shared<S: Survey<Row: Drop + Send> + Sync, G: Gate + Sync, W: Thread
         gate,
         Blank::new(u64::from(workers)),
     )
+}
+
+/// The listing alone.
+pub fn list_shared<S: Survey<Row: Drop + Send> + Sync, G: Gate + Sync, W: Threads + Wait + Sync>(
+    rt: &W,
+    alloc: Global,
+    survey: &S,
+    span: Span,
+    workers: u32,
+    gate: &G,
+) -> Result<Listing<S::Row>, NoMemory>
+    requires workers { (0 < workers) × (workers ≤ 64) }
+    ensures { IfOk result (Lists (listed_in (S.all survey.now) span)) }
+{
+    match list_traced(rt, alloc, survey, span, workers, gate) {
+        Err(why) => Err(why),
+        Ok(Logged { listing, log: _ }) => Ok(listing),
+    }
 }

@@ -3,12 +3,11 @@ ghost use Rattle.std.specs.Prelude.{◌≡◌};
 ghost use Rattle.kr_pool_desk.specs.Leasing.{IsLeaseOf};
 
 use crate::scanning::scan_part;
-use crate::seat::Seat;
-use crate::shared::Shared;
 use kr_base::NoMemory;
 use kr_board::{Lease, Reported};
 use kr_io::Gate;
 use kr_pool_desk::Run;
+use kr_pool_shared::{Seat, Shared};
 use kr_survey::Survey;
 use std::sync::Wait;
 

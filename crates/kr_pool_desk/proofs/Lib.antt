@@ -4,3 +4,4 @@ pub mod Released
 pub mod Leased
 pub mod Cuts
 pub mod Honest
+pub mod Alike

@@ -1,5 +1,5 @@
 -- A finished board that nobody stopped lists the span.
-use Rattle.std.proofs.Common.{◌≡◌, ℕ, List, [], ◌∷◌, ◌++◌, Bool, true, false, ◌&&◌, not, length, drop, refl, sym, ap, ◌∙◌, arith}
+use Rattle.std.proofs.Common.{◌≡◌, ℕ, List, [], ◌∷◌, ◌++◌, Bool, true, false, ◌&&◌, not, length, drop, refl, sym, ap, ◌∙◌, subst, arith}
 use Rattle.std.specs.Prelude.{if◌then◌else◌}
 use Rattle.kr_base.specs.declared.span.Bound.{Bound}
 use Rattle.kr_base.specs.declared.span.Bound.TheVariants.{At}
@@ -15,7 +15,8 @@ use Rattle.kr_survey.specs.Scans.{rows_of}
 use Rattle.kr_core.specs.declared.event.Event.{Event}
 use Rattle.kr_core.specs.declared.event.Event.TheVariants.{Take, Steal, Report, GiveUp, Drain, StopAt, Look}
 use Rattle.kr_core.specs.States.{capped}
-use Rattle.kr_core.specs.Counts.{EndsSpent, IsSpentFlag, Counts, last_stop}
+use Rattle.kr_core.specs.Openings.{opening}
+use Rattle.kr_core.specs.Counts.{EndsSpent, HonestRuns, IsSpentFlag, Counts, last_stop}
 use Rattle.kr_core.specs.Rows.{drains, drained}
 use Rattle.kr_core.proofs.Ends.{counting_law}
 use Rattle.kr_board.specs.Held.{Held}
@@ -23,6 +24,7 @@ use Rattle.kr_board.specs.Closing.{all_closed, spent_in, Lists as BoardLists}
 use Rattle.kr_board.proofs.Draining.{closed-each}
 use Rattle.kr_pool_desk.specs.Runs.{is_shared, are_shared, IsRun}
 use Rattle.kr_pool_desk.specs.Listings.{listed_in, Lists}
+use Rattle.kr_pool_desk.specs.Traces.{Finishes}
 
 -- nothing is cut off where the last one alone is spent
 
@@ -129,3 +131,13 @@ whole_listing {R} all span cuts ops workers calls b l k closed is =
       tried = of.tried ∙ ap (λ (es : List (Entry R)). capped (length es)) whole;
       spent = of.spent ∙ ap (λ (es : List (Entry R)). spent_in es) whole;
     }
+
+-- and its log is one that comes to an end
+pub finishes : {R : Type 0} (all : List (Entry R)) (span : Span) (cuts : List (List ℕ)) (ops : List Event) (workers calls : ℕ) (b : Held R) (log : List Event) → IsRun all span cuts ops workers b calls
+    → all_closed b.core ≡ true → log ≡ b.log → Finishes all (opening span cuts) workers log
+finishes all span cuts ops workers calls b log k closed is = record {
+  last = b.core;
+  runs = subst (λ (l : List Event). HonestRuns all (opening span cuts) l b.core) (sym is) k.board.honest;
+  seats = ap (λ (l : List Event). are_shared workers l) is ∙ k.grown.shared;
+  closed = closed;
+}

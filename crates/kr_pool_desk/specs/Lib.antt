@@ -2,3 +2,4 @@ pub mod Runs
 pub mod Listings
 pub mod Leasing
 pub mod Cutting
+pub mod Traces

@@ -3,7 +3,7 @@ ghost use Rattle.std.specs.Prelude.{◌≡◌, ◌+◌, ◌<◌, true, false, If
 ghost use Rattle.kr_base.specs.declared.span.Bound.TheVariants.{At};
 ghost use Rattle.kr_base.specs.Bounds.{less};
 ghost use Rattle.kr_base.specs.Entries.{Ascends};
-ghost use Rattle.kr_core.specs.Openings.{AreInside};
+ghost use Rattle.kr_core.specs.Openings.{AreInside, opening};
 ghost use Rattle.kr_board.specs.Boards.{IsBoardOf};
 ghost use Rattle.kr_board.specs.Closing.{all_closed};
 ghost use Rattle.kr_board.specs.Parts.{IsPart};
@@ -11,11 +11,12 @@ ghost use Rattle.kr_board.specs.declared.board.releasing.GivenUp.TheVariants.{Re
 ghost use Rattle.kr_pool_desk.specs.Runs.{IsRun, are_shared};
 ghost use Rattle.kr_pool_desk.specs.Leasing.{IsLeaseOf, Takes, Reports};
 ghost use Rattle.kr_pool_desk.specs.Listings.{listed_in, Lists};
+ghost use Rattle.kr_pool_desk.specs.Traces.{Finishes};
 
 use crate::crew::Run;
 use kr_base::{Bound, NoMemory};
-use kr_board::{Board, Closed, GivenUp, Lease, Refused, Reported, Taken, part_law};
-use kr_survey::{Listing, Part};
+use kr_board::{Board, GivenUp, Lease, Logged, Refused, Reported, Taken, part_law};
+use kr_survey::Part;
 use std::marker::Model;
 use std::sync::ledger::{Book, Share};
 
@@ -59,15 +60,17 @@ impl<R: Drop, N: Run<R>> Desk<R, N> {
         self.board.is_finished()
     }
 
-    /// The listing of the run's span, where nothing is left to do, else the desk again.
-    pub fn close(self) -> Result<Listing<R>, Desk<R, N>>
-        ensures listing { IfOk result (Lists (listed_in N.all N.span)) }
+    /// The listing of the run's span and the run's log, where nothing is left to do, else the desk again. It takes no
+    /// memory.
+    pub fn close(self) -> Result<Logged<R>, Desk<R, N>>
+        ensures listing { IfOk result (λ logged. Lists (listed_in N.all N.span) logged.listing) }
+        ensures log { IfOk result (λ logged. Finishes N.all (opening N.span N.cuts) N.workers logged.log.items) }
         ensures unfinished { OnErr result (all_closed self.0.core ≡ false) }
     {
         let Desk { board, calls } = self;
-        match board.close() {
-            Closed::Listing(listing) => Ok(listing),
-            Closed::Unfinished(board) => Err(Desk { board, calls }),
+        match board.close_with_log() {
+            Ok(logged) => Ok(logged),
+            Err(board) => Err(Desk { board, calls }),
         }
     }
 

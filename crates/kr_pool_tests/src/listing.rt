@@ -4,7 +4,8 @@ ghost use Rattle.std.specs.Prelude.{◌≡◌, ◌<◌, ◌≤◌};
 use crate::gates::{Unruly, gate_for};
 use crate::surveys::{below_one, keys, looked_at};
 use kr_base::{Cut, NoMemory};
-use kr_pool::{Gate, OpenGate, list_shared};
+use kr_board::Event;
+use kr_pool::{Gate, OpenGate, list_shared, list_traced};
 use kr_survey::{Listing, Survey};
 use std::alloc::Global;
 use std::process::Abort;
@@ -113,6 +114,44 @@ fn two_at_once(rt: HostRuntime) -> Result<(), Fail> {
     assert!(rt; together(&rt, rt.alloc())?, "scans");
     assert!(rt; met(&rt, rt.alloc(), 0)?, "gate 0");
     assert!(rt; met(&rt, rt.alloc(), 1)?, "gate 1");
+    Ok(())
+}
+
+// Whether these are the events of one worker over four keys: it takes, reports, and looks.
+fn is_alone(log: &[Event]) -> bool {
+    log.len() == 3
+        && matches!(
+            log[0],
+            Event::Take {
+                seat: 0,
+                segment: 0
+            }
+        )
+        && matches!(
+            log[1],
+            Event::Report {
+                seat: 0,
+                segment: 0,
+                rows: 4,
+                tried: 4,
+                spent: false,
+                ..
+            }
+        )
+        && matches!(log[2], Event::Look { seat: 0 })
+}
+
+// Whether the listing of four keys by one worker has that log.
+fn logged<W: Threads + Wait + Sync + Abort>(rt: &W, alloc: Global) -> Result<bool, NoMemory> {
+    let survey = keys(rt, alloc, 4, 9)?;
+    let span = below_one(alloc)?;
+    let logged = list_traced(rt, alloc, &survey, span, 1, &OpenGate)?;
+    Ok(is_listing(&logged.listing, 4, 4) && is_alone(logged.log.as_slice()))
+}
+
+#[test]
+fn log_of_one(rt: HostRuntime) -> Result<(), Fail> {
+    assert!(rt; logged(&rt, rt.alloc())?, "log");
     Ok(())
 }
 

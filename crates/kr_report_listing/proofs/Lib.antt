@@ -1,5 +1,6 @@
 pub mod Endings
 pub mod Marks
+pub mod Lines
 pub mod Progress
 pub mod Returns
 mod Left

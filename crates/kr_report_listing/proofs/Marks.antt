@@ -1,6 +1,6 @@
 -- What an entry is marked with, by how its run ends.
 use Rattle.std.proofs.Common.{◌≡◌, ℕ, ◌+◌, ◌≤◌, List, [], ◌∷◌, ◌++◌, inl, inr, refl, sym, ap, suc, length, subst, ◌∙◌, arith, append-nil}
-use Rattle.std.specs.Prelude.{Option, Bool, true, Result, Ok, Err, IfOk, OnOk, map, false, if◌then◌else◌}
+use Rattle.std.specs.Prelude.{Option, Bool, true, Result, Ok, Err, IfOk, map, false, if◌then◌else◌}
 use Rattle.std.proofs.lemmas.Bool.{cases_lt}
 use Rattle.kr_base.specs.declared.entry.Mark.TheVariants as marks
 use Rattle.kr_base.specs.Told.{Added}
@@ -58,11 +58,6 @@ pub one_put : {K : Type 0} (taken : K → Option (List ℕ)) (faults : K → ℕ
 one_put taken faults a b row (Ok count) e x = (e, subst (λ t. Added taken faults a b t) (sym (append-nil row)) x)
 one_put taken faults a b row (Err Sink) e x = stopped_early [] x refl
 one_put taken faults a b row (Err (Memory why)) e x = x
-
--- what holds holds at Ok
-pub at_ok : {T E P : Type 0} (r : Result T E) → P → OnOk r P
-at_ok (Ok x) h = h
-at_ok (Err e) h = tt
 
 one_more : (valid limit : ℕ) → valid ≤ limit → (valid ≡ limit → ⊥) → valid + 1 ≤ limit
 one_more valid limit h apart = elim (cases_lt valid limit) [

@@ -1,5 +1,5 @@
 // A listing or a test, written as its entries are found: a row for each valid one, in order, and then the last line.
-ghost use Rattle.std.specs.Prelude.{◌≡◌, ◌+◌, ◌-◌, ◌^◌, min, nat_lt, if◌then◌else◌};
+ghost use Rattle.std.specs.Prelude.{◌≡◌, ◌+◌, ◌-◌, ◌^◌, [], min, nat_lt, if◌then◌else◌};
 ghost use Rattle.kr_base.specs.declared.span.Bound.TheVariants.{At};
 ghost use Rattle.kr_base.specs.Entries.{entries_in};
 ghost use Rattle.kr_mean.specs.Entries.{all_entries};
@@ -17,6 +17,7 @@ use kr_mean::Mode;
 use kr_report::{Summary, once_written, put_out_of_memory, summary_text};
 use kr_step_span::{Candidates, Ending, Next, SpanSearch};
 use std::alloc::Global;
+use std::mem;
 use std::sync::ledger::Ledger;
 
 /// Whether a run needs more than the fuel.
@@ -115,18 +116,17 @@ fn put_rows<C: Candidates + Drop, K: Sink, L: Ledger>(
     alloc: Global,
     scan: &mut SpanSearch<C>,
     prepared: &Prepared,
+    rows: &mut Rows<'_>,
     limit: u32,
     out: &mut K,
     runs: &mut Steps<L>,
 ) -> Result<Closing, Halt>
+    requires none { rows.old.last ≡ [] }
+    requires maker { rows.old.maker ≡ prepared.now }
     requires runs_on { RunsOn (posed prepared.now.problem) (C.space scan.old.candidates) (C.order scan.old.candidates) (C.ending scan.old.candidates) }
     ensures { PutsListing K.taken K.faults out.old out.new
         (listing_answer (posed prepared.now.problem) limit (entries_in (At scan.old.cut) scan.old.upto (all_entries (posed prepared.now.problem)))) result }
 {
-    let mut rows = match Rows::new(alloc, prepared) {
-        Ok(rows) => rows,
-        Err(why) => return Err(Halt::Memory(why)),
-    };
     let mut valid: u32 = 0;
     let mut failing: u32 = 0;
     let mut tried: u64 = 0;
@@ -140,9 +140,10 @@ fn put_rows<C: Candidates + Drop, K: Sink, L: Ledger>(
             return spent_at(alloc, scan.cut());
         }
         if is_full(ending, valid, limit) {
-            return Ok(at_the_limit(rows.last, failing));
+            let last = mem::replace(&mut rows.last, Cut::empty(alloc));
+            return Ok(at_the_limit(last, failing));
         }
-        match put_entry(alloc, ending, prepared, &*scan, &mut rows, out) {
+        match put_entry(ending, prepared, &*scan, rows, out) {
             Err(halt) => return Err(halt),
             Ok(count) => {
                 valid += count.rows;
@@ -150,6 +151,28 @@ fn put_rows<C: Candidates + Drop, K: Sink, L: Ledger>(
                 tried = one_more(tried);
             }
         }
+    }
+}
+
+/// The same, with rows of its own.
+fn put_all_rows<C: Candidates + Drop, K: Sink, L: Ledger>(
+    alloc: Global,
+    scan: &mut SpanSearch<C>,
+    prepared: &Prepared,
+    limit: u32,
+    out: &mut K,
+    runs: &mut Steps<L>,
+) -> Result<Closing, Halt>
+    requires runs_on { RunsOn (posed prepared.now.problem) (C.space scan.old.candidates) (C.order scan.old.candidates) (C.ending scan.old.candidates) }
+    ensures { PutsListing K.taken K.faults out.old out.new
+        (listing_answer (posed prepared.now.problem) limit (entries_in (At scan.old.cut) scan.old.upto (all_entries (posed prepared.now.problem)))) result }
+{
+    match Rows::new(alloc, prepared) {
+        Ok(rows) => {
+            let mut rows = rows;
+            put_rows(alloc, scan, prepared, &mut rows, limit, out, runs)
+        }
+        Err(why) => Err(Halt::Memory(why)),
     }
 }
 
@@ -167,7 +190,7 @@ pub fn put_listing<C: Candidates + Drop, K: Sink, L: Ledger>(
         (listing_answer (posed prepared.now.problem) limit (entries_in (At scan.cut) scan.upto (all_entries (posed prepared.now.problem)))) out.old out.new result }
 {
     let mut scan = scan;
-    match put_rows(alloc, &mut scan, prepared, limit, out, runs) {
+    match put_all_rows(alloc, &mut scan, prepared, limit, out, runs) {
         Ok(closing) => once_written(summary_text(&closing.summary, out), closing.status),
         Err(Halt::Sink) => 7,
         Err(Halt::Memory(_)) => once_written(put_out_of_memory(out), 8),

@@ -1,27 +1,24 @@
 // One row of a listing.
-ghost use Rattle.std.specs.Prelude.{◌≡◌, ◌++◌, ◌≤◌, [], IfOk, OnOk, codes, length, map};
-ghost use Rattle.kr_base.specs.Cuts.{cut_text};
+ghost use Rattle.std.specs.Prelude.{◌≡◌, [], IfOk, OnOk, length, map};
 ghost use Rattle.kr_mean.specs.Space.{space_of, IsVector};
 ghost use Rattle.kr_mean.specs.Runs.{end_on, key_of};
-ghost use Rattle.kr_mean.specs.Entries.{mark_of, row_of, structure_of};
+ghost use Rattle.kr_mean.specs.Entries.{mark_of, row_of};
 ghost use Rattle.kr_mean.specs.Verdicts.{verdict_of};
 ghost use Rattle.kr_space_problem.specs.Posed.{posed};
 ghost use Rattle.kr_step_span.specs.Scans.{ending_of};
-ghost use Rattle.kr_report.specs.Texts.{row_text, structure_text, verdict_text};
+ghost use Rattle.kr_report.specs.Texts.{row_text};
 ghost use Rattle.kr_report.specs.Reports.{failing_in, is_failing, rows_of_mark};
 ghost use Rattle.kr_report_listing.specs.Puts.{PutsRow, PutsRows, CountsOf, key_after, number_of};
 ghost use Rattle.kr_text.specs.Lines.{line_bytes};
 
 use kr_base::{Cut, Failed, NoMemory, Sink, put_all};
-use kr_contract::Tester;
 use kr_judge_prepared::Prepared;
-use kr_mean::Verdict;
-use kr_report::{add_bytes, add_key, add_verdict};
-use kr_report_structures::Room;
+use kr_mean::{Row, Verdict};
+use kr_report_rows::row_text;
+use kr_scan::RowMaker;
 use kr_step_span::{Candidates, Ending, SpanSearch};
 use kr_text::Line;
 use std::alloc::Global;
-use std::mem;
 
 /// Why a listing stopped.
 #[derive(Clone, Copy, PartialEq, Eq)]
@@ -52,26 +49,25 @@ impl From<NoMemory> for Halt {
     }
 }
 
-/// The key of the last row, room for its line and its structure, and what tests the method on a candidate.
+/// The key of the last row, room for its line, and what makes rows.
 #[derive(Drop)]
 pub(crate) struct Rows<'p> {
     pub(crate) last: Cut,
     pub(crate) line: Line,
-    pub(crate) room: Room,
-    pub(crate) tester: Tester<'p>,
+    pub(crate) maker: RowMaker<'p>,
 }
 
 impl<'p> Rows<'p> {
     /// No row yet.
     pub(crate) fn new(alloc: Global, prepared: &'p Prepared) -> Result<Rows<'p>, NoMemory>
         ensures last { IfOk result (λ rows. rows.last ≡ []) }
-        ensures tester { IfOk result (λ rows. rows.tester ≡ prepared.now) }
+        ensures maker { IfOk result (λ rows. rows.maker ≡ prepared.now) }
     {
+        let maker = RowMaker::new(alloc, prepared)?;
         Ok(Rows {
-            tester: Tester::new(alloc, prepared)?,
             last: Cut::empty(alloc),
             line: Line::new(alloc),
-            room: Room::new(alloc),
+            maker,
         })
     }
 }
@@ -115,78 +111,32 @@ fn one_row(verdict: Option<Verdict>) -> Count
     }
 }
 
-/// Makes a cut the one of these numbers. Without memory it is whatever came to stand in it.
-fn copy_key(alloc: Global, cut: &mut Cut, key: &[u32]) -> Result<(), NoMemory>
-    ensures { OnOk result (cut.new ≡ key.now) }
+/// Makes the line of a row.
+fn make_line(prepared: &Prepared, row: &Row, line: &mut Line) -> Result<(), NoMemory>
+    ensures { OnOk result (line_bytes line.new ≡ row_text (posed prepared.now.problem) row.now) }
 {
-    let mut numbers = mem::replace(cut, Cut::empty(alloc)).into_numbers();
-    numbers.clear();
-    numbers.extend_from_slice(key)?;
-    *cut = Cut::new(numbers);
-    Ok(())
+    line.clear();
+    match row_text(prepared, row, line) {
+        Ok(()) => Ok(()),
+        Err(Failed) => match line.refused() {
+            Some(why) => Err(why),
+            // a line that failed was refused memory
+            None => unreachable!(),
+        },
+    }
 }
 
-/// Adds a key, a verdict and the structure of the candidate that stands to a line, and ends it.
-fn add_row<C: Candidates>(
+/// Puts a row by one put.
+fn put_row<K: Sink>(
     prepared: &Prepared,
-    room: &mut Room,
-    key: &Cut,
-    verdict: Option<Verdict>,
-    candidate: &C,
+    row: &Row,
     line: &mut Line,
-) -> Result<(), NoMemory>
-    requires vector { IsVector (space_of (posed prepared.now.problem)) (C.vector candidate.now) }
-    ensures { OnOk result (line_bytes line.new ≡ ((((line_bytes line.old ++ cut_text key.now) ++ codes " ") ++ verdict_text verdict) ++ structure_text (posed prepared.now.problem) (structure_of (posed prepared.now.problem) (C.vector candidate.now))) ++ codes "\n") }
-{
-    add_key(line, key)?;
-    add_bytes(line, b" ")?;
-    add_verdict(line, verdict)?;
-    room.add_structure(prepared, candidate, line)?;
-    add_bytes(line, b"\n")?;
-    Ok(())
-}
-
-/// Makes the line of the candidate that stands, with this verdict.
-fn make_line<C: Candidates>(
-    prepared: &Prepared,
-    verdict: Option<Verdict>,
-    candidate: &C,
-    rows: &mut Rows<'_>,
-) -> Result<(), NoMemory>
-    requires vector { IsVector (space_of (posed prepared.now.problem)) (C.vector candidate.now) }
-    ensures line { OnOk result (line_bytes rows.new.line ≡
-        ((((cut_text rows.old.last ++ codes " ") ++ verdict_text verdict) ++ structure_text (posed prepared.now.problem) (structure_of (posed prepared.now.problem) (C.vector candidate.now))) ++ codes "\n")) }
-    ensures last { rows.new.last ≡ rows.old.last }
-    ensures tester { rows.new.tester ≡ rows.old.tester }
-{
-    rows.line.clear();
-    add_row(
-        prepared,
-        &mut rows.room,
-        &rows.last,
-        verdict,
-        candidate,
-        &mut rows.line,
-    )
-}
-
-/// Puts the row of the candidate that stands, whose verdict this is, by one put.
-fn put_row<C: Candidates, K: Sink>(
-    prepared: &Prepared,
-    verdict: Option<Verdict>,
-    candidate: &C,
-    rows: &mut Rows<'_>,
     out: &mut K,
 ) -> Result<(), Halt>
-    requires vector { IsVector (space_of (posed prepared.now.problem)) (C.vector candidate.now) }
-    requires key { rows.old.last ≡ key_of (posed prepared.now.problem) (C.vector candidate.now) }
-    requires verdict { verdict ≡ verdict_of (posed prepared.now.problem) (C.vector candidate.now) }
-    ensures put { PutsRow K.taken K.faults out.old out.new (row_text (posed prepared.now.problem) (row_of (posed prepared.now.problem) (C.vector candidate.now))) result }
-    ensures last { rows.new.last ≡ rows.old.last }
-    ensures tester { rows.new.tester ≡ rows.old.tester }
+    ensures { PutsRow K.taken K.faults out.old out.new (row_text (posed prepared.now.problem) row.now) result }
 {
-    match make_line(prepared, verdict, candidate, rows) {
-        Ok(()) => match put_all(out, rows.line.bytes()) {
+    match make_line(prepared, row, line) {
+        Ok(()) => match put_all(out, line.bytes()) {
             Ok(()) => Ok(()),
             Err(Failed) => Err(Halt::Sink),
         },
@@ -194,41 +144,61 @@ fn put_row<C: Candidates, K: Sink>(
     }
 }
 
-/// Puts the row of the candidate that stands, with its verdict, whose key is the last one. Says how many rows.
-fn put_tested<C: Candidates, K: Sink>(
+/// Puts a row, whose key is the last one then. Says how many rows.
+fn put_last<K: Sink>(
     prepared: &Prepared,
+    row: Row,
+    line: &mut Line,
+    last: &mut Cut,
+    out: &mut K,
+) -> Result<Count, Halt>
+    ensures put { PutsRow K.taken K.faults out.old out.new (row_text (posed prepared.now.problem) row) result }
+    ensures rows { IfOk result (λ count. count.rows ≡ 1) }
+    ensures failing { IfOk result (λ count. count.failing ≡ number_of (is_failing row.verdict)) }
+    ensures last { OnOk result (last.new ≡ row.key) }
+{
+    match put_row(prepared, &row, line, out) {
+        Ok(()) => {
+            let count = one_row(row.verdict);
+            *last = row.key;
+            Ok(count)
+        }
+        Err(halt) => Err(halt),
+    }
+}
+
+/// Puts the row of the candidate that stands, whose key this is. Says how many rows.
+fn put_candidate<C: Candidates, K: Sink>(
+    prepared: &Prepared,
+    key: &[u32],
     candidate: &C,
     rows: &mut Rows<'_>,
     out: &mut K,
 ) -> Result<Count, Halt>
-    requires tester { rows.old.tester ≡ prepared.now }
+    requires maker { rows.old.maker ≡ prepared.now }
     requires vector { IsVector (space_of (posed prepared.now.problem)) (C.vector candidate.now) }
-    requires key { rows.old.last ≡ key_of (posed prepared.now.problem) (C.vector candidate.now) }
+    requires key { key.now ≡ key_of (posed prepared.now.problem) (C.vector candidate.now) }
     ensures put { PutsRow K.taken K.faults out.old out.new (row_text (posed prepared.now.problem) (row_of (posed prepared.now.problem) (C.vector candidate.now))) result }
     ensures rows { IfOk result (λ count. count.rows ≡ 1) }
     ensures failing { IfOk result (λ count. count.failing ≡ number_of (is_failing (verdict_of (posed prepared.now.problem) (C.vector candidate.now)))) }
-    ensures last { rows.new.last ≡ rows.old.last }
-    ensures tester { rows.new.tester ≡ rows.old.tester }
+    ensures last { OnOk result (rows.new.last ≡ key_of (posed prepared.now.problem) (C.vector candidate.now)) }
+    ensures maker { rows.new.maker ≡ rows.old.maker }
 {
-    match rows.tester.verdict_on(candidate) {
-        Ok(verdict) => match put_row(prepared, verdict, candidate, rows, out) {
-            Ok(()) => Ok(one_row(verdict)),
-            Err(halt) => Err(halt),
-        },
+    match rows.maker.row(key, candidate) {
+        Ok(row) => put_last(prepared, row, &mut rows.line, &mut rows.last, out),
         Err(why) => Err(Halt::Memory(why)),
     }
 }
 
 /// Puts the row of the entry at which a scan stands, if its candidate is valid. Says how many rows.
 pub(crate) fn put_entry<C: Candidates + Drop, K: Sink>(
-    alloc: Global,
     ending: Ending,
     prepared: &Prepared,
     scan: &SpanSearch<C>,
     rows: &mut Rows<'_>,
     out: &mut K,
 ) -> Result<Count, Halt>
-    requires tester { rows.old.tester ≡ prepared.now }
+    requires maker { rows.old.maker ≡ prepared.now }
     requires vector { IsVector (space_of (posed prepared.now.problem)) (C.vector scan.now.candidates) }
     requires key { scan.now.cut ≡ key_of (posed prepared.now.problem) (C.vector scan.now.candidates) }
     requires ends { ending ≡ ending_of (end_on (posed prepared.now.problem) (C.vector scan.now.candidates)) }
@@ -236,13 +206,10 @@ pub(crate) fn put_entry<C: Candidates + Drop, K: Sink>(
     ensures count { IfOk result (λ count. CountsOf ending count.rows) }
     ensures failing { IfOk result (λ count. count.failing ≡ length (failing_in (rows_of_mark (mark_of (posed prepared.now.problem) (C.vector scan.now.candidates))))) }
     ensures last { OnOk result (rows.new.last ≡ key_after (mark_of (posed prepared.now.problem) (C.vector scan.now.candidates)) rows.old.last) }
-    ensures tester { rows.new.tester ≡ rows.old.tester }
+    ensures maker { rows.new.maker ≡ rows.old.maker }
 {
     match ending {
-        Ending::Valid => {
-            copy_key(alloc, &mut rows.last, scan.cut())?;
-            put_tested(prepared, scan.candidates(), rows, out)
-        }
+        Ending::Valid => put_candidate(prepared, scan.cut(), scan.candidates(), rows, out),
         Ending::Invalid => Ok(NO_ROWS),
         Ending::Spent => Ok(NO_ROWS),
     }

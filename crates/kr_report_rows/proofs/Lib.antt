@@ -1,6 +1,9 @@
 pub mod Fronts
 pub mod Absent
+pub mod Stretches
+pub mod Apart
 pub mod Pieces
 pub mod Fresh
 pub mod Meant
 pub mod Arguments
+pub mod Walks

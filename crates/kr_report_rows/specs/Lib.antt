@@ -1,2 +1,4 @@
 pub mod Parts
+pub mod Stretches
+pub mod Written
 pub mod Worked

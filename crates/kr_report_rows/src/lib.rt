@@ -3,6 +3,7 @@
 
 mod front;
 mod laws;
+mod names;
 mod objects;
 mod parameters;
 mod parts;
@@ -10,5 +11,5 @@ mod places;
 mod rows;
 mod values;
 
-pub use laws::worked_law;
+pub use laws::{worked_law, written_law};
 pub use rows::{row_text, structure_text};

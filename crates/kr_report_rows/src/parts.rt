@@ -8,7 +8,7 @@ ghost use Rattle.kr_report.specs.Joined.{are_any, closing, opening, separated};
 ghost use Rattle.kr_report.specs.Texts.{joined_by};
 ghost use Rattle.kr_report_rows.specs.Parts.{entry_named, object_named, part_named};
 
-use crate::places::{class_of, spot_of};
+use crate::places::{class_of, is_within, spot_at, stretch_of};
 use crate::values::{put_element, put_field, put_object_name};
 use kr_ast::Tree;
 use kr_base::{Failed, Sink, put_all};
@@ -60,10 +60,13 @@ fn put_parts<K: Sink>(
     requires { All (IsField trees.now) fields.now }
     ensures { Writes K.taken K.faults out.old out.new (joined_by (codes ",") (flat_map (entry_named (bare layout.now) (map (field_name trees.now) fields.now) (object_of object)) structure.now)) result }
 {
+    let stretch = stretch_of(layout, object);
     let mut any = false;
     for entry in structure {
-        let spot = spot_of(layout, object, entry.0);
-        any = put_spot(trees, fields, layout, spot, entry.1, any, out)?;
+        if is_within(stretch, entry.0) {
+            let spot = spot_at(layout, entry.0);
+            any = put_spot(trees, fields, layout, spot, entry.1, any, out)?;
+        }
     }
     Ok(())
 }

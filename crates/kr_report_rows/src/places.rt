@@ -1,28 +1,18 @@
 // Slots and objects of a layout, also where they aren't there.
 ghost use Rattle.std.specs.Prelude.{◌≡◌};
-ghost use Rattle.kr_iso.specs.Objects.{object_of, shown};
+ghost use Rattle.kr_iso.specs.Objects.{object_of};
 ghost use Rattle.kr_mean.specs.Heaps.{is_same_object};
 ghost use Rattle.kr_mean.specs.Places.{place_of};
 ghost use Rattle.kr_mean.specs.Problem.{all_objects, domain_at, slot_at};
 ghost use Rattle.std.proofs.Common.{get_or};
 ghost use Rattle.kr_space_layout.specs.Bounds.{bare};
 ghost use Rattle.kr_report.specs.Texts.{no_domain_object};
-ghost use Rattle.kr_report_rows.specs.Parts.{number_in, spot_in, spot_of};
+ghost use Rattle.kr_report_rows.specs.Parts.{number_in, spot_in};
+ghost use Rattle.kr_report_rows.specs.Stretches.{IsStretch, IsWithin};
 
 use kr_iso::Object;
 use kr_space_layout::Layout;
 use kr_value::{Class, Obj, SlotPlace, Spot};
-
-/// Whose slot it is, if it is an object's; of a slot that isn't there nobody's.
-#[tactic(auto, using(crate::proofs::Absent::no_owner))]
-fn owner_of(layout: &Layout, slot: u32) -> Option<Object>
-    ensures { shown result ≡ (slot_at (bare layout.now) slot).owner }
-{
-    if slot >= layout.slots() {
-        return None;
-    }
-    layout.owner(slot)
-}
 
 /// Where it stands; of a slot that isn't there `this`.
 #[tactic(auto, using(crate::proofs::Absent::no_place))]
@@ -99,20 +89,45 @@ fn number_in(place: SlotPlace) -> Option<u32>
     }
 }
 
-/// The spot that a slot is of an object, if it is the object's.
-pub(crate) fn spot_of(layout: &Layout, object: Object, slot: u32) -> Option<Spot>
-    ensures { result ≡ spot_of (bare layout.now) (object_of object) slot }
+/// The spot that a slot is, if it is an object's.
+pub(crate) fn spot_at(layout: &Layout, slot: u32) -> Option<Spot>
+    ensures { result ≡ spot_in (slot_at (bare layout.now) slot).place }
 {
-    match owner_of(layout, slot) {
-        None => None,
-        Some(owner) => {
-            if are_same(object, owner) {
-                spot_in(place_of(layout, slot))
-            } else {
-                None
-            }
-        }
+    spot_in(place_of(layout, slot))
+}
+
+/// Slots that stand together: so many from one on.
+#[derive(Clone, Copy)]
+pub(crate) struct Stretch {
+    pub(crate) first: u32,
+    pub(crate) count: usize,
+}
+
+/// No slots.
+const NOWHERE: Stretch = Stretch { first: 0, count: 0 };
+
+/// Where the slots of an object stand; of one that isn't there nowhere.
+pub(crate) fn stretch_of(layout: &Layout, object: Object) -> Stretch
+    ensures { IsStretch (bare layout.now) (object_of object) result }
+{
+    if object.domain as usize >= layout.domains() {
+        return NOWHERE;
     }
+    if object.number >= layout.count(object.domain) {
+        return NOWHERE;
+    }
+    Stretch {
+        first: layout.first_slot(object),
+        count: layout.width(object.domain),
+    }
+}
+
+/// Whether a slot is one of them.
+#[inline(always)]
+pub(crate) fn is_within(stretch: Stretch, slot: u32) -> bool
+    ensures { IsWithin stretch slot result }
+{
+    slot >= stretch.first && ((slot - stretch.first) as usize) < stretch.count
 }
 
 /// The number of the parameter whose slot it is, if it is one's.

@@ -9,6 +9,7 @@ ghost use Rattle.kr_report.specs.Joined.{are_any, separated};
 ghost use Rattle.kr_report.specs.Texts.{joined_by, object_text, objects_named, row_text, structure_text};
 
 use crate::front::row_front;
+use crate::names::method_under_test;
 use crate::objects::named_by;
 use crate::parameters::put_parameters;
 use crate::parts::put_object;
@@ -19,7 +20,6 @@ use kr_classes_table::ClassId;
 use kr_iso::Object;
 use kr_judge_prepared::Prepared;
 use kr_mean::{Row, Structure};
-use kr_report_structures::method_under_test;
 use kr_space_layout::Layout;
 use kr_value::{Class, Value};
 

@@ -18,6 +18,9 @@ use kr_value::Value;
 fn put_rank<K: Sink>(number: u32, out: &mut K) -> Result<(), Failed>
     ensures { Writes K.taken K.faults out.old out.new (codes "#" ++ decimal number) result }
 {
+    if number < 10 {
+        return put_all(out, [b'#', b'0' + number as u8].as_slice());
+    }
     let mut buffer = Buffer::new();
     let number = buffer.format(number).as_bytes();
     put_pieces(out, &[b"#", number])

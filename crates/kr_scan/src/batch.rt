@@ -6,11 +6,9 @@ ghost use Rattle.kr_space_problem.specs.Posed.{posed};
 ghost use Rattle.kr_survey.specs.Scans.{IsScan};
 ghost use Rattle.kr_scan.specs.Stops.{Gathers, IsSpent, reach_at, says_spent};
 
-use crate::row::{add_row, cut_of};
+use crate::maker::{RowMaker, cut_of};
+use crate::row::add_row;
 use kr_base::{Bound, NoMemory, Steps};
-use kr_build::Walk;
-use kr_contract::Tester;
-use kr_judge_prepared::Prepared;
 use kr_mean::Row;
 use kr_step_span::{Candidates, Ending, Next, SpanSearch};
 use kr_survey::{Part, RowList};
@@ -50,12 +48,9 @@ fn reach(alloc: Global, stop: Stop, key: &[u32], upto: &Bound) -> Result<Bound, 
 /// Walks on to the end of a span, through a spent entry, or until so many entries were walked, and keeps the rows of the
 /// valid ones.
 fn gather<C: Candidates + Drop, L: Ledger>(
-    alloc: Global,
-    prepared: &Prepared,
     span: &mut SpanSearch<C>,
     most: u32,
-    walk: &mut Walk,
-    tester: &mut Tester<'_>,
+    maker: &mut RowMaker<'_>,
     rows: &mut Vec<Row>,
     tried: &mut u32,
     runs: &mut Steps<L>,
@@ -63,13 +58,12 @@ fn gather<C: Candidates + Drop, L: Ledger>(
     requires some { 0 < most }
     requires none { tried.old ≡ 0 }
     requires no_rows { rows.old.items ≡ [] }
-    requires tester { tester.old.problem ≡ prepared.now.problem }
-    requires runs_on { RunsOn (posed prepared.now.problem) (C.space span.old.candidates) (C.order span.old.candidates) (C.ending span.old.candidates) }
+    requires runs_on { RunsOn (posed maker.old.problem) (C.space span.old.candidates) (C.order span.old.candidates) (C.ending span.old.candidates) }
     ensures space { C.space span.new.candidates ≡ C.space span.old.candidates }
     ensures order { C.order span.new.candidates ≡ C.order span.old.candidates }
     ensures ending { C.ending span.new.candidates ≡ C.ending span.old.candidates }
-    ensures tester { tester.new ≡ tester.old }
-    ensures gathered { IfOk result (λ stop. Gathers (all_entries (posed prepared.now.problem)) span.old.cut span.old.upto most stop span.new.cut rows.new.items tried.new) }
+    ensures maker { maker.new ≡ maker.old }
+    ensures gathered { IfOk result (λ stop. Gathers (all_entries (posed maker.old.problem)) span.old.cut span.old.upto most stop span.new.cut rows.new.items tried.new) }
     ensures runs { IfOk result (λ stop. runs.new ≤ runs.old + tried.new + 1) }
 {
     loop {
@@ -78,7 +72,7 @@ fn gather<C: Candidates + Drop, L: Ledger>(
             Ok(Next::End) => return Ok(Stop::End),
             Ok(Next::Found(ending)) => ending,
         };
-        add_row(alloc, ending, prepared, walk, tester, &*span, rows)?;
+        add_row(ending, maker, &*span, rows)?;
         *tried += 1;
         if is_spent(ending) {
             return Ok(Stop::Spent);
@@ -103,30 +97,25 @@ fn is_at_spent(stop: Stop) -> bool
 /// The part that a span gives, whose end is this, of at most so many entries.
 pub(crate) fn collect<C: Candidates + Drop, L: Ledger>(
     alloc: Global,
-    prepared: &Prepared,
     span: &mut SpanSearch<C>,
-    tester: &mut Tester<'_>,
+    maker: &mut RowMaker<'_>,
     upto: &Bound,
     most: u32,
     runs: &mut Steps<L>,
 ) -> Result<Part<Row>, NoMemory>
     requires some { 0 < most }
-    requires tester { tester.old.problem ≡ prepared.now.problem }
     requires upto { span.old.upto ≡ upto.now }
-    requires runs_on { RunsOn (posed prepared.now.problem) (C.space span.old.candidates) (C.order span.old.candidates) (C.ending span.old.candidates) }
+    requires runs_on { RunsOn (posed maker.old.problem) (C.space span.old.candidates) (C.order span.old.candidates) (C.ending span.old.candidates) }
     ensures space { C.space span.new.candidates ≡ C.space span.old.candidates }
     ensures order { C.order span.new.candidates ≡ C.order span.old.candidates }
     ensures ending { C.ending span.new.candidates ≡ C.ending span.old.candidates }
-    ensures tester { tester.new ≡ tester.old }
-    ensures part { IfOk result (IsScan (all_entries (posed prepared.now.problem)) span.old.cut upto.now most) }
+    ensures maker { maker.new ≡ maker.old }
+    ensures part { IfOk result (IsScan (all_entries (posed maker.old.problem)) span.old.cut upto.now most) }
     ensures runs { IfOk result (λ part. runs.new ≤ runs.old + part.tried + 1) }
 {
-    let mut walk = Walk::new(alloc);
     let mut rows = Vec::new(alloc);
     let mut tried = 0;
-    let stop = gather(
-        alloc, prepared, span, most, &mut walk, tester, &mut rows, &mut tried, runs,
-    )?;
+    let stop = gather(span, most, maker, &mut rows, &mut tried, runs)?;
     let reach = reach(alloc, stop, span.cut(), upto)?;
     Ok(Part {
         reach,

@@ -2,10 +2,12 @@
 #![tactic(auto)]
 
 mod batch;
+mod maker;
 mod row;
 mod scan;
 mod sharing;
 
 pub use kr_mean::Row;
+pub use maker::RowMaker;
 pub use scan::{Scan, Stopped};
 pub use sharing::may_be_shared;

@@ -6,8 +6,8 @@ ghost use Rattle.kr_space_problem.specs.Posed.{posed};
 ghost use Rattle.kr_survey.specs.Scans.{IsScan};
 
 use crate::batch::collect;
+use crate::maker::RowMaker;
 use kr_base::{Bound, Cut, NoMemory, Steps};
-use kr_contract::Tester;
 use kr_iso::Slots;
 use kr_judge_again::Runner;
 use kr_judge_prepared::Prepared;
@@ -37,12 +37,12 @@ impl<'p> Model for Scan<'p> {
     ghost view = { λ s. s.prepared.now.problem };
 }
 
-/// Where a scan stopped: the search, its candidate and all that is kept of its runs; or nothing yet. And what tests the method
-/// on candidates. It borrows the prepared problem, and nothing of its survey.
+/// Where a scan stopped: the search, its candidate and all that is kept of its runs; or nothing yet. And what makes rows.
+/// It borrows the prepared problem, and nothing of its survey.
 #[derive(Drop)]
 pub struct Stopped<'p> {
     pub(crate) search: Option<Search<Runner<'p>>>,
-    pub(crate) tester: Tester<'p>,
+    pub(crate) maker: RowMaker<'p>,
 }
 
 /// Whether a search looks above a cut.
@@ -119,12 +119,12 @@ impl<'p> Survey for Scan<'p> {
 
     ghost all = { λ s. all_entries (posed s) };
 
-    ghost made = { λ s stopped. (stopped.tester.problem ≡ s) × IfSome stopped.search (λ search. RunsOn (posed s) (⟦<Runner<'p> as Slots>⟧.space search.candidates) (⟦<Runner<'p> as Candidates>⟧.order search.candidates) (⟦<Runner<'p> as Candidates>⟧.ending search.candidates)) };
+    ghost made = { λ s stopped. (stopped.maker.problem ≡ s) × IfSome stopped.search (λ search. RunsOn (posed s) (⟦<Runner<'p> as Slots>⟧.space search.candidates) (⟦<Runner<'p> as Candidates>⟧.order search.candidates) (⟦<Runner<'p> as Candidates>⟧.ending search.candidates)) };
 
     fn scratch(&self) -> Result<Stopped<'p>, NoMemory> {
         Ok(Stopped {
             search: None,
-            tester: Tester::new(self.alloc, self.prepared)?,
+            maker: RowMaker::new(self.alloc, self.prepared)?,
         })
     }
 
@@ -137,9 +137,9 @@ impl<'p> Survey for Scan<'p> {
         runs: &mut Steps<L>,
     ) -> Result<Part<Row>, NoMemory>
         requires some { 0 < most }
-        requires made { (scratch.old.tester.problem ≡ self.now) × IfSome scratch.old.search (λ search. RunsOn (posed self.now) (⟦<Runner<'p> as Slots>⟧.space search.candidates) (⟦<Runner<'p> as Candidates>⟧.order search.candidates) (⟦<Runner<'p> as Candidates>⟧.ending search.candidates)) }
+        requires made { (scratch.old.maker.problem ≡ self.now) × IfSome scratch.old.search (λ search. RunsOn (posed self.now) (⟦<Runner<'p> as Slots>⟧.space search.candidates) (⟦<Runner<'p> as Candidates>⟧.order search.candidates) (⟦<Runner<'p> as Candidates>⟧.ending search.candidates)) }
         ensures part { IfOk result (IsScan (all_entries (posed self.now)) after.now upto.now most) }
-        ensures made { (scratch.new.tester.problem ≡ self.now) × IfSome scratch.new.search (λ search. RunsOn (posed self.now) (⟦<Runner<'p> as Slots>⟧.space search.candidates) (⟦<Runner<'p> as Candidates>⟧.order search.candidates) (⟦<Runner<'p> as Candidates>⟧.ending search.candidates)) }
+        ensures made { (scratch.new.maker.problem ≡ self.now) × IfSome scratch.new.search (λ search. RunsOn (posed self.now) (⟦<Runner<'p> as Slots>⟧.space search.candidates) (⟦<Runner<'p> as Candidates>⟧.order search.candidates) (⟦<Runner<'p> as Candidates>⟧.ending search.candidates)) }
         ensures runs { IfOk result (λ part. runs.new ≤ runs.old + part.tried + length after.now + 3) }
     {
         let end = match upto.try_clone() {
@@ -152,15 +152,7 @@ impl<'p> Survey for Scan<'p> {
             Err(why) => return Err(why),
         };
         let mut span = SpanSearch::of(search, end);
-        match collect(
-            self.alloc,
-            self.prepared,
-            &mut span,
-            &mut scratch.tester,
-            upto,
-            most,
-            runs,
-        ) {
+        match collect(self.alloc, &mut span, &mut scratch.maker, upto, most, runs) {
             Ok(part) => {
                 scratch.search = Some(span.into_search());
                 Ok(part)

@@ -1,5 +1,6 @@
--- Between crates: what a line has taken, and how often it was refused memory.
-use Rattle.std.specs.Prelude.{ℕ, List}
+-- Between crates: what a line has taken, how often it was refused memory, and the last refusal.
+use Rattle.std.specs.Prelude.{ℕ, List, Option}
+use Rattle.kr_base.specs.declared.memory.NoMemory.{NoMemory}
 use Rattle.kr_text.specs.declared.line.Line.{Line}
 
 abbrev pub line_bytes : Line → List ℕ
@@ -7,3 +8,6 @@ line_bytes line = line.bytes.items
 
 abbrev pub line_faults : Line → ℕ
 line_faults line = line.faults
+
+abbrev pub line_refused : Line → Option NoMemory
+line_refused line = line.refused

@@ -1,18 +1,21 @@
 // A line that is put together before it is put, so that it costs one write.
-ghost use Rattle.std.specs.Prelude.{◌≡◌, ◌++◌, [], OnOk, OnErr};
+ghost use Rattle.std.specs.Prelude.{◌≡◌, ◌<◌, ◌++◌, [], true, OnOk, OnErr, is_some};
 
 use kr_base::{Failed, NoMemory, Sink};
 use std::alloc::Global;
 
-/// A sink that keeps what it takes. It fails, and counts that, where it is refused memory.
+/// A sink that keeps what it takes. It fails, counts that, and keeps the refusal, where it is refused memory.
 #[derive(Drop)]
 pub struct Line {
     bytes: Vec<u8>,
+    refused: Option<NoMemory>,
     faults: u64,
+    /// Where it failed, the refusal is there.
+    ghost kept: { 0 < faults → is_some refused ≡ true },
 }
 
 impl Line {
-    ghost use Rattle.kr_text.specs.Lines.{line_bytes, line_faults};
+    ghost use Rattle.kr_text.specs.Lines.{line_bytes, line_faults, line_refused};
 
     /// An empty line. It takes no memory.
     pub fn new(alloc: Global) -> Self
@@ -21,6 +24,7 @@ impl Line {
     {
         Line {
             bytes: Vec::new(alloc),
+            refused: None,
             faults: 0,
         }
     }
@@ -30,6 +34,14 @@ impl Line {
         ensures { result.now ≡ line_bytes self.now }
     {
         &self.bytes
+    }
+
+    /// The refusal of the last put that failed; there is one where a fault was counted.
+    pub fn refused(&self) -> Option<NoMemory>
+        ensures refused { result ≡ line_refused self.now }
+        ensures kept { 0 < line_faults self.now → is_some result ≡ true }
+    {
+        self.refused
     }
 
     /// Adds bytes. Without memory they are not added, and no fault is counted.
@@ -61,7 +73,8 @@ impl Sink for Line {
     fn put(&mut self, piece: &[u8]) -> Result<usize, Failed> {
         match self.bytes.extend_from_slice(piece) {
             Ok(()) => Ok(piece.len()),
-            Err(_) => {
+            Err(why) => {
+                self.refused = Some(why.into());
                 self.faults = self.faults.saturating_add(1);
                 Err(Failed)
             }

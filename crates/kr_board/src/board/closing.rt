@@ -1,10 +1,10 @@
 // Rows taken out, and the end.
-ghost use Rattle.std.specs.Prelude.{◌≡◌, [], true, false, length, IfOk, IfSome, IfNone, OnOk, OnErr};
+ghost use Rattle.std.specs.Prelude.{◌≡◌, [], true, false, length, IfOk, IfErr, IfSome, IfNone, OnOk, OnErr};
 ghost use Rattle.std.specs.List.{list_all};
 ghost use Rattle.kr_core.specs.States.{is_closed, is_cut};
 ghost use Rattle.kr_core.specs.Steps.{Step, fits};
 ghost use Rattle.kr_board.specs.Boards.{Adds, Stays, AreNext};
-ghost use Rattle.kr_board.specs.Closing.{all_closed, front_rows, first_mark, mark_in, is_listing, GivesListing, GivesBack, spent_key};
+ghost use Rattle.kr_board.specs.Closing.{all_closed, front_rows, first_mark, mark_in, is_listing, IsListing, Lists, GivesListing, GivesBack, spent_key};
 
 use super::{Board, make_log_room};
 use crate::edits::take_front;
@@ -17,6 +17,13 @@ use kr_survey::{Listing, Rows};
 pub enum Closed<R> {
     Listing(Listing<R>),
     Unfinished(Board<R>),
+}
+
+/// A listing, and the log of the board that it is of.
+#[derive(Drop)]
+pub struct Logged<R> {
+    pub listing: Listing<R>,
+    pub log: Vec<Event>,
 }
 
 fn all_closed(segments: &[Segment]) -> bool
@@ -143,20 +150,35 @@ impl<R: Drop> Board<R> {
         ensures listing { GivesListing self result }
         ensures unfinished { GivesBack self result }
     {
+        match self.close_with_log() {
+            Err(board) => Closed::Unfinished(board),
+            Ok(Logged { listing, log: _ }) => Closed::Listing(listing),
+        }
+    }
+
+    /// The same, with the log, which is moved out. It takes no memory.
+    pub fn close_with_log(self) -> Result<Logged<R>, Board<R>>
+        ensures finished { OnOk result (all_closed self.core ≡ true) }
+        ensures listing { IfOk result (λ closed. IsListing self closed.listing × Lists self closed.listing) }
+        ensures log { IfOk result (λ closed. closed.log.items ≡ self.log) }
+        ensures unfinished { OnErr result (all_closed self.core ≡ false) }
+        ensures back { IfErr result (λ board. board ≡ self) }
+    {
         if !self.is_finished() {
-            return Closed::Unfinished(self);
+            return Err(self);
         }
         let Board {
             alloc: _,
             core,
             kept,
-            log: _,
+            log,
         } = self;
         let tried = core.tried();
-        Closed::Listing(Listing {
+        let listing = Listing {
             rows: Rows::new(kept),
             tried,
             spent: spent_key(core),
-        })
+        };
+        Ok(Logged { listing, log })
     }
 }

@@ -16,7 +16,7 @@ pub returns-in-Err-Sink : goal.returns-in-Err-Sink
 returns-in-Err-Sink g c =
     let P = posed c.args.prepared.now.problem in
     let answer = listing_answer P c.args.limit (entries_in (At c.args.scan.cut) c.args.scan.upto (all_entries P)) in
-    among_rows c.args.out.now c.put_rows.new.out answer (rw c.in-Err-Sink.field-0-is at c.in-Err-Sink.ensures)
+    among_rows c.args.out.now c.put_all_rows.new.out answer (rw c.in-Err-Sink.field-0-is at c.in-Err-Sink.ensures)
 
 pub returns : goal.returns
 returns g c =

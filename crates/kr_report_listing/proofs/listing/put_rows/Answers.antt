@@ -30,20 +30,17 @@ loop-why-init g c =
       ending = refl;
       upto = refl;
       few = omega arith;
-      tester = c.in-Ok.ensures.tester;
+      maker = c.requires.maker;
       fewer = omega arith;
       so_far = (
         [],
-        subst (λ k. IsDone (entries_in (At c.args.scan.now.cut) c.args.scan.now.upto (all_entries P)) [] here 0 0 0 k) (sym c.in-Ok.ensures.last) (at_start here),
+        subst (λ k. IsDone (entries_in (At c.args.scan.now.cut) c.args.scan.now.upto (all_entries P)) [] here 0 0 0 k) (sym c.requires.none) (at_start here),
         added_none c.args.out.now,
       );
     }
 
 pub returns-in-Err : goal.returns-in-Err
-returns-in-Err g c = (0, added_none c.args.out.now)
-
-pub returns-in-Err-next : goal.returns-in-Err-next
-returns-in-Err-next g c =
+returns-in-Err g c =
     let P = posed c.args.prepared.now.problem in
     let es = entries_in (At c.args.scan.now.cut) c.args.scan.now.upto (all_entries P) in
     let answer = listing_answer P c.args.limit es in
@@ -123,7 +120,7 @@ returns-then-is_full g c =
     let mark = is_valid_mark P v (sym full.0 ∙ found.ends) in
     with_last answer (map (row_text P) (rows_in done)) c.at_the_limit.result (summaries.More c.loop-why.rows.last) c.loop-why.failing
     (ends_more P c.args.limit es done (left P upto cut) rest entry (row_of P v) c.loop-why.valid c.loop-why.failing c.loop-why.tried c.loop-why.rows.last is found.entries mark full.1)
-    c.at_the_limit.ensures.summary c.at_the_limit.ensures.status put
+    (c.at_the_limit.ensures.summary ∙ ap summaries.More c.replace-last.ensures.value) c.at_the_limit.ensures.status put
 
 pub returns-in-Err-put_entry : goal.returns-in-Err-put_entry
 returns-in-Err-put_entry g c =
@@ -170,10 +167,10 @@ overflow_add-failing g c =
     let found : Finds P upto cut v new ending = subst (λ (n : Next). Scans P upto cut v new n) c.in-Ok-Found.field-0-is (c.in-Ok-Found.ensures.found P runs) in
     let entry = entry_at P v in
     let room = subst (λ (b : Bool). IsFull ending c.loop-why.valid c.args.limit b) c.if-is_full.false c.is_full.ensures in
-    let few = fits ending c.loop-why.valid c.args.limit c.in-Ok-put_entry.count.rows inv.few room c.in-Ok-put_entry.ensures.count in
+    let few = fits ending c.loop-why.valid c.args.limit c.in-Ok.count.rows inv.few room c.in-Ok.ensures.count in
     let rows = rows_of_mark (mark_of P v) in
-    let many = c.in-Ok-put_entry.ensures.put.0 ∙ rows_long (row_text P) rows in
-    omega (arith, few, inv.fewer, many, c.in-Ok-put_entry.ensures.failing, failing_few rows, c.ranges.limit.fits)
+    let many = c.in-Ok.ensures.put.0 ∙ rows_long (row_text P) rows in
+    omega (arith, few, inv.fewer, many, c.in-Ok.ensures.failing, failing_few rows, c.ranges.limit.fits)
 
 pub loop-why-preserved : goal.loop-why-preserved
 loop-why-preserved g c =
@@ -196,22 +193,22 @@ loop-why-preserved g c =
     let rest = left P upto new in
     let unspent = is_unspent P v ending found.ends (subst (λ (b : Bool). IsSpent ending b) c.if-is_spent.false c.is_spent.ensures) in
     let room = subst (λ (b : Bool). IsFull ending c.loop-why.valid c.args.limit b) c.if-is_full.false c.is_full.ensures in
-    let n = c.in-Ok-put_entry.count.rows in
-    let fails = c.in-Ok-put_entry.count.failing in
-    let many = c.in-Ok-put_entry.ensures.put.0 ∙ rows_long (row_text P) (rows_of_mark (mark_of P v)) in
+    let n = c.in-Ok.count.rows in
+    let fails = c.in-Ok.count.failing in
+    let many = c.in-Ok.ensures.put.0 ∙ rows_long (row_text P) (rows_of_mark (mark_of P v)) in
     let more = one_more es done rest (left P upto cut) entry c.loop-why.valid c.loop-why.failing c.loop-why.tried (c.loop-why.valid + n) n fails (c.loop-why.failing + fails) c.one_more-tried.result c.loop-why.rows.last c.put_entry.new.rows.last
-    is found.entries unspent many c.in-Ok-put_entry.ensures.failing refl refl c.one_more-tried.ensures c.in-Ok-put_entry.ensures.last in
+    is found.entries unspent many c.in-Ok.ensures.failing refl refl c.one_more-tried.ensures c.in-Ok.ensures.last in
     record {
       space = c.next.ensures.space ∙ inv.space;
       order = c.next.ensures.order ∙ inv.order;
       ending = c.next.ensures.ending ∙ inv.ending;
       upto = c.next.ensures.upto ∙ inv.upto;
-      few = fits ending c.loop-why.valid c.args.limit n inv.few room c.in-Ok-put_entry.ensures.count;
-      tester = c.put_entry.ensures.tester ∙ inv.tester;
-      fewer = let most = failing_few (rows_of_mark (mark_of P v)) in omega (arith, inv.fewer, many, c.in-Ok-put_entry.ensures.failing, most);
+      few = fits ending c.loop-why.valid c.args.limit n inv.few room c.in-Ok.ensures.count;
+      maker = c.put_entry.ensures.maker ∙ inv.maker;
+      fewer = let most = failing_few (rows_of_mark (mark_of P v)) in omega (arith, inv.fewer, many, c.in-Ok.ensures.failing, most);
       so_far = (
         done ++ entry ∷ [],
         subst (λ (b : Bound). IsDone es (done ++ entry ∷ []) (left P b new) (c.loop-why.valid + n) (c.loop-why.failing + fails) c.one_more-tried.result c.put_entry.new.rows.last) (sym c.next.ensures.upto) more,
-        added_then put c.in-Ok-put_entry.ensures.put.1 (lines_step (row_text P) done entry),
+        added_then put c.in-Ok.ensures.put.1 (lines_step (row_text P) done entry),
       );
     }

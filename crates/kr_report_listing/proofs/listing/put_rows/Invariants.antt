@@ -20,7 +20,7 @@ invariant-loop-why g l = record {
   ending : g.C.Candidates.ending l.scan.candidates ≡ g.C.Candidates.ending l.initial.scan.candidates;
   upto : l.scan.upto ≡ l.initial.scan.upto;
   few : l.valid ≤ l.limit;
-  tester : l.rows.tester ≡ l.prepared;
+  maker : l.rows.maker ≡ l.prepared;
   fewer : l.failing ≤ l.valid;
   so_far : (done : List (Entry Row))
       × IsDone (entries_in (At l.initial.scan.cut) l.initial.scan.upto (all_entries (posed l.prepared.problem))) done (left (posed l.prepared.problem) l.scan.upto l.scan.cut) l.valid l.failing l.tried l.rows.last

@@ -5,15 +5,15 @@ use Rattle.kr_base.specs.Writing.{stopped_then, stopped_early, added_then, write
 use Rattle.kr_report.specs.Texts.{verdict_text}
 use Rattle.kr_report_rows.proofs.front.row_front.Goals as goal
 
-pub returns-in_err-write : goal.returns-in_err-write
-returns-in_err-write g c =
+pub returns-in_err-put_key : goal.returns-in_err-put_key
+returns-in_err-put_key g c =
     writes_exit c.from_residual.result c.from_residual.ensures.0
-    (stopped_early (codes " " ++ verdict_text c.args.row.now.verdict) c.in_err-write.ensures (append_assoc (cut_text c.args.row.now.key) (codes " ") (verdict_text c.args.row.now.verdict)))
+    (stopped_early (codes " " ++ verdict_text c.args.row.now.verdict) c.in_err-put_key.ensures (append_assoc (cut_text c.args.row.now.key) (codes " ") (verdict_text c.args.row.now.verdict)))
 
 pub returns-in_err-put_all : goal.returns-in_err-put_all
 returns-in_err-put_all g c =
     writes_exit c.from_residual-in_err-put_all.result c.from_residual-in_err-put_all.ensures.0
-    (stopped_early (verdict_text c.args.row.now.verdict) (stopped_then c.in_ok-write.ensures c.in_err-put_all.ensures refl) refl)
+    (stopped_early (verdict_text c.args.row.now.verdict) (stopped_then c.in_ok-put_key.ensures c.in_err-put_all.ensures refl) refl)
 
 pub returns : goal.returns
-returns g c = writes_then c.put_verdict.new.out (verdict_text c.args.row.now.verdict) c.put_verdict.result (added_then c.in_ok-write.ensures c.in_ok-put_all.ensures refl) c.put_verdict.ensures refl
+returns g c = writes_then c.put_verdict.new.out (verdict_text c.args.row.now.verdict) c.put_verdict.result (added_then c.in_ok-put_key.ensures c.in_ok-put_all.ensures refl) c.put_verdict.ensures refl

@@ -12,6 +12,6 @@ use Rattle.kr_report_rows.proofs.parts.put_parts.Given as goal
 -- what the entries so far have of the object is written
 abbrev pub invariant-loop-entry : goal.invariant-loop-entry
 invariant-loop-entry g l = record {
-  any : l.any ≡ are_any (flat_map (entry_named (bare l.layout) (map (field_name l.trees) l.fields) (object_of l.object)) (take l.entry-index l.structure));
-  sent : Added g.K.Sink.taken g.K.Sink.faults l.fn.out l.out (joined_by (codes ",") (flat_map (entry_named (bare l.layout) (map (field_name l.trees) l.fields) (object_of l.object)) (take l.entry-index l.structure)));
+  any : l.any ≡ are_any (flat_map (entry_named (bare l.layout) (map (field_name l.trees) l.fields) (object_of l.fn.object)) (take l.entry-index l.structure));
+  sent : Added g.K.Sink.taken g.K.Sink.faults l.fn.out l.out (joined_by (codes ",") (flat_map (entry_named (bare l.layout) (map (field_name l.trees) l.fields) (object_of l.fn.object)) (take l.entry-index l.structure)));
 }

@@ -13,10 +13,10 @@ invariant-loop-why g l = record {
   order : g.C.Candidates.order l.span.candidates ≡ g.C.Candidates.order l.initial.span.candidates;
   ending : g.C.Candidates.ending l.span.candidates ≡ g.C.Candidates.ending l.initial.span.candidates;
   upto : l.span.upto ≡ l.initial.span.upto;
-  tester : l.tester ≡ l.initial.tester;
+  maker : l.maker ≡ l.initial.maker;
   counted : l.runs ≤ l.initial.runs + l.tried;
   low : l.tried < l.most;
-  front : (done : List (Entry Row)) × IsFront (all_entries (posed l.prepared.problem)) l.initial.span.cut l.initial.span.upto l.most done (left (posed l.prepared.problem) l.span.upto l.span.cut) l.rows.items l.tried;
+  front : (done : List (Entry Row)) × IsFront (all_entries (posed l.initial.maker.problem)) l.initial.span.cut l.initial.span.upto l.most done (left (posed l.initial.maker.problem) l.span.upto l.span.cut) l.rows.items l.tried;
 }
 
 abbrev pub decreases-loop-why : goal.decreases-loop-why

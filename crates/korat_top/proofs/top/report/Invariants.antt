@@ -1,7 +1,0 @@
-use Rattle.korat_top.proofs.top.report.Given as goal
-
-abbrev pub ghosts-list : goal.ghosts-list
-ghosts-list g a = record { name = a.blank.name; parts = a.blank.parts }
-
-abbrev pub ghosts-demonstrate : goal.ghosts-demonstrate
-ghosts-demonstrate g a = record { name = a.blank.name; parts = a.blank.parts }

@@ -1,0 +1,15 @@
+//! The files of a call: read, and judged up to the problem that they pose, or to what refuses them.
+#![tactic(auto)]
+
+mod find;
+mod laws;
+mod refusal;
+mod refused;
+mod rules;
+mod sources;
+
+pub use find::{find_demo, find_files, find_test};
+pub use laws::one_outcome;
+pub use refusal::{InputFile, Refusal, Stop};
+pub use refused::{put_refused, status_of};
+pub use rules::{CallRule, ItemRule, SourceRule};

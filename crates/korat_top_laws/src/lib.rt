@@ -1,0 +1,6 @@
+//! What the steps of a command accept has what the laws on programs ask. A law alone, no code that runs.
+#![tactic(auto)]
+
+mod laws;
+
+pub use laws::{accepted_law, merged_law, written_law};

@@ -1,0 +1,90 @@
+-- A command that searches has from one worker to the most: it is read so.
+use Rattle.std.proofs.Common.{◌≡◌, ◌≤◌, ℕ, Bool, true, false, List, refl, arith, Option, Some, None}
+use Rattle.std.specs.Prelude.{IfSome, codes, if◌then◌else◌, option_and_then, option_map}
+use Rattle.std.specs.Str.{bytes_eq}
+use Rattle.clap.specs.Words.{Row, Text, all_of, fault_of, first_of, subcommand_of}
+use Rattle.clap.specs.Walk.{is_empty}
+use Rattle.kr_args.specs.Definition.{korat_app}
+use Rattle.kr_args.specs.Reading.{Files, Range, ask_in, ask_with, check_in, command_in, command_of, demo_in, demo_with, files_in, flag_in, list_in, merge_in, named_in, number_in, range_in, shard_in, span_in, test_in, test_with, workers_in}
+use Rattle.kr_args.specs.Workers.{AreWorkers, HasWorkers}
+use Rattle.kr_args.specs.declared.forms.Ask.{Ask}
+use Rattle.kr_args.specs.declared.forms.Command.{Command}
+use Rattle.kr_args.specs.declared.forms.Command.TheVariants as commands
+use Rattle.kr_args.proofs.Numbers.{number_text}
+
+read_few : (text : Text) (o : Option ℕ) → number_in 1 64 text ≡ o → IfSome o AreWorkers
+read_few text None is = tt
+read_few text (Some n) is = let read = number_text 1 64 text n is in (omega (arith, read.1), read.2)
+
+few : (text : Option Text) → IfSome (workers_in text) AreWorkers
+few None = (omega arith, omega arith)
+few (Some text) = read_few text (number_in 1 64 text) refl
+
+ask_few : (files : Option Files) (range : Option Range) (workers : Option ℕ) (trace : Bool) → IfSome workers AreWorkers → IfSome (ask_with files range workers trace) (λ ask. AreWorkers ask.workers)
+ask_few None range workers trace h = tt
+ask_few (Some files) None workers trace h = tt
+ask_few (Some files) (Some range) None trace h = tt
+ask_few (Some files) (Some range) (Some workers) trace h = h
+
+list_few : (ask : Option Ask) → IfSome ask (λ a. AreWorkers a.workers) → IfSome (option_map commands.List ask) HasWorkers
+list_few None h = tt
+list_few (Some ask) h = h
+
+test_few : (method : Option Text) (ask : Option Ask) → IfSome ask (λ a. AreWorkers a.workers) → IfSome (test_with method ask) HasWorkers
+test_few None ask h = tt
+test_few (Some method) None h = tt
+test_few (Some method) (Some ask) h = h
+
+check_few : (files : Option Files) → IfSome (option_map (λ f. commands.Check f.0 f.1) files) HasWorkers
+check_few None = tt
+check_few (Some files) = tt
+
+demo_few : (n workers : Option ℕ) → IfSome workers AreWorkers → IfSome (demo_with n workers) HasWorkers
+demo_few None workers h = tt
+demo_few (Some n) None h = tt
+demo_few (Some n) (Some workers) h = h
+
+shard_few : (ask : Option Ask) → IfSome ask (λ a. AreWorkers a.workers) → IfSome (option_map commands.Shard ask) HasWorkers
+shard_few None h = tt
+shard_few (Some ask) h = h
+
+merge_few : (files : Option (List Text)) → IfSome (option_map commands.Merge files) HasWorkers
+merge_few None = tt
+merge_few (Some files) = tt
+
+named_few : (name : Text) (rows : List Row) → IfSome (named_in name rows) HasWorkers
+named_few name rows = by_name (bytes_eq name (codes "list")) (bytes_eq name (codes "test")) (bytes_eq name (codes "check")) (bytes_eq name (codes "demo")) (bytes_eq name (codes "shard")) (bytes_eq name (codes "merge"))
+  where
+    workers : Option ℕ
+    workers = workers_in (first_of (codes "workers") rows)
+
+    own : IfSome workers AreWorkers
+    own = few (first_of (codes "workers") rows)
+
+    asks : IfSome (ask_in rows) (λ a. AreWorkers a.workers)
+    asks = ask_few (files_in rows) (range_in rows) workers (flag_in (first_of (codes "trace") rows)) own
+
+    spans : IfSome (ask_with (files_in rows) (span_in rows) workers false) (λ a. AreWorkers a.workers)
+    spans = ask_few (files_in rows) (span_in rows) workers false own
+
+    by_name : (a b c d e f : Bool) → IfSome (if a then list_in rows else (if b then test_in rows else (if c then check_in rows else (if d then demo_in rows else (if e then shard_in rows else (if f then merge_in rows else None)))))) HasWorkers
+    by_name true b c d e f = list_few (ask_in rows) asks
+    by_name false true c d e f = test_few (first_of (codes "method") rows) (ask_in rows) asks
+    by_name false false true d e f = check_few (files_in rows)
+    by_name false false false true e f = demo_few (option_and_then (number_in 1 12) (first_of (codes "nodes") rows)) workers own
+    by_name false false false false true f = shard_few (ask_with (files_in rows) (span_in rows) workers false) spans
+    by_name false false false false false true = merge_few (all_of (codes "file") rows)
+    by_name false false false false false false = tt
+
+command_few : (met : Option (Text × List Row)) → IfSome (command_in met) HasWorkers
+command_few None = tt
+command_few (Some m) = named_few m.0 m.1
+
+-- the words' command has workers
+pub has_workers : (words : List Text) → IfSome (command_of words) HasWorkers
+unfolding command_of
+has_workers words = by_fault (is_empty (fault_of korat_app words))
+  where
+    by_fault : (b : Bool) → IfSome (if b then command_in (subcommand_of korat_app words) else None) HasWorkers
+    by_fault true = command_few (subcommand_of korat_app words)
+    by_fault false = tt

@@ -1,0 +1,6 @@
+use Rattle.std.proofs.Common.{◌≡◌, ◌+◌, length}
+use Rattle.kr_pool_shared.specs.Seats.{calls_of}
+use Rattle.kr_pool_shared.proofs.shared.seats_for.Given as goal
+
+abbrev pub invariant-loop-i : goal.invariant-loop-i
+invariant-loop-i g l = (l.all.parts + l.i ≡ l.workers + 1) × (l.all.amount ≡ 0) × (length l.seats.items + 1 ≡ l.i) × (calls_of l.seats.items ≡ 0)

@@ -1,0 +1,4 @@
+pub mod Law
+pub mod After
+pub mod Steps
+pub mod Ended

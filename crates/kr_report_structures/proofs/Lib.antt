@@ -1,5 +1,0 @@
-mod Chosen
-mod Named
-mod Objects
-mod Slots
-mod Walks
