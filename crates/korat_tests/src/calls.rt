@@ -9,7 +9,7 @@ use std::sync::Wait;
 use std::test::Fail;
 use std::thread::Threads;
 
-const CELL: &str = "class Cell { int v; boolean repOk() { return v > 0; } }";
+pub(crate) const CELL: &str = "class Cell { int v; boolean repOk() { return v > 0; } }";
 
 const TWO_FIELDS: &str = "class P { int v; int w; boolean repOk() { return v > 0; } }";
 
@@ -17,12 +17,12 @@ const TWO_FIELDS: &str = "class P { int v; int w; boolean repOk() { return v > 0
 const COUNTER: &str =
     "class Cell { int v; boolean repOk() { return v < 9; }\n//@ ensures v == \\old(v) + 1;\nvoid inc() { if (v < 2) v = v + 1; } }";
 
-const FIN: &str =
+pub(crate) const FIN: &str =
     "root = \"Cell\"\nfuel = 1000\n[objects]\nCell = 1\n[fields]\n\"Cell.v\" = [{ from = 0, to = 2 }]\n";
 
 const LIST: [&str; 3] = ["list", "fin.toml", "Cell.java"];
 
-const LISTED: &str = "0.1 Cell#0{v=1}\n0.2 Cell#0{v=2}\nvalid 2 tried 3\n";
+pub(crate) const LISTED: &str = "0.1 Cell#0{v=1}\n0.2 Cell#0{v=2}\nvalid 2 tried 3\n";
 
 fn push_words(all: &mut Words, words: &[&str]) -> Result<(), NoMemory> {
     for word in words {
@@ -31,7 +31,7 @@ fn push_words(all: &mut Words, words: &[&str]) -> Result<(), NoMemory> {
     Ok(())
 }
 
-fn words_of(alloc: Global, words: &[&str]) -> Result<Words, NoMemory> {
+pub(crate) fn words_of(alloc: Global, words: &[&str]) -> Result<Words, NoMemory> {
     let mut all = Words::new(alloc);
     push_words(&mut all, words)?;
     Ok(all)

@@ -8,3 +8,5 @@ mod calls;
 mod demo;
 #[cfg(test)]
 mod words;
+#[cfg(test)]
+mod workers;

@@ -1,0 +1,7 @@
+//! Tests of verdicts, from a source and a finitization on.
+#![tactic(auto)]
+
+#[cfg(test)]
+mod problems;
+#[cfg(test)]
+mod rows;

@@ -1,0 +1,126 @@
+// Verdicts on the cells of a field from 0 to 3, worked by hand.
+ghost use Rattle.std.specs.Prelude.{◌≡◌, IsSome, true};
+ghost use Rattle.kr_mean.specs.Runs.{tested_method};
+ghost use Rattle.kr_mean.specs.Space.{IsVector, space_of};
+ghost use Rattle.kr_space_layout.specs.Bounds.{bare};
+ghost use Rattle.kr_space_problem.specs.Posed.{posed};
+
+use crate::problems::prepared;
+use kr_base::NoMemory;
+use kr_contract::{Tester, verdict};
+use kr_judge_prepared::Prepared;
+use kr_mean::Verdict;
+use kr_sources::Unread;
+use kr_space_layout::Layout;
+use kr_vector::{Slot, Vector};
+use std::alloc::Global;
+use std::process::Abort;
+
+const FIN: &str =
+    "root = \"Cell\"\nfuel = 1000\n[objects]\nCell = 1\n[fields]\n\"Cell.v\" = [{ from = 0, to = 3 }]\n";
+
+const INC: &str = "class Cell { int v; boolean repOk() { return true; }
+//@ ensures v == \\old(v) + 1;
+void inc() { if (v < 2) v = v + 1; } }";
+
+/// Whether a vector has an index of its domain in each slot.
+fn fits(layout: &Layout, vector: &Vector) -> bool
+    ensures { result ≡ true → IsVector (space_of (bare layout.now)) vector.now }
+{
+    if vector.len() != layout.slots() as usize {
+        return false;
+    }
+    'slots: for slot in 0..layout.slots() {
+        if vector.get(Slot(slot)) >= layout.size(slot) {
+            return false;
+        }
+    }
+    true
+}
+
+/// The same of a prepared problem.
+fn is_vector(prepared: &Prepared, vector: &Vector) -> bool
+    ensures { result ≡ true → IsVector (space_of (posed prepared.now.problem)) vector.now }
+{
+    fits(prepared.layout(), vector)
+}
+
+/// Whether a method is tested.
+fn is_tested(prepared: &Prepared) -> bool
+    ensures { result ≡ true → IsSome (tested_method (posed prepared.now.problem) (posed prepared.now.problem).mode) }
+{
+    match prepared.contract() {
+        None => false,
+        Some(_) => true,
+    }
+}
+
+/// Whether both calls say this verdict.
+fn says(
+    alloc: Global,
+    prepared: &Prepared,
+    tester: &mut Tester,
+    vector: &Vector,
+    fuel: u64,
+    expected: Verdict,
+) -> Result<bool, NoMemory>
+    requires { tester.old ≡ prepared.now }
+    ensures { tester.new ≡ prepared.now }
+{
+    if !is_vector(prepared, vector) {
+        return Ok(false);
+    }
+    if !is_tested(prepared) {
+        return Ok(false);
+    }
+    let kept = tester.verdict(vector, fuel)?;
+    let alone = verdict(alloc, prepared, vector, fuel)?;
+    Ok(kept == Some(expected) && alone == expected)
+}
+
+/// Gives the cell's field a value of its domain, if it has the slot.
+fn set(vector: &mut Vector, index: u32) {
+    if 1 < vector.len() {
+        vector.set(Slot(1), index);
+    }
+}
+
+/// Cells of each value, with their verdicts.
+fn judge_rows(
+    rt: &impl Abort,
+    alloc: Global,
+    prepared: &Prepared,
+    tester: &mut Tester,
+    vector: &mut Vector,
+) -> Result<(), NoMemory>
+    requires { tester.old ≡ prepared.now }
+{
+    'rows: for (index, fuel, expected) in [
+        (0, 1000, Verdict::Pass),
+        (1, 1000, Verdict::Pass),
+        (2, 1000, Verdict::Ensures(1)),
+        (3, 1000, Verdict::Ensures(1)),
+        (0, 1000, Verdict::Pass),
+        (0, 0, Verdict::Spent),
+    ] {
+        set(vector, index);
+        assert!(rt;
+            says(alloc, prepared, tester, vector, fuel, expected)?,
+            "{index}"
+        );
+    }
+    Ok(())
+}
+
+fn judge_all(rt: &impl Abort, alloc: Global, prepared: &Prepared) -> Result<(), NoMemory> {
+    let mut vector = Vector::zero(alloc, prepared.layout().slots() as usize)?;
+    let mut tester = Tester::new(alloc, prepared)?;
+    judge_rows(rt, alloc, prepared, &mut tester, &mut vector)
+}
+
+#[test]
+fn old_values(rt: HostRuntime) -> Result<(), Unread> {
+    let prepared = prepared(rt.alloc(), INC, FIN, "inc")?;
+    judge_all(&rt, rt.alloc(), &prepared)?;
+    Ok(())
+}
