@@ -17,7 +17,7 @@ middle_tests: middle
 korat: middle low
 CRATES
 cp "$top/korat" checkout/
-cp "$tools/unproved" checkout/tools/
+cp "$tools/unproved" "$tools/rt" checkout/tools/
 touch -d '2020-01-01' checkout/crates.txt checkout/crates/*/src/*
 for name in bash awk sed grep cat mktemp rm ls tail wc find readlink dirname date sleep touch mkdir realpath id env; do
     ln -s "$(command -v "$name")" "without_rt/$name"
