@@ -15,7 +15,7 @@ use Rattle.korat_top_files.specs.OneOutcome.{HasOne, OneOutcome}
 use Rattle.kr_shard_files.specs.Files.{MergesFiles, OneMerge}
 use Rattle.korat_top.specs.Answer.{IsAnswer, merged, usage, refused, served, inputs_of, refusal_answer, steps_of}
 use Rattle.korat_top.specs.Ends.{AreOne, OneAnswer, traces}
-use Rattle.kr_report_shared.specs.Traced.{followed_by}
+use Rattle.kr_report_streaming.specs.Followed.{followed_by}
 use Rattle.kr_report_trace.specs.Traces.{trace_text}
 use Rattle.korat_top_reports.specs.Reports.{Reports, ReportsAsk, is_traced, listing_of, report_of}
 

@@ -7,7 +7,7 @@ use Rattle.kr_report.specs.Reports.{Answer, bytes_of}
 use Rattle.kr_report.specs.Endings.{front_of}
 use Rattle.kr_args.specs.declared.forms.Command.{Command}
 use Rattle.korat_top_files.specs.Steps.{Held}
-use Rattle.kr_report_shared.specs.Traced.{followed_by}
+use Rattle.kr_report_streaming.specs.Followed.{followed_by}
 use Rattle.korat_top_reports.specs.Reports.{is_traced}
 use Rattle.korat_top.specs.Answer.{IsAnswer, IsTold, ReadsFor}
 

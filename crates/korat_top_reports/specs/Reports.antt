@@ -1,5 +1,5 @@
 -- To be believed: what a command reports of the problem that its files pose.
-use Rattle.std.specs.Prelude.{◌≡◌, ℕ, List, [], ◌∷◌, length, Bool, true, false, ◌&&◌, ◌==◌, not, Option}
+use Rattle.std.specs.Prelude.{◌≡◌, ℕ, List, [], ◌∷◌, ◌++◌, length, Bool, true, false, ◌&&◌, ◌==◌, not, Option}
 use Rattle.kr_base.specs.declared.span.Bound.TheVariants.{At, End}
 use Rattle.kr_base.specs.Entries.{entries_in}
 use Rattle.kr_args.specs.declared.forms.Ask.{Ask}
@@ -13,7 +13,6 @@ use Rattle.kr_report.specs.Endings.{EndsListing}
 use Rattle.kr_report.specs.Reports.{Answer, line_answer, listing_answer}
 use Rattle.kr_report.specs.Texts.{checked_text}
 use Rattle.kr_report_listing.specs.Tallies.{tally_answer}
-use Rattle.kr_report_shared.specs.Traced.{followed_by, span_from}
 use Rattle.kr_report_trace.specs.Traces.{trace_text}
 use Rattle.kr_shard_reading.specs.Texts.{first_text}
 
@@ -26,6 +25,15 @@ PosesProblem (commands.Demo n workers) = Unit {0}
 PosesProblem (commands.Shard ask) = Unit {0}
 PosesProblem (commands.Merge files) = ⊥
 
+-- the command searches the problem that it poses
+abbrev pub Searches : Command → Type 0
+Searches (commands.List ask) = Unit {0}
+Searches (commands.Test method ask) = Unit {0}
+Searches (commands.Check fin sources) = ⊥
+Searches (commands.Demo n workers) = Unit {0}
+Searches (commands.Shard ask) = Unit {0}
+Searches (commands.Merge files) = ⊥
+
 -- the report of the entries above a key and not above a bound, with so many rows at most: of a test, with verdicts
 abbrev pub listing_of : Ask → Problem → Answer
 listing_of ask problem = listing_answer problem ask.limit (entries_in (At ask.from) ask.to (all_entries problem))
@@ -35,6 +43,12 @@ abbrev pub shard_of : Ask → Problem → Answer
 shard_of ask problem =
     let listing = listing_of ask problem in
     record listing { rows = first_text (record { after = ask.from; upto = ask.to }) ∷ listing.rows }
+
+-- that listing with the text of a log after its last line
+abbrev pub told_of : List Event → Ask → Problem → Answer
+told_of log ask problem =
+    let listing = listing_of ask problem in
+    record listing { last = listing.last ++ trace_text log }
 
 -- how many classes and slots there are
 abbrev pub counts_of : Problem → Answer
@@ -57,7 +71,7 @@ report_of (commands.Merge files) problem = line_answer 0 []
 abbrev pub ReportsAsk : Bool → Ask → Problem → Answer → Type 0
 ReportsAsk false ask problem answer = answer ≡ listing_of ask problem
 ReportsAsk true ask problem answer =
-    (log : List Event) × IsTrace (all_entries problem) (span_from ask.from ask.to) ask.workers log × (answer ≡ followed_by (trace_text log) (listing_of ask problem))
+    (log : List Event) × IsTrace (all_entries problem) (record { after = ask.from; upto = ask.to }) ask.workers log × (answer ≡ told_of log ask problem)
 
 -- what is reported: of a listing or a test, with its trace where it is asked for
 abbrev pub Reports : Command → Problem → Answer → Type 0

@@ -2,10 +2,10 @@
 ghost use Rattle.std.specs.Prelude.{◌≡◌, ◌<◌, true, IfOk, OnErr};
 ghost use Rattle.kr_report.specs.Endings.{EndsListing};
 ghost use Rattle.kr_space_problem.specs.Posed.{posed};
-ghost use Rattle.korat_top_reports.specs.Reports.{EndsBy, PosesProblem, Reports, is_alone, listing_of, shard_of, tally_of};
+ghost use Rattle.korat_top_reports.specs.Reports.{EndsBy, PosesProblem, Reports, Searches, is_alone, listing_of, shard_of};
 
 use crate::counting::count;
-use crate::prepare::prepare;
+use crate::preparing::prepare;
 use kr_args::forms::{Ask, Command};
 use kr_base::{NoMemory, Sink, Steps};
 use kr_judge_prepared::{Accepted, Prepared};
@@ -37,25 +37,6 @@ fn put_asked<K: Sink, L: Ledger>(
         out,
         runs,
     )
-}
-
-/// Lists a problem, or tests its method.
-fn list<K: Sink, L: Ledger>(
-    alloc: Global,
-    found: Accepted,
-    ask: &Ask,
-    out: &mut K,
-    blank: Blank,
-) -> Result<u8, NoMemory>
-    requires ledger { blank.name ≡ L.name }
-    requires parts { blank.parts ≡ L.parts }
-    requires some { 0 < L.parts }
-    ensures ends { IfOk result (λ status. EndsListing K.taken K.faults (listing_of ask.now (posed found)) out.old out.new status) }
-    ensures nothing { OnErr result (out.new ≡ out.old) }
-{
-    let mut runs = Steps::<L>::start(blank);
-    let prepared = prepare(alloc, found)?;
-    put_asked(alloc, &prepared, ask, out, &mut runs)
 }
 
 /// Lists the entries that are asked for, or says that memory is wanting.
@@ -90,42 +71,48 @@ fn shard_prepared<K: Sink, L: Ledger>(
     }
 }
 
-/// Lists the entries of a problem that are asked for, as a shard.
-fn shard<K: Sink, L: Ledger>(
+/// Reports of a prepared problem what a command asks that searches it.
+fn report_prepared<K: Sink, L: Ledger>(
     alloc: Global,
-    found: Accepted,
-    ask: &Ask,
+    command: &Command,
+    prepared: &Prepared,
     out: &mut K,
-    blank: Blank,
+    runs: &mut Steps<L>,
 ) -> Result<u8, NoMemory>
-    requires ledger { blank.name ≡ L.name }
-    requires parts { blank.parts ≡ L.parts }
-    requires some { 0 < L.parts }
-    ensures ends { IfOk result (λ status. EndsListing K.taken K.faults (shard_of ask.now (posed found)) out.old out.new status) }
+    requires searches { Searches command.now }
+    requires alone { is_alone command.now ≡ true }
+    ensures ends { IfOk result (λ status. EndsBy K.taken K.faults (Reports command.now (posed prepared.now.problem)) out.old out.new status) }
     ensures nothing { OnErr result (out.new ≡ out.old) }
 {
-    let mut runs = Steps::<L>::start(blank);
-    let prepared = prepare(alloc, found)?;
-    Ok(shard_prepared(alloc, &prepared, ask, out, &mut runs))
+    match command {
+        Command::List(ask) => put_asked(alloc, prepared, ask, out, runs),
+        Command::Test { ask, .. } => put_asked(alloc, prepared, ask, out, runs),
+        Command::Demo { n, .. } => put_tally(alloc, prepared, *n, out, runs),
+        Command::Shard(ask) => Ok(shard_prepared(alloc, prepared, ask, out, runs)),
+        Command::Check { .. } => unreachable!(),
+        Command::Merge(_) => unreachable!(),
+    }
 }
 
-/// Counts the valid entries of the demo's problem.
-fn demonstrate<K: Sink, L: Ledger>(
+/// Searches a problem for a command.
+fn report_found<K: Sink, L: Ledger>(
     alloc: Global,
+    command: &Command,
     found: Accepted,
-    nodes: u32,
     out: &mut K,
     blank: Blank,
 ) -> Result<u8, NoMemory>
     requires ledger { blank.name ≡ L.name }
     requires parts { blank.parts ≡ L.parts }
     requires some { 0 < L.parts }
-    ensures ends { IfOk result (λ status. EndsListing K.taken K.faults (tally_of nodes (posed found)) out.old out.new status) }
+    requires searches { Searches command.now }
+    requires alone { is_alone command.now ≡ true }
+    ensures ends { IfOk result (λ status. EndsBy K.taken K.faults (Reports command.now (posed found)) out.old out.new status) }
     ensures nothing { OnErr result (out.new ≡ out.old) }
 {
     let mut runs = Steps::<L>::start(blank);
     let prepared = prepare(alloc, found)?;
-    put_tally(alloc, &prepared, nodes, out, &mut runs)
+    report_prepared(alloc, command, &prepared, out, &mut runs)
 }
 
 /// Reports of the problem of a command for one worker. It waits for nobody. Where memory is refused before anything is searched,
@@ -142,11 +129,7 @@ pub fn report_alone<K: Sink>(
     ensures nothing { OnErr result (out.new ≡ out.old) }
 {
     match command {
-        Command::List(ask) => list::<K, Brand>(alloc, found, ask, out, Blank::new(1)),
-        Command::Test { ask, .. } => list::<K, Brand>(alloc, found, ask, out, Blank::new(1)),
         Command::Check { .. } => Ok(count(&found, out)),
-        Command::Demo { n, .. } => demonstrate::<K, Brand>(alloc, found, *n, out, Blank::new(1)),
-        Command::Shard(ask) => shard::<K, Brand>(alloc, found, ask, out, Blank::new(1)),
-        Command::Merge(_) => unreachable!(),
+        _ => report_found::<K, Brand>(alloc, command, found, out, Blank::new(1)),
     }
 }

@@ -9,7 +9,7 @@ use kr_judge_prepared::Accepted;
 use kr_report::{Summary, once_written, summary_text};
 
 /// Counts the classes and slots of a problem.
-pub(crate) fn count<K: Sink>(found: &Accepted, out: &mut K) -> u8
+pub fn count<K: Sink>(found: &Accepted, out: &mut K) -> u8
     ensures { EndsListing K.taken K.faults (counts_of (posed found.now)) out.old out.new result }
 {
     let problem = found.problem();

@@ -20,7 +20,7 @@ use Rattle.clap.specs.declared.error.kind.ErrorKind.TheVariants as kind
 use Rattle.clap.proofs.OnLiterals.{clap_on_literals}
 use Rattle.kr_args.specs.Definition.{MOST_SOURCES, korat_app}
 use Rattle.kr_args.specs.Sources.{AreSources, HasSources}
-use Rattle.kr_args.specs.Reading.{Files, Range, ask_in, ask_with, check_in, command_in, command_of, demo_in, demo_with, files_in, files_with, list_in, merge_in, named_in, number_in, range_in, shard_in, span_in, test_in, test_with, flag_in, workers_in}
+use Rattle.kr_args.specs.Reading.{Files, Range, Sharing, ask_in, ask_with, check_in, command_in, command_of, demo_in, demo_with, files_in, files_with, list_in, merge_in, named_in, number_in, plain_sharing_in, range_in, shard_in, sharing_in, span_in, test_in, test_with, workers_in}
 use Rattle.kr_args.specs.declared.forms.Ask.{Ask}
 use Rattle.kr_args.specs.declared.forms.Command.TheVariants as commands
 use Rattle.kr_args.proofs.Walks.{Keeps, both_none, level_kept}
@@ -313,11 +313,11 @@ files_bounded None sources h = tt
 files_bounded (Some fin) None h = tt
 files_bounded (Some fin) (Some sources) h = h
 
-ask_bounded : (files : Option Files) (range : Option Range) (workers : Option ℕ) (trace : Bool) → IfSome files (λ f. AreSources f.1) → IfSome (ask_with files range workers trace) (λ ask. AreSources ask.sources)
-ask_bounded None range workers trace h = tt
-ask_bounded (Some files) None workers trace h = tt
-ask_bounded (Some files) (Some range) None trace h = tt
-ask_bounded (Some files) (Some range) (Some workers) trace h = h
+ask_bounded : (files : Option Files) (range : Option Range) (sharing : Option Sharing) → IfSome files (λ f. AreSources f.1) → IfSome (ask_with files range sharing) (λ ask. AreSources ask.sources)
+ask_bounded None range sharing h = tt
+ask_bounded (Some files) None sharing h = tt
+ask_bounded (Some files) (Some range) None h = tt
+ask_bounded (Some files) (Some range) (Some sharing) h = h
 
 list_bounded : (ask : Option Ask) → IfSome ask (λ a. AreSources a.sources) → IfSome (option_map commands.List ask) HasSources
 list_bounded None h = tt
@@ -355,17 +355,17 @@ named_bounded name rows h = by_name (bytes_eq name (codes "list")) (bytes_eq nam
     files = files_bounded (first_of (codes "fin") rows) (all_of (codes "source") rows) (found_bounded rows h)
 
     asks : IfSome (ask_in rows) (λ a. AreSources a.sources)
-    asks = ask_bounded (files_in rows) (range_in rows) workers (flag_in (first_of (codes "trace") rows)) files
+    asks = ask_bounded (files_in rows) (range_in rows) (sharing_in rows) files
 
-    spans : IfSome (ask_with (files_in rows) (span_in rows) workers false) (λ a. AreSources a.sources)
-    spans = ask_bounded (files_in rows) (span_in rows) workers false files
+    spans : IfSome (ask_with (files_in rows) (span_in rows) (plain_sharing_in rows)) (λ a. AreSources a.sources)
+    spans = ask_bounded (files_in rows) (span_in rows) (plain_sharing_in rows) files
 
     by_name : (a b c d e f : Bool) → IfSome (if a then list_in rows else (if b then test_in rows else (if c then check_in rows else (if d then demo_in rows else (if e then shard_in rows else (if f then merge_in rows else None)))))) HasSources
     by_name true b c d e f = list_bounded (ask_in rows) asks
     by_name false true c d e f = test_bounded (first_of (codes "method") rows) (ask_in rows) asks
     by_name false false true d e f = check_bounded (files_in rows) files
     by_name false false false true e f = demo_bounded (option_and_then (number_in 1 12) (first_of (codes "nodes") rows)) workers
-    by_name false false false false true f = shard_bounded (ask_with (files_in rows) (span_in rows) workers false) spans
+    by_name false false false false true f = shard_bounded (ask_with (files_in rows) (span_in rows) (plain_sharing_in rows)) spans
     by_name false false false false false true = merge_bounded (all_of (codes "file") rows)
     by_name false false false false false false = tt
 

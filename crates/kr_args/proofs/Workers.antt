@@ -1,36 +1,57 @@
--- A command that searches has from one worker to the most: it is read so.
-use Rattle.std.proofs.Common.{◌≡◌, ◌≤◌, ℕ, Bool, true, false, List, refl, arith, Option, Some, None}
+-- A command that searches has from one worker to the most, and one that lists a window within its limits: they are read so.
+use Rattle.std.proofs.Common.{◌≡◌, ◌<◌, ◌≤◌, ℕ, Bool, true, false, List, refl, arith, Option, Some, None}
 use Rattle.std.specs.Prelude.{IfSome, codes, if◌then◌else◌, option_and_then, option_map}
 use Rattle.std.specs.Str.{bytes_eq}
 use Rattle.clap.specs.Words.{Row, Text, all_of, fault_of, first_of, subcommand_of}
 use Rattle.clap.specs.Walk.{is_empty}
 use Rattle.kr_args.specs.Definition.{korat_app}
-use Rattle.kr_args.specs.Reading.{Files, Range, ask_in, ask_with, check_in, command_in, command_of, demo_in, demo_with, files_in, flag_in, list_in, merge_in, named_in, number_in, range_in, shard_in, span_in, test_in, test_with, workers_in}
-use Rattle.kr_args.specs.Workers.{AreWorkers, HasWorkers}
+use Rattle.kr_args.specs.Reading.{Files, Range, Sharing, ask_in, ask_with, check_in, command_in, command_of, demo_in, demo_with, files_in, flag_in, list_in, merge_in, named_in, number_in, plain_sharing_in, pool_in, range_in, shard_in, sharing_in, sharing_with, span_in, test_in, test_with, window_in, workers_in}
+use Rattle.kr_args.specs.Workers.{AreWorkers, HasWorkers, IsShared, IsWindow}
 use Rattle.kr_args.specs.declared.forms.Ask.{Ask}
 use Rattle.kr_args.specs.declared.forms.Command.{Command}
 use Rattle.kr_args.specs.declared.forms.Command.TheVariants as commands
+use Rattle.kr_args.specs.declared.forms.Pool.{Pool}
+use Rattle.kr_args.specs.declared.forms.Pool.TheVariants.{Board}
 use Rattle.kr_args.proofs.Numbers.{number_text}
 
-read_few : (text : Text) (o : Option ℕ) → number_in 1 64 text ≡ o → IfSome o AreWorkers
-read_few text None is = tt
-read_few text (Some n) is = let read = number_text 1 64 text n is in (omega (arith, read.1), read.2)
+-- a number that is read is within its limits
+within : (low high : ℕ) (text : Text) → IfSome (number_in low high text) (λ n. (low ≤ n) × (n ≤ high))
+within low high text = by_number (number_in low high text) refl
+  where
+    by_number : (o : Option ℕ) → number_in low high text ≡ o → IfSome o (λ n. (low ≤ n) × (n ≤ high))
+    by_number None is = tt
+    by_number (Some n) is = let read = number_text low high text n is in (read.1, read.2)
+
+positive : (high : ℕ) (o : Option ℕ) → IfSome o (λ n. (1 ≤ n) × (n ≤ high)) → IfSome o (λ n. (0 < n) × (n ≤ high))
+positive high None h = tt
+positive high (Some n) h = (omega (arith, h.0), h.1)
 
 few : (text : Option Text) → IfSome (workers_in text) AreWorkers
 few None = (omega arith, omega arith)
-few (Some text) = read_few text (number_in 1 64 text) refl
+few (Some text) = positive 64 (number_in 1 64 text) (within 1 64 text)
 
-ask_few : (files : Option Files) (range : Option Range) (workers : Option ℕ) (trace : Bool) → IfSome workers AreWorkers → IfSome (ask_with files range workers trace) (λ ask. AreWorkers ask.workers)
-ask_few None range workers trace h = tt
-ask_few (Some files) None workers trace h = tt
-ask_few (Some files) (Some range) None trace h = tt
-ask_few (Some files) (Some range) (Some workers) trace h = h
+narrow : (text : Option Text) → IfSome (window_in text) IsWindow
+narrow None = (omega arith, omega arith)
+narrow (Some text) = positive 65536 (number_in 1 65536 text) (within 1 65536 text)
 
-list_few : (ask : Option Ask) → IfSome ask (λ a. AreWorkers a.workers) → IfSome (option_map commands.List ask) HasWorkers
+sharing_few : (workers window : Option ℕ) (pool : Option Pool) (trace : Bool) → IfSome workers AreWorkers → IfSome window IsWindow
+    → IfSome (sharing_with workers window pool trace) (λ s. AreWorkers s.0 × IsWindow s.1)
+sharing_few None window pool trace h k = tt
+sharing_few (Some workers) None pool trace h k = tt
+sharing_few (Some workers) (Some window) None trace h k = tt
+sharing_few (Some workers) (Some window) (Some pool) trace h k = (h, k)
+
+ask_few : (files : Option Files) (range : Option Range) (sharing : Option Sharing) → IfSome sharing (λ s. AreWorkers s.0 × IsWindow s.1) → IfSome (ask_with files range sharing) IsShared
+ask_few None range sharing h = tt
+ask_few (Some files) None sharing h = tt
+ask_few (Some files) (Some range) None h = tt
+ask_few (Some files) (Some range) (Some sharing) h = h
+
+list_few : (ask : Option Ask) → IfSome ask IsShared → IfSome (option_map commands.List ask) HasWorkers
 list_few None h = tt
 list_few (Some ask) h = h
 
-test_few : (method : Option Text) (ask : Option Ask) → IfSome ask (λ a. AreWorkers a.workers) → IfSome (test_with method ask) HasWorkers
+test_few : (method : Option Text) (ask : Option Ask) → IfSome ask IsShared → IfSome (test_with method ask) HasWorkers
 test_few None ask h = tt
 test_few (Some method) None h = tt
 test_few (Some method) (Some ask) h = h
@@ -44,7 +65,7 @@ demo_few None workers h = tt
 demo_few (Some n) None h = tt
 demo_few (Some n) (Some workers) h = h
 
-shard_few : (ask : Option Ask) → IfSome ask (λ a. AreWorkers a.workers) → IfSome (option_map commands.Shard ask) HasWorkers
+shard_few : (ask : Option Ask) → IfSome ask IsShared → IfSome (option_map commands.Shard ask) HasWorkers
 shard_few None h = tt
 shard_few (Some ask) h = h
 
@@ -61,18 +82,24 @@ named_few name rows = by_name (bytes_eq name (codes "list")) (bytes_eq name (cod
     own : IfSome workers AreWorkers
     own = few (first_of (codes "workers") rows)
 
-    asks : IfSome (ask_in rows) (λ a. AreWorkers a.workers)
-    asks = ask_few (files_in rows) (range_in rows) workers (flag_in (first_of (codes "trace") rows)) own
+    sharing : IfSome (sharing_in rows) (λ s. AreWorkers s.0 × IsWindow s.1)
+    sharing =
+        let window = first_of (codes "window") rows in
+        let trace = flag_in (first_of (codes "trace") rows) in
+        sharing_few workers (window_in window) (pool_in window trace (first_of (codes "pool") rows)) trace own (narrow window)
 
-    spans : IfSome (ask_with (files_in rows) (span_in rows) workers false) (λ a. AreWorkers a.workers)
-    spans = ask_few (files_in rows) (span_in rows) workers false own
+    asks : IfSome (ask_in rows) IsShared
+    asks = ask_few (files_in rows) (range_in rows) (sharing_in rows) sharing
+
+    spans : IfSome (ask_with (files_in rows) (span_in rows) (plain_sharing_in rows)) IsShared
+    spans = ask_few (files_in rows) (span_in rows) (plain_sharing_in rows) (sharing_few workers (window_in None) (Some Board) false own (narrow None))
 
     by_name : (a b c d e f : Bool) → IfSome (if a then list_in rows else (if b then test_in rows else (if c then check_in rows else (if d then demo_in rows else (if e then shard_in rows else (if f then merge_in rows else None)))))) HasWorkers
     by_name true b c d e f = list_few (ask_in rows) asks
     by_name false true c d e f = test_few (first_of (codes "method") rows) (ask_in rows) asks
     by_name false false true d e f = check_few (files_in rows)
     by_name false false false true e f = demo_few (option_and_then (number_in 1 12) (first_of (codes "nodes") rows)) workers own
-    by_name false false false false true f = shard_few (ask_with (files_in rows) (span_in rows) workers false) spans
+    by_name false false false false true f = shard_few (ask_with (files_in rows) (span_in rows) (plain_sharing_in rows)) spans
     by_name false false false false false true = merge_few (all_of (codes "file") rows)
     by_name false false false false false false = tt
 

@@ -50,9 +50,13 @@ with_range command = with_rule (with_span command) (option_rule (codes "limit"))
 abbrev pub with_workers : App → App
 with_workers command = with_rule command (option_rule (codes "workers"))
 
--- the options of a listing and of a test: `[--from CUT] [--to CUT] [--limit N] [--workers N] [--trace]`
+-- `[--workers N] [--window N] [--pool NAME] [--trace]`, how the search is shared out
+abbrev pub with_sharing : App → App
+with_sharing command = with_rule (with_rule (with_rule (with_workers command) (option_rule (codes "window"))) (option_rule (codes "pool"))) (flag_rule (codes "trace"))
+
+-- the options of a listing and of a test: `[--from CUT] [--to CUT] [--limit N] [--workers N] [--window N] [--pool NAME] [--trace]`
 abbrev pub with_options : App → App
-with_options command = with_rule (with_workers (with_range command)) (flag_rule (codes "trace"))
+with_options command = with_sharing (with_range command)
 
 -- `list FIN SOURCE..` with its options
 abbrev pub list_app : App

@@ -12,6 +12,8 @@ use Rattle.kr_base.specs.Parsing.{cut_of}
 use Rattle.kr_args.specs.Definition.{korat_app}
 use Rattle.kr_args.specs.declared.forms.Ask.{Ask}
 use Rattle.kr_args.specs.declared.forms.Command.{Command}
+use Rattle.kr_args.specs.declared.forms.Pool.{Pool}
+use Rattle.kr_args.specs.declared.forms.Pool.TheVariants.{Board, Deque}
 use Rattle.kr_args.specs.declared.forms.Command.TheVariants as commands
 
 -- ---- values
@@ -42,6 +44,20 @@ abbrev pub workers_in : Option Text → Option ℕ
 workers_in None = Some 1
 workers_in (Some text) = number_in 1 64 text
 
+-- 4,096 where none is given
+abbrev pub window_in : Option Text → Option ℕ
+window_in None = Some 4096
+window_in (Some text) = number_in 1 65536 text
+
+abbrev pub pool_named : Text → Option Pool
+pool_named name = if bytes_eq name (codes "deque") then Some Deque else None
+
+-- the board where none is named; one that is named has no window and tells no steps
+abbrev pub pool_in : Option Text → Bool → Option Text → Option Pool
+pool_in window trace None = Some Board
+pool_in None false (Some name) = pool_named name
+pool_in _ _ (Some name) = None
+
 -- whether a flag is there: clap gives it a value in any case
 abbrev pub flag_in : Option Text → Bool
 flag_in None = false
@@ -71,20 +87,40 @@ range_with _ _ _ = None
 abbrev pub range_in : List Row → Option Range
 range_in rows = range_with (from_in (first_of (codes "from") rows)) (to_in (first_of (codes "to") rows)) (limit_in (first_of (codes "limit") rows))
 
-abbrev pub ask_with : Option Files → Option Range → Option ℕ → Bool → Option Ask
-ask_with (Some files) (Some range) (Some workers) trace = Some (record {
+-- how it is shared out: how many search, how many rows they keep, by what they share, and whether it says how they did
+abbrev pub Sharing : Type 0
+Sharing = ℕ × ℕ × Pool × Bool
+
+abbrev pub sharing_with : Option ℕ → Option ℕ → Option Pool → Bool → Option Sharing
+sharing_with (Some workers) (Some window) (Some pool) trace = Some (workers, window, pool, trace)
+sharing_with _ _ _ _ = None
+
+abbrev pub sharing_in : List Row → Option Sharing
+sharing_in rows =
+    let window = first_of (codes "window") rows in
+    let trace = flag_in (first_of (codes "trace") rows) in
+    sharing_with (workers_in (first_of (codes "workers") rows)) (window_in window) (pool_in window trace (first_of (codes "pool") rows)) trace
+
+-- with nothing said but how many search
+abbrev pub plain_sharing_in : List Row → Option Sharing
+plain_sharing_in rows = sharing_with (workers_in (first_of (codes "workers") rows)) (window_in None) (Some Board) false
+
+abbrev pub ask_with : Option Files → Option Range → Option Sharing → Option Ask
+ask_with (Some files) (Some range) (Some sharing) = Some (record {
   fin = files.0;
   sources = files.1;
   from = range.0;
   to = range.1;
   limit = range.2;
-  workers = workers;
-  trace = trace;
+  workers = sharing.0;
+  window = sharing.1;
+  pool = sharing.2;
+  trace = sharing.3;
 })
-ask_with _ _ _ _ = None
+ask_with _ _ _ = None
 
 abbrev pub ask_in : List Row → Option Ask
-ask_in rows = ask_with (files_in rows) (range_in rows) (workers_in (first_of (codes "workers") rows)) (flag_in (first_of (codes "trace") rows))
+ask_in rows = ask_with (files_in rows) (range_in rows) (sharing_in rows)
 
 abbrev pub list_in : List Row → Option Command
 list_in rows = option_map commands.List (ask_in rows)
@@ -116,7 +152,7 @@ abbrev pub span_in : List Row → Option Range
 span_in rows = span_with (from_in (first_of (codes "from") rows)) (to_in (first_of (codes "to") rows))
 
 abbrev pub shard_in : List Row → Option Command
-shard_in rows = option_map commands.Shard (ask_with (files_in rows) (span_in rows) (workers_in (first_of (codes "workers") rows)) false)
+shard_in rows = option_map commands.Shard (ask_with (files_in rows) (span_in rows) (plain_sharing_in rows))
 
 abbrev pub merge_in : List Row → Option Command
 merge_in rows = option_map commands.Merge (all_of (codes "file") rows)

@@ -1,16 +1,23 @@
--- Between crates: how many workers a command has.
+-- Between crates: how many workers a command has, and how many rows they keep.
 use Rattle.std.specs.Prelude.{ℕ, ◌<◌, ◌≤◌}
+use Rattle.kr_args.specs.declared.forms.Ask.{Ask}
 use Rattle.kr_args.specs.declared.forms.Command.{Command}
 use Rattle.kr_args.specs.declared.forms.Command.TheVariants as commands
 
 abbrev pub AreWorkers : ℕ → Type 0
 AreWorkers workers = (0 < workers) × (workers ≤ 64)
 
--- where it searches, it has from one worker to the most
+abbrev pub IsWindow : ℕ → Type 0
+IsWindow window = (0 < window) × (window ≤ 65536)
+
+abbrev pub IsShared : Ask → Type 0
+IsShared ask = AreWorkers ask.workers × IsWindow ask.window
+
+-- where it searches, it has from one worker to the most; and where it lists, a window from one row to the most
 abbrev pub HasWorkers : Command → Type 0
-HasWorkers (commands.List ask) = AreWorkers ask.workers
-HasWorkers (commands.Test method ask) = AreWorkers ask.workers
+HasWorkers (commands.List ask) = IsShared ask
+HasWorkers (commands.Test method ask) = IsShared ask
 HasWorkers (commands.Check fin sources) = Unit {0}
 HasWorkers (commands.Demo n workers) = AreWorkers workers
-HasWorkers (commands.Shard ask) = AreWorkers ask.workers
+HasWorkers (commands.Shard ask) = IsShared ask
 HasWorkers (commands.Merge files) = Unit {0}

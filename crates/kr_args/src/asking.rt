@@ -4,15 +4,15 @@ ghost use Rattle.clap.specs.Words.{kind_of, subcommand_rows_of, found_of, rows_o
 ghost use Rattle.clap.specs.declared.error.ErrorKind.TheVariants.{OutOfMemory};
 ghost use Rattle.kr_base.specs.declared.span.Bound.TheVariants.{At as AtCut};
 ghost use Rattle.kr_base.specs.Bounds.{less};
-ghost use Rattle.kr_args.specs.Reading.{number_in, text_in, texts_in, files_in, range_in, ask_in, list_in, test_in, check_in, demo_in, demo_with, span_in, shard_in, merge_in, named_in, command_in, command_of};
+ghost use Rattle.kr_args.specs.Reading.{number_in, text_in, texts_in, files_in, range_in, sharing_in, plain_sharing_in, ask_with, ask_in, list_in, test_in, check_in, demo_in, demo_with, span_in, shard_in, merge_in, named_in, command_in, command_of};
 ghost use Rattle.kr_args.specs.Sources.{HasSources};
 ghost use Rattle.kr_args.specs.Workers.{HasWorkers};
 
 use crate::definition::whole_definition;
-use crate::forms::{ArgRefusal, Ask, Command, Word};
+use crate::forms::{ArgRefusal, Ask, Command, Pool, Word};
 use crate::values::{
-    read_files, read_flag, read_from, read_limit, read_number, read_to, read_word, read_words,
-    read_workers,
+    read_files, read_flag, read_from, read_limit, read_number, read_pool, read_to, read_window,
+    read_word, read_words, read_workers,
 };
 use clap::error::ErrorKind;
 use clap::{ArgMatches, Error};
@@ -58,22 +58,57 @@ fn read_range(alloc: Global, matches: &ArgMatches<'_>) -> Result<Range, ArgRefus
     Ok(Range { from, to, limit })
 }
 
-fn read_ask(alloc: Global, matches: &ArgMatches<'_>) -> Result<Ask, ArgRefusal>
-    ensures { let wanted = ask_in (rows_of (found_of matches.now)) in
-        MatchResult result (λ ask. wanted ≡ Some ask) (λ e. e ≡ ArgRefusal.Usage → wanted ≡ None) }
+/// How a listing is shared out.
+#[derive(Clone, Copy)]
+struct Sharing {
+    workers: u32,
+    window: u32,
+    pool: Pool,
+    trace: bool,
+}
+
+fn read_sharing(matches: &ArgMatches<'_>) -> Result<Sharing, ArgRefusal>
+    ensures { let wanted = sharing_in (rows_of (found_of matches.now)) in
+        MatchResult result (λ s. wanted ≡ Some (s.workers, s.window, s.pool, s.trace)) (λ e. wanted ≡ None) }
 {
+    let given = text_of(matches, "window");
+    let trace = read_flag(text_of(matches, "trace"));
     let workers = read_workers(text_of(matches, "workers"))?;
-    let range = read_range(alloc, matches)?;
-    let (fin, sources) = read_sources(alloc, matches)?;
-    Ok(Ask {
+    let window = read_window(given)?;
+    let pool = read_pool(given, trace, text_of(matches, "pool"))?;
+    Ok(Sharing {
+        workers,
+        window,
+        pool,
+        trace,
+    })
+}
+
+/// What these come to.
+fn ask_of(fin: Word, sources: Words, range: Range, sharing: Sharing) -> Ask
+    ensures { Some result ≡ ask_with (Some (fin, sources)) (Some (range.from, range.to, range.limit)) (Some (sharing.workers, sharing.window, sharing.pool, sharing.trace)) }
+{
+    Ask {
         fin,
         sources,
         from: range.from,
         to: range.to,
         limit: range.limit,
-        workers,
-        trace: read_flag(text_of(matches, "trace")),
-    })
+        workers: sharing.workers,
+        window: sharing.window,
+        pool: sharing.pool,
+        trace: sharing.trace,
+    }
+}
+
+fn read_ask(alloc: Global, matches: &ArgMatches<'_>) -> Result<Ask, ArgRefusal>
+    ensures { let wanted = ask_in (rows_of (found_of matches.now)) in
+        MatchResult result (λ ask. wanted ≡ Some ask) (λ e. e ≡ ArgRefusal.Usage → wanted ≡ None) }
+{
+    let sharing = read_sharing(matches)?;
+    let range = read_range(alloc, matches)?;
+    let (fin, sources) = read_sources(alloc, matches)?;
+    Ok(ask_of(fin, sources, range, sharing))
 }
 
 fn read_list(alloc: Global, matches: &ArgMatches<'_>) -> Result<Command, ArgRefusal>
@@ -150,22 +185,28 @@ fn read_span(alloc: Global, matches: &ArgMatches<'_>) -> Result<Range, ArgRefusa
     }
 }
 
+fn read_plain_sharing(matches: &ArgMatches<'_>) -> Result<Sharing, ArgRefusal>
+    ensures { let wanted = plain_sharing_in (rows_of (found_of matches.now)) in
+        MatchResult result (λ s. wanted ≡ Some (s.workers, s.window, s.pool, s.trace)) (λ e. wanted ≡ None) }
+{
+    let workers = read_workers(text_of(matches, "workers"))?;
+    let window = read_window(None)?;
+    Ok(Sharing {
+        workers,
+        window,
+        pool: Pool::Board,
+        trace: false,
+    })
+}
+
 fn read_shard(alloc: Global, matches: &ArgMatches<'_>) -> Result<Command, ArgRefusal>
     ensures { let wanted = shard_in (rows_of (found_of matches.now)) in
         MatchResult result (λ command. wanted ≡ Some command) (λ e. e ≡ ArgRefusal.Usage → wanted ≡ None) }
 {
-    let workers = read_workers(text_of(matches, "workers"))?;
+    let sharing = read_plain_sharing(matches)?;
     let range = read_span(alloc, matches)?;
     let (fin, sources) = read_sources(alloc, matches)?;
-    Ok(Command::Shard(Ask {
-        fin,
-        sources,
-        from: range.from,
-        to: range.to,
-        limit: range.limit,
-        workers,
-        trace: false,
-    }))
+    Ok(Command::Shard(ask_of(fin, sources, range, sharing)))
 }
 
 fn read_merge(alloc: Global, matches: &ArgMatches<'_>) -> Result<Command, ArgRefusal>

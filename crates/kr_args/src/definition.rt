@@ -2,7 +2,7 @@
 ghost use Rattle.std.specs.Prelude.{◌≡◌, codes, false, IfOk};
 ghost use Rattle.clap.specs.declared.builder.command.Command.TheViews.{out-Command as fields_of};
 ghost use Rattle.clap.specs.Words.{rule_of, app_of, with_rule, with_subcommand};
-ghost use Rattle.kr_args.specs.Definition.{sources_rule, shards_rule, option_rule, flag_rule, with_span as span_added, with_range as range_added, with_workers as workers_added, with_options as options_added, bare_app, list_app, test_app, check_app, demo_app, shard_app, merge_app, main_app, korat_app};
+ghost use Rattle.kr_args.specs.Definition.{sources_rule, shards_rule, option_rule, flag_rule, with_span as span_added, with_range as range_added, with_workers as workers_added, with_sharing as sharing_added, with_options as options_added, bare_app, list_app, test_app, check_app, demo_app, shard_app, merge_app, main_app, korat_app};
 
 use clap::{Arg, ArgAction, Command as Definition};
 use kr_base::NoMemory;
@@ -78,6 +78,18 @@ fn with_trace<'a>(alloc: Global, command: Definition<'a>) -> Result<Definition<'
     Ok(command.arg(trace)?)
 }
 
+/// `[--workers N] [--window N] [--pool NAME] [--trace]`, for a command without a global argument.
+fn with_sharing<'a>(alloc: Global, command: Definition<'a>) -> Result<Definition<'a>, NoMemory>
+    requires { (fields_of command).has_globals ≡ false }
+    ensures app { IfOk result (λ c. app_of c ≡ sharing_added (app_of command.entry)) }
+    ensures local { IfOk result (λ c. (fields_of c).has_globals ≡ false) }
+{
+    let command = with_workers(alloc, command)?;
+    let command = with_option(alloc, command, "window")?;
+    let command = with_option(alloc, command, "pool")?;
+    with_trace(alloc, command)
+}
+
 /// The options of a listing and of a test, for a command without a global argument.
 fn with_options<'a>(alloc: Global, command: Definition<'a>) -> Result<Definition<'a>, NoMemory>
     requires { (fields_of command).has_globals ≡ false }
@@ -85,8 +97,7 @@ fn with_options<'a>(alloc: Global, command: Definition<'a>) -> Result<Definition
     ensures local { IfOk result (λ c. (fields_of c).has_globals ≡ false) }
 {
     let command = with_range(alloc, command)?;
-    let command = with_workers(alloc, command)?;
-    with_trace(alloc, command)
+    with_sharing(alloc, command)
 }
 
 /// `list FIN SOURCE..` with its options.

@@ -38,8 +38,18 @@ impl Word {
     }
 }
 
+/// By what a listing is shared out among workers.
+#[derive(Clone, Copy, Debug, PartialEq, Eq)]
+pub enum Pool {
+    /// A board of segments, whose rows are written between rounds.
+    Board,
+    /// Deques of spans, whose rows are all kept until the end.
+    Deque,
+}
+
 /// What a listing or a test is asked for: the files that it reads, the keys above `from` and not above `to`, how many
-/// valid entries it writes at most, how many search, and whether it says how they did.
+/// valid entries it writes at most, how many search, how many rows they keep, by what they share, and whether it says how
+/// they did.
 #[derive(Drop)]
 pub struct Ask {
     pub fin: Word,
@@ -48,6 +58,8 @@ pub struct Ask {
     pub to: Bound,
     pub limit: u32,
     pub workers: u32,
+    pub window: u32,
+    pub pool: Pool,
     pub trace: bool,
 }
 

@@ -1,9 +1,9 @@
 // The values of arguments, read from their words.
 ghost use Rattle.std.specs.Prelude.{◌≡◌, ◌^◌, ◌<◌, Some, None, map, option_map, IfOk, MatchResult};
 ghost use Rattle.kr_base.specs.Parsing.{cut_of};
-ghost use Rattle.kr_args.specs.Reading.{number_in, text_in, texts_in, from_in, to_in, limit_in, workers_in, flag_in, files_with};
+ghost use Rattle.kr_args.specs.Reading.{number_in, text_in, texts_in, from_in, to_in, limit_in, workers_in, window_in, pool_named, pool_in, flag_in, files_with};
 
-use crate::forms::{ArgRefusal, Word};
+use crate::forms::{ArgRefusal, Pool, Word};
 use itoa::Buffer;
 use kr_base::{Bound, Cut, CutRefusal, NoMemory, Words, reading_law};
 use std::alloc::Global;
@@ -87,6 +87,45 @@ pub(crate) fn read_workers(text: Option<&str>) -> Result<u32, ArgRefusal>
             Some(workers) => Ok(workers),
             None => Err(ArgRefusal::Usage),
         },
+    }
+}
+
+/// How many rows are kept before they are written.
+pub(crate) fn read_window(text: Option<&str>) -> Result<u32, ArgRefusal>
+    ensures { let wanted = window_in (text_in text.entry) in MatchResult result (λ window. wanted ≡ Some window) (λ _. wanted ≡ None) }
+{
+    match text {
+        None => Ok(4096),
+        Some(text) => match read_number(1, 65536, text) {
+            Some(window) => Ok(window),
+            None => Err(ArgRefusal::Usage),
+        },
+    }
+}
+
+/// The pool of a name.
+fn read_pool_name(name: &str) -> Result<Pool, ArgRefusal>
+    ensures { let wanted = pool_named name.now in MatchResult result (λ pool. wanted ≡ Some pool) (λ _. wanted ≡ None) }
+{
+    if name == "deque" {
+        Ok(Pool::Deque)
+    } else {
+        Err(ArgRefusal::Usage)
+    }
+}
+
+/// By what a listing is shared out. A pool that is named has no window and tells no steps.
+pub(crate) fn read_pool(
+    window: Option<&str>,
+    trace: bool,
+    name: Option<&str>,
+) -> Result<Pool, ArgRefusal>
+    ensures { let wanted = pool_in (text_in window.entry) trace (text_in name.entry) in MatchResult result (λ pool. wanted ≡ Some pool) (λ _. wanted ≡ None) }
+{
+    match (name, window, trace) {
+        (None, _, _) => Ok(Pool::Board),
+        (Some(name), None, false) => read_pool_name(name),
+        _ => Err(ArgRefusal::Usage),
     }
 }
 

@@ -81,6 +81,7 @@ released_some {R} old new i seat g differ within is own adds =
     record {
       segments = adds.step.new_is ∙ ap (λ (ss : List Segment). record old.core { segments = ss }) now;
       kept = adds.kept;
+      window = adds.window;
       logged = adds.logged ∙ ap (λ (es : List Event). old.log ++ es) (sym (given-one (take 1 (drop i segs)) seat g one own));
       steps = ap (λ (es : List Event). replay old.core es) (given-one (take 1 (drop i segs)) seat g one own) ∙ replay-one old.core (GiveUp seat g.number) new.core adds.step.fit adds.step.new_is;
       stays = quiet_stays old (GiveUp seat g.number) Noted [] new tt adds;
@@ -91,6 +92,7 @@ pub record Released {R : Type 0} (old : Held R) (i : ℕ) (now : Held R) : Type 
   pub segments : now.core ≡ record old.core { segments = disowned (take i old.core.segments) ++ drop i old.core.segments }
   pub kept : now.kept ≡ old.kept
   pub logged : now.log ≡ old.log ++ given_up (take i old.core.segments)
+  pub window : now.window ≡ old.window
   pub steps : replay old.core (given_up (take i old.core.segments)) ≡ Some now.core
   pub stays : Stays old now
 
@@ -121,7 +123,7 @@ drop-behind [] ys = refl
 drop-behind (x ∷ xs) ys = drop-behind xs ys
 
 pub released_init : {R : Type 0} (old : Held R) → Released old 0 old
-released_init {R} old = record { segments = refl; kept = refl; logged = sym (append-nil old.log); steps = refl; stays = λ all span cuts asc inside b. b }
+released_init {R} old = record { segments = refl; kept = refl; window = refl; logged = sym (append-nil old.log); steps = refl; stays = λ all span cuts asc inside b. b }
 
 pub released_next : {R : Type 0} (old mid now : Held R) (i : ℕ) → i < length old.core.segments → Released old i mid → IsReleasedAt i mid now → Released old (i + 1) now
 released_next {R} old mid now i within m step =
@@ -146,6 +148,7 @@ released_next {R} old mid now i within m step =
     record {
       segments = step.segments ∙ (ap (λ (s : State). record s { segments = take i mid.core.segments ++ (disowned (take 1 (drop i mid.core.segments)) ++ drop (i + 1) mid.core.segments) }) m.segments ∙ ap (λ (ss : List Segment). record old.core { segments = ss }) made);
       kept = step.kept ∙ m.kept;
+      window = step.window ∙ m.window;
       logged = step.logged ∙ (ap (λ (es : List Event). es ++ given_up (take 1 (drop i mid.core.segments))) m.logged ∙ (ap (λ (es : List Event). (old.log ++ given_up (take i segs)) ++ es) one
           ∙ (append_assoc old.log (given_up (take i segs)) (given_up (take 1 (drop i segs))) ∙ ap (λ (es : List Event). old.log ++ es) all)));
       steps = ap (λ (es : List Event). replay old.core es) (sym all) ∙ (replay-append old.core (given_up (take i segs)) (given_up (take 1 (drop i segs))) mid.core m.steps
@@ -171,6 +174,7 @@ released_all {R} old now i past m =
     record {
       segments = m.segments ∙ ap (λ (ss : List Segment). record old.core { segments = ss }) none;
       kept = m.kept;
+      window = m.window;
       logged = m.logged ∙ ap (λ (xs : List Segment). old.log ++ given_up xs) (take_all i segs past);
       steps = ap (λ (xs : List Segment). replay old.core (given_up xs)) (sym (take_all i segs past)) ∙ m.steps;
     }

@@ -1,5 +1,6 @@
 pub mod Lists
 pub mod Sound
+pub mod Windows
 pub mod Staying
 pub mod Grants
 pub mod Parting

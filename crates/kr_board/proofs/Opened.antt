@@ -1,5 +1,5 @@
 -- A new board.
-use Rattle.std.proofs.Common.{◌≡◌, ℕ, zero, suc, ◌+◌, List, [], ◌∷◌, length, refl, sym, ap, ◌∙◌, subst, arith, add-one, Vec, Global, vec_len, cond}
+use Rattle.std.proofs.Common.{◌≡◌, ℕ, zero, suc, ◌+◌, List, [], ◌∷◌, length, drop, Option, Some, None, refl, sym, ap, ◌∙◌, subst, arith, add-one, Vec, Global, vec_len, cond}
 use Rattle.std.specs.Prelude.{replicate}
 use Rattle.std.proofs.lemmas.List.Sums.{sum_by-cons}
 use Rattle.kr_base.specs.declared.span.Bound.{Bound}
@@ -21,6 +21,7 @@ use Rattle.kr_core.proofs.Ends.{kept_law}
 use Rattle.kr_core.proofs.Rowing.{rows_in}
 use Rattle.kr_board.specs.Held.{Held}
 use Rattle.kr_board.specs.Boards.{IsBoardOf}
+use Rattle.kr_board.specs.Windows.{IsInWindow}
 use Rattle.kr_board.specs.Rooms.{owned_count, IsSound}
 use Rattle.kr_board.proofs.Sound.{join, sizes}
 
@@ -62,6 +63,22 @@ new_kept {R} span cuts core kept is made =
     let count : length core.segments ≡ suc (length cuts) = ap (λ (s : State). length s.segments) is ∙ open-length 0 (At span.after) (end_of span) cuts in
     made ∙ (ap (λ (n : ℕ). replicate n []) count ∙ ap (λ (n : ℕ). replicate n []) (sym (add-one (length cuts))))
 
+-- no rows are few
+none-joined : {R : Type 0} (n : ℕ) → joined (replicate {A = List R} n []) ≡ []
+none-joined zero = refl
+none-joined (suc n) = none-joined n
+
+none-behind : {R : Type 0} (n : ℕ) → joined (drop 1 (replicate {A = List R} n [])) ≡ []
+none-behind zero = refl
+none-behind (suc n) = none-joined n
+
+pub new_in_window : {R : Type 0} (window : Option ℕ) (kept : List (List R)) (n : ℕ) → kept ≡ replicate n [] → IsInWindow window kept
+new_in_window None kept n made = tt
+new_in_window {R} (Some w) kept n made =
+    let a : length (joined kept) ≡ 0 = ap (λ (ks : List (List R)). length (joined ks)) made ∙ ap (λ (l : List R). length l) (none-joined n) in
+    let b : length (joined (drop 1 kept)) ≡ 0 = ap (λ (ks : List (List R)). length (joined (drop 1 ks))) made ∙ ap (λ (l : List R). length l) (none-behind n) in
+    (omega (arith, b), omega (arith, a))
+
 nothing : {R : Type 0} (all : List (Entry R)) (a : Bound) → [] ≡ rows_of (within a a all)
 nothing {R} all a = sym (ap (λ (es : List (Entry R)). rows_of es) (within-none a a all (irreflexive a)))
 
@@ -76,7 +93,7 @@ measures-open all k a e (c ∷ cs) = (nothing all a, others-open all (k + 1) (At
 pub new_board : {R : Type 0} (all : List (Entry R)) (span : Span) (cuts : List (List ℕ)) (b : Held R) → b.core ≡ opening span cuts → b.kept ≡ replicate (length cuts + 1) [] → b.log ≡ [] → IsBoardOf all span cuts b
 new_board {R} all span cuts b core kept log =
     let one : replicate (length cuts + 1) [] ≡ replicate {A = List R} (suc (length cuts)) [] = ap (λ (n : ℕ). replicate n []) (add-one (length cuts)) in
-    let start : Held R = record { core = opening span cuts; kept = replicate (suc (length cuts)) []; log = [] } in
+    let start : Held R = record { core = opening span cuts; kept = replicate (suc (length cuts)) []; log = []; window = b.window } in
     let there : IsBoardOf all span cuts start = record { replays = refl; honest = refl; rows = record { before = []; count = refl; rows = measures-open all 0 (At span.after) (end_of span) cuts } } in
-    let same : start ≡ b = λ i. record { core = sym core i; kept = sym (kept ∙ one) i; log = sym log i } in
+    let same : start ≡ b = λ i. record { core = sym core i; kept = sym (kept ∙ one) i; log = sym log i; window = b.window } in
     subst (λ (x : Held R). IsBoardOf all span cuts x) same there

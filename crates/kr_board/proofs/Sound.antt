@@ -75,11 +75,11 @@ sizes-beside s (Look seat) more ks = refl
 
 -- no event but a report adds to the rows kept
 
-total-end : {R : Type 0} (ends : Bool) (ks : List (List R)) → length (joined (if ends then [] else ks)) ≤ length (joined ks)
+pub total-end : {R : Type 0} (ends : Bool) (ks : List (List R)) → length (joined (if ends then [] else ks)) ≤ length (joined ks)
 total-end true ks = omega arith
 total-end false ks = omega arith
 
-total-grown : {R : Type 0} (n : ℕ) (more : List R) (ends : Bool) (ss : List Segment) (ks : List (List R)) → length (joined (grown join n more ends ss ks)) ≤ length (joined ks) + length more
+pub total-grown : {R : Type 0} (n : ℕ) (more : List R) (ends : Bool) (ss : List Segment) (ks : List (List R)) → length (joined (grown join n more ends ss ks)) ≤ length (joined ks) + length more
 total-grown n more ends [] ks = omega arith
 total-grown n more ends (s ∷ ss) [] = omega arith
 total-grown {R} n more ends (s ∷ ss) (k ∷ ks) =
@@ -97,7 +97,7 @@ total-grown {R} n more ends (s ∷ ss) (k ∷ ks) =
           omega (arith, a, c, d)
     ]
 
-total-parted : {R : Type 0} (n : ℕ) (ss : List Segment) (ks : List (List R)) → length (joined (parted [] n ss ks)) ≤ length (joined ks)
+pub total-parted : {R : Type 0} (n : ℕ) (ss : List Segment) (ks : List (List R)) → length (joined (parted [] n ss ks)) ≤ length (joined ks)
 total-parted n [] ks = omega arith
 total-parted n (s ∷ ss) [] = omega arith
 total-parted {R} n (s ∷ ss) (k ∷ ks) =
@@ -110,7 +110,7 @@ total-parted {R} n (s ∷ ss) (k ∷ ks) =
           omega (arith, a, c, d)
     ]
 
-total-emptied : {R : Type 0} (ss : List Segment) (ks : List (List R)) → length (joined (emptied [] ss ks)) ≤ length (joined ks)
+pub total-emptied : {R : Type 0} (ss : List Segment) (ks : List (List R)) → length (joined (emptied [] ss ks)) ≤ length (joined ks)
 total-emptied [] ks = omega arith
 total-emptied (s ∷ ss) [] = omega arith
 total-emptied (s ∷ []) (k ∷ ks) = omega arith
@@ -120,7 +120,7 @@ total-emptied {R} (s ∷ t ∷ ss) (k ∷ ks) =
       | false ↦ let a = length-append k (joined ks) in omega (arith, a)
     ]
 
-total-first : {R : Type 0} (ks : List (List R)) → length (joined (first_alone ks)) ≤ length (joined ks)
+pub total-first : {R : Type 0} (ks : List (List R)) → length (joined (first_alone ks)) ≤ length (joined ks)
 total-first [] = omega arith
 total-first {R} (k ∷ ks) =
     let a = length-append k (joined ks) in

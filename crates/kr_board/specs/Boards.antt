@@ -51,6 +51,7 @@ pub record Adds {R : Type 0} (old : Held R) (event : Event) (reply : Reply) (mor
   pub step : Step old.core event reply new.core
   pub kept : new.kept ≡ beside (λ xs ys. xs ++ ys) [] old.core event more old.kept
   pub logged : new.log ≡ old.log ++ event ∷ []
+  pub window : new.window ≡ old.window
 
 -- whatever survey, span and cuts it was the board of, it stays that
 abbrev pub Stays : {R : Type 0} → Held R → Held R → Type 0

@@ -1,4 +1,5 @@
 pub mod Held
+pub mod Windows
 pub mod Parts
 pub mod Boards
 pub mod Taking

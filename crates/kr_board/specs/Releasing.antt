@@ -27,6 +27,7 @@ pub record IsReleased {R : Type 0} (old new : Held R) : Type 0 where
   pub segments : new.core ≡ record old.core { segments = disowned old.core.segments }
   pub kept : new.kept ≡ old.kept
   pub logged : new.log ≡ old.log ++ given_up old.core.segments
+  pub window : new.window ≡ old.window
   pub steps : replay old.core (given_up old.core.segments) ≡ Some new.core
 
 -- the same of the segment at a place alone
@@ -34,5 +35,6 @@ pub record IsReleasedAt {R : Type 0} (i : ℕ) (old new : Held R) : Type 0 where
   pub segments : new.core ≡ record old.core { segments = take i old.core.segments ++ (disowned (take 1 (drop i old.core.segments)) ++ drop (i + 1) old.core.segments) }
   pub kept : new.kept ≡ old.kept
   pub logged : new.log ≡ old.log ++ given_up (take 1 (drop i old.core.segments))
+  pub window : new.window ≡ old.window
   pub steps : replay old.core (given_up (take 1 (drop i old.core.segments))) ≡ Some new.core
   pub stays : Stays old new

@@ -1,17 +1,19 @@
 // A board: the machine, the rows beside it, and the log.
-ghost use Rattle.std.specs.Prelude.{◌≡◌, ◌+◌, ◌-◌, ◌^◌, ◌≤◌, [], true, length, replicate, vec_len, vec_capacity, IfOk, IfErr, OnOk, OnErr};
+ghost use Rattle.std.specs.Prelude.{◌≡◌, ◌+◌, ◌-◌, ◌^◌, ◌<◌, ◌≤◌, [], Some, None, true, length, replicate, vec_len, vec_capacity, IfOk, IfErr, OnOk, OnErr};
 ghost use Rattle.kr_survey.specs.Joins.{joined};
 ghost use Rattle.kr_core.specs.Openings.{AreInside, opening};
 ghost use Rattle.kr_core.specs.Steps.{fits};
 ghost use Rattle.kr_core.specs.Rows.{brought};
 ghost use Rattle.kr_board.specs.Boards.{IsBoardOf, Adds};
 ghost use Rattle.kr_board.specs.Rooms.{IsAdded};
+ghost use Rattle.kr_board.specs.Windows.{Admits, IsInWindow};
 
 mod closing;
 mod releasing;
 mod reporting;
 mod splitting;
 mod taking;
+mod windows;
 
 use crate::edits::{edit_of, empty_lists, make_room, write};
 pub use closing::{Closed, Logged};
@@ -24,25 +26,27 @@ use std::alloc::Global;
 use std::marker::Model;
 pub use taking::Taken;
 
-/// A board whose rows are of one type. Contracts see the machine's state, the rows and the log.
+/// A board whose rows are of one type. Contracts see the machine's state, the rows, the log, and how many rows may be kept.
 #[derive(Drop)]
 pub struct Board<R> {
     alloc: Global,
     core: Core,
     kept: Vec<Vec<R>>,
     log: Vec<Event>,
+    window: Option<u64>,
 }
 
 impl<R> Model for Board<R> {
     ghost use Rattle.kr_survey.specs.Joins.{lists};
     ghost use Rattle.kr_board.specs.Held.{Held};
     ghost use Rattle.kr_board.specs.Rooms.{IsSound};
+    ghost use Rattle.kr_board.specs.Windows.{IsInWindow};
 
     ghost Value = { Held R };
 
-    ghost view = { λ b. record { core = b.core; kept = lists b.kept.items; log = b.log.items } };
+    ghost view = { λ b. record { core = b.core; kept = lists b.kept.items; log = b.log.items; window = b.window } };
 
-    ghost invariant = { λ b. IsSound b.core (lists b.kept.items) b.log };
+    ghost invariant = { λ b. IsSound b.core (lists b.kept.items) b.log × IsInWindow b.window (lists b.kept.items) };
 }
 
 // Makes room in the log for an event, and then for each owner to give up, where there are so many segments.
@@ -80,6 +84,44 @@ impl<R: Drop> Board<R> {
         ensures core { IfOk result (λ board. board.core ≡ opening span cuts.now) }
         ensures kept { IfOk result (λ board. board.kept ≡ replicate (length cuts.now + 1) []) }
         ensures log { IfOk result (λ board. board.log ≡ []) }
+        ensures window { IfOk result (λ board. board.window ≡ None) }
+        ensures of_survey { IfOk result (IsBoardOf (S.all survey.now) span cuts.now) }
+    {
+        Board::open(alloc, survey, span, cuts, None)
+    }
+
+    /// The same, with a window: of the rows reported it keeps no more than that, and at most 256 above it.
+    pub fn with_window<S: Survey<Row = R>>(
+        alloc: Global,
+        survey: &S,
+        span: Span,
+        cuts: &[Cut],
+        window: u64,
+    ) -> Result<Board<R>, NoMemory>
+        requires inside { AreInside cuts.now span }
+        requires window { (0 < window) × (window ≤ 65536) }
+        ensures core { IfOk result (λ board. board.core ≡ opening span cuts.now) }
+        ensures kept { IfOk result (λ board. board.kept ≡ replicate (length cuts.now + 1) []) }
+        ensures log { IfOk result (λ board. board.log ≡ []) }
+        ensures window { IfOk result (λ board. board.window ≡ Some window) }
+        ensures of_survey { IfOk result (IsBoardOf (S.all survey.now) span cuts.now) }
+    {
+        Board::open(alloc, survey, span, cuts, Some(window))
+    }
+
+    // The same, with or without a window.
+    fn open<S: Survey<Row = R>>(
+        alloc: Global,
+        survey: &S,
+        span: Span,
+        cuts: &[Cut],
+        window: Option<u64>,
+    ) -> Result<Board<R>, NoMemory>
+        requires { AreInside cuts.now span }
+        ensures core { IfOk result (λ board. board.core ≡ opening span cuts.now) }
+        ensures kept { IfOk result (λ board. board.kept ≡ replicate (length cuts.now + 1) []) }
+        ensures log { IfOk result (λ board. board.log ≡ []) }
+        ensures window { IfOk result (λ board. board.window ≡ window) }
         ensures of_survey { IfOk result (IsBoardOf (S.all survey.now) span cuts.now) }
     {
         let _ = survey;
@@ -90,6 +132,7 @@ impl<R: Drop> Board<R> {
             core,
             kept,
             log: Vec::new(alloc),
+            window,
         })
     }
 
@@ -115,6 +158,7 @@ impl<R: Drop> Board<R> {
         requires kind { IsAdded event }
         requires brings { brought event ≡ length rows.items }
         requires few { length rows.items ≤ (2 ^ 64 - 1) - length (joined self.old.kept) }
+        requires admits { Admits self.old event (length rows.items) }
         ensures added { IfOk result (λ reply. Adds self.old event reply rows.items self.new) }
         ensures unchanged { OnErr result (self.new ≡ self.old) }
         ensures back { IfErr result (λ untaken. untaken.rows ≡ rows) }

@@ -104,9 +104,11 @@ fn report_again(
     board: &mut Board<Cut>,
     lease: Lease,
     part: Part<Cut>,
-) -> Result<Reported, NoMemory> {
+) -> Result<Reported<Cut>, NoMemory> {
     let possible = is_possible(&lease.mark, &part);
     assert!(rt; possible, "not as before: the part");
+    let few = board.is_few(&part);
+    assert!(rt; few, "more than 256 rows");
     match board.report(lease, part) {
         Ok(reported) => Ok(reported),
         Err(refused) => Err(refused.why),
@@ -119,9 +121,11 @@ fn report_part(
     board: &mut Board<Cut>,
     lease: Lease,
     part: Part<Cut>,
-) -> Result<Reported, NoMemory> {
+) -> Result<Reported<Cut>, NoMemory> {
     let possible = is_possible(&lease.mark, &part);
     assert!(rt; possible, "a part of a survey");
+    let few = board.is_few(&part);
+    assert!(rt; few, "more than 256 rows");
     let before = board_sum(board);
     match board.report(lease, part) {
         Ok(reported) => Ok(reported),
@@ -148,7 +152,7 @@ fn report(
     survey: &ListSurvey,
     lease: &Lease,
     most: u32,
-) -> Result<Reported, NoMemory>
+) -> Result<Reported<Cut>, NoMemory>
     requires { 0 < most }
 {
     let part = scan(survey, &lease.mark, &lease.upto, most)?;
@@ -180,7 +184,7 @@ fn is_taken(leases: &mut Vec<Lease>, taken: Taken, wanted: &str) -> Result<bool,
 
 fn is_reported(
     leases: &mut Vec<Lease>,
-    reported: Reported,
+    reported: Reported<Cut>,
     wanted: &str,
 ) -> Result<bool, NoMemory> {
     match reported {
@@ -190,6 +194,7 @@ fn is_reported(
             None => false,
         }),
         Reported::Overrun(lease) => is_given(leases, lease, "overrun", wanted),
+        Reported::Full(lease, _part) => is_given(leases, lease, "full", wanted),
         Reported::Done => Ok(wanted == "done"),
         Reported::Go(lease) => is_given(leases, lease, "go", wanted),
     }
@@ -314,6 +319,25 @@ fn opened(rt: &impl Abort, alloc: Global, survey: &ListSurvey) -> Result<Board<C
     Board::new(alloc, survey, span, &cuts)
 }
 
+// The same, cut at 0.2, and with a window.
+fn opened_within(
+    rt: &impl Abort,
+    alloc: Global,
+    survey: &ListSurvey,
+    window: u64,
+) -> Result<Board<Cut>, NoMemory> {
+    let upto = Bound::At(cut_of(alloc, &[1])?);
+    let cuts = [cut_of(alloc, &[0, 2])?];
+    let span = Span {
+        after: Cut::empty(alloc),
+        upto,
+    };
+    let inside = Core::can_open(&span, &cuts);
+    assert!(rt; inside, "the cuts are inside");
+    assert!(rt; 0 < window && window <= 65536, "a window");
+    Board::with_window(alloc, survey, span, &cuts, window)
+}
+
 // Makes the calls one after another.
 fn step_all(
     rt: &impl Abort,
@@ -379,6 +403,22 @@ fn run(
 ) -> Result<(), NoMemory> {
     let survey = four_keys(rt, alloc)?;
     run_over(rt, alloc, &survey, rows, closed)
+}
+
+// Makes the calls on a board with a window, and closes it.
+fn run_within(
+    rt: &impl Abort,
+    alloc: Global,
+    window: u64,
+    rows: &[(Call, &str, &str)],
+    closed: &str,
+) -> Result<(), NoMemory> {
+    let survey = four_keys(rt, alloc)?;
+    let mut board = opened_within(rt, alloc, &survey, window)?;
+    let mut leases = Vec::new(alloc);
+    step_all(rt, &mut board, &survey, &mut leases, rows)?;
+    assert!(rt; closes(board, closed), "not {closed}");
+    Ok(())
 }
 
 #[test]
@@ -548,5 +588,76 @@ fn all_leases_are_given_up(rt: HostRuntime) -> Result<(), Fail> {
             ),
         ],
         "unfinished",
+    )?)
+}
+
+#[test]
+fn a_window_of_one_row(rt: HostRuntime) -> Result<(), Fail> {
+    Ok(run_within(
+        &rt,
+        rt.alloc(),
+        1,
+        &[
+            (
+                Call::Take { seat: 0 },
+                "lease 0 0 . 0.2",
+                "1 events ; 0 0 . . 0.2 0 0 ; 1 - 0.2 0.2 1 0 0",
+            ),
+            (
+                Call::Take { seat: 1 },
+                "lease 1 1 0.2 1",
+                "2 events ; 0 0 . . 0.2 0 0 ; 1 1 0.2 0.2 1 0 0",
+            ),
+            (
+                Call::Report { lease: 1, most: 1 },
+                "go 1 1 0.3 1",
+                "3 events ; 0 0 . . 0.2 0 0 ; 1 1 0.2 0.3 1 1 1",
+            ),
+            (
+                Call::Report { lease: 2, most: 1 },
+                "full 1 1 0.3 1",
+                "4 events ; 0 0 . . 0.2 0 0 ; 1 1 0.2 0.3 1 1 1",
+            ),
+            (
+                Call::Report {
+                    lease: 0,
+                    most: 256,
+                },
+                "done",
+                "5 events ; 0 - . 0.2 0.2 2 2 ; 1 1 0.2 0.3 1 1 1",
+            ),
+            (
+                Call::Drain,
+                "rows 0.1 0.2 0.3",
+                "6 events ; 1 1 0.2 0.3 1 0 1",
+            ),
+            (
+                Call::Report { lease: 3, most: 1 },
+                "go 1 1 0.4 1",
+                "7 events ; 1 1 0.2 0.4 1 1 2",
+            ),
+            (
+                Call::Report {
+                    lease: 4,
+                    most: 256,
+                },
+                "done",
+                "8 events ; 1 - 0.2 1 1 1 2",
+            ),
+            (Call::Drain, "rows 0.4", "9 events ; 1 - 0.2 1 1 0 2"),
+            (Call::IsFinished, "true", "9 events ; 1 - 0.2 1 1 0 2"),
+        ],
+        "rows ; tried 4 ; unspent",
+    )?)
+}
+
+#[test]
+fn stopped_before_any_take(rt: HostRuntime) -> Result<(), Fail> {
+    Ok(run_within(
+        &rt,
+        rt.alloc(),
+        4096,
+        &[(Call::Stop, ".", "1 events ; 0 - . . . 0 0")],
+        "rows ; tried 0 ; unspent",
     )?)
 }

@@ -49,7 +49,7 @@ fn values_at(
     requires inside { AllBelow (length (slots (bare layout.now))) places.now }
     ensures { IfOk result (λ values. values.items ≡ map (λ s. (s, value_at (bare layout.now) vector.now s)) places.now) }
 {
-    let mut values = Vec::new(alloc);
+    let mut values = Vec::with_capacity(alloc, places.len())?;
     for slot in places {
         values.push((*slot, value_of(layout, vector, *slot)))?;
     }

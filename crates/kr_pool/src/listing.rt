@@ -1,18 +1,20 @@
 // A span listed by many workers.
-ghost use Rattle.std.specs.Prelude.{◌≡◌, ◌<◌, ◌≤◌, [], true, IfOk, OnOk};
+ghost use Rattle.std.specs.Prelude.{◌≡◌, ◌<◌, ◌≤◌, [], true, false, IfOk, OnOk, OnErr};
 ghost use Rattle.kr_base.specs.declared.span.Bound.TheVariants.{At};
 ghost use Rattle.kr_base.specs.Bounds.{less};
 ghost use Rattle.kr_core.specs.Openings.{AreInside, opening};
+ghost use Rattle.kr_core.specs.Rows.{drained};
 ghost use Rattle.kr_board.specs.Closing.{all_closed};
 ghost use Rattle.kr_pool_desk.specs.Cutting.{cuts_for};
 ghost use Rattle.kr_pool_desk.specs.Leasing.{IsLeaseOf};
 ghost use Rattle.kr_pool_desk.specs.Listings.{listed_in, Lists};
 ghost use Rattle.kr_pool_desk.specs.Traces.{Finishes, IsTrace};
 
-use crate::scanning::scan_part;
-use crate::working::work_at;
+use crate::alone::scan_one;
+use crate::hand::{Hand, hands_of};
+use crate::working::round;
 use kr_base::{Cut, NoMemory, Span};
-use kr_board::{Board, Lease, Logged, Reported, Taken};
+use kr_board::{Board, Lease, Logged, Taken};
 use kr_io::Gate;
 use kr_pool_desk::{Desk, Run, cuts_for};
 use kr_pool_shared::{Seat, Shared};
@@ -20,8 +22,7 @@ use kr_survey::{Listing, Survey};
 use std::alloc::Global;
 use std::marker::Brand;
 use std::sync::Wait;
-use std::sync::ledger::Blank;
-use std::thread;
+use std::sync::ledger::{Blank, Ledger};
 use std::thread::Threads;
 
 // Scans one entry at a time and reports it, under a lease and the next ones, until a segment is done.
@@ -38,20 +39,14 @@ fn follow_alone<R: Drop, N: Run<R>, S: Survey<Row = R>, W: Wait>(
     requires lease { IsLeaseOf seat.old.number lease }
     ensures made { S.made survey.now scratch.new }
     ensures number { seat.new.number ≡ seat.old.number }
+    ensures drained { drained desk.new.0.log ≡ drained desk.old.0.log }
 {
     let mut lease = lease;
     for _ in rt.forever() {
-        let part = match scan_part(survey, scratch, &lease, 1) {
+        match scan_one(survey, scratch, desk, seat, lease) {
             Err(why) => return Err(why),
-            Ok(part) => part,
-        };
-        match desk.report(seat.number, lease, part, &mut seat.calls) {
-            Err(refused) => return Err(refused.why),
-            Ok(Reported::Overrun(next)) => lease = next,
-            Ok(Reported::Go(next)) => lease = next,
-            Ok(Reported::Done) => return Ok(()),
-            Ok(Reported::Gone) => return Ok(()),
-            Ok(Reported::Moved(_)) => return Ok(()),
+            Ok(None) => return Ok(()),
+            Ok(Some(next)) => lease = next,
         }
     }
     unreachable!()
@@ -66,6 +61,7 @@ fn go_on_alone<R: Drop, N: Run<R>, S: Survey<Row = R>, W: Wait>(
 ) -> Result<(), NoMemory>
     requires survey { S.all survey.now ≡ N.all }
     ensures finished { OnOk result (all_closed desk.new.0.core ≡ true) }
+    ensures drained { drained desk.new.0.log ≡ drained desk.old.0.log }
 {
     if desk.is_finished() {
         return Ok(());
@@ -91,6 +87,16 @@ fn go_on_alone<R: Drop, N: Run<R>, S: Survey<Row = R>, W: Wait>(
     unreachable!()
 }
 
+// A desk closed, from which no row was taken out before.
+fn close_whole<R: Drop, N: Run<R>>(desk: Desk<R, N>) -> Result<Logged<R>, Desk<R, N>>
+    requires undrained { drained desk.0.log ≡ 0 }
+    ensures listing { IfOk result (λ logged. Lists (listed_in N.all N.span) logged.listing) }
+    ensures log { IfOk result (λ logged. Finishes N.all (opening N.span N.cuts) N.workers logged.log.items) }
+    ensures unfinished { OnErr result (all_closed desk.0.core ≡ false) }
+{
+    desk.close()
+}
+
 // The listing and the log; what the workers left undone the caller does alone.
 fn finish<R: Drop, N: Run<R>, S: Survey<Row = R>, W: Wait>(
     rt: &W,
@@ -99,46 +105,24 @@ fn finish<R: Drop, N: Run<R>, S: Survey<Row = R>, W: Wait>(
     seat: Seat<N>,
 ) -> Result<Logged<R>, NoMemory>
     requires survey { S.all survey.now ≡ N.all }
+    requires undrained { drained desk.0.log ≡ 0 }
     ensures listing { IfOk result (λ logged. Lists (listed_in N.all N.span) logged.listing) }
     ensures log { IfOk result (λ logged. Finishes N.all (opening N.span N.cuts) N.workers logged.log.items) }
 {
     let mut desk = desk;
     let mut seat = seat;
     go_on_alone(rt, survey, &mut desk, &mut seat)?;
-    match desk.close() {
+    match close_whole(desk) {
         Ok(logged) => Ok(logged),
         Err(_) => unreachable!(),
     }
-}
-
-// All workers at once, each at its seat.
-fn work_all<
-    R: Drop + Send,
-    N: Run<R> + Send + Sync,
-    S: Survey<Row = R> + Sync,
-    G: Gate + Sync,
-    W: Threads + Wait + Sync,
->(rt: &W, shared: &Shared<R, N>, survey: &S, seats: &mut [Seat<N>], gate: &G)
-    requires survey { S.all survey.now ≡ N.all }
-{
-    let count = seats.len();
-    if count == 0 {
-        return;
-    }
-    thread::for_each_mut(
-        rt,
-        seats,
-        count,
-        &|_i: usize, seat: &mut Seat<N>|
-            requires { S.all survey.now ≡ N.all }
-        { work_at(rt, shared, survey, seat, gate) },
-    );
 }
 
 // The same for a run that a type names.
 fn list_on<
     R: Drop + Send,
     N: Run<R> + Send + Sync,
+    D: Ledger + Send + Sync,
     S: Survey<Row = R> + Sync,
     G: Gate + Sync,
     W: Threads + Wait + Sync,
@@ -151,8 +135,10 @@ fn list_on<
     workers: u32,
     gate: &G,
     blank: Blank,
+    tap: Blank,
 ) -> Result<Logged<R>, NoMemory>
     requires ledger { (blank.name ≡ N.name) × (blank.parts ≡ N.parts) }
+    requires tap { (tap.name ≡ D.name) × (tap.parts ≡ D.parts) }
     requires workers { (N.parts ≡ workers) × (N.workers ≡ workers) }
     requires some { 0 < workers }
     requires survey { S.all survey.now ≡ N.all }
@@ -165,10 +151,11 @@ fn list_on<
 {
     survey.ascends();
     let board = Board::new(alloc, survey, span, cuts)?;
-    let (shared, mut seats) = Shared::<R, N>::start(alloc, board, workers, blank)?;
-    work_all(rt, &shared, survey, seats.as_mut_slice(), gate);
-    match seats.pop() {
-        Some(seat) => finish(rt, survey, shared.into_desk(), seat),
+    let (shared, seats, mut tap) = Shared::<R, N, D>::start(alloc, board, workers, blank, tap)?;
+    let mut hands = hands_of::<R, N>(alloc, seats)?;
+    round(rt, &shared, survey, hands.as_mut_slice(), gate, u64::MAX);
+    match hands.pop() {
+        Some(Hand { seat, kept: _ }) => finish(rt, survey, shared.into_desk(&mut tap), seat),
         None => unreachable!(),
     }
 }
@@ -189,7 +176,7 @@ pub fn list_traced<S: Survey<Row: Drop + Send> + Sync, G: Gate + Sync, W: Thread
     ensures log { IfOk result (λ logged. IsTrace (S.all survey.now) span workers logged.log.items) }
 {
     let cuts = cuts_for(alloc, &span, workers)?;
-    list_on::<S::Row, Brand, S, G, W>(
+    list_on::<S::Row, Brand, Brand, S, G, W>(
         rt,
         alloc,
         survey,
@@ -198,6 +185,7 @@ pub fn list_traced<S: Survey<Row: Drop + Send> + Sync, G: Gate + Sync, W: Thread
         workers,
         gate,
         Blank::new(u64::from(workers)),
+        Blank::new(1),
     )
 }
 

@@ -1,5 +1,5 @@
 // Scans for a board, that count nothing.
-ghost use Rattle.std.specs.Prelude.{◌≡◌, ◌<◌, true, IfOk};
+ghost use Rattle.std.specs.Prelude.{◌≡◌, ◌<◌, ◌≤◌, true, length, IfOk};
 ghost use Rattle.kr_base.specs.declared.span.Bound.TheVariants.{At};
 ghost use Rattle.kr_base.specs.Bounds.{less};
 ghost use Rattle.kr_board.specs.Parts.{IsPart};
@@ -58,6 +58,7 @@ pub fn scan_part<S: Survey>(
     requires made { S.made survey.now scratch.old }
     requires ahead { less (At lease.now.mark) lease.now.upto ≡ true }
     ensures part { IfOk result (IsPart (S.all survey.now) lease.now.mark) }
+    ensures few { IfOk result (λ part. length part.rows ≤ most) }
     ensures made { S.made survey.now scratch.new }
 {
     survey.ascends();

@@ -1,5 +1,5 @@
 -- What a seat is answered: leases of its own, under which something is left.
-use Rattle.std.proofs.Common.{◌≡◌, ℕ, List, [], ◌∷◌, true, false, not, cond, length, refl, sym, ap, ◌∙◌, subst, Option, Some, None}
+use Rattle.std.proofs.Common.{◌≡◌, ℕ, List, [], ◌∷◌, Bool, true, false, not, cond, length, refl, sym, ap, ◌∙◌, subst, Option, Some, None}
 use Rattle.std.specs.Prelude.{if◌then◌else◌, is_none, ◌==◌}
 use Rattle.kr_base.specs.declared.span.Bound.{Bound}
 use Rattle.kr_base.specs.declared.span.Bound.TheVariants.{At, End}
@@ -12,7 +12,6 @@ use Rattle.kr_core.specs.declared.segment.Segment.{Segment}
 use Rattle.kr_core.specs.declared.event.Event.{Event}
 use Rattle.kr_core.specs.declared.event.Event.TheVariants.{Report, Look}
 use Rattle.kr_core.specs.declared.event.Lease.{Lease}
-use Rattle.kr_core.specs.declared.event.Reply.TheVariants.{Noted}
 use Rattle.kr_core.specs.States.{State, Each, is_same, is_owned, is_owned_by, has_remainder, segment_of}
 use Rattle.kr_core.specs.Kept.{IsKept}
 use Rattle.kr_core.specs.Leases.{IsHeld, Leases}
@@ -24,11 +23,12 @@ use Rattle.kr_pool_desk.proofs.Honest.{runs_from_honest}
 use Rattle.kr_board.specs.Held.{Held}
 use Rattle.kr_board.specs.Boards.{Adds}
 use Rattle.kr_board.specs.Taking.{first_free, first_victim, grant, take_event, reply_of as take_reply}
-use Rattle.kr_board.specs.Reporting.{refusal, refusal_of, refusal_at, report_event, reply_of as report_reply, IsRefusal}
+use Rattle.kr_board.specs.Reporting.{misfit, full_else, refusal, refusal_of, refusal_at, report_event, reply_of as report_reply, IsRefusal}
+use Rattle.kr_board.specs.Windows.{is_over}
 use Rattle.kr_board.specs.declared.board.taking.Taken.{Taken}
 use Rattle.kr_board.specs.declared.board.taking.Taken.TheVariants.{Lease as Leased, Later, Finished}
 use Rattle.kr_board.specs.declared.board.reporting.Reported.{Reported}
-use Rattle.kr_board.specs.declared.board.reporting.Reported.TheVariants.{Gone, Moved, Overrun, Done, Go}
+use Rattle.kr_board.specs.declared.board.reporting.Reported.TheVariants.{Gone, Moved, Overrun, Full, Done, Go}
 use Rattle.kr_pool_desk.specs.Runs.{IsRun}
 use Rattle.kr_pool_desk.specs.Leasing.{IsLeaseOf, Takes, Reports}
 
@@ -58,16 +58,27 @@ each-found P n (s ∷ ss) g h q =
       | false ↦ λ e. each-found P n ss g h.1 e
     ] q
 
-overrun-at : (mark upto : Bound) (lease next : Lease) (reach : Bound) → less mark upto ≡ true → refusal_at mark upto lease reach ≡ Some (Overrun next) → IsLeaseOf lease.seat next
-overrun-at End upto lease next reach rem q = absurd (cc (q))
-overrun-at (At m) upto lease next reach rem q =
+-- by whether the part reaches above the upto, whether the mark is the lease's, whether the seat owns it
+
+abbrev overs : {R : Type 0} → Bound → Lease → Bool → Option (Reported R)
+overs upto lease t = if t then Some (Overrun (record lease { upto = upto })) else None
+
+abbrev moves-at : {R : Type 0} → List ℕ → Bound → Lease → Bound → Bool → Option (Reported R)
+moves-at m upto lease reach b = if not b then Some (Moved m) else overs upto lease (less upto reach)
+
+abbrev owns-at : {R : Type 0} → Bound → Bound → Lease → Bound → Bool → Option (Reported R)
+owns-at mark upto lease reach b = if not b then Some Gone else refusal_at mark upto lease reach
+
+overrun-at : {R : Type 0} (mark upto : Bound) (lease next : Lease) (reach : Bound) → less mark upto ≡ true → refusal_at {R = R} mark upto lease reach ≡ Some (Overrun next) → IsLeaseOf lease.seat next
+overrun-at {R} End upto lease next reach rem q = absurd (cc (q))
+overrun-at {R} (At m) upto lease next reach rem q =
     elim (is_same (At m) (At lease.mark)) as (λ b. is_same (At m) (At lease.mark) ≡ b
-    → (if not b then Some (Moved m) else (if less upto reach then Some (Overrun (record lease { upto = upto })) else None)) ≡ Some (Overrun next) → IsLeaseOf lease.seat next) [
+    → moves-at {R = R} m upto lease reach b ≡ Some (Overrun next) → IsLeaseOf lease.seat next) [
       | true ↦ λ e r.
           let one = not-true (less (At m) (At lease.mark)) (and-left (not (less (At m) (At lease.mark))) (not (less (At lease.mark) (At m))) e) in
           let two = not-true (less (At lease.mark) (At m)) (and-right (not (less (At m) (At lease.mark))) (not (less (At lease.mark) (At m))) e) in
           let same : At m ≡ At lease.mark = connected (At m) (At lease.mark) one two in
-          elim (less upto reach) as (λ t. (if t then Some (Overrun (record lease { upto = upto })) else None) ≡ Some (Overrun next) → IsLeaseOf lease.seat next) [
+          elim (less upto reach) as (λ t. overs {R = R} upto lease t ≡ Some (Overrun next) → IsLeaseOf lease.seat next) [
             | true ↦ λ w.
                 let is : record lease { upto = upto } ≡ next = cc (w) in
                 subst (λ (l : Lease). IsLeaseOf lease.seat l) is (record { seat_is = refl; ahead = ap (λ (b : Bound). less b upto) (sym same) ∙ rem })
@@ -76,44 +87,84 @@ overrun-at (At m) upto lease next reach rem q =
       | false ↦ λ e r. absurd (cc (r))
     ] refl q
 
-overrun-of : (s : State) (o : Option Segment) (n : ℕ) (lease next : Lease) (reach : Bound) → IsKept s → segment_of n s.segments ≡ o → refusal_of o lease reach ≡ Some (Overrun next) → IsLeaseOf lease.seat next
-overrun-of s None n lease next reach k found q = absurd (cc (q))
-overrun-of s (Some g) n lease next reach k found q =
-    elim (is_owned_by lease.seat g.owner) as (λ b. is_owned_by lease.seat g.owner ≡ b → (if not b then Some Gone else refusal_at g.mark g.upto lease reach) ≡ Some (Overrun next) → IsLeaseOf lease.seat next) [
+overrun-of : {R : Type 0} (s : State) (o : Option Segment) (n : ℕ) (lease next : Lease) (reach : Bound) → IsKept s → segment_of n s.segments ≡ o → refusal_of {R = R} o lease reach ≡ Some (Overrun next) → IsLeaseOf lease.seat next
+overrun-of {R} s None n lease next reach k found q = absurd (cc (q))
+overrun-of {R} s (Some g) n lease next reach k found q =
+    elim (is_owned_by lease.seat g.owner) as (λ b. is_owned_by lease.seat g.owner ≡ b → owns-at {R = R} g.mark g.upto lease reach b ≡ Some (Overrun next) → IsLeaseOf lease.seat next) [
       | true ↦ λ e r.
-          overrun-at g.mark g.upto lease next reach (each-found (λ g. is_owned g.owner ≡ true → has_remainder g ≡ true) n s.segments g k.owned_remains found (owner_known lease.seat g.owner e)) r
+          overrun-at {R = R} g.mark g.upto lease next reach (each-found (λ g. is_owned g.owner ≡ true → has_remainder g ≡ true) n s.segments g k.owned_remains found (owner_known lease.seat g.owner e)) r
       | false ↦ λ e r. absurd (cc (r))
     ] refl q
 
+-- the segments alone refuse by neither
+
+none-full-at : {R : Type 0} (mark upto : Bound) (lease same : Lease) (reach : Bound) (again : Part R) → refusal_at mark upto lease reach ≡ Some (Full same again) → ⊥
+none-full-at End upto lease same reach again q = absurd (cc (q))
+none-full-at {R} (At m) upto lease same reach again q =
+    elim (is_same (At m) (At lease.mark)) as (λ b. (if not b then Some (Moved m) else (if less upto reach then Some (Overrun (record lease { upto = upto })) else None)) ≡ Some (Full same again) → ⊥) [
+      | true ↦ λ r. elim (less upto reach) as (λ t. (if t then Some (Overrun (record lease { upto = upto })) else None) ≡ Some (Full same again) → ⊥) [ true ↦ λ w. absurd (cc (w)) | false ↦ λ w. absurd (cc (w)) ] r
+      | false ↦ λ r. absurd (cc (r))
+    ] q
+
+none-full : {R : Type 0} (o : Option Segment) (lease : Lease) (reach : Bound) (same : Lease) (again : Part R) → refusal_of o lease reach ≡ Some (Full same again) → ⊥
+none-full None lease reach same again q = absurd (cc (q))
+none-full {R} (Some g) lease reach same again q =
+    elim (is_owned_by lease.seat g.owner) as (λ b. (if not b then Some Gone else refusal_at g.mark g.upto lease reach) ≡ Some (Full same again) → ⊥) [
+      | true ↦ λ r. none-full-at g.mark g.upto lease same reach again r
+      | false ↦ λ r. absurd (cc (r))
+    ] q
+
+none-go-at : {R : Type 0} (mark upto : Bound) (lease next : Lease) (reach : Bound) → refusal_at {R = R} mark upto lease reach ≡ Some (Go next) → ⊥
+none-go-at {R} End upto lease next reach q = absurd (cc (q))
+none-go-at {R} (At m) upto lease next reach q =
+    elim (is_same (At m) (At lease.mark)) as (λ b. moves-at {R = R} m upto lease reach b ≡ Some (Go next) → ⊥) [
+      | true ↦ λ r. elim (less upto reach) as (λ t. overs {R = R} upto lease t ≡ Some (Go next) → ⊥) [ true ↦ λ w. absurd (cc (w)) | false ↦ λ w. absurd (cc (w)) ] r
+      | false ↦ λ r. absurd (cc (r))
+    ] q
+
+none-go : {R : Type 0} (o : Option Segment) (lease : Lease) (reach : Bound) (next : Lease) → refusal_of {R = R} o lease reach ≡ Some (Go next) → ⊥
+none-go {R} None lease reach next q = absurd (cc (q))
+none-go {R} (Some g) lease reach next q =
+    elim (is_owned_by lease.seat g.owner) as (λ b. owns-at {R = R} g.mark g.upto lease reach b ≡ Some (Go next) → ⊥) [
+      | true ↦ λ r. none-go-at {R = R} g.mark g.upto lease next reach r
+      | false ↦ λ r. absurd (cc (r))
+    ] q
+
 -- taken in
-taken-in : (seat n : ℕ) (reach : Bound) (s : State) (reported : Reported) → Leases (Report seat n reach 0 0 false) s (report_reply reported) → Reports seat reported
-taken-in seat n reach s Gone h = tt
-taken-in seat n reach s (Moved mark) h = tt
-taken-in seat n reach s (Overrun lease) h = absurd h
-taken-in seat n reach s Done h = tt
-taken-in seat n reach s (Go lease) h = held-ahead seat n s lease h.1
+taken-in : {R : Type 0} (seat n : ℕ) (reach : Bound) (s : State) (lease : Lease) (part : Part R) (reported : Reported R) → Leases (Report seat n reach 0 0 false) s (report_reply reported) → Reports seat lease part reported
+taken-in seat n reach s lease part Gone h = tt
+taken-in seat n reach s lease part (Moved mark) h = tt
+taken-in seat n reach s lease part (Overrun next) h = absurd h
+taken-in seat n reach s lease part (Full same again) h = absurd h
+taken-in seat n reach s lease part Done h = tt
+taken-in seat n reach s lease part (Go next) h = held-ahead seat n s next h.1
 
 -- looked at
-looked : (seat : ℕ) (old : State) (lease : Lease) (reach : Bound) (reported : Reported) → lease.seat ≡ seat → IsKept old → refusal old lease reach ≡ Some reported → report_reply reported ≡ Noted → Reports seat reported
-looked seat old lease reach Gone is k q h = tt
-looked seat old lease reach (Moved mark) is k q h = tt
-looked seat old lease reach (Overrun next) is k q h =
-    subst (λ (n : ℕ). IsLeaseOf n next) is (overrun-of old (segment_of lease.segment old.segments) lease.segment lease next reach k refl q)
-looked seat old lease reach Done is k q h = tt
-looked seat old lease reach (Go next) is k q h = absurd (cc (h))
+misfitting : {R : Type 0} (seat : ℕ) (old : State) (lease : Lease) (part : Part R) (x reported : Reported R) → lease.seat ≡ seat → IsKept old → misfit old lease part.reach ≡ Some x → reported ≡ x → Reports seat lease part reported
+misfitting seat old lease part x Gone is k q e = tt
+misfitting seat old lease part x (Moved mark) is k q e = tt
+misfitting {R} seat old lease part x (Overrun next) is k q e =
+    subst (λ (n : ℕ). IsLeaseOf n next) is (overrun-of {R = R} old (segment_of lease.segment old.segments) lease.segment lease next part.reach k refl (q ∙ ap (λ (y : Reported R). Some y) (sym e)))
+misfitting {R} seat old lease part x (Full same again) is k q e = absurd (none-full (segment_of lease.segment old.segments) lease part.reach same again (q ∙ ap (λ (y : Reported R). Some y) (sym e)))
+misfitting seat old lease part x Done is k q e = tt
+misfitting {R} seat old lease part x (Go next) is k q e = absurd (none-go {R = R} (segment_of lease.segment old.segments) lease part.reach next (q ∙ ap (λ (y : Reported R). Some y) (sym e)))
 
-reported-by : {R : Type 0} (o : Option Reported) (seat : ℕ) (old new : State) (lease : Lease) (part : Part R) (reported : Reported) → lease.seat ≡ seat → IsKept old → refusal old lease part.reach ≡ o
-    → IsRefusal o reported
-    → Leases (if is_none o then Report lease.seat lease.segment part.reach (length part.rows) part.tried part.spent else Look lease.seat) new (report_reply reported) → Reports seat reported
-reported-by None seat old new lease part reported is k q r h = subst (λ (n : ℕ). Reports n reported) is (taken-in lease.seat lease.segment part.reach new reported h)
-reported-by (Some x) seat old new lease part reported is k q r h =
-    looked seat old lease part.reach reported is k (q ∙ ap (λ (y : Reported). Some y) (sym r)) h
+over : {R : Type 0} (seat : ℕ) (full : Bool) (lease : Lease) (part : Part R) (new : State) (reported : Reported R) → lease.seat ≡ seat → IsRefusal (if full then Some (Full lease part) else None) reported
+    → Leases (if is_none (if full then Some (Full lease part) else None) then Report lease.seat lease.segment part.reach (length part.rows) part.tried part.spent else Look lease.seat) new (report_reply reported) → Reports seat lease part reported
+over {R} seat true lease part new reported is r h = subst (λ (x : Reported R). Reports seat lease part x) (sym r) (refl, refl)
+over {R} seat false lease part new reported is r h = subst (λ (n : ℕ). Reports n lease part reported) is (taken-in lease.seat lease.segment part.reach new lease part reported h)
 
-pub reports : {R : Type 0} (all : List (Entry R)) (span : Span) (cuts : List (List ℕ)) (ops : List Event) (workers calls seat : ℕ) (old new : Held R) (lease : Lease) (part : Part R) (reported : Reported)
-    → IsRun all span cuts ops workers old calls → lease.seat ≡ seat → IsRefusal (refusal old.core lease part.reach) reported
-    → Adds old (report_event old.core lease part) (report_reply reported) part.rows new → Reports seat reported
+reported-by : {R : Type 0} (o : Option (Reported R)) (full : Bool) (seat : ℕ) (old new : State) (lease : Lease) (part : Part R) (reported : Reported R) → lease.seat ≡ seat → IsKept old → misfit old lease part.reach ≡ o
+    → IsRefusal (full_else full lease part o) reported
+    → Leases (if is_none (full_else full lease part o) then Report lease.seat lease.segment part.reach (length part.rows) part.tried part.spent else Look lease.seat) new (report_reply reported) → Reports seat lease part reported
+reported-by None full seat old new lease part reported is k q r h = over seat full lease part new reported is r h
+reported-by (Some x) full seat old new lease part reported is k q r h = misfitting seat old lease part x reported is k q r
+
+pub reports : {R : Type 0} (all : List (Entry R)) (span : Span) (cuts : List (List ℕ)) (ops : List Event) (workers calls seat : ℕ) (old new : Held R) (lease : Lease) (part : Part R) (reported : Reported R)
+    → IsRun all span cuts ops workers old calls → lease.seat ≡ seat → IsRefusal (refusal old lease part) reported
+    → Adds old (report_event old lease part) (report_reply reported) part.rows new → Reports seat lease part reported
 reports all span cuts ops workers calls seat old new lease part reported k is r adds =
     let runs = runs_from_honest all (opening span cuts) old.log old.core k.board.honest in
     let kept = kept_law span cuts old.log old.core k.inside runs in
-    reported-by (refusal old.core lease part.reach) seat old.core new.core lease part reported is kept refl r
-    (leases_law span cuts old.log old.core (report_event old.core lease part) (report_reply reported) new.core k.inside runs adds.step)
+    reported-by (misfit old.core lease part.reach) (is_over old lease.segment (length part.rows)) seat old.core new.core lease part reported is kept refl r
+    (leases_law span cuts old.log old.core (report_event old lease part) (report_reply reported) new.core k.inside runs adds.step)

@@ -1,4 +1,7 @@
 pub mod Whole
+pub mod Drained
+pub mod Nexts
+pub mod Stopping
 pub mod Growing
 pub mod Released
 pub mod Leased

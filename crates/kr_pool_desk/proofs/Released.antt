@@ -7,6 +7,7 @@ use Rattle.kr_core.specs.declared.segment.Segment.{Segment}
 use Rattle.kr_core.specs.declared.event.Event.{Event}
 use Rattle.kr_core.specs.declared.event.Event.TheVariants.{Take, Steal, Report, GiveUp, Drain, StopAt, Look}
 use Rattle.kr_core.specs.States.{Each, has_remainder}
+use Rattle.kr_core.specs.Rows.{drained}
 use Rattle.kr_core.specs.Leases.{holder_after, holder_of, IsToldBy}
 use Rattle.kr_core.specs.Openings.{opening}
 use Rattle.kr_core.proofs.Holding.{owners_law}
@@ -82,3 +83,21 @@ released all span cuts ops workers calls calls' old new k is board count =
 
 pub no-fewer : {R : Type 0} (old new : Held R) → IsReleased old new → length old.log + length (given_up old.core.segments) ≡ length new.log
 no-fewer old new is = let a = length-append old.log (given_up old.core.segments) in let c = ap (λ (l : List Event). length l) is.logged in omega (arith, a, c)
+
+-- none of these events takes rows out
+
+drained-append : (xs ys : List Event) → drained (xs ++ ys) ≡ drained xs + drained ys
+drained-append [] ys = omega arith
+drained-append (x ∷ xs) ys = let h = drained-append xs ys in omega (arith, h)
+
+none-by : (owner : Option ℕ) (n : ℕ) → drained (given_up_by owner n) ≡ 0
+none-by None n = refl
+none-by (Some seat) n = refl
+
+none-given : (segs : List Segment) → drained (given_up segs) ≡ 0
+none-given [] = refl
+none-given (g ∷ gs) = let a = drained-append (given_up_by g.owner g.number) (given_up gs) in let b = none-by g.owner g.number in let c = none-given gs in omega (arith, a, b, c)
+
+pub released-drained : {R : Type 0} (old new : Held R) → IsReleased old new → drained new.log ≡ drained old.log
+released-drained old new is =
+    let a = drained-append old.log (given_up old.core.segments) in let b = none-given old.core.segments in let c = ap (λ (l : List Event). drained l) is.logged in omega (arith, a, b, c)

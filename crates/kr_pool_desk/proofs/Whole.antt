@@ -1,5 +1,5 @@
 -- A finished board that nobody stopped lists the span.
-use Rattle.std.proofs.Common.{◌≡◌, ℕ, List, [], ◌∷◌, ◌++◌, Bool, true, false, ◌&&◌, not, length, drop, refl, sym, ap, ◌∙◌, subst, arith}
+use Rattle.std.proofs.Common.{◌≡◌, ℕ, List, [], ◌∷◌, ◌++◌, Bool, true, false, ◌&&◌, ◌||◌, not, length, drop, refl, sym, ap, ◌∙◌, subst, arith}
 use Rattle.std.specs.Prelude.{if◌then◌else◌}
 use Rattle.kr_base.specs.declared.span.Bound.{Bound}
 use Rattle.kr_base.specs.declared.span.Bound.TheVariants.{At}
@@ -17,14 +17,14 @@ use Rattle.kr_core.specs.declared.event.Event.TheVariants.{Take, Steal, Report, 
 use Rattle.kr_core.specs.States.{capped}
 use Rattle.kr_core.specs.Openings.{opening}
 use Rattle.kr_core.specs.Counts.{EndsSpent, HonestRuns, IsSpentFlag, Counts, last_stop}
-use Rattle.kr_core.specs.Rows.{drains, drained}
+use Rattle.kr_core.specs.Rows.{drained}
 use Rattle.kr_core.proofs.Ends.{counting_law}
 use Rattle.kr_board.specs.Held.{Held}
 use Rattle.kr_board.specs.Closing.{all_closed, spent_in, Lists as BoardLists}
 use Rattle.kr_board.proofs.Draining.{closed-each}
 use Rattle.kr_pool_desk.specs.Runs.{is_shared, are_shared, IsRun}
-use Rattle.kr_pool_desk.specs.Listings.{listed_in, Lists}
-use Rattle.kr_pool_desk.specs.Traces.{Finishes}
+use Rattle.kr_pool_desk.specs.Listings.{listed_in, Lists, ListsFrom}
+use Rattle.kr_pool_desk.specs.Traces.{is_last_stop, are_by, Finishes}
 
 -- nothing is cut off where the last one alone is spent
 
@@ -80,7 +80,7 @@ pub through-flag : {R : Type 0} (flag : Bool) (a e : Bound) (es : List (Entry R)
 through-flag true a e es asc h = through-ends a e es asc h
 through-flag false a e es asc h = through-free (within a e es) h
 
--- no event is a drain or a stop
+-- no event is a stop
 
 pub and-left : (a b : Bool) → (a && b) ≡ true → a ≡ true
 and-left true b e = refl
@@ -89,22 +89,6 @@ and-left false b e = absurd (cc (e))
 pub and-right : (a b : Bool) → (a && b) ≡ true → b ≡ true
 and-right true b e = e
 and-right false b e = absurd (cc (e))
-
-shared-drains : (workers : ℕ) (e : Event) → is_shared workers e ≡ true → drains e ≡ 0
-shared-drains workers (Take seat n) h = refl
-shared-drains workers (Steal seat victim cut n) h = refl
-shared-drains workers (Report seat n reach rows tried spent) h = refl
-shared-drains workers (GiveUp seat n) h = refl
-shared-drains workers (Drain rows) h = absurd (cc (h))
-shared-drains workers (StopAt mark) h = refl
-shared-drains workers (Look seat) h = refl
-
-pub none-drained : (workers : ℕ) (events : List Event) → are_shared workers events ≡ true → drained events ≡ 0
-none-drained workers [] h = refl
-none-drained workers (e ∷ events) h =
-    let a = shared-drains workers e (and-left (is_shared workers e) (are_shared workers events) h) in
-    let b = none-drained workers events (and-right (is_shared workers e) (are_shared workers events) h) in
-    omega (arith, a, b)
 
 pub none-stops : (b : Bound) (workers : ℕ) (events : List Event) → are_shared workers events ≡ true → last_stop b events ≡ b
 none-stops b workers [] h = refl
@@ -117,7 +101,7 @@ none-stops b workers (StopAt mark ∷ events) h = absurd (cc (h))
 none-stops b workers (Look seat ∷ events) h = none-stops b workers events (and-right (is_shared workers (Look seat)) (are_shared workers events) h)
 
 pub whole_listing : {R : Type 0} (all : List (Entry R)) (span : Span) (cuts : List (List ℕ)) (ops : List Event) (workers calls : ℕ) (b : Held R) (l : Listing R) → IsRun all span cuts ops workers b calls
-    → all_closed b.core ≡ true → BoardLists b l → Lists (listed_in all span) l
+    → all_closed b.core ≡ true → BoardLists b l → ListsFrom (drained b.log) (listed_in all span) l
 whole_listing {R} all span cuts ops workers calls b l k closed is =
     let c : Counts all span b.log b.core = counting_law all span cuts b.log b.core k.ascends k.inside k.board.honest in
     let done = c.listed (closed-each b.core.segments closed) in
@@ -125,12 +109,29 @@ whole_listing {R} all span cuts ops workers calls b l k closed is =
     let stop : less (last_stop span.upto b.log) span.upto ≡ false = ap (λ (e : Bound). less e span.upto) (none-stops span.upto workers b.log k.grown.shared) ∙ irreflexive span.upto in
     let whole : entries_in (At span.after) b.core.end all ≡ listed_in all span = done.whole stop in
     let same = through-flag b.core.spent (At span.after) b.core.end all k.ascends done.spent in
-    let rows : l.rows ≡ rows_of (within (At span.after) b.core.end all) = of.rows ∙ ap (λ (n : ℕ). drop n (rows_of (within (At span.after) b.core.end all))) (none-drained workers b.log k.grown.shared) in
     record {
-      rows = rows ∙ (ap (λ (es : List (Entry R)). rows_of es) (sym same ∙ whole));
+      rows = of.rows ∙ ap (λ (es : List (Entry R)). drop (drained b.log) (rows_of es)) (sym same ∙ whole);
       tried = of.tried ∙ ap (λ (es : List (Entry R)). capped (length es)) whole;
       spent = of.spent ∙ ap (λ (es : List (Entry R)). spent_in es) whole;
     }
+
+-- nothing was taken out before
+pub lists_all : {R : Type 0} (d : ℕ) (es : List (Entry R)) (l : Listing R) → d ≡ 0 → ListsFrom d es l → Lists es l
+lists_all {R} d es l none k = record { rows = k.rows ∙ ap (λ (n : ℕ). drop n (rows_of es)) none; tried = k.tried; spent = k.spent }
+
+-- events of seats, and at their end a stop
+
+pub by_shared : (workers : ℕ) (log : List Event) → are_shared workers log ≡ true → are_by workers log ≡ true
+by_shared workers [] h = refl
+by_shared workers (e ∷ events) h =
+    ap (λ (b : Bool). (b || is_last_stop e events) && are_by workers events) (and-left (is_shared workers e) (are_shared workers events) h)
+    ∙ by_shared workers events (and-right (is_shared workers e) (are_shared workers events) h)
+
+pub by_stopped : (workers : ℕ) (log : List Event) (mark : List ℕ) → are_shared workers log ≡ true → are_by workers (log ++ StopAt mark ∷ []) ≡ true
+by_stopped workers [] mark h = refl
+by_stopped workers (e ∷ events) mark h =
+    ap (λ (b : Bool). (b || is_last_stop e (events ++ StopAt mark ∷ [])) && are_by workers (events ++ StopAt mark ∷ [])) (and-left (is_shared workers e) (are_shared workers events) h)
+    ∙ by_stopped workers events mark (and-right (is_shared workers e) (are_shared workers events) h)
 
 -- and its log is one that comes to an end
 pub finishes : {R : Type 0} (all : List (Entry R)) (span : Span) (cuts : List (List ℕ)) (ops : List Event) (workers calls : ℕ) (b : Held R) (log : List Event) → IsRun all span cuts ops workers b calls
@@ -138,6 +139,6 @@ pub finishes : {R : Type 0} (all : List (Entry R)) (span : Span) (cuts : List (L
 finishes all span cuts ops workers calls b log k closed is = record {
   last = b.core;
   runs = subst (λ (l : List Event). HonestRuns all (opening span cuts) l b.core) (sym is) k.board.honest;
-  seats = ap (λ (l : List Event). are_shared workers l) is ∙ k.grown.shared;
+  seats = ap (λ (l : List Event). are_by workers l) is ∙ by_shared workers b.log k.grown.shared;
   closed = closed;
 }

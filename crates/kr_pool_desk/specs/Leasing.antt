@@ -3,10 +3,11 @@ use Rattle.std.specs.Prelude.{◌≡◌, ℕ, true}
 use Rattle.kr_base.specs.declared.span.Bound.TheVariants.{At}
 use Rattle.kr_base.specs.Bounds.{less}
 use Rattle.kr_core.specs.declared.event.Lease.{Lease}
+use Rattle.kr_survey.specs.declared.part.Part.{Part}
 use Rattle.kr_board.specs.declared.board.taking.Taken.{Taken}
 use Rattle.kr_board.specs.declared.board.taking.Taken.TheVariants.{Lease as Leased, Later, Finished}
 use Rattle.kr_board.specs.declared.board.reporting.Reported.{Reported}
-use Rattle.kr_board.specs.declared.board.reporting.Reported.TheVariants.{Gone, Moved, Overrun, Done, Go}
+use Rattle.kr_board.specs.declared.board.reporting.Reported.TheVariants.{Gone, Moved, Overrun, Full, Done, Go}
 
 -- a lease of the seat, under which something is left to scan
 pub record IsLeaseOf (seat : ℕ) (lease : Lease) : Type 0 where
@@ -18,9 +19,11 @@ Takes seat (Leased lease) = IsLeaseOf seat lease
 Takes seat Later = Unit {0}
 Takes seat Finished = Unit {0}
 
-abbrev pub Reports : ℕ → Reported → Type 0
-Reports seat Gone = Unit {0}
-Reports seat (Moved mark) = Unit {0}
-Reports seat (Overrun lease) = IsLeaseOf seat lease
-Reports seat Done = Unit {0}
-Reports seat (Go lease) = IsLeaseOf seat lease
+-- a lease of the seat; or the lease and the part that were handed in
+abbrev pub Reports : {R : Type 0} → ℕ → Lease → Part R → Reported R → Type 0
+Reports seat lease part Gone = Unit {0}
+Reports seat lease part (Moved mark) = Unit {0}
+Reports seat lease part (Overrun next) = IsLeaseOf seat next
+Reports seat lease part (Full same again) = (same ≡ lease) × (again ≡ part)
+Reports seat lease part Done = Unit {0}
+Reports seat lease part (Go next) = IsLeaseOf seat next

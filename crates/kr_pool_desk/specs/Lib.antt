@@ -1,5 +1,6 @@
 pub mod Runs
 pub mod Listings
+pub mod Draining
 pub mod Leasing
 pub mod Cutting
 pub mod Traces

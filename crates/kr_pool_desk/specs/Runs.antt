@@ -9,13 +9,13 @@ use Rattle.kr_core.specs.Openings.{AreInside}
 use Rattle.kr_board.specs.Held.{Held}
 use Rattle.kr_board.specs.Boards.{IsBoardOf}
 
--- an event of a board that workers share: of a seat below their number, so neither a drain nor a stop
+-- an event of a board that workers share: of a seat below their number, or a drain, but no stop
 abbrev pub is_shared : ℕ → Event → Bool
 is_shared workers (Take seat n) = nat_lt seat workers
 is_shared workers (Steal seat victim cut n) = nat_lt seat workers
 is_shared workers (Report seat n reach rows tried spent) = nat_lt seat workers
 is_shared workers (GiveUp seat n) = nat_lt seat workers
-is_shared workers (Drain rows) = false
+is_shared workers (Drain rows) = true
 is_shared workers (StopAt mark) = false
 is_shared workers (Look seat) = nat_lt seat workers
 
@@ -23,7 +23,7 @@ abbrev pub are_shared : ℕ → List Event → Bool
 are_shared workers [] = true
 are_shared workers (event ∷ events) = is_shared workers event && are_shared workers events
 
--- the log is the one at the start, and behind it as many events as the seats made calls; all are of such seats
+-- the log is the one at the start, and behind it as many events as were counted as calls; all are such
 pub record IsGrown (opening : List Event) (workers calls : ℕ) (log : List Event) : Type 0 where
   pub more : List Event
   pub logged : log ≡ opening ++ more

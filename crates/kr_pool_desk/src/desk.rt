@@ -1,22 +1,25 @@
 // A board with the count of its calls.
-ghost use Rattle.std.specs.Prelude.{◌≡◌, ◌+◌, ◌<◌, true, false, IfOk, IfErr, IfSome, IfNone, OnOk, OnErr};
+ghost use Rattle.std.specs.Prelude.{◌≡◌, ◌+◌, ◌<◌, ◌≤◌, true, false, length, take, drop, IfOk, IfErr, IfSome, IfNone, OnOk, OnErr};
 ghost use Rattle.kr_base.specs.declared.span.Bound.TheVariants.{At};
 ghost use Rattle.kr_base.specs.Bounds.{less};
 ghost use Rattle.kr_base.specs.Entries.{Ascends};
 ghost use Rattle.kr_core.specs.Openings.{AreInside, opening};
+ghost use Rattle.kr_core.specs.Rows.{drained};
+ghost use Rattle.kr_survey.specs.Scans.{rows_of};
 ghost use Rattle.kr_board.specs.Boards.{IsBoardOf};
 ghost use Rattle.kr_board.specs.Closing.{all_closed};
 ghost use Rattle.kr_board.specs.Parts.{IsPart};
 ghost use Rattle.kr_board.specs.declared.board.releasing.GivenUp.TheVariants.{Released, Gone};
 ghost use Rattle.kr_pool_desk.specs.Runs.{IsRun, are_shared};
 ghost use Rattle.kr_pool_desk.specs.Leasing.{IsLeaseOf, Takes, Reports};
-ghost use Rattle.kr_pool_desk.specs.Listings.{listed_in, Lists};
+ghost use Rattle.kr_pool_desk.specs.Draining.{last_rows};
+ghost use Rattle.kr_pool_desk.specs.Listings.{listed_in, ListsFrom};
 ghost use Rattle.kr_pool_desk.specs.Traces.{Finishes};
 
 use crate::crew::Run;
 use kr_base::{Bound, NoMemory};
-use kr_board::{Board, GivenUp, Lease, Logged, Refused, Reported, Taken, part_law};
-use kr_survey::Part;
+use kr_board::{Board, Event, GivenUp, Lease, Logged, Refused, Reported, Taken, part_law};
+use kr_survey::{Part, Rows};
 use std::marker::Model;
 use std::sync::ledger::{Book, Share};
 
@@ -37,6 +40,17 @@ impl<R, N: Run<R>> Model for Desk<R, N> {
     ghost view = { λ d. (d.board, d.calls.total) };
 
     ghost invariant = { λ d. IsRun N.all N.span N.cuts N.opening N.workers d.board d.calls.total };
+}
+
+// The rows that the last event took out.
+fn last_rows(log: &[Event]) -> u64
+    ensures { result ≡ last_rows log.now }
+{
+    match log.last() {
+        Some(Event::Drain { rows }) => *rows,
+        Some(_) => 0,
+        None => 0,
+    }
 }
 
 impl<R: Drop, N: Run<R>> Desk<R, N> {
@@ -60,12 +74,13 @@ impl<R: Drop, N: Run<R>> Desk<R, N> {
         self.board.is_finished()
     }
 
-    /// The listing of the run's span and the run's log, where nothing is left to do, else the desk again. It takes no
-    /// memory.
+    /// The listing of the run's span behind the rows drained, and the run's log, where nothing is left to do, else the desk
+    /// again. It takes no memory.
     pub fn close(self) -> Result<Logged<R>, Desk<R, N>>
-        ensures listing { IfOk result (λ logged. Lists (listed_in N.all N.span) logged.listing) }
+        ensures listing { IfOk result (λ logged. ListsFrom (drained self.0.log) (listed_in N.all N.span) logged.listing) }
         ensures log { IfOk result (λ logged. Finishes N.all (opening N.span N.cuts) N.workers logged.log.items) }
         ensures unfinished { OnErr result (all_closed self.0.core ≡ false) }
+        ensures back { IfErr result (λ desk. desk.0 ≡ self.0) }
     {
         let Desk { board, calls } = self;
         match board.close_with_log() {
@@ -74,9 +89,56 @@ impl<R: Drop, N: Run<R>> Desk<R, N> {
         }
     }
 
+    /// Ends an unfinished board where its first segment is scanned to. The run's log.
+    pub fn stop(self) -> Result<Vec<Event>, NoMemory>
+        requires unfinished { all_closed self.0.core ≡ false }
+        ensures log { IfOk result (λ log. Finishes N.all (opening N.span N.cuts) N.workers log.items) }
+    {
+        let Desk {
+            mut board,
+            calls: _,
+        } = self;
+        match board.stop() {
+            Err(why) => Err(why),
+            Ok(_) => match board.close_with_log() {
+                Ok(Logged { listing: _, log }) => Ok(log),
+                Err(_) => unreachable!(),
+            },
+        }
+    }
+
+    /// The next rows of the run's span behind those drained, and whether nothing is left then: no work, and no row.
+    pub fn drain(&mut self, calls: &mut Share<N>) -> Result<(Rows<R>, bool), NoMemory>
+        requires part { 0 < calls.old.parts }
+        ensures rows { IfOk result (λ r. r.0 ≡ take (length r.0) (drop (drained self.old.0.log) (rows_of (listed_in N.all N.span)))) }
+        ensures drained { IfOk result (λ r. drained self.new.0.log ≡ drained self.old.0.log + length r.0) }
+        ensures counted { IfOk result (λ r. last_rows self.new.0.log ≡ length r.0) }
+        ensures finished { IfOk result (λ r. r.1 ≡ all_closed self.new.0.core) }
+        ensures last { IfOk result (λ r. r.1 ≡ true → drained self.new.0.log ≡ length (rows_of (listed_in N.all N.span))) }
+        ensures unchanged { OnErr result (self.new.0 ≡ self.old.0) }
+        ensures parts { calls.new.parts ≡ calls.old.parts }
+    {
+        match self.board.drain() {
+            Err(why) => Err(why),
+            Ok(rows) => {
+                self.calls.add(calls, 1);
+                let finished = self.board.is_finished();
+                Ok((rows, finished))
+            }
+        }
+    }
+
+    /// How many rows the last event took out, if it was a drain.
+    pub fn last_rows(&self) -> u64
+        ensures { result ≡ last_rows self.now.0.log }
+    {
+        last_rows(self.board.log())
+    }
+
     /// Every lease is given back, which counts for this share.
     pub fn release_all(&mut self, calls: &mut Share<N>)
         requires part { 0 < calls.old.parts }
+        ensures drained { drained self.new.0.log ≡ drained self.old.0.log }
         ensures parts { calls.new.parts ≡ calls.old.parts }
     {
         let before = self.board.log().len();
@@ -88,6 +150,7 @@ impl<R: Drop, N: Run<R>> Desk<R, N> {
     /// The board again, with the book.
     pub fn into_parts(self) -> (Board<R>, Book<N>)
         ensures run { IsRun N.all N.span N.cuts N.opening N.workers result.0 result.1.total }
+        ensures board { result.0 ≡ self.0 }
     {
         let Desk { board, calls } = self;
         (board, calls)
@@ -98,6 +161,7 @@ impl<R: Drop, N: Run<R>> Desk<R, N> {
         requires part { 0 < calls.old.parts }
         requires below { seat < N.workers }
         ensures lease { IfOk result (Takes seat) }
+        ensures drained { drained self.new.0.log ≡ drained self.old.0.log }
         ensures counted { OnOk result (calls.new.amount ≡ calls.old.amount + 1) }
         ensures uncounted { OnErr result (calls.new.amount ≡ calls.old.amount) }
         ensures parts { calls.new.parts ≡ calls.old.parts }
@@ -118,12 +182,14 @@ impl<R: Drop, N: Run<R>> Desk<R, N> {
         lease: Lease,
         part: Part<R>,
         calls: &mut Share<N>,
-    ) -> Result<Reported, Refused<R>>
+    ) -> Result<Reported<R>, Refused<R>>
         requires part { 0 < calls.old.parts }
         requires below { seat < N.workers }
         requires lease { lease.seat ≡ seat }
         requires honest { IsPart N.all lease.mark part }
-        ensures lease { IfOk result (Reports seat) }
+        requires few { length part.rows ≤ 256 }
+        ensures lease { IfOk result (Reports seat lease part) }
+        ensures drained { drained self.new.0.log ≡ drained self.old.0.log }
         ensures back { IfErr result (λ refused. (refused.lease ≡ lease) × (refused.part ≡ part)) }
         ensures counted { OnOk result (calls.new.amount ≡ calls.old.amount + 1) }
         ensures uncounted { OnErr result (calls.new.amount ≡ calls.old.amount) }
@@ -137,16 +203,6 @@ impl<R: Drop, N: Run<R>> Desk<R, N> {
                 Ok(reported)
             }
         }
-    }
-
-    /// Whether a segment waits for an owner.
-    pub fn has_free(&self) -> bool {
-        for segment in self.board.segments() {
-            if segment.has_remainder() && !segment.is_owned() {
-                return true;
-            }
-        }
-        false
     }
 
     /// Whether some seat holds a segment.
@@ -170,6 +226,7 @@ impl<R: Drop, N: Run<R>> Desk<R, N> {
         requires below { seat < N.workers }
         requires lease { lease.now.seat ≡ seat }
         ensures seat { IfOk result (λ rest. IfSome rest (λ r. r.seat ≡ seat)) }
+        ensures drained { drained self.new.0.log ≡ drained self.old.0.log }
         ensures ahead { IfOk result (λ rest. IfSome rest (λ r. less (At lease.now.mark) (At r.mark) ≡ true)) }
         ensures counted { IfOk result (λ rest. IfSome rest (λ r. calls.new.amount ≡ calls.old.amount + 1)) }
         ensures uncounted { IfOk result (λ rest. IfNone rest (calls.new.amount ≡ calls.old.amount)) }
@@ -186,16 +243,91 @@ impl<R: Drop, N: Run<R>> Desk<R, N> {
         }
     }
 
-    /// A seat cuts what it has left, and lays the rest out for others, unless something is free already. The lease under
-    /// which it goes on, and whether it cut.
+    // Whether this is the first segment that isn't closed.
+    fn is_foremost(&self, number: u64) -> bool {
+        for segment in self.board.segments() {
+            if !segment.is_closed() {
+                return segment.number == number;
+            }
+        }
+        false
+    }
+
+    // How many rows a segment behind the foremost may hold before its seat looks for one nearer to the front.
+    fn is_over_share(&self, rows: u64) -> bool {
+        match self.board.window() {
+            None => false,
+            Some(window) => rows > window / 64,
+        }
+    }
+
+    // Whether the first free segment, if there is one, is the foremost or holds few rows.
+    fn has_takeable(&self) -> bool {
+        for segment in self.board.segments() {
+            if segment.has_remainder() && !segment.is_owned() {
+                return !self.is_over_share(segment.rows) || self.is_foremost(segment.number);
+            }
+        }
+        false
+    }
+
+    /// Whether a take leads to a lease that was nobody's and is near enough to the front, or to the end.
+    pub fn may_take(&self) -> bool {
+        self.has_takeable() || !self.has_owned()
+    }
+
+    /// Whether a seat that goes on under this lease gives it up, for one nearer to the front.
+    pub fn is_far(&self, lease: &Lease) -> bool {
+        for segment in self.board.segments() {
+            if segment.number == lease.segment {
+                return self.is_over_share(segment.rows) && !self.is_foremost(lease.segment);
+            }
+        }
+        false
+    }
+
+    /// Whether the rows kept fill the window, and the front isn't free without rows.
+    pub fn is_at_window(&self) -> bool {
+        match self.board.window() {
+            None => false,
+            Some(window) => self.board.rows_kept() >= window && !self.has_free_front(),
+        }
+    }
+
+    // Whether the first segment is free and has no rows.
+    fn has_free_front(&self) -> bool {
+        match self.board.segments().first() {
+            None => false,
+            Some(first) => first.rows == 0 && first.has_remainder() && !first.is_owned(),
+        }
+    }
+
+    // Whether the rows kept fill half of the window.
+    fn is_half_full(&self) -> bool {
+        match self.board.window() {
+            None => false,
+            Some(window) => self.board.rows_kept() >= window / 2,
+        }
+    }
+
+    // Whether the rest of this lease is wanted now: nothing else can be taken, and there is room for its rows.
+    fn is_rest_wanted(&self, lease: &Lease) -> bool {
+        !self.has_takeable()
+            && !self.is_at_window()
+            && (!self.is_half_full() || self.is_foremost(lease.segment))
+    }
+
+    /// A seat cuts what it has left, and lays the rest out for others, unless something can be taken already or the window is
+    /// full. Where it is half full the foremost alone is cut. The lease under which it goes on, and whether it cut.
     pub fn lay_out(&mut self, seat: u32, lease: Lease, calls: &mut Share<N>) -> (Lease, bool)
         requires part { 0 < calls.old.parts }
         requires below { seat < N.workers }
         requires lease { IsLeaseOf seat lease }
         ensures lease { IsLeaseOf seat result.0 }
+        ensures drained { drained self.new.0.log ≡ drained self.old.0.log }
         ensures parts { calls.new.parts ≡ calls.old.parts }
     {
-        if self.has_free() {
+        if !self.is_rest_wanted(&lease) {
             return (lease, false);
         }
         match self.split(seat, &lease, calls) {
@@ -223,6 +355,7 @@ impl<R: Drop, N: Run<R>> Desk<R, N> {
         requires lease { lease.now.seat ≡ seat }
         ensures released { result ≡ Released → calls.new.amount ≡ calls.old.amount + 1 }
         ensures gone { result ≡ Gone → calls.new.amount ≡ calls.old.amount }
+        ensures drained { drained self.new.0.log ≡ drained self.old.0.log }
         ensures parts { calls.new.parts ≡ calls.old.parts }
     {
         match self.board.give_up(lease) {

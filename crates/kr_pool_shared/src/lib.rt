@@ -2,8 +2,10 @@
 //! waits at a condition variable.
 #![tactic(auto)]
 
+mod pace;
 mod seat;
 mod shared;
+mod table;
 
 pub use seat::Seat;
 pub use shared::Shared;

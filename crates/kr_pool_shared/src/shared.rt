@@ -1,47 +1,31 @@
 // The desk under a lock.
-ghost use Rattle.std.specs.Prelude.{◌≡◌, ◌+◌, ◌<◌, ◌≤◌, [], true, length, IfOk, IfErr, IfSome, IfNone};
+ghost use Rattle.std.specs.Prelude.{◌≡◌, ◌+◌, ◌<◌, ◌≤◌, [], true, length, take, drop, IfOk, IfErr, IfSome, IfNone, OnErr};
 ghost use Rattle.kr_base.specs.Entries.{Ascends};
+ghost use Rattle.kr_survey.specs.Scans.{rows_of};
 ghost use Rattle.kr_core.specs.Openings.{AreInside};
+ghost use Rattle.kr_core.specs.Rows.{drained};
 ghost use Rattle.kr_board.specs.Boards.{IsBoardOf};
 ghost use Rattle.kr_board.specs.Parts.{IsPart};
 ghost use Rattle.kr_pool_desk.specs.Runs.{IsRun, IsGrown, are_shared};
 ghost use Rattle.kr_pool_desk.specs.Leasing.{IsLeaseOf, Reports};
+ghost use Rattle.kr_pool_desk.specs.Listings.{listed_in};
 ghost use Rattle.kr_pool_shared.specs.Seats.{calls_of};
 
 use crate::seat::Seat;
+use crate::table::Table;
 use kr_base::NoMemory;
 use kr_board::{Board, Lease, Refused, Reported, Taken};
 use kr_pool_desk::{Crew, Desk, Run};
-use kr_survey::Part;
+use kr_survey::{Part, Rows};
 use std::alloc::Global;
-use std::sync::ledger::{Blank, Share};
+use std::sync::ledger::{Blank, Ledger, Share};
 use std::sync::{Condvar, Mutex, Wait};
 
-/// A desk, and how many seats wait at it, how many reports came since a rest was laid out, and how many have to. No
-/// contract names the counts.
+/// A board under its lock. Who waits is woken where a rest is laid out, a segment is done, a lease is given back, or a seat
+/// leaves.
 #[derive(Drop)]
-pub struct Table<R, N: Run<R>> {
-    pub desk: Desk<R, N>,
-    pub waiting: u32,
-    pub since: u32,
-    pub patience: u32,
-}
-
-// Twice as long, up to a most.
-fn longer(patience: u32) -> u32 {
-    if patience == 0 {
-        1
-    } else if patience >= 8 {
-        16
-    } else {
-        patience * 2
-    }
-}
-
-/// A board under its lock. Who waits is woken where a rest is laid out, a segment is done or a lease is given back.
-#[derive(Drop)]
-pub struct Shared<R, N: Run<R>> {
-    desk: Mutex<Table<R, N>>,
+pub struct Shared<R, N: Run<R>, D: Ledger> {
+    table: Mutex<Table<R, N, D>>,
     freed: Condvar,
 }
 
@@ -75,15 +59,17 @@ fn seats_for<N: Crew>(alloc: Global, workers: u32, all: Share<N>) -> Result<Vec<
     Ok(seats)
 }
 
-impl<R: Drop, N: Run<R>> Shared<R, N> {
-    /// The board under a lock, and a seat for each worker.
+impl<R: Drop, N: Run<R>, D: Ledger> Shared<R, N, D> {
+    /// The board under a lock, a seat for each worker, and the share by which rows are drained.
     pub fn start(
         alloc: Global,
         board: Board<R>,
         workers: u32,
         blank: Blank,
-    ) -> Result<(Shared<R, N>, Vec<Seat<N>>), NoMemory>
+        tap: Blank,
+    ) -> Result<(Shared<R, N, D>, Vec<Seat<N>>, Share<D>), NoMemory>
         requires ledger { (blank.name ≡ N.name) × (blank.parts ≡ N.parts) }
+        requires tap { (tap.name ≡ D.name) × (tap.parts ≡ D.parts) }
         requires workers { (N.parts ≡ workers) × (N.workers ≡ workers) }
         requires some { 0 < workers }
         requires ascends { Ascends N.all }
@@ -91,103 +77,115 @@ impl<R: Drop, N: Run<R>> Shared<R, N> {
         requires board { IsBoardOf N.all N.span N.cuts board }
         requires opening { board.log ≡ N.opening }
         requires shared { are_shared N.workers N.opening ≡ true }
+        requires undrained { drained N.opening ≡ 0 }
         ensures count { IfOk result (λ r. length r.1.items ≡ workers) }
         ensures none { IfOk result (λ r. calls_of r.1.items ≡ 0) }
+        ensures tap { IfOk result (λ r. (r.2.parts ≡ D.parts) × (r.2.amount ≡ 0)) }
     {
         let (calls, all) = blank.open::<N>();
+        let (rows, whole) = tap.open::<D>();
         let seats = seats_for(alloc, workers, all)?;
-        let desk = Mutex::new(Table {
-            desk: Desk::new(board, calls),
-            waiting: 0,
-            since: 0,
-            patience: 0,
-        });
+        let table = Mutex::new(Table::new(Desk::new(board, calls), rows));
         Ok((
             Shared {
-                desk,
+                table,
                 freed: Condvar::new(),
             },
             seats,
+            whole,
         ))
     }
 
-    /// The desk again.
-    pub fn into_desk(self) -> Desk<R, N> {
-        let Shared { desk, freed: _ } = self;
-        let Table { desk, .. } = desk.into_inner();
-        desk
+    /// The desk again. As many rows were drained as the share counts.
+    pub fn into_desk(self, tap: &mut Share<D>) -> Desk<R, N>
+        requires whole { tap.old.parts ≡ D.parts }
+        ensures drained { drained result.0.log ≡ tap.old.amount }
+        ensures tap { (tap.new.amount ≡ tap.old.amount) × (tap.new.parts ≡ tap.old.parts) }
+    {
+        let Shared { table, freed: _ } = self;
+        table.into_inner().into_desk(tap)
     }
 
-    /// A lease for the seat, or none where nothing is left. It waits while others work and leave nothing over.
+    /// The next rows of the run's span behind those that the share counts, and whether nothing is left then. It is logged as
+    /// a call of the seat.
+    pub fn drain<W: Wait>(
+        &self,
+        rt: &W,
+        seat: &mut Seat<N>,
+        tap: &mut Share<D>,
+    ) -> Result<(Rows<R>, bool), NoMemory>
+        requires whole { tap.old.parts ≡ D.parts }
+        requires some { 0 < tap.old.parts }
+        ensures rows { IfOk result (λ r. r.0 ≡ take (length r.0) (drop tap.old.amount (rows_of (listed_in N.all N.span)))) }
+        ensures counted { IfOk result (λ r. tap.new.amount ≡ tap.old.amount + length r.0) }
+        ensures last { IfOk result (λ r. r.1 ≡ true → tap.new.amount ≡ length (rows_of (listed_in N.all N.span))) }
+        ensures uncounted { OnErr result (tap.new.amount ≡ tap.old.amount) }
+        ensures parts { tap.new.parts ≡ tap.old.parts }
+        ensures number { seat.new.number ≡ seat.old.number }
+    {
+        self.table.lock(rt).drain(seat, tap)
+    }
+
+    /// A seat begins a round.
+    pub fn enter<W: Wait>(&self, rt: &W) {
+        self.table.lock(rt).enter();
+    }
+
+    /// A seat leaves the round.
+    pub fn leave<W: Wait>(&self, rt: &W) {
+        self.table.lock(rt).leave();
+        self.freed.notify_all();
+    }
+
+    /// A lease for the seat; or none where nothing is left, where the window is full, or where all others of the round left
+    /// or wait. It waits while others work and leave nothing over.
     pub fn take<W: Wait>(&self, rt: &W, seat: &mut Seat<N>) -> Result<Option<Lease>, NoMemory>
         ensures lease { IfOk result (λ taken. IfSome taken (IsLeaseOf seat.new.number)) }
         ensures number { seat.new.number ≡ seat.old.number }
     {
-        let mut table = self.desk.lock(rt);
+        let mut table = self.table.lock(rt);
         for _ in rt.forever() {
-            if table.desk.has_free() || !table.desk.has_owned() {
-                match table.desk.take(seat.number, &mut seat.calls) {
+            if table.is_at_window() {
+                return Ok(None);
+            }
+            if table.may_take() {
+                match table.take(seat) {
                     Err(refused) => return Err(refused),
                     Ok(Taken::Lease(lease)) => return Ok(Some(lease)),
                     Ok(Taken::Finished) => return Ok(None),
                     Ok(Taken::Later) => {}
                 }
             }
-            table.waiting = table.waiting.saturating_add(1);
+            if !table.begin_wait() {
+                return Ok(None);
+            }
             table = self.freed.wait(rt, table);
-            table.waiting = table.waiting.saturating_sub(1);
+            table.end_wait();
         }
         unreachable!()
     }
 
-    /// A part of the run's entries, reported. Those that wait look again.
+    /// A part of the run's entries, reported. Those that wait look again where there is news for them.
     pub fn report<W: Wait>(
         &self,
         rt: &W,
         lease: Lease,
         part: Part<R>,
         seat: &mut Seat<N>,
-    ) -> Result<Reported, Refused<R>>
+    ) -> Result<Reported<R>, Refused<R>>
         requires lease { lease.seat ≡ seat.old.number }
         requires honest { IsPart N.all lease.mark part }
-        ensures lease { IfOk result (Reports seat.new.number) }
+        requires few { length part.rows ≤ 256 }
+        ensures lease { IfOk result (Reports seat.old.number lease part) }
         ensures back { IfErr result (λ refused. (refused.lease ≡ lease) × (refused.part ≡ part)) }
         ensures number { seat.new.number ≡ seat.old.number }
     {
-        let tried = part.tried;
-        let mut table = self.desk.lock(rt);
-        let reported = table.desk.report(seat.number, lease, part, &mut seat.calls);
-        table.since = table.since.saturating_add(1);
-        match reported {
-            Ok(Reported::Go(next)) => {
-                if seat.cut {
-                    seat.cut = false;
-                    table.patience = 0;
-                }
-                if table.waiting == 0 || table.since < table.patience {
-                    return Ok(Reported::Go(next));
-                }
-                let (next, cut) = table.desk.lay_out(seat.number, next, &mut seat.calls);
-                if cut {
-                    seat.cut = true;
-                    table.since = 0;
-                    self.freed.notify_all();
-                }
-                Ok(Reported::Go(next))
-            }
-            other => {
-                if seat.cut {
-                    seat.cut = false;
-                    table.patience = if tried < 32 {
-                        longer(table.patience)
-                    } else {
-                        0
-                    };
-                }
-                self.freed.notify_all();
-                other
-            }
+        let mut table = self.table.lock(rt);
+        let reported = table.report(lease, part, seat);
+        if table.take_news() {
+            self.freed.notify_all();
         }
+        reported
     }
 
     /// A lease given back.
@@ -195,8 +193,7 @@ impl<R: Drop, N: Run<R>> Shared<R, N> {
         requires lease { lease.now.seat ≡ seat.old.number }
         ensures number { seat.new.number ≡ seat.old.number }
     {
-        let mut table = self.desk.lock(rt);
-        table.desk.give_up(seat.number, lease, &mut seat.calls);
+        self.table.lock(rt).give_up(lease, seat);
         self.freed.notify_all();
     }
 }
@@ -219,15 +216,18 @@ fn all_calls<N: Crew>(seats: Vec<Seat<N>>) -> Option<Share<N>>
     }
 }
 
-impl<R: Drop, N: Run<R>> Shared<R, N> {
-    /// The board again, once all seats are back. Its log has grown by as many events as the seats' calls.
-    pub fn shut(self, seats: Vec<Seat<N>>) -> Board<R>
+impl<R: Drop, N: Run<R>, D: Ledger> Shared<R, N, D> {
+    /// The board again, once all seats are back. Its log has grown by as many events as the seats' calls, and as many rows
+    /// were drained as the share counts.
+    pub fn shut(self, seats: Vec<Seat<N>>, tap: &mut Share<D>) -> Board<R>
         requires all { length seats.items ≡ N.parts }
         requires some { 0 < N.parts }
+        requires whole { tap.old.parts ≡ D.parts }
+        ensures drained { drained result.log ≡ tap.old.amount }
         ensures board { IsBoardOf N.all N.span N.cuts result }
         ensures grown { IsGrown N.opening N.workers (calls_of seats.items) result.log }
     {
-        let (board, mut calls) = self.into_desk().into_parts();
+        let (board, mut calls) = self.into_desk(tap).into_parts();
         match all_calls(seats) {
             None => {}
             Some(mut all) => calls.audit(&mut all),

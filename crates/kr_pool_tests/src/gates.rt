@@ -3,7 +3,9 @@
 use crate::surveys::comes_to;
 use kr_pool::Gate;
 use std::sync::atomic::{AtomicU64, Ordering};
+use std::thread;
 use std::thread::yield_now;
+use std::time::{Clock, Duration};
 
 /// One worker's first pass returns only when another's first pass has begun.
 #[derive(Drop)]
@@ -38,22 +40,28 @@ impl Gate for Meeting {
     }
 }
 
-/// Lets others run for a number of turns that differs from pass to pass.
-#[derive(Clone, Copy)]
-pub(crate) struct Unruly {
+/// Lets others run for a number of turns that differs from pass to pass, and sleeps at some passes.
+#[derive(Drop)]
+pub(crate) struct Unruly<'c, C: Clock> {
     pub(crate) seed: u64,
+    pub(crate) clock: &'c C,
 }
 
-impl Gate for Unruly {
+fn mixed(seed: u64, worker: u32, turn: u64) -> u64 {
+    seed.wrapping_mul(6_364_136_223_846_793_005)
+        .wrapping_add(turn.wrapping_mul(1_442_695_040_888_963_407))
+        .wrapping_add(u64::from(worker).wrapping_mul(40_692))
+        >> 33
+}
+
+impl<C: Clock> Gate for Unruly<'_, C> {
     fn pass(&self, worker: u32, turn: u64) {
-        let mixed = self
-            .seed
-            .wrapping_mul(6_364_136_223_846_793_005)
-            .wrapping_add(turn.wrapping_mul(1_442_695_040_888_963_407))
-            .wrapping_add(u64::from(worker).wrapping_mul(40_692));
-        let turns = (mixed >> 33) % 200;
-        for _ in 0..turns {
+        let mixed = mixed(self.seed, worker, turn);
+        for _ in 0..mixed % 6 {
             yield_now();
+        }
+        if mixed % 7 == 0 {
+            thread::sleep(self.clock, Duration::from_micros(mixed % 90));
         }
     }
 }

@@ -6,4 +6,6 @@ mod gates;
 #[cfg(test)]
 mod listing;
 #[cfg(test)]
+mod rounds;
+#[cfg(test)]
 mod surveys;

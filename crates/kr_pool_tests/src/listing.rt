@@ -13,6 +13,7 @@ use std::sync::Wait;
 use std::sync::atomic::Ordering;
 use std::test::Fail;
 use std::thread::Threads;
+use std::time::Clock;
 
 // Whether a row is the key of that number.
 fn is_key(row: &Cut, number: u32) -> bool {
@@ -20,7 +21,7 @@ fn is_key(row: &Cut, number: u32) -> bool {
     numbers.len() == 2 && numbers[0] == 0 && numbers[1] == number
 }
 
-fn after(number: u32) -> u32 {
+pub(crate) fn after(number: u32) -> u32 {
     let next = number.saturating_add(1);
     if next % 5 == 0 {
         next.saturating_add(1)
@@ -30,7 +31,7 @@ fn after(number: u32) -> u32 {
 }
 
 // The number behind the last, if these rows are the valid keys from a number on.
-fn numbered(rows: &[Cut], number: u32) -> Option<u32> {
+pub(crate) fn numbered(rows: &[Cut], number: u32) -> Option<u32> {
     let mut number = number;
     for row in rows {
         if !is_key(row, number) {
@@ -157,7 +158,7 @@ fn log_of_one(rt: HostRuntime) -> Result<(), Fail> {
 
 // Whether so many workers list so many keys, of which one is spent, behind an unruly gate; and where none is spent, no key
 // was scanned twice.
-fn listed<W: Threads + Wait + Sync + Abort>(
+fn listed<W: Threads + Wait + Sync + Abort + Clock>(
     rt: &W,
     alloc: Global,
     workers: u32,
@@ -166,7 +167,7 @@ fn listed<W: Threads + Wait + Sync + Abort>(
     seed: u64,
 ) -> Result<bool, NoMemory> {
     let survey = looked_at(keys(rt, alloc, count, spent)?, 0, 0);
-    let listing = list(rt, alloc, &survey, workers, &Unruly { seed })?;
+    let listing = list(rt, alloc, &survey, workers, &Unruly { seed, clock: rt })?;
     let last = if spent <= count {
         spent.saturating_sub(1)
     } else {
@@ -180,24 +181,56 @@ fn listed<W: Threads + Wait + Sync + Abort>(
     )
 }
 
-#[test]
-fn unruly(rt: HostRuntime) -> Result<(), Fail> {
+// Nine kinds of runs for each seed.
+fn all_listed<W: Threads + Wait + Sync + Abort + Clock>(
+    rt: &W,
+    alloc: Global,
+    from: u64,
+) -> Result<(), NoMemory> {
     let rows: [(u32, u32, u32); 9] = [
-        (1, 1000, 2000),
-        (2, 1000, 2000),
-        (3, 1000, 712),
-        (4, 1000, 2),
-        (8, 1000, 1000),
+        (1, 300, 2000),
+        (2, 600, 2000),
+        (3, 600, 412),
+        (4, 600, 2),
+        (8, 600, 600),
         (8, 1, 9),
         (8, 0, 9),
-        (64, 1000, 2000),
-        (64, 3, 9),
+        (12, 900, 2000),
+        (5, 3, 9),
     ];
-    for seed in 0..20 {
+    for seed in from..from.saturating_add(28) {
         for (workers, count, spent) in rows {
-            let listed = listed(&rt, rt.alloc(), workers, count, spent, seed)?;
+            let listed = listed(rt, alloc, workers, count, spent, seed)?;
             assert!(rt; listed, "{workers} {count} {spent} {seed}");
         }
     }
+    Ok(())
+}
+
+#[test]
+fn unruly(rt: HostRuntime) -> Result<(), Fail> {
+    Ok(all_listed(&rt, rt.alloc(), 0)?)
+}
+
+#[test]
+fn unruly_from_28(rt: HostRuntime) -> Result<(), Fail> {
+    Ok(all_listed(&rt, rt.alloc(), 28)?)
+}
+
+#[test]
+fn unruly_from_56(rt: HostRuntime) -> Result<(), Fail> {
+    Ok(all_listed(&rt, rt.alloc(), 56)?)
+}
+
+#[test]
+fn unruly_from_84(rt: HostRuntime) -> Result<(), Fail> {
+    Ok(all_listed(&rt, rt.alloc(), 84)?)
+}
+
+// Many workers over few keys and over many.
+#[test]
+fn sixty_four(rt: HostRuntime) -> Result<(), Fail> {
+    assert!(rt; listed(&rt, rt.alloc(), 64, 1000, 2000, 1)?, "many keys");
+    assert!(rt; listed(&rt, rt.alloc(), 64, 3, 9, 2)?, "few keys");
     Ok(())
 }

@@ -8,7 +8,7 @@ use Rattle.kr_report.specs.Reports.{lines}
 use Rattle.kr_report_lines.specs.Lines.{failing_lines, last_of, texts}
 use Rattle.kr_report_lines.specs.Counting.{IsAfter}
 use Rattle.kr_report_lines.specs.declared.row_line.RowLine.{RowLine}
-use Rattle.kr_report_lines.specs.declared.count.Count.{Count}
+use Rattle.kr_report_lines.specs.declared.counts.Count.{Count}
 
 minus_none : (n : ℕ) → n ≡ n - 0
 minus_none n = omega arith
@@ -26,11 +26,11 @@ failing_one : (b : Bool) (l : RowLine) (xs ys : List RowLine) → (if b then l �
 failing_one true l xs ys = refl
 failing_one false l xs ys = refl
 
-failing_both : (xs ys : List RowLine) → failing_lines (xs ++ ys) ≡ failing_lines xs ++ failing_lines ys
+pub failing_both : (xs ys : List RowLine) → failing_lines (xs ++ ys) ≡ failing_lines xs ++ failing_lines ys
 failing_both [] ys = refl
 failing_both (l ∷ xs) ys = ap (λ (ls : List RowLine). if l.failing then l ∷ ls else ls) (failing_both xs ys) ∙ failing_one l.failing l (failing_lines xs) (failing_lines ys)
 
-last_both : (key : List ℕ) (xs ys : List RowLine) → last_of key (xs ++ ys) ≡ last_of (last_of key xs) ys
+pub last_both : (key : List ℕ) (xs ys : List RowLine) → last_of key (xs ++ ys) ≡ last_of (last_of key xs) ys
 last_both key [] ys = refl
 last_both key (l ∷ xs) ys = last_both l.key xs ys
 
@@ -39,7 +39,7 @@ length_take zero xs = omega arith
 length_take (suc n) [] = omega arith
 length_take (suc n) (x ∷ xs) = omega (arith, length_take n xs)
 
-more_both : (p : Bool) (r m n k : ℕ) → k ≡ min r m → ((p || nat_lt r m) || nat_lt (r - k) n) ≡ (p || nat_lt r (m + n))
+pub more_both : (p : Bool) (r m n k : ℕ) → k ≡ min r m → ((p || nat_lt r m) || nat_lt (r - k) n) ≡ (p || nat_lt r (m + n))
 more_both true r m n k e = refl
 more_both false r m n k e = grind (arith, nat_tests)
 

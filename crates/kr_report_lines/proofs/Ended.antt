@@ -9,12 +9,12 @@ use Rattle.kr_report.specs.Reports.{Answer, bytes_of, lines}
 use Rattle.kr_report_lines.specs.Lines.{cut_lines, failing_lines, last_of, lines_answer, texts, whole_lines}
 use Rattle.kr_report_lines.specs.Counting.{IsAfter, last_text, status_at, status_unless_more, text_at, text_unless_more}
 use Rattle.kr_report_lines.specs.declared.row_line.RowLine.{RowLine}
-use Rattle.kr_report_lines.specs.declared.count.Count.{Count}
+use Rattle.kr_report_lines.specs.declared.counts.Count.{Count}
 
-not_over : (limit n : ℕ) → nat_lt limit n ≡ false → n ≤ limit
+pub not_over : (limit n : ℕ) → nat_lt limit n ≡ false → n ≤ limit
 not_over limit n h = grind (arith, nat_tests)
 
-abbrev answer : ℕ → List (List ℕ) → List ℕ → Answer
+abbrev pub answer : ℕ → List (List ℕ) → List ℕ → Answer
 answer status rows last = record { status = status; rows = rows; last = last }
 
 -- the answer, where these lines are all
@@ -23,7 +23,7 @@ whole_is : (mode : Mode) (ls : List RowLine) (tried : ℕ) (spent : Option (List
 whole_is mode ls tried None = refl
 whole_is mode ls tried (Some key) = refl
 
-abbrev answer_at : Mode → Bool → List RowLine → ℕ → Option (List ℕ) → Answer
+abbrev pub answer_at : Mode → Bool → List RowLine → ℕ → Option (List ℕ) → Answer
 answer_at mode more ls tried spent =
     answer (status_at more (length (failing_lines ls)) spent) (texts ls) (text_at more (more_text (last_of [] ls)) (text_unless_more mode (length ls) (length (failing_lines ls)) tried spent))
 
@@ -33,7 +33,7 @@ by_more mode limit ls tried spent true h = refl
 by_more mode limit ls tried spent false h =
     whole_is mode ls tried spent ∙ ap (λ (all : List RowLine). answer_at mode false all tried spent) (sym (take_all limit ls (not_over limit (length ls) h)))
 
-answer_by : (mode : Mode) (limit : ℕ) (ls : List RowLine) (tried : ℕ) (spent : Option (List ℕ)) → lines_answer mode limit ls tried spent ≡ answer_at mode (nat_lt limit (length ls)) (take limit ls) tried spent
+pub answer_by : (mode : Mode) (limit : ℕ) (ls : List RowLine) (tried : ℕ) (spent : Option (List ℕ)) → lines_answer mode limit ls tried spent ≡ answer_at mode (nat_lt limit (length ls)) (take limit ls) tried spent
 unfolding lines_answer
 answer_by mode limit ls tried spent = by_more mode limit ls tried spent (nat_lt limit (length ls)) refl
 

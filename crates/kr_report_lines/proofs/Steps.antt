@@ -10,7 +10,7 @@ use Rattle.kr_survey.specs.Joins.{joined, lists}
 use Rattle.kr_report_lines.specs.Lines.{texts}
 use Rattle.kr_report_lines.specs.Counting.{IsAfter}
 use Rattle.kr_report_lines.specs.declared.row_line.RowLine.{RowLine}
-use Rattle.kr_report_lines.specs.declared.count.Count.{Count}
+use Rattle.kr_report_lines.specs.declared.counts.Count.{Count}
 use Rattle.kr_report_lines.proofs.After.{after_then, length_take, text_both}
 
 -- ---- lists

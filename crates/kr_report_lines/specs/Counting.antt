@@ -4,7 +4,7 @@ use Rattle.kr_mean.specs.declared.mode.Mode.{Mode}
 use Rattle.kr_report.specs.Texts.{more_text, spent_text}
 use Rattle.kr_report_lines.specs.Lines.{failing_lines, last_of, status_by, whole_text}
 use Rattle.kr_report_lines.specs.declared.row_line.RowLine.{RowLine}
-use Rattle.kr_report_lines.specs.declared.count.Count.{Count}
+use Rattle.kr_report_lines.specs.declared.counts.Count.{Count}
 
 -- after these lines, of which there is room for so many
 pub record IsAfter (room : ℕ) (ls : List RowLine) (old new : Count) : Type 0 where

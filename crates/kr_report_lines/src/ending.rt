@@ -8,7 +8,7 @@ ghost use Rattle.kr_report_lines.specs.Ended.{IsListingStatus};
 ghost use Rattle.kr_report_lines.specs.Counting.{last_text, status_at};
 ghost use Rattle.kr_report_lines.specs.Lines.{lines_answer, whole_text};
 
-use crate::count::Count;
+use crate::counts::Count;
 use crate::putting::put_pieces;
 use crate::row_line::RowLine;
 use kr_base::{Cut, Failed, Sink, put_all};
@@ -56,7 +56,7 @@ fn status_for(failing: u32) -> u8
 }
 
 /// The status of what was put, of entries of which this one is spent.
-fn status_of(count: Count<'_>, spent: &Option<Cut>) -> u8
+pub fn status_of(count: Count<'_>, spent: &Option<Cut>) -> u8
     ensures status { result ≡ status_at count.entry.more count.entry.failing spent.now }
     ensures known { IsListingStatus result }
 {
@@ -68,7 +68,7 @@ fn status_of(count: Count<'_>, spent: &Option<Cut>) -> u8
 }
 
 /// Puts the last line, once rows were put.
-fn put_last<K: Sink>(
+pub fn put_last<K: Sink>(
     mode: &Mode,
     count: Count<'_>,
     tried: u64,

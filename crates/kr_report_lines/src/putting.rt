@@ -6,7 +6,7 @@ ghost use Rattle.kr_survey.specs.Joins.{joined, lists};
 ghost use Rattle.kr_report_lines.specs.Lines.{texts};
 ghost use Rattle.kr_report_lines.specs.Counting.{IsAfter};
 
-use crate::count::Count;
+use crate::counts::Count;
 use crate::row_line::RowLine;
 use kr_base::{Failed, Sink, put_all};
 
@@ -62,7 +62,7 @@ fn put_piece<'l, K: Sink>(
 }
 
 /// Puts lines in pieces, as many as the limit leaves room for.
-pub(crate) fn put_pieces<'l, K: Sink>(
+pub fn put_pieces<'l, K: Sink>(
     pieces: &'l [Vec<RowLine>],
     limit: u32,
     count: Count<'l>,

@@ -2,8 +2,8 @@
 ghost use Rattle.std.specs.Prelude.{◌≡◌, IfSome, MatchOption};
 ghost use Rattle.kr_run_known.specs.Knowing.{HasGiven, Knows};
 
-use crate::levels::{Above, Below, Look};
-use kr_code::Code;
+use crate::levels::{Above, Below, Look, expression_at};
+use kr_code::{Code, CollectionCall, Expression};
 use kr_run_state::World;
 use kr_value::Value;
 
@@ -22,11 +22,46 @@ pub fn look_at(code: &Code, world: &World, node: u32, fuel: u64) -> Option<Known
     <Above<Above<Above<Above<Below>>>>>::look(code, world, node, fuel)
 }
 
-/// A node's value as an expression, where that is known at once; its fuel is spent.
+/// Whether a call mostly changes its collection.
+#[inline(always)]
+fn may_change(call: CollectionCall) -> bool {
+    match call {
+        CollectionCall::Add => true,
+        CollectionCall::Remove => true,
+        CollectionCall::RemoveFirst => true,
+        _ => false,
+    }
+}
+
+/// Whether a node is such a call, so that it mostly isn't known, and looking at its parts would be in vain: correctness
+/// doesn't depend on it.
+#[inline(always)]
+fn calls_to_change(code: &Code, node: u32) -> bool {
+    match expression_at(code, node) {
+        Some(Expression::CallCollection { call, .. }) => may_change(*call),
+        _ => false,
+    }
+}
+
+/// The same of the operand of an operator, too.
+#[inline(always)]
+fn is_change(code: &Code, node: u32) -> bool {
+    match expression_at(code, node) {
+        Some(Expression::CallCollection { call, .. }) => may_change(*call),
+        Some(Expression::Unary { operand, .. }) => calls_to_change(code, *operand),
+        _ => false,
+    }
+}
+
+/// A node's value as an expression, where that is known at once; its fuel is spent. Nothing is said of what mostly changes a
+/// collection.
 #[inline(always)]
 pub fn at_once(code: &Code, world: &mut World, node: u32) -> Option<Value>
     ensures { MatchOption result (world.new ≡ world.old) (λ v. HasGiven code.now v world.new world.old (λ d. d.value node)) }
 {
+    if is_change(code, node) {
+        return None;
+    }
     match look_at(code, &*world, node, world.fuel) {
         None => None,
         Some(known) => {

@@ -62,13 +62,14 @@ module _ (program : Program) (m : tables.Method) (heap : Heap) where
           below = λ f lt. is_spent (is_void m.result) (bodies o vs (begun heap f)).said (found.2.below f lt);
           enough = λ e. found.2.enough (was_spent (is_void m.result) (bodies o vs (begun heap found.0)).said e);
           above = λ more. same_left (is_void m.result) more (bodies o vs (begun heap found.0)) (bodies o vs (begun heap (found.0 + more))) (found.2.above more);
+          exact = found.2.exact;
         },
       )
 
   cost_on : (b : Bool) (vs : List Value) (fuel : ℕ) → ((run b vs fuel).end ≡ Err ends.OutOfFuel → ⊥) → Cost b vs fuel
   cost_on true vs fuel fine = entered Null vs fuel fine
   cost_on false (o ∷ vs) fuel fine = entered o vs fuel fine
-  cost_on false [] fuel fine = (0, omega arith, record { below = λ f lt. absurd (omega (arith, lt)); enough = fine; above = λ more. refl })
+  cost_on false [] fuel fine = (0, omega arith, record { below = λ f lt. absurd (omega (arith, lt)); enough = fine; above = λ more. refl; exact = refl })
 
   pub has_cost : (values : List Value) (fuel : ℕ) → ((executed program m values heap fuel).end ≡ Err ends.OutOfFuel → ⊥) → (c : ℕ) × (c ≤ fuel) × HasCost (executed program m values heap) c
   has_cost values fuel fine = cost_on m.is_static values fuel fine
@@ -89,5 +90,6 @@ module _ (program : Program) (m : tables.Method) (e : Node) (env : Env) (heap : 
           below = λ f lt. is_spent false (valued f).said (found.2.below f lt);
           enough = λ x. found.2.enough (was_spent false (valued found.0).said x);
           above = λ more. same_left false more (valued found.0) (valued (found.0 + more)) (found.2.above more);
+          exact = found.2.exact;
         },
       )

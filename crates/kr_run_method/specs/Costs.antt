@@ -11,11 +11,13 @@ use Rattle.kr_run_method.specs.declared.executed.Executed.{Executed}
 use Rattle.kr_run_method.specs.Evaluated.{evaluated}
 use Rattle.kr_run_method.specs.Executed.{executed}
 
--- A run by its fuel is spent exactly where its cost is above the fuel; more fuel than that changes nothing but what is left.
+-- A run by its fuel is spent exactly where its cost is above the fuel; with its cost nothing is left, and more fuel changes nothing
+-- but what is left.
 pub record HasCost (run : ℕ → Executed) (cost : ℕ) : Type 0 where
   pub below : (fuel : ℕ) → fuel < cost → (run fuel).end ≡ Err OutOfFuel
   pub enough : (run cost).end ≡ Err OutOfFuel → ⊥
   pub above : (more : ℕ) → run (cost + more) ≡ record (run cost) { left = (run cost).left + more }
+  pub exact : (run cost).left ≡ 0
 
 abbrev pub SpentLaw : Type 0
 SpentLaw = (program : Program) (m : tables.Method) (values : List Value) (heap : Heap) (fuel : ℕ) → ((executed program m values heap fuel).end ≡ Err OutOfFuel → ⊥)

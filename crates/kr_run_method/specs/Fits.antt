@@ -13,6 +13,7 @@ use Rattle.kr_mean.specs.Code.{Node}
 use Rattle.kr_mean.specs.Verdicts.{OldNode, olds_of}
 use Rattle.kr_code.specs.declared.code.Code.{Code}
 use Rattle.kr_code.specs.Resolved.{Numbering, IsCodeOf}
+use Rattle.kr_laws_results.specs.Results.{has_result}
 use Rattle.kr_laws_safety.specs.Fits.{AreOf, IsHeapOf}
 use Rattle.kr_laws_safety.specs.Triples.{IsResult, IsThis, type_of_old}
 use Rattle.kr_laws_safety.specs.Typed.{IsTypedProgram, Olds, types_in}
@@ -57,10 +58,12 @@ pub data IsExpression (program : Program) (m : tables.Method) : Node → Bool �
   held : (o : OldNode) → o.scope ≡ in_old (in_contract Ensuring (method_scope program m)) → IsOld program o
       → IsExpression program m (record { scope = o.scope; tree = o.tree }) false
 
--- the result, where the method gives one, and a value for each `\old` of the method, in source order
-abbrev pub IsSeen : Program → tables.Method → List JavaType → Env → Bool → Type 0
-IsSeen program m types env false = Unit {0}
-IsSeen program m types env true = IsResult program.table types (if is_void m.result then None else Some m.result) env.result × AreOf program.table types (map old_type (olds_of program m)) env.olds.items
+-- the result, where the method gives one and the expression has `\result`, and a value for each `\old` of the method, in source
+-- order
+abbrev pub IsSeen : Program → tables.Method → List JavaType → Env → Tree → Bool → Type 0
+IsSeen program m types env e false = Unit {0}
+IsSeen program m types env e true =
+    (has_result e ≡ true → IsResult program.table types (if is_void m.result then None else Some m.result) env.result) × AreOf program.table types (map old_type (olds_of program m)) env.olds.items
 
 -- an expression of a method's contract, on a heap and values of their types
 pub record IsEvaluation (program : Program) (m : tables.Method) (e : Node) (env : Env) (heap : Heap) : Type 0 where
@@ -73,7 +76,7 @@ pub record IsEvaluation (program : Program) (m : tables.Method) (e : Node) (env 
   pub objects : IsHeapOf program types heap
   pub this : IsThis program.table types (if m.is_static then None else Some m.class) env.this
   pub arguments : AreOf program.table types (types_in m.parameters) env.arguments.items
-  pub seen : IsSeen program m types env is_ensured
+  pub seen : IsSeen program m types env e.tree is_ensured
 
 -- an evaluation of a typed program's code doesn't end at a node without a meaning
 abbrev pub IsEvaluatedUnstuck : Code → ℕ → List Place → Env → Heap → Executed → Type 0

@@ -172,6 +172,7 @@ impl<R: Drop> Board<R> {
             core,
             kept,
             log,
+            window: _,
         } = self;
         let tried = core.tried();
         let listing = Listing {

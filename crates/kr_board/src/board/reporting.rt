@@ -1,25 +1,25 @@
 // Reports: a part of a survey, taken in under a lease.
-ghost use Rattle.std.specs.Prelude.{◌≡◌, ◌-◌, ◌^◌, ◌≤◌, [], None, length, IfOk, IfErr, OnOk, OnErr};
-ghost use Rattle.std.specs.List.{sum_by};
+ghost use Rattle.std.specs.Prelude.{◌≡◌, ◌-◌, ◌^◌, ◌≤◌, [], None, false, length, IfOk, IfErr, OnOk, OnErr};
 ghost use Rattle.kr_survey.specs.Joins.{joined};
-ghost use Rattle.kr_core.specs.States.{capped};
 ghost use Rattle.kr_board.specs.Boards.{Adds, StaysWith};
 ghost use Rattle.kr_board.specs.Parts.{IsPossible};
-ghost use Rattle.kr_board.specs.Reporting.{IsRefusal, refusal, report_event, reply_of};
+ghost use Rattle.kr_board.specs.Reporting.{IsRefusal, misfit, refusal, report_event, reply_of};
+ghost use Rattle.kr_board.specs.Windows.{IsFew, is_over};
 
 use super::{Board, Untaken};
 use kr_base::{Bound, Cut, NoMemory};
-use kr_core::{Core, Event, Lease, Reply, Segment};
+use kr_core::{Core, Event, Lease, Reply};
 use kr_survey::{Part, RowList};
 
 /// What a report comes to: the lease's seat doesn't own the segment; its mark is another; the part reaches above its upto,
-/// which the lease has then; nothing is left of it; or it goes on under this lease. The first three change nothing but
-/// the log.
+/// which the lease has then; the window is full, and lease and part are handed back; nothing is left of the segment; or it
+/// goes on under this lease. The first four change nothing but the log.
 #[derive(Drop)]
-pub enum Reported {
+pub enum Reported<R> {
     Gone,
     Moved(Cut),
     Overrun(Lease),
+    Full(Lease, Part<R>),
     Done,
     Go(Lease),
 }
@@ -44,9 +44,13 @@ fn lowered(lease: &Lease, upto: &Bound) -> Result<Lease, NoMemory>
     })
 }
 
-// Why a report isn't taken in, if so.
-fn refusal(core: &Core, lease: &Lease, reach: &Bound) -> Result<Option<Reported>, NoMemory>
-    ensures { IfOk result (λ refused. refused ≡ refusal core.now lease.now reach.now) }
+// Why a report isn't taken in by the segments alone, if so.
+fn misfit<R: Drop>(
+    core: &Core,
+    lease: &Lease,
+    reach: &Bound,
+) -> Result<Option<Reported<R>>, NoMemory>
+    ensures { IfOk result (λ refused. refused ≡ misfit core.now lease.now reach.now) }
 {
     let Some(segment) = core.segment_of(lease.segment) else {
         return Ok(Some(Reported::Gone));
@@ -73,30 +77,20 @@ fn copies_of(reach: &Bound) -> Result<(Bound, Bound), NoMemory>
     Ok((reach.try_clone()?, reach.try_clone()?))
 }
 
-// The rows that are kept, by the segments' counts.
-fn kept_rows(segments: &[Segment]) -> u64
-    ensures { result ≡ capped (sum_by (λ s. s.rows) segments.now) }
-{
-    let mut rows: u64 = 0;
-    for segment in segments {
-        rows = rows.saturating_add(segment.rows);
-    }
-    rows
-}
-
 impl<R: Drop> Board<R> {
     /// Takes in what a scan gave from a lease's mark on.
-    pub fn report(&mut self, lease: Lease, part: Part<R>) -> Result<Reported, Refused<R>>
-        requires { IsPossible lease.mark part }
-        ensures refusal { IfOk result (IsRefusal (refusal self.old.core lease part.reach)) }
-        ensures event { IfOk result (λ reported. Adds self.old (report_event self.old.core lease part) (reply_of reported) part.rows self.new) }
+    pub fn report(&mut self, lease: Lease, part: Part<R>) -> Result<Reported<R>, Refused<R>>
+        requires possible { IsPossible lease.mark part }
+        requires few { IsFew self.old.window (length part.rows) }
+        ensures refusal { IfOk result (IsRefusal (refusal self.old lease part)) }
+        ensures event { IfOk result (λ reported. Adds self.old (report_event self.old lease part) (reply_of reported) part.rows self.new) }
         ensures stays { OnOk result (StaysWith lease.mark part self.old self.new) }
         ensures unchanged { OnErr result (self.new ≡ self.old) }
         ensures back { IfErr result (λ refused. (refused.lease ≡ lease) × (refused.part ≡ part)) }
     {
-        match refusal(&self.core, &lease, &part.reach) {
+        match misfit::<R>(&self.core, &lease, &part.reach) {
             Err(why) => Err(Refused { lease, part, why }),
-            Ok(None) => self.take_in(lease, part),
+            Ok(None) => self.report_fitting(lease, part),
             Ok(Some(reported)) => match self.look(lease.seat) {
                 Ok(()) => Ok(reported),
                 Err(why) => Err(Refused { lease, part, why }),
@@ -104,16 +98,38 @@ impl<R: Drop> Board<R> {
         }
     }
 
-    // A part that fits.
-    fn take_in(&mut self, lease: Lease, part: Part<R>) -> Result<Reported, Refused<R>>
+    // A part that fits is taken in unless the window is full.
+    fn report_fitting(&mut self, lease: Lease, part: Part<R>) -> Result<Reported<R>, Refused<R>>
         requires possible { IsPossible lease.mark part }
-        requires fits { refusal self.old.core lease part.reach ≡ None }
+        requires few { IsFew self.old.window (length part.rows) }
+        requires fits { misfit {R = R} self.old.core lease part.reach ≡ None }
+        ensures refusal { IfOk result (IsRefusal (refusal self.old lease part)) }
+        ensures event { IfOk result (λ reported. Adds self.old (report_event self.old lease part) (reply_of reported) part.rows self.new) }
+        ensures stays { OnOk result (StaysWith lease.mark part self.old self.new) }
+        ensures unchanged { OnErr result (self.new ≡ self.old) }
+        ensures back { IfErr result (λ refused. (refused.lease ≡ lease) × (refused.part ≡ part)) }
+    {
+        if !self.is_over(lease.segment, part.rows.len() as u64) {
+            return self.take_in(lease, part);
+        }
+        match self.look(lease.seat) {
+            Ok(()) => Ok(Reported::Full(lease, part)),
+            Err(why) => Err(Refused { lease, part, why }),
+        }
+    }
+
+    // A part that fits, where the window has room.
+    fn take_in(&mut self, lease: Lease, part: Part<R>) -> Result<Reported<R>, Refused<R>>
+        requires possible { IsPossible lease.mark part }
+        requires few { IsFew self.old.window (length part.rows) }
+        requires fits { misfit {R = R} self.old.core lease part.reach ≡ None }
+        requires room { is_over self.old lease.segment (length part.rows) ≡ false }
         ensures event { IfOk result (λ reported. Adds self.old (Event.Report lease.seat lease.segment part.reach (length part.rows) part.tried part.spent) (reply_of reported) part.rows self.new) }
         ensures unchanged { OnErr result (self.new ≡ self.old) }
         ensures back { IfErr result (λ refused. (refused.lease ≡ lease) × (refused.part ≡ part)) }
     {
         let count = part.rows.len() as u64;
-        let kept = kept_rows(self.core.segments());
+        let kept = self.rows_kept();
         if count > u64::MAX - kept {
             let why = NoMemory::at_limit(count.saturating_add(kept));
             return Err(Refused { lease, part, why });
@@ -131,10 +147,11 @@ impl<R: Drop> Board<R> {
         part: Part<R>,
         reach: Bound,
         again: Bound,
-    ) -> Result<Reported, Refused<R>>
+    ) -> Result<Reported<R>, Refused<R>>
         requires copies { (reach ≡ part.reach) × (again ≡ part.reach) }
         requires possible { IsPossible lease.mark part }
-        requires fits { refusal self.old.core lease part.reach ≡ None }
+        requires fits { misfit {R = R} self.old.core lease part.reach ≡ None }
+        requires room { (is_over self.old lease.segment (length part.rows) ≡ false) × IsFew self.old.window (length part.rows) }
         requires few { length part.rows ≤ (2 ^ 64 - 1) - length (joined self.old.kept) }
         ensures event { IfOk result (λ reported. Adds self.old (Event.Report lease.seat lease.segment part.reach (length part.rows) part.tried part.spent) (reply_of reported) part.rows self.new) }
         ensures unchanged { OnErr result (self.new ≡ self.old) }

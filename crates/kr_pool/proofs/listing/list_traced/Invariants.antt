@@ -9,3 +9,6 @@ ghosts-list_on-N-Crew g a = record { workers = a.workers }
 
 abbrev pub ghosts-list_on-N-Ledger : goal.ghosts-list_on-N-Ledger
 ghosts-list_on-N-Ledger g a = record { name = a.blank.name; parts = a.blank.parts }
+
+abbrev pub ghosts-list_on-D-Ledger : goal.ghosts-list_on-D-Ledger
+ghosts-list_on-D-Ledger g a = record { name = a.tap.name; parts = a.tap.parts }

@@ -4,4 +4,4 @@ use Rattle.kr_pool.proofs.working.follow.Given as goal
 
 abbrev pub invariant-loop : goal.invariant-loop
 invariant-loop g l =
-    (goal.iterator-loop g).can_next l.iterator' × (goal.iterator-loop g).is_finite l.iterator' × IsLeaseOf l.seat.number l.lease × g.S.Survey.made l.survey l.scratch × (l.seat.number ≡ l.fn.seat.number)
+    (goal.iterator-loop g).can_next l.iterator' × (goal.iterator-loop g).is_finite l.iterator' × IsLeaseOf l.hand.seat.number l.lease × g.S.Survey.made l.survey l.scratch × (l.hand.seat.number ≡ l.fn.hand.seat.number)

@@ -9,16 +9,17 @@ use Rattle.kr_board.proofs.Releasing.{released_sound, released_room}
 use Rattle.kr_board.proofs.board.Board.release.Goals as goal
 
 pub invariant_of-self : goal.invariant_of-self
-invariant_of-self g c = released_sound c.self.inside.core _ c.self.inside.log c.push.new.self c.args.seat c.args.segment _ c.give_up_in.new.core c.push.result c.self.invariant c.give_up_in.ensures c.push.ensures.len c.push.ensures.succeeds c.push.ensures.capacity
+invariant_of-self g c = (released_sound c.self.inside.core _ c.self.inside.log c.push.new.self c.args.seat c.args.segment _ c.give_up_in.new.core c.push.result c.self.invariant.0 c.give_up_in.ensures c.push.ensures.len c.push.ensures.succeeds c.push.ensures.capacity, c.self.invariant.1)
 
 pub returns : goal.returns
 returns g c =
-    let old : Held g.row.R.Denot = record { core = c.self.inside.core; kept = lists c.self.inside.kept.items; log = c.self.inside.log.items } in
-    let new : Held g.row.R.Denot = record { core = c.give_up_in.new.core; kept = lists c.self.inside.kept.items; log = c.push.new.self.items } in
-    let place = released_room c.self.inside.core c.args.seat c.args.segment Noted c.give_up_in.new.core c.self.inside.log c.self.invariant.room c.give_up_in.ensures in
+    let old : Held g.row.R.Denot = record { core = c.self.inside.core; kept = lists c.self.inside.kept.items; log = c.self.inside.log.items; window = c.self.inside.window } in
+    let new : Held g.row.R.Denot = record { core = c.give_up_in.new.core; kept = lists c.self.inside.kept.items; log = c.push.new.self.items; window = c.self.inside.window } in
+    let place = released_room c.self.inside.core c.args.seat c.args.segment Noted c.give_up_in.new.core c.self.inside.log c.self.invariant.0.room c.give_up_in.ensures in
     let adds : Adds old (GiveUp c.args.seat c.args.segment) Noted [] new = record {
       step = c.give_up_in.ensures;
       kept = refl;
       logged = when_ok c.push.result c.push.new.self.items _ c.self.inside.log.items c.push.ensures.items (c.push.ensures.succeeds place);
+      window = refl;
     } in
     subst (λ (o : Held g.row.R.Denot). Adds o (GiveUp c.args.seat c.args.segment) Noted [] new) c.self.view_is adds

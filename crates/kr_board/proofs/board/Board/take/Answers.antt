@@ -13,7 +13,7 @@ grant-requires g c =
     let now = c.args.self.now in
     let seen : c.segments.result.now ≡ now.core.segments = c.segments.ensures ∙ ap (λ (o : Held g.row.R.Denot). o.core.segments) c.self.view_is in
     let found : first_free now.core ≡ Some c.in-Some.segment.now = ap (λ (ss : List Segment). find is_free ss) (sym seen) ∙ c.in-Some.ensures.some in
-    free_fits now.core c.args.seat c.in-Some.segment.now (subst (λ (o : Held g.row.R.Denot). IsKept o.core) c.self.view_is c.self.invariant.core_kept) found
+    free_fits now.core c.args.seat c.in-Some.segment.now (subst (λ (o : Held g.row.R.Denot). IsKept o.core) c.self.view_is c.self.invariant.0.core_kept) found
 
 pub returns-in-Some-clause-finished : goal.returns-in-Some-clause-finished
 returns-in-Some-clause-finished g c =

@@ -76,7 +76,7 @@ steal-requires g c =
     let room : now.core.next < 2 ^ 64 - 1 = omega (arith, next, c.if-next.false, c.next.type_inv) in
     let seen : c.segments.result.now ≡ now.core.segments = c.segments.ensures ∙ ap (λ (o : Held g.row.R.Denot). o.core.segments) c.self.view_is in
     let h = rw c.in-Some.is at c.in_ok-first_victim.ensures.some in
-    let kept : IsKept now.core = subst (λ (o : Held g.row.R.Denot). IsKept o.core) c.self.view_is c.self.invariant.core_kept in
+    let kept : IsKept now.core = subst (λ (o : Held g.row.R.Denot). IsKept o.core) c.self.view_is c.self.invariant.0.core_kept in
     theft_fits now.core c.args.seat c.in-Some.victim.now c.in-Some.cut kept (ap (λ (ss : List Segment). find (λ t. is_some (theft_of t)) ss) (sym seen) ∙ h.0) h.1 room
 
 pub returns-in-Some-clause-event : goal.returns-in-Some-clause-event

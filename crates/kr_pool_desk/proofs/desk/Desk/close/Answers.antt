@@ -1,10 +1,15 @@
+use Rattle.std.proofs.Common.{subst, ℕ, ap, ◌∙◌}
+use Rattle.kr_board.specs.Held.{Held}
+use Rattle.kr_core.specs.Rows.{drained}
+use Rattle.kr_pool_desk.specs.Listings.{listed_in, ListsFrom}
 use Rattle.kr_pool_desk.proofs.Whole.{whole_listing, finishes}
 use Rattle.kr_pool_desk.proofs.desk.Desk.close.Goals as goal
 
 pub returns-in-Ok-clause-listing : goal.returns-in-Ok-clause-listing
 returns-in-Ok-clause-listing g c =
     let n = g.N.Run in
-    whole_listing n.all n.span n.cuts n.opening g.N.Crew.workers c.self.inside.calls.total c.self.inside.board c.in-Ok.logged.listing c.self.invariant c.in-Ok.ensures.finished c.in-Ok.ensures.listing.1
+    subst (λ (v : Held g.row.R.Denot × ℕ). ListsFrom (drained v.0.log) (listed_in n.all n.span) c.in-Ok.logged.listing) c.self.view_is
+    (whole_listing n.all n.span n.cuts n.opening g.N.Crew.workers c.self.inside.calls.total c.self.inside.board c.in-Ok.logged.listing c.self.invariant c.in-Ok.ensures.finished c.in-Ok.ensures.listing.1)
 
 pub returns-in-Ok-clause-log : goal.returns-in-Ok-clause-log
 returns-in-Ok-clause-log g c =

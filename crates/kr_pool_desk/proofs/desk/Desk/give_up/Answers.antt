@@ -1,5 +1,9 @@
-use Rattle.std.proofs.Common.{ℕ, ◌<◌, refl, sym, subst}
-use Rattle.kr_pool_desk.proofs.Growing.{run-more, give_up-shared}
+use Rattle.std.proofs.Common.{ℕ, [], ◌<◌, refl, sym, subst, ap, ◌∙◌}
+use Rattle.kr_board.specs.Held.{Held}
+use Rattle.kr_core.specs.Rows.{drained}
+use Rattle.kr_core.specs.declared.event.Event.TheVariants.{GiveUp}
+use Rattle.kr_core.specs.declared.event.Reply.TheVariants.{Noted}
+use Rattle.kr_pool_desk.proofs.Growing.{run-more, give_up-shared, same-drained}
 use Rattle.kr_pool_desk.proofs.desk.Desk.give_up.Goals as goal
 
 pub invariant_of-self-in-Released : goal.invariant_of-self-in-Released
@@ -10,3 +14,8 @@ invariant_of-self-in-Released g c =
     run-more n.all n.span n.cuts n.opening m.workers c.self.inside.calls.total c.add.new.self.total old c.give_up.new.self _ _ _ k (c.in-Released.ensures.event refl)
     (c.in-Released.ensures.stays n.all n.span n.cuts k.ascends k.inside k.board)
     (give_up-shared m.workers c.args.lease.now.seat c.args.lease.now.segment (subst (λ (s : ℕ). s < m.workers) (sym c.requires.lease) c.requires.below)) c.add.ensures.total
+
+pub returns-in-Released-clause-drained : goal.returns-in-Released-clause-drained
+returns-in-Released-clause-drained g c =
+    same-drained c.self.inside.board c.give_up.new.self (GiveUp c.args.lease.now.seat c.args.lease.now.segment) Noted [] refl (c.in-Released.ensures.event refl)
+    ∙ ap (λ (v : Held g.row.R.Denot × ℕ). drained v.0.log) c.self.view_is

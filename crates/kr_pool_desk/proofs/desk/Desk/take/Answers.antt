@@ -1,4 +1,7 @@
-use Rattle.kr_pool_desk.proofs.Growing.{run-more, take-shared}
+use Rattle.std.proofs.Common.{[], ℕ, ap, ◌∙◌}
+use Rattle.kr_board.specs.Held.{Held}
+use Rattle.kr_core.specs.Rows.{drained}
+use Rattle.kr_pool_desk.proofs.Growing.{run-more, take-shared, take-drained}
 use Rattle.kr_pool_desk.proofs.Leased.{takes}
 use Rattle.kr_pool_desk.proofs.desk.Desk.take.Goals as goal
 
@@ -14,3 +17,7 @@ pub returns-in-Ok-clause-lease : goal.returns-in-Ok-clause-lease
 returns-in-Ok-clause-lease g c =
     let n = g.N.Run in let m = g.N.Crew in
     takes n.all n.span n.cuts n.opening m.workers c.self.inside.calls.total c.args.seat c.self.inside.board c.take.new.self c.in-Ok.taken c.self.invariant c.in-Ok.ensures.event
+
+pub returns-in-Ok-clause-drained : goal.returns-in-Ok-clause-drained
+returns-in-Ok-clause-drained g c = take-drained c.self.inside.board c.take.new.self c.args.seat _ [] c.in-Ok.ensures.event
+    ∙ ap (λ (v : Held g.row.R.Denot × ℕ). drained v.0.log) c.self.view_is

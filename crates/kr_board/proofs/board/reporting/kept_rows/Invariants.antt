@@ -1,7 +1,0 @@
-use Rattle.std.proofs.Common.{◌≡◌, take}
-use Rattle.std.specs.List.{sum_by}
-use Rattle.kr_core.specs.States.{capped}
-use Rattle.kr_board.proofs.board.reporting.kept_rows.Given as goal
-
-abbrev pub invariant-loop-segment : goal.invariant-loop-segment
-invariant-loop-segment l = l.rows ≡ capped (sum_by (λ s. s.rows) (take l.segment-index l.segments))

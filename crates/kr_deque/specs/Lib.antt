@@ -1,0 +1,6 @@
+pub mod Logs
+pub mod Turns
+pub mod Hands
+pub mod Building
+pub mod Cutting
+pub mod Gathering

@@ -1,0 +1,12 @@
+// What the result of a method is to expressions that don't name it: nothing.
+ghost use Rattle.kr_laws_results.specs.Results.{RunsLaw, TypedLaw};
+
+/// An expression without `\result` has in a method without result the type and the broken nodes that it has in any other.
+pub fn typed_law()
+    ensures { TypedLaw }
+{}
+
+/// And it runs there as in any other.
+pub fn runs_law()
+    ensures { RunsLaw }
+{}

@@ -1,0 +1,12 @@
+-- Between crates: what was taken out last.
+use Rattle.std.specs.Prelude.{ℕ, ◌-◌, List, Option, Some, None, length, slice_get}
+use Rattle.kr_core.specs.declared.event.Event.{Event}
+use Rattle.kr_core.specs.Rows.{drains}
+
+abbrev pub drains_of : Option Event → ℕ
+drains_of None = 0
+drains_of (Some event) = drains event
+
+-- the rows that the last event took out
+abbrev pub last_rows : List Event → ℕ
+last_rows log = drains_of (slice_get log (length log - 1))

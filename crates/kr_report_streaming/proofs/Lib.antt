@@ -1,0 +1,4 @@
+pub mod Counted
+pub mod Going
+pub mod Whole
+pub mod Ends

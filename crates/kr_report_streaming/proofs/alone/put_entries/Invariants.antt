@@ -1,0 +1,12 @@
+use Rattle.std.specs.Prelude.{Ok}
+use Rattle.kr_core.specs.Rows.{drained}
+use Rattle.kr_pool_desk.specs.Listings.{listed_in}
+use Rattle.kr_survey.specs.Scans.{rows_of}
+use Rattle.kr_report_streaming.specs.Puts.{GoesOn}
+use Rattle.kr_report_streaming.specs.declared.halt.Halt.{Halt}
+use Rattle.kr_report_streaming.proofs.alone.put_entries.Given as goal
+
+abbrev pub invariant-loop : goal.invariant-loop
+invariant-loop g l =
+    (goal.iterator-loop g).can_next l.iterator' × (goal.iterator-loop g).is_finite l.iterator' × g.S.Survey.made l.survey l.scratch
+    × GoesOn {T = Unit {0}} g.K.Sink.taken g.K.Sink.faults (rows_of (listed_in g.N.Run.all g.N.Run.span)) (drained l.fn.alone.log) (drained l.here.log) l.fn.progress l.progress l.fn.out l.out (Ok tt)

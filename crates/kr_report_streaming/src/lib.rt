@@ -1,0 +1,18 @@
+//! The lines of a survey, put as workers find them: in rounds, each of all workers and then of the caller, who puts what stands
+//! next.
+#![tactic(auto)]
+
+mod alone;
+mod beginning;
+mod ended;
+mod ending;
+mod halt;
+mod in_rounds;
+mod progress;
+mod putting;
+mod survey;
+mod together;
+
+pub use ending::{end, end_traced};
+pub use halt::{Ended, Halt};
+pub use survey::put_survey;
