@@ -1,8 +1,8 @@
 #!/usr/bin/env bash
 # Makes each allocation of a call of the built program fail in turn, and says how many there were.
 #
-#     bench/allocations.sh [--workers N] [FIN SOURCE..]     what is listed, the cell of examples/ where it isn't said
-#     bench/allocations.sh [--workers N] --test METHOD FIN SOURCE..     what is tested
+#     bench/allocations.sh [--workers N] [--window N] [FIN SOURCE..]     what is listed, the cell of examples/ where it isn't said
+#     bench/allocations.sh [--workers N] [--window N] --test METHOD FIN SOURCE..     what is tested
 #
 # Each run has to end as the whole listing does; or with status 8 and rows of it, from the first one on or none, and then
 # `out of memory`; or, as long as it is the program's own words that are refused memory, with status 8 and no line. It stops
@@ -15,6 +15,11 @@ if [ "${1-}" = --workers ]; then
     workers=$2
     shift 2
 fi
+window=
+if [ "${1-}" = --window ]; then
+    window=$2
+    shift 2
+fi
 method=
 if [ "${1-}" = --test ]; then
     method=$2
@@ -25,6 +30,7 @@ files=("$@")
 words=(list "${files[@]}")
 [ -z "$method" ] || words=(test "${files[0]}" "$method" "${files[@]:1}")
 [ -z "$workers" ] || words+=(--workers "$workers")
+[ -z "$window" ] || words+=(--window "$window")
 set --
 source "$top/bench/common.sh"
 source "$top/bench/refusing.sh"

@@ -3,6 +3,7 @@
 # prints for each number of workers the least wall time and the least processor time of some runs, and their ratios to one
 # worker's; and of a run with --trace: how many entries were scanned and taken in, how many batches were thrown away, how
 # many rests were laid out for others, how many events the log has, and whether the listing's bytes are one worker's. Then
+# the same over deques (--pool deque), whose times stand beside those of the board with as many workers; and
 # the same times for the trees of the demo, and the peak memory. First it says how many processors the machine has, and how
 # many of them were free in the second before. It judges nothing and never fails.
 #
@@ -97,7 +98,23 @@ figures() {
         "$program" list --workers "$count" --trace "$@" >"$work/traced"
         read -r scanned thrown laid_out events < <(read_trace "$count" "$work/traced")
         say_times "$count"
-        echo "; entries $scanned, batches thrown away $thrown, rests laid out $laid_out, events $events, $same"
+        echo "; entries $scanned, batches thrown away $thrown, rests laid out $laid_out, events $events ($((events * 1000 / (least_wall[$count] + 1))) a second), $same"
+    done
+    deque_figures "$@"
+}
+
+# The same listing over deques, where no lock is held.
+deque_figures() {
+    local count same
+    local -A board=()
+    for count in "${counts[@]}"; do board[$count]=${least_wall[$count]}; done
+    take_times list --pool deque "$@"
+    echo "  over deques:"
+    for count in "${counts[@]}"; do
+        "$program" list --workers "$count" --pool deque "$@" >"$work/many"
+        if cmp -s "$work/one" "$work/many"; then same="the same bytes"; else same="OTHER BYTES"; fi
+        say_times "$count"
+        echo "; $(ratio "${least_wall[$count]}" "${board[$count]}") of the board's, $same"
     done
 }
 

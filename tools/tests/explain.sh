@@ -260,6 +260,14 @@ words '`-x` is no option of list' list -x A.java
 words 'no value behind `--limit`' list fin.toml A.java --limit
 words '`0` is no number from 1 to 4294967295' list fin.toml A.java --limit 0
 words '`01` is no number' list fin.toml A.java --limit=01
+words '`65` is no number from 1 to 64' list fin.toml A.java --workers 65
+words '`65` is no number from 1 to 64' demo --workers 65 3
+words '`0` is no number from 1 to 65536' list fin.toml A.java --window 0
+words '`board` is no pool' list --pool board fin.toml A.java
+words '`--window` beside `--pool deque`' list fin.toml A.java --pool=deque --window 9
+words '`--trace` beside `--pool deque`' list --trace --pool deque fin.toml A.java
+words '`--trace` takes no value' list --trace=1 fin.toml A.java
+words '`--trace` stands there twice' list --trace fin.toml A.java --trace
 words '`0..1` is no cut behind --from' list fin.toml A.java --from 0..1
 words '`4294967296` is no cut behind --to' list fin.toml A.java --to 4294967296
 words '`--from` stands there twice' list fin.toml A.java --from 0 --from 0

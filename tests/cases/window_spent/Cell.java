@@ -1,0 +1,1 @@
+class Cell { int v; boolean repOk() { while (v == 1) {} return true; } }
