@@ -22,6 +22,7 @@ use Rattle.kr_run_state.specs.Worlds.{Others, Keeps, state_of}
 use Rattle.kr_run_state.specs.declared.world.Local.{Local}
 use Rattle.kr_run_state.specs.declared.world.Old.{Old as OldValue}
 use Rattle.kr_run.specs.Answers.{Answers}
+use Rattle.kr_run_method.proofs.Runs.{none_come}
 use Rattle.kr_contract.specs.Tests.{Decides, Holds, IsPlain, checked_at, ended_as, ensured_at, olds_at, shown_to}
 use Rattle.kr_contract.proofs.Judged.{judged_end, judged_then, then_same}
 
@@ -29,7 +30,7 @@ use Rattle.kr_contract.proofs.Judged.{judged_end, judged_then, then_same}
 
 module _ (code : Code) (before w : World) (o : Doing → Others → Outcome Value) (trap : Kind → Verdict) (plain : IsPlain before) where
   stays : Keeps before w None → IsPlain w
-  stays k = record { none = k.same plain.frozen ∙ plain.none; frozen = k.frozen plain.frozen }
+  stays k = record { none = none_come w before plain.none k }
 
   pub decided : (v : Value) → Answers code (Ok v) w before o → Decides code (Ok v) w (λ d. then_judged trap (o d None))
   decided v a =

@@ -1,6 +1,6 @@
 -- Between crates: the parts of a test as code runs them, and what is answered of one: what follows goes on from the answer, or the
 -- verdict is said.
-use Rattle.std.specs.Prelude.{◌≡◌, ℕ, ◌+◌, true, List, [], ◌∷◌, map, Option, Some, None, Result, Ok, Err}
+use Rattle.std.specs.Prelude.{◌≡◌, ℕ, ◌+◌, List, [], ◌∷◌, map, Option, Some, None, Result, Ok, Err}
 use Rattle.kr_value.specs.declared.value.Value.{Value}
 use Rattle.kr_mean.specs.declared.kind.Kind.{Kind}
 use Rattle.kr_mean.specs.declared.kind.Verdict.{Verdict}
@@ -56,7 +56,6 @@ verdict_at code d rep_ok contract s =
 -- a world without candidates
 pub record IsPlain (w : World) : Type 0 where
   pub none : w.candidates ≡ []
-  pub frozen : w.is_frozen ≡ true
 
 -- the verdict on a part that has ended so
 abbrev pub ended_as : (Kind → Verdict) → End → Verdict

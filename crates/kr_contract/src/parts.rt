@@ -55,8 +55,6 @@ fn evaluate(
         Ok(value) => Ok(Ok(value)),
         Err(Halt::Ended(end)) => Ok(Err(check_ended(end))),
         Err(Halt::Memory(why)) => Err(why),
-        // there are no candidates
-        Err(Halt::Written) => unreachable!(),
     }
 }
 
@@ -150,8 +148,6 @@ pub(crate) fn run_body(
         Ok(value) => Ok(Ok(value)),
         Err(Halt::Ended(end)) => Ok(Err(body_ended(end))),
         Err(Halt::Memory(why)) => Err(why),
-        // there are no candidates
-        Err(Halt::Written) => unreachable!(),
     }
 }
 

@@ -79,7 +79,6 @@ pub(crate) fn begin(
     world.result = None;
     world.olds.clear();
     world.candidates.truncate(0);
-    world.is_frozen = true;
     world.fuel = fuel;
     world.reads.clear();
     put_parameters(&mut world.locals, layout, vector)?;

@@ -1,6 +1,6 @@
 -- What a run says, from what its conditions say.
 use Rattle.std.proofs.Common.{◌≡◌, ℕ, Bool, true, false, List, [], ◌∷◌, ◌++◌, Result, Ok, Err, refl, sym, ap, subst, ◌∙◌}
-use Rattle.std.specs.Prelude.{Some, flat_map, if◌then◌else◌}
+use Rattle.std.specs.Prelude.{flat_map, if◌then◌else◌}
 use Rattle.kr_mean.specs.Heaps.{walk}
 use Rattle.kr_mean.specs.Places.{SlotPlace, This}
 use Rattle.kr_mean.specs.Program.{Program}
@@ -30,7 +30,7 @@ early_said (ends.Trapped kind) = refl
 early_said ends.OutOfFuel = refl
 early_said ends.Stuck = refl
 
-pub ran : (answer : Result Bool Halt) (j : Result Bool Early) (w : World) (o : Outcome Bool) → IsEnd answer (Ok (Some j)) → MeansAs answer w (This ∷ []) o → (end_said j ≡ end_of o.said) × (w.reads ≡ noted_once (This ∷ []) o.reads)
+pub ran : (answer : Result Bool Halt) (j : Result Bool Early) (w : World) (o : Outcome Bool) → IsEnd answer (Ok j) → MeansAs answer w (This ∷ []) o → (end_said j ≡ end_of o.said) × (w.reads ≡ noted_once (This ∷ []) o.reads)
 ran answer (Ok b) w o i m =
     let is = subst (λ (a : Result Bool Halt). MeansAs a w (This ∷ []) o) i m in
     (truth_said b ∙ ap end_of (sym (ap (λ (x : Outcome Bool). x.said) is)), sym (ap (λ (x : Outcome Bool). x.reads) is))

@@ -23,7 +23,7 @@ use Rattle.kr_run_state.specs.Shown.{stop_of}
 use Rattle.kr_run_frames.specs.Frames.{continued}
 use Rattle.kr_run_frames.specs.Leads.{HasEnded}
 use Rattle.kr_run_frames.proofs.Outcomes.{noted_behind, outcome_is}
-use Rattle.kr_run_state.specs.declared.world.Halt.TheVariants.{Ended, Memory, Written}
+use Rattle.kr_run_state.specs.declared.world.Halt.TheVariants.{Ended, Memory}
 use Rattle.kr_run.specs.Answers.{Answers}
 use Rattle.kr_judge.specs.Judged.{hold_at, HoldsAs, MeansAs, IsEnded}
 use Rattle.kr_judge.specs.One.{OneAs}
@@ -75,7 +75,6 @@ stuck m rest seen s v w h is =
 pub halted : (code : Code) (h : Halt) (w before : World) (i : ℕ) → Answers code (Err h) w before (λ d x. d.value i (state_at before x)) → OneAs code (Err h) w before.reads i (state_of before)
 halted code (Ended e) w before i a = λ d m rest. ended (d.value i) (λ v. where_true v rest) before.reads (state_of before) e w ((a None tt).1 d m)
 halted code (Memory why) w before i a = tt
-halted code Written w before i a = tt
 
 -- ---- what is left of the conditions
 

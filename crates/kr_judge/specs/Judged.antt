@@ -8,7 +8,7 @@ use Rattle.kr_code.specs.Doing.{Doing, IsMeaning}
 use Rattle.kr_run_state.specs.declared.world.World.{World}
 use Rattle.kr_run_state.specs.declared.world.End.{End}
 use Rattle.kr_run_state.specs.declared.world.Halt.{Halt}
-use Rattle.kr_run_state.specs.declared.world.Halt.TheVariants.{Ended, Memory, Written}
+use Rattle.kr_run_state.specs.declared.world.Halt.TheVariants.{Ended, Memory}
 use Rattle.kr_run_state.specs.Noting.{noting}
 use Rattle.kr_run_state.specs.Shown.{stop_of}
 use Rattle.kr_run_state.specs.Worlds.{state_of}
@@ -25,20 +25,11 @@ pub record IsEnded (e : End) (w : World) (o : Outcome Bool) : Type 0 where
   pub fuel : o.after.fuel ≡ w.fuel
   pub reads : o.reads ≡ w.reads
 
--- No step freezes candidates, and only frozen ones aren't written.
-abbrev pub FreezesNone : {A : Type 0} → Result A Halt → World → World → Type 0
-FreezesNone (Ok a) w before = w.is_frozen ≡ true → before.is_frozen ≡ true
-FreezesNone (Err (Ended e)) w before = Unit {0}
-FreezesNone (Err (Memory why)) w before = Unit {0}
-FreezesNone (Err Written) w before = before.is_frozen ≡ true
-
--- the answer is the outcome's, with what was read before it and in it, each place once; where memory ran
--- out, or a candidate would have been written that must not be, nothing is said
+-- the answer is the outcome's, with what was read before it and in it, each place once; where memory ran out nothing is said
 abbrev pub MeansAs : Result Bool Halt → World → List SlotPlace → Outcome Bool → Type 0
 MeansAs (Ok b) w seen o = noting seen o ≡ record { said = Ok b; after = state_of w; reads = w.reads }
 MeansAs (Err (Ended e)) w seen o = IsEnded e w (noting seen o)
 MeansAs (Err (Memory why)) w seen o = Unit {0}
-MeansAs (Err Written) w seen o = Unit {0}
 
 -- in every meaning of the code
 abbrev pub HoldsAs : Code → Result Bool Halt → World → List SlotPlace → (Doing → Outcome Bool) → Type 0

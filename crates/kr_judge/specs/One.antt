@@ -8,7 +8,7 @@ use Rattle.kr_code.specs.declared.code.Code.{Code}
 use Rattle.kr_code.specs.Doing.{Doing, IsMeaning}
 use Rattle.kr_run_state.specs.declared.world.World.{World}
 use Rattle.kr_run_state.specs.declared.world.Halt.{Halt}
-use Rattle.kr_run_state.specs.declared.world.Halt.TheVariants.{Ended, Memory, Written}
+use Rattle.kr_run_state.specs.declared.world.Halt.TheVariants.{Ended, Memory}
 use Rattle.kr_run_state.specs.Noting.{noting}
 use Rattle.kr_run_state.specs.Worlds.{state_of}
 use Rattle.kr_judge.specs.Judged.{IsEnded}
@@ -17,4 +17,3 @@ abbrev pub OneAs : Code → Result Bool Halt → World → List SlotPlace → �
 OneAs code (Ok b) w seen i s = (d : Doing) → IsMeaning code d → (m : Run Bool) → noting seen ((d.value i >>= (λ v. where_true v m)) s) ≡ noting w.reads (where_true (Truth b) m (state_of w))
 OneAs code (Err (Ended e)) w seen i s = (d : Doing) → IsMeaning code d → (m : Run Bool) → IsEnded e w (noting seen ((d.value i >>= (λ v. where_true v m)) s))
 OneAs code (Err (Memory why)) w seen i s = Unit {0}
-OneAs code (Err Written) w seen i s = Unit {0}

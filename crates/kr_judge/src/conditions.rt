@@ -1,7 +1,7 @@
 // Conditions, each looked at only where those before it hold.
 ghost use Rattle.std.specs.Prelude.{◌≡◌, map};
 ghost use Rattle.kr_code.specs.Resolved.{Numbering, IsCodeOf};
-ghost use Rattle.kr_judge.specs.Judged.{FreezesNone, HoldsAs, MeansAs, hold_at};
+ghost use Rattle.kr_judge.specs.Judged.{HoldsAs, MeansAs, hold_at};
 ghost use Rattle.kr_judge.specs.One.{OneAs};
 ghost use Rattle.kr_mean.specs.Program.{Program};
 ghost use Rattle.kr_mean.specs.Runs.{hold_all as hold_all_step};
@@ -15,8 +15,7 @@ use std::alloc::Global;
 
 /// Whether one condition holds; a value that is no truth value has no meaning.
 fn holds(alloc: Global, code: &Code, world: &mut World, condition: u32) -> Result<bool, Halt>
-    ensures means { OneAs code.now result world.new world.old.reads condition (state_of world.old) }
-    ensures frozen { FreezesNone result world.new world.old }
+    ensures { OneAs code.now result world.new world.old.reads condition (state_of world.old) }
 {
     match evaluate(alloc, code, world, condition) {
         Err(halt) => return Err(halt),
@@ -31,8 +30,7 @@ fn holds(alloc: Global, code: &Code, world: &mut World, condition: u32) -> Resul
 
 /// Whether the conditions at these nodes hold, in every meaning of the code.
 fn hold(alloc: Global, code: &Code, world: &mut World, conditions: &[u32]) -> Result<bool, Halt>
-    ensures means { HoldsAs code.now result world.new world.old.reads (λ d. hold_at d conditions.now (state_of world.old)) }
-    ensures frozen { FreezesNone result world.new world.old }
+    ensures { HoldsAs code.now result world.new world.old.reads (λ d. hold_at d conditions.now (state_of world.old)) }
 {
     'conditions: for condition in conditions {
         match holds(alloc, code, world, *condition) {
@@ -55,8 +53,7 @@ pub(crate) fn hold_all(
     world: &mut World,
     conditions: &[u32],
 ) -> Result<bool, Halt>
-    ensures means { (program : Program) (n : Numbering) → IsCodeOf program code.now n → MeansAs result world.new world.old.reads (hold_all_step program (map n.origin conditions.now) (state_of world.old)) }
-    ensures frozen { FreezesNone result world.new world.old }
+    ensures { (program : Program) (n : Numbering) → IsCodeOf program code.now n → MeansAs result world.new world.old.reads (hold_all_step program (map n.origin conditions.now) (state_of world.old)) }
 {
     hold(alloc, code, world, conditions)
 }

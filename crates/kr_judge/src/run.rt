@@ -49,12 +49,9 @@ pub fn run_predicate<L: Ledger>(
         &mut world,
         predicate.conditions.as_slice(),
     );
-    match ended(answer)? {
-        Some(end) => Ok(Ran {
-            end,
-            reads: world.reads,
-        }),
-        // candidates that aren't frozen are written
-        None => unreachable!(),
-    }
+    let end = ended(answer)?;
+    Ok(Ran {
+        end,
+        reads: world.reads,
+    })
 }

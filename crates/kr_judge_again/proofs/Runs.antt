@@ -1,5 +1,7 @@
 -- Runs of a problem's candidates, where its slots are laid out and its predicate is code.
-use Rattle.std.proofs.Common.{◌≡◌, ℕ, Bool, List, Result, refl, sym, ap, ◌∙◌, subst}
+use Rattle.std.proofs.Common.{◌≡◌, ℕ, suc, ◌-◌, ◌<◌, Bool, List, length, Result, refl, sym, ap, ◌∙◌, subst, arith}
+use Rattle.std.proofs.lemmas.List.{length-map}
+use Rattle.kr_mean.specs.Code.{Node}
 use Rattle.std.proofs.Math.Logic.{∥∥₁_elim}
 use Rattle.std.proofs.Props.{props}
 use Rattle.kr_mean.specs.Problem.{Problem}
@@ -34,6 +36,21 @@ by_number Invalid Valid e = absurd (cc (e))
 by_number Invalid Spent e = absurd (cc (e))
 by_number Spent Valid e = absurd (cc (e))
 by_number Spent Invalid e = absurd (cc (e))
+
+-- ---- conditions
+
+-- a problem's predicate has a condition
+pub some_condition : (problem : Problem) (predicate : Predicate) → IsRunBy problem predicate → 0 < length predicate.conditions.items
+some_condition problem predicate is = omega (arith, one)
+  where
+    n : ℕ
+    n = length predicate.conditions.items
+
+    first : (k m : ℕ) → k ≡ suc m → k ≡ suc (k - 1)
+    first k m e = omega (arith, e)
+
+    one : n ≡ suc (n - 1)
+    one = ∥∥₁_elim is (Prim.hlevel props) (λ p. first n _ (sym (length-map predicate.conditions.items p.0.origin) ∙ ap (λ (es : List Node). length es) p.1.conditions))
 
 -- ---- runs
 

@@ -24,7 +24,7 @@ use Rattle.kr_run_state.specs.declared.action.Action.{Action}
 use Rattle.kr_run_state.specs.declared.world.World.{World}
 use Rattle.kr_run_state.specs.declared.world.End.{End}
 use Rattle.kr_run_state.specs.declared.world.End.TheVariants as ends
-use Rattle.kr_run_state.specs.declared.world.Halt.TheVariants.{Ended, Memory, Written}
+use Rattle.kr_run_state.specs.declared.world.Halt.TheVariants.{Ended, Memory}
 use Rattle.kr_run_state.specs.declared.world.Halt.{Halt}
 use Rattle.kr_run_state.specs.Noting.{is_read, noting, noted_once, with_read}
 use Rattle.kr_run_state.specs.Shown.{local_of, old_of}
@@ -45,7 +45,7 @@ use Rattle.kr_judge.specs.Judged.{hold_at, HoldsAs, IsEnded}
 use Rattle.kr_run_state.specs.Ends.{IsEnd}
 use Rattle.kr_judge.proofs.Ends.{ran}
 use Rattle.kr_judge.specs.declared.predicate.Predicate.{Predicate}
-use Rattle.kr_judge_again.specs.Kept.{AreReads, AreShared, GoesOn, Gave, IsClosed, IsOn, Kept, Shares, behind, reads_on, rest_of, whole, with_heap, woken}
+use Rattle.kr_judge_again.specs.Kept.{AreReads, AreShared, GoesOn, Gave, IsClosed, IsOn, IsOther, Kept, Shares, behind, heap_in, other_or, reads_on, rest_of, whole, with_heap, woken}
 use Rattle.kr_judge_again.specs.Going.{Adds, Alike, Gives, IsCheckOf, IsHeld, IsLast, Stays, Wakes}
 use Rattle.kr_judge_again.specs.States.{HasStateOf}
 use Rattle.kr_judge_again.specs.declared.check.Check.{Check}
@@ -80,13 +80,13 @@ rest_gives : (seen new : List SlotPlace) (o : Outcome Value) (v : Value) (t : St
 unfolding by_noted noted_by
 rest_gives seen new o v t f h = noting_continued seen o f ∙ ap (λ (q : Outcome Value). by_noted q f) h
 
-rest_ends : (seen : List SlotPlace) (o : Outcome Value) (f : Value → Run Bool) (e : End) (w : World) (h : Heap) → w.candidates ≡ h → HasEnded e w (Some h) (noting seen o) → IsEnded e w (noting seen (continued o f))
+rest_ends : (seen : List SlotPlace) (o : Outcome Value) (f : Value → Run Bool) (e : End) (w : World) → HasEnded e w None (noting seen o) → IsEnded e w (noting seen (continued o f))
 unfolding noted_by
-rest_ends seen o f e w h same x =
+rest_ends seen o f e w x =
     let is = noting_continued seen o f ∙ ap (λ (r : Result Value Stop). noted_by r o.after (noted_once seen o.reads) f) x.said in
     record {
       said = ap (λ (q : Outcome Bool). q.said) is;
-      heap = ap (λ (q : Outcome Bool). q.after.heap) is ∙ (x.heap ∙ ap (λ (c : Heap). c ++ w.made) (sym same));
+      heap = ap (λ (q : Outcome Bool). q.after.heap) is ∙ x.heap;
       fuel = ap (λ (q : Outcome Bool). q.after.fuel) is ∙ x.fuel;
       reads = ap (λ (q : Outcome Bool). q.reads) is ∙ x.reads;
     }
@@ -160,43 +160,28 @@ drop_past (y ∷ ys) (suc k) e = drop_past ys k e
 
 module _ (b : Bounds) (p : Predicate) (v : List ℕ) where
   pub goes_on : (condition : ℕ) (fs fs' : List Frame) (task task' : Task) (w w' : World) → GoesOn b p v condition fs task w → Leads p.code (Ok task') fs' w' w (λ d x. resumed p.code d fs task (state_at w x)) → GoesOn b p v condition fs' task' w'
-  goes_on condition fs fs' task task' w w' g l =
-      let k = (l None tt).0 in
-      let frozen = k.frozen g.frozen in
-      let same = k.same g.frozen ∙ g.same in
-      record {
-        frozen = frozen;
-        same = same;
-        is = λ u i a d m.
-            let f = heap_of (bare b) u in
-            let r = l (Some f) (to_world w' (heap_of (bare b) v) f frozen same a) in
-            g.is u i (from_world w (heap_of (bare b) v) f g.frozen g.same r.0.allowed) d m
-            ∙ rest_alike w.reads w'.reads (resumed p.code d fs task (state_at w (Some f))) (resumed p.code d fs' task' (state_at w' (Some f))) (λ x. where_true x (hold_at d (behind p condition))) (r.1 d m);
-      }
+  goes_on condition fs fs' task task' w w' g l = record {
+    same = λ e. let k = (l None tt).0 in k.same e ∙ g.same (k.frozen_before e);
+    is = λ x i a d m.
+        let r = l (heap_in b x) a in
+        g.is x i r.0.allowed d m
+        ∙ rest_alike w.reads w'.reads (resumed p.code d fs task (state_at w (heap_in b x))) (resumed p.code d fs' task' (state_at w' (heap_in b x))) (λ y. where_true y (hold_at d (behind p condition))) (r.1 d m);
+  }
 
   pub gives_on : (condition : ℕ) (fs : List Frame) (task : Task) (given : Value) (w w' : World) → GoesOn b p v condition fs task w → GivesAs p.code given w' w (λ d x. resumed p.code d fs task (state_at w x)) → Gave b p v condition given w'
-  gives_on condition fs task given w w' g l =
-      let k = (l None tt).0 in
-      let frozen = k.frozen g.frozen in
-      let same = k.same g.frozen ∙ g.same in
-      record {
-        frozen = frozen;
-        same = same;
-        is = λ u i a d m.
-            let f = heap_of (bare b) u in
-            let r = l (Some f) (to_world w' (heap_of (bare b) v) f frozen same a) in
-            g.is u i (from_world w (heap_of (bare b) v) f g.frozen g.same r.0.allowed) d m
-            ∙ rest_gives w.reads w'.reads (resumed p.code d fs task (state_at w (Some f))) given (state_at w' (Some f)) (λ x. where_true x (hold_at d (behind p condition))) (r.1 d m);
-      }
+  gives_on condition fs task given w w' g l = record {
+    same = λ e. let k = (l None tt).0 in k.same e ∙ g.same (k.frozen_before e);
+    is = λ x i a d m.
+        let r = l (heap_in b x) a in
+        g.is x i r.0.allowed d m
+        ∙ rest_gives w.reads w'.reads (resumed p.code d fs task (state_at w (heap_in b x))) given (state_at w' (heap_in b x)) (λ y. where_true y (hold_at d (behind p condition))) (r.1 d m);
+  }
 
-  pub ends_on : (condition : ℕ) (fs : List Frame) (task : Task) (e : End) (w w' : World) → IsVector (space_of (bare b)) v → GoesOn b p v condition fs task w → EndsSo p.code e w' w (λ d x. resumed p.code d fs task (state_at w x))
+  pub ends_on : (condition : ℕ) (fs : List Frame) (task : Task) (e : End) (w w' : World) → GoesOn b p v condition fs task w → EndsSo p.code e w' w (λ d x. resumed p.code d fs task (state_at w x))
       → (d : Doing) → IsMeaning p.code d → IsEnded e w' (noting (This ∷ []) (hold_at d p.conditions.items (start (bare b) v)))
-  ends_on condition fs task e w w' i g l d m =
-      let k = (l None tt).0 in
-      let f = heap_of (bare b) v in
-      let r = l (Some f) (to_world w' f f (k.frozen g.frozen) (k.same g.frozen ∙ g.same) (stand_self w'.reads f)) in
-      ended_by e w' _ _ (g.is v i (from_world w f f g.frozen g.same r.0.allowed) d m)
-      (rest_ends w.reads (resumed p.code d fs task (state_at w (Some f))) (λ x. where_true x (hold_at d (behind p condition))) e w' f (k.same g.frozen ∙ g.same) (r.1 d m))
+  ends_on condition fs task e w w' g l d m =
+      ended_by e w' _ _ (g.is None tt tt d m)
+      (rest_ends w.reads (resumed p.code d fs task (state_of w)) (λ x. where_true x (hold_at d (behind p condition))) e w' ((l None tt).1 d m))
 
   -- ---- conditions
 
@@ -213,30 +198,22 @@ module _ (b : Bounds) (p : Predicate) (v : List ℕ) where
   pub next_comes : (condition node : ℕ) (w : World) → Gave b p v condition (Truth true) w → slice_get p.conditions.items (condition + 1) ≡ Some node → GoesOn b p v (condition + 1) [] (tasks.Evaluate node) w
   unfolding bind
   next_comes condition node w g e = record {
-    frozen = g.frozen;
     same = g.same;
-    is = λ u i a d m. g.is u i a d m ∙ ap (λ (is : List ℕ). noting w.reads (hold_at d is (state_at w (Some (heap_of (bare b) u))))) (drop_next p.conditions.items (condition + 1) node e);
+    is = λ x i a d m. g.is x i a d m ∙ ap (λ (is : List ℕ). noting w.reads (hold_at d is (state_at w (heap_in b x)))) (drop_next p.conditions.items (condition + 1) node e);
   }
 
-  at_own : (r : Result Bool Stop) (w : World) (given : Value) (d : Doing) (rest : List ℕ) → w.candidates ≡ heap_of (bare b) v → noting w.reads (where_true given (hold_at d rest) (state_at w (Some (heap_of (bare b) v)))) ≡ noting w.reads (where_true given (hold_at d rest) (state_of w))
-  at_own r w given d rest same = ap (λ (s : State). noting w.reads (where_true given (hold_at d rest) s)) (own_state w (heap_of (bare b) v) same)
-
-  all_so : (condition : ℕ) (given : Value) (w : World) → IsVector (space_of (bare b)) v → Gave b p v condition given w → (d : Doing) → IsMeaning p.code d
-      → noting (This ∷ []) (hold_at d p.conditions.items (start (bare b) v)) ≡ noting w.reads (where_true given (hold_at d (behind p condition)) (state_of w))
-  all_so condition given w i g d m = g.is v i (stand_self w.reads (heap_of (bare b) v)) d m ∙ at_own (Ok true) w given d (behind p condition) g.same
-
   -- all hold
-  pub all_hold : (condition : ℕ) (w : World) → IsVector (space_of (bare b)) v → Gave b p v condition (Truth true) w → slice_get p.conditions.items (condition + 1) ≡ None → HoldsAs p.code (Ok true) w (This ∷ []) (λ d. hold_at d p.conditions.items (start (bare b) v))
-  all_hold condition w i g e = λ d m. all_so condition (Truth true) w i g d m ∙ ap (λ (is : List ℕ). noting w.reads (hold_at d is (state_of w))) (drop_past p.conditions.items (condition + 1) e)
+  pub all_hold : (condition : ℕ) (w : World) → Gave b p v condition (Truth true) w → slice_get p.conditions.items (condition + 1) ≡ None → HoldsAs p.code (Ok true) w (This ∷ []) (λ d. hold_at d p.conditions.items (start (bare b) v))
+  all_hold condition w g e = λ d m. g.is None tt tt d m ∙ ap (λ (is : List ℕ). noting w.reads (hold_at d is (state_of w))) (drop_past p.conditions.items (condition + 1) e)
 
   -- one is false
-  pub one_false : (condition : ℕ) (w : World) → IsVector (space_of (bare b)) v → Gave b p v condition (Truth false) w → HoldsAs p.code (Ok false) w (This ∷ []) (λ d. hold_at d p.conditions.items (start (bare b) v))
-  one_false condition w i g = λ d m. all_so condition (Truth false) w i g d m
+  pub one_false : (condition : ℕ) (w : World) → Gave b p v condition (Truth false) w → HoldsAs p.code (Ok false) w (This ∷ []) (λ d. hold_at d p.conditions.items (start (bare b) v))
+  one_false condition w g = λ d m. g.is None tt tt d m
 
   -- one is no truth value
-  pub one_stuck : (condition : ℕ) (given : Value) (w : World) → IsVector (space_of (bare b)) v → Gave b p v condition given w → ((m : Run Bool) (s : State) → where_true given m s ≡ stop Stuck s) → HoldsAs p.code (Err (Ended ends.Stuck)) w (This ∷ []) (λ d. hold_at d p.conditions.items (start (bare b) v))
-  one_stuck condition given w i g h = λ d m.
-      let is = all_so condition given w i g d m ∙ ap (λ (o : Outcome Bool). noting w.reads o) (h (hold_at d (behind p condition)) (state_of w)) in
+  pub one_stuck : (condition : ℕ) (given : Value) (w : World) → Gave b p v condition given w → ((m : Run Bool) (s : State) → where_true given m s ≡ stop Stuck s) → HoldsAs p.code (Err (Ended ends.Stuck)) w (This ∷ []) (λ d. hold_at d p.conditions.items (start (bare b) v))
+  one_stuck condition given w g h = λ d m.
+      let is = g.is None tt tt d m ∙ ap (λ (o : Outcome Bool). noting w.reads o) (h (hold_at d (behind p condition)) (state_of w)) in
       record {
         said = ap (λ (q : Outcome Bool). q.said) is;
         heap = ap (λ (q : Outcome Bool). q.after.heap) is;
@@ -263,10 +240,11 @@ module _ (b : Bounds) (p : Predicate) (v : List ℕ) where
       mk this locals result olds made fuel n = record { this_value = this; locals = locals; result = result; olds = olds; heap = f ++ made; candidates = n; fuel = fuel }
 
   -- where a run stands, a checkpoint is kept
-  pub keeps : (c : Check) (fs : List Frame) (w : World) → IsVector (space_of (bare b)) v → GoesOn b p v c.condition fs (tasks.Act c.action) w → HasStateOf w c.world → GoOnAlike fs c.stack → c.count ≡ length w.reads → IsClosed w.reads → Kept b p v c
-  keeps c fs w i g s alike count closed = λ d m.
-      let own = g.is v i (stand_self w.reads (heap_of (bare b) v)) d m in
-      let rest = rest_of p.code d (behind p c.condition) fs (tasks.Act c.action) (state_at w (Some (heap_of (bare b) v))) in
+  pub keeps : (c : Check) (fs : List Frame) (w : World) → w.is_frozen ≡ true → GoesOn b p v c.condition fs (tasks.Act c.action) w → HasStateOf w c.world → GoOnAlike fs c.stack → c.count ≡ length w.reads → IsClosed w.reads → Kept b p v c
+  keeps c fs w frozen g s alike count closed = λ d m.
+      let same = g.same frozen in
+      let own = g.is None tt tt d m in
+      let rest = rest_of p.code d (behind p c.condition) fs (tasks.Act c.action) (state_of w) in
       let seen : take c.count (reads_on b p v d) ≡ w.reads =
       ap (λ (n : ℕ). take n (reads_on b p v d)) count ∙ (ap (λ (o : Outcome Bool). take (length w.reads) o.reads) own ∙ front_seen w.reads rest.reads) in
       subst (λ (ps : List SlotPlace). IsOn b p v c d ps) (sym seen) (record {
@@ -274,62 +252,64 @@ module _ (b : Bounds) (p : Predicate) (v : List ℕ) where
         closed = closed;
         is = λ u j a.
             let f = heap_of (bare b) u in
-            g.is u j a d m
+            g.is (Some u) j (to_world w (heap_of (bare b) v) f frozen same a) d m
             ∙ (ap (λ (o : Outcome Value). noting w.reads (continued o (λ x. where_true x (hold_at d (behind p c.condition))))) (resumed_alike p.code d fs c.stack c.action (state_at w (Some f)) alike)
-            ∙ ap (λ (t : State). noting w.reads (rest_of p.code d (behind p c.condition) c.stack (tasks.Act c.action) t)) (awake w c.world (heap_of (bare b) v) f s g.same a.long));
+            ∙ ap (λ (t : State). noting w.reads (rest_of p.code d (behind p c.condition) c.stack (tasks.Act c.action) t)) (awake w c.world (heap_of (bare b) v) f s same a.long));
       })
+
+  -- a run on frozen candidates goes on for all, where it does for the heaps of vectors, its own among them
+  for_all : (condition : ℕ) (fs : List Frame) (task : Task) (w : World) → IsVector (space_of (bare b)) v → w.is_frozen ≡ true → w.candidates ≡ heap_of (bare b) v
+      → ((u : List ℕ) → IsVector (space_of (bare b)) u → StandFor true w.reads (heap_of (bare b) v) (heap_of (bare b) u) → (d : Doing) → IsMeaning p.code d → whole b p v u d ≡ noting w.reads (rest_of p.code d (behind p condition) fs task (state_at w (Some (heap_of (bare b) u)))))
+      → GoesOn b p v condition fs task w
+  for_all condition fs task w i frozen same h = record { same = λ e. same; is = go }
+    where
+      go : (x : Option (List ℕ)) → IsOther b x → Allows w (heap_in b x) → (d : Doing) → IsMeaning p.code d → whole b p v (other_or v x) d ≡ noting w.reads (rest_of p.code d (behind p condition) fs task (state_at w (heap_in b x)))
+      go None j a d m = h v i (stand_self w.reads (heap_of (bare b) v)) d m ∙ ap (λ (s : State). noting w.reads (rest_of p.code d (behind p condition) fs task s)) (own_state w (heap_of (bare b) v) same)
+      go (Some u) j a d m = h u j (from_world w (heap_of (bare b) v) (heap_of (bare b) u) frozen same a) d m
 
   state_back : (w q : World) → HasStateOf w q → HasStateOf q w
   state_back w q s = record { this = sym s.this; locals = sym s.locals; result = sym s.result; olds = sym s.olds; made = sym s.made; fuel = sym s.fuel }
 
   -- a run goes on from a checkpoint, with the places that it reads until then
-  wakes : (c : Check) (reads : List SlotPlace) (fs : List Frame) (w : World) → Kept b p v c → Shares b p v reads c → w.reads ≡ take c.count reads → w.candidates ≡ heap_of (bare b) v → w.is_frozen ≡ true → GoOnAlike c.stack fs → HasStateOf c.world w → GoesOn b p v c.condition fs (tasks.Act c.action) w
-  wakes c reads fs w k shared is same frozen alike s = record {
-    frozen = frozen;
-    same = same;
-    is = λ u j a d m.
-        let f = heap_of (bare b) u in
-        let on = subst (λ (ps : List SlotPlace). IsOn b p v c d ps) (sym (is ∙ shared d m)) (k d m) in
-        on.is u j a
-        ∙ (ap (λ (o : Outcome Value). noting w.reads (continued o (λ x. where_true x (hold_at d (behind p c.condition))))) (resumed_alike p.code d c.stack fs c.action (state_of (woken c.world f)) alike)
-        ∙ ap (λ (t : State). noting w.reads (rest_of p.code d (behind p c.condition) fs (tasks.Act c.action) t)) (sym (awake w c.world (heap_of (bare b) v) f (state_back c.world w s) same a.long)));
-  }
+  wakes : (c : Check) (reads : List SlotPlace) (fs : List Frame) (w : World) → IsVector (space_of (bare b)) v → Kept b p v c → Shares b p v reads c → w.reads ≡ take c.count reads → w.candidates ≡ heap_of (bare b) v → w.is_frozen ≡ true → GoOnAlike c.stack fs → HasStateOf c.world w → GoesOn b p v c.condition fs (tasks.Act c.action) w
+  wakes c reads fs w i k shared is same frozen alike s = for_all c.condition fs (tasks.Act c.action) w i frozen same (λ u j a d m.
+      let f = heap_of (bare b) u in
+      let on = subst (λ (ps : List SlotPlace). IsOn b p v c d ps) (sym (is ∙ shared d m)) (k d m) in
+      on.is u j a
+      ∙ (ap (λ (o : Outcome Value). noting w.reads (continued o (λ x. where_true x (hold_at d (behind p c.condition))))) (resumed_alike p.code d c.stack fs c.action (state_of (woken c.world f)) alike)
+      ∙ ap (λ (t : State). noting w.reads (rest_of p.code d (behind p c.condition) fs (tasks.Act c.action) t)) (sym (awake w c.world (heap_of (bare b) v) f (state_back c.world w s) same a.long))))
 
   -- a run goes on from the last checkpoint
-  pub goes_on_from : (checks : List Check) (start : Start) (reads : List SlotPlace) (fs : List Frame) (w : World) → w.candidates ≡ heap_of (bare b) v → w.is_frozen ≡ true → All (Kept b p v) checks → All (Shares b p v reads) checks → Wakes checks start reads fs w → GoesOn b p v start.condition fs start.task w
-  goes_on_from checks start reads fs w same frozen kept shared r =
+  pub goes_on_from : (checks : List Check) (start : Start) (reads : List SlotPlace) (fs : List Frame) (w : World) → IsVector (space_of (bare b)) v → w.candidates ≡ heap_of (bare b) v → w.is_frozen ≡ true → All (Kept b p v) checks → All (Shares b p v reads) checks → Wakes checks start reads fs w → GoesOn b p v start.condition fs start.task w
+  goes_on_from checks start reads fs w i same frozen kept shared r =
       subst (λ (n : ℕ). GoesOn b p v n fs start.task w) (sym r.condition_is)
       (subst (λ (t : Task). GoesOn b p v r.check.condition fs t w) (sym r.task_is)
-      (wakes r.check reads fs w (all_last (Kept b p v) r.last.0 r.check checks r.last.1 kept) (all_last (Shares b p v reads) r.last.0 r.check checks r.last.1 shared) r.reads_are same frozen r.stack r.world))
+      (wakes r.check reads fs w i (all_last (Kept b p v) r.last.0 r.check checks r.last.1 kept) (all_last (Shares b p v reads) r.last.0 r.check checks r.last.1 shared) r.reads_are same frozen r.stack r.world))
 
   -- so many places as it has read there are shared
   pub shared_from : (checks : List Check) (start : Start) (reads : List SlotPlace) (fs : List Frame) (w : World) → Wakes checks start reads fs w → (places : List SlotPlace) → All (Shares b p v places) checks → AreShared b p v places start.count
   shared_from checks start reads fs w r places shared = subst (λ (n : ℕ). AreShared b p v places n) (sym r.count_is) (all_last (Shares b p v places) r.last.0 r.check checks r.last.1 shared)
 
   -- a check of where a run stands is kept
-  pub check_kept : (c : Check) (condition : ℕ) (action : Action) (fs : List Frame) (task : Task) (w : World) → IsVector (space_of (bare b)) v → GoesOn b p v condition fs task w → task ≡ tasks.Act action → IsCheckOf condition action fs w c → Kept b p v c
-  check_kept c condition action fs task w i g e k =
-      keeps c fs w i
+  pub check_kept : (c : Check) (condition : ℕ) (action : Action) (fs : List Frame) (task : Task) (w : World) → w.is_frozen ≡ true → GoesOn b p v condition fs task w → task ≡ tasks.Act action → IsCheckOf condition action fs w c → Kept b p v c
+  check_kept c condition action fs task w frozen g e k =
+      keeps c fs w frozen
       (subst (λ (n : ℕ). GoesOn b p v n fs (tasks.Act c.action) w) (sym k.0.condition_is)
       (subst (λ (q : Action). GoesOn b p v condition fs (tasks.Act q) w) (sym k.0.action_is)
       (subst (λ (t : Task). GoesOn b p v condition fs t w) e g)))
       k.0.world k.0.stack k.0.count_is k.1
 
   -- a run begins
-  pub begins : (fs : List Frame) (node : ℕ) (w : World) → fs ≡ [] → slice_get p.conditions.items 0 ≡ Some node → state_of w ≡ start (bare b) v → w.reads ≡ This ∷ [] → w.candidates ≡ heap_of (bare b) v → w.made ≡ [] → w.is_frozen ≡ true → GoesOn b p v 0 fs (tasks.Evaluate node) w
+  pub begins : (fs : List Frame) (node : ℕ) (w : World) → IsVector (space_of (bare b)) v → fs ≡ [] → slice_get p.conditions.items 0 ≡ Some node → state_of w ≡ start (bare b) v → w.reads ≡ This ∷ [] → w.candidates ≡ heap_of (bare b) v → w.made ≡ [] → w.is_frozen ≡ true → GoesOn b p v 0 fs (tasks.Evaluate node) w
   unfolding bind
-  begins fs node w none first state reads same made frozen = record {
-    frozen = frozen;
-    same = same;
-    is = λ u i a d m.
-        let f = heap_of (bare b) u in
-        let begun : with_heap (start (bare b) v) f ≡ state_at w (Some f) =
-        ap (λ (s : State). with_heap s f) (sym state) ∙ ap (λ (h : Heap). with_heap (state_of w) h) (sym (append-nil f) ∙ ap (λ (h : Heap). f ++ h) (sym made)) in
-        ap (λ (is : List ℕ). noting (This ∷ []) (hold_at d is (with_heap (start (bare b) v) f))) (drop_next p.conditions.items 0 node first)
-        ∙ (ap (λ (s : State). noting (This ∷ []) (rest_of p.code d (behind p 0) [] (tasks.Evaluate node) s)) begun
-        ∙ (ap (λ (ps : List SlotPlace). noting ps (rest_of p.code d (behind p 0) [] (tasks.Evaluate node) (state_at w (Some f)))) (sym reads)
-        ∙ ap (λ (gs : List Frame). noting w.reads (rest_of p.code d (behind p 0) gs (tasks.Evaluate node) (state_at w (Some f)))) (sym none)));
-  }
+  begins fs node w i none first state reads same made frozen = for_all 0 fs (tasks.Evaluate node) w i frozen same (λ u j a d m.
+      let f = heap_of (bare b) u in
+      let begun : with_heap (start (bare b) v) f ≡ state_at w (Some f) =
+      ap (λ (s : State). with_heap s f) (sym state) ∙ ap (λ (h : Heap). with_heap (state_of w) h) (sym (append-nil f) ∙ ap (λ (h : Heap). f ++ h) (sym made)) in
+      ap (λ (is : List ℕ). noting (This ∷ []) (hold_at d is (with_heap (start (bare b) v) f))) (drop_next p.conditions.items 0 node first)
+      ∙ (ap (λ (s : State). noting (This ∷ []) (rest_of p.code d (behind p 0) [] (tasks.Evaluate node) s)) begun
+      ∙ (ap (λ (ps : List SlotPlace). noting ps (rest_of p.code d (behind p 0) [] (tasks.Evaluate node) (state_at w (Some f)))) (sym reads)
+      ∙ ap (λ (gs : List Frame). noting w.reads (rest_of p.code d (behind p 0) gs (tasks.Evaluate node) (state_at w (Some f)))) (sym none))))
 
 -- ---- another candidate
 
@@ -415,12 +395,11 @@ settled b p u v well i true fresh accesses old new w follow last alike front non
 
 -- ---- what the code answers
 
-module _ (b : Bounds) (p : Predicate) (v : List ℕ) (i : IsVector (space_of (bare b)) v) where
+module _ (b : Bounds) (p : Predicate) (v : List ℕ) where
   -- a step that doesn't lead on
   pub halts_on : (condition : ℕ) (fs fs' : List Frame) (task task' : Task) (halt : Halt) (w w' : World) → GoesOn b p v condition fs task w → StepsTo p.code (Err halt) task' fs' w' w (λ d x. resumed p.code d fs task (state_at w x)) → Gives b p v condition (Err halt) w'
-  halts_on condition fs fs' task task' (Ended e) w w' g l = ends_on b p v condition fs task e w w' i g l
+  halts_on condition fs fs' task task' (Ended e) w w' g l = ends_on b p v condition fs task e w w' g l
   halts_on condition fs fs' task task' (Memory why) w w' g l = tt
-  halts_on condition fs fs' task task' Written w w' g l = tt
 
   pub finishes_on : (condition : ℕ) (fs fs' : List Frame) (task task' : Task) (stepped : Step) (given : Value) (w w' : World) → stepped ≡ steps.Finished given → GoesOn b p v condition fs task w → StepsTo p.code (Ok stepped) task' fs' w' w (λ d x. resumed p.code d fs task (state_at w x)) → Gave b p v condition given w'
   finishes_on condition fs fs' task task' stepped given w w' e g l = gives_on b p v condition fs task given w w' g (subst (λ (s : Step). StepsTo p.code (Ok s) task' fs' w' w (λ d x. resumed p.code d fs task (state_at w x))) e l)
@@ -430,21 +409,19 @@ module _ (b : Bounds) (p : Predicate) (v : List ℕ) (i : IsVector (space_of (ba
 
   -- candidates stay
   pub stays_on : (condition : ℕ) (fs fs' : List Frame) (task task' : Task) (halt : Halt) (w w' : World) → GoesOn b p v condition fs task w → StepsTo p.code (Err halt) task' fs' w' w (λ d x. resumed p.code d fs task (state_at w x)) → Stays {A = Value} b v (Err halt) w'
-  stays_on condition fs fs' task task' (Ended e) w w' g l = (l None tt).0.same g.frozen ∙ g.same
+  stays_on condition fs fs' task task' (Ended e) w w' g l = λ frozen. let k = (l None tt).0 in k.same frozen ∙ g.same (k.frozen_before frozen)
   stays_on condition fs fs' task task' (Memory why) w w' g l = tt
-  stays_on condition fs fs' task task' Written w w' g l = tt
 
   pub stays_halted : (halt : Halt) (w : World) → Stays {A = Value} b v (Err halt) w → Stays {A = Bool} b v (Err halt) w
   stays_halted (Ended e) w s = s
   stays_halted (Memory why) w s = tt
-  stays_halted Written w s = tt
 
-  pub stays_same : (answer : Result Bool Halt) (end : Result Bool End) (w : World) → IsEnd answer (Ok (Some end)) → Stays b v answer w → w.candidates ≡ heap_of (bare b) v
+  pub stays_same : (answer : Result Bool Halt) (end : Result Bool End) (w : World) → IsEnd answer (Ok end) → Stays b v answer w → w.is_frozen ≡ true → w.candidates ≡ heap_of (bare b) v
   stays_same answer (Ok t) w q s = subst (λ (r : Result Bool Halt). Stays b v r w) q s
   stays_same answer (Err e) w q s = subst (λ (r : Result Bool Halt). Stays b v r w) q s
 
   -- what has been read is what the run reads
-  pub reads_of : (answer : Result Bool Halt) (end : Result Bool End) (w : World) → IsEnd answer (Ok (Some end)) → HoldsAs p.code answer w (This ∷ []) (λ d. hold_at d p.conditions.items (start (bare b) v)) → AreReads b p v w.reads
+  pub reads_of : (answer : Result Bool Halt) (end : Result Bool End) (w : World) → IsEnd answer (Ok end) → HoldsAs p.code answer w (This ∷ []) (λ d. hold_at d p.conditions.items (start (bare b) v)) → AreReads b p v w.reads
   reads_of answer end w q h = λ d m. (ran answer end w (hold_at d p.conditions.items (start (bare b) v)) q (h d m)).1
 
   truth_is : (condition : ℕ) (given : Value) (truth t : Bool) (w : World) → given ≡ Truth truth → truth ≡ t → Gave b p v condition given w → Gave b p v condition (Truth t) w
@@ -453,7 +430,7 @@ module _ (b : Bounds) (p : Predicate) (v : List ℕ) (i : IsVector (space_of (ba
   pub all_hold_so : (condition following : ℕ) (found : Option ℕ) (given : Value) (truth : Bool) (w : World) → given ≡ Truth truth → truth ≡ true → following ≡ condition + 1 → found ≡ slice_get p.conditions.items following → found ≡ None → Gave b p v condition given w
       → HoldsAs p.code (Ok true) w (This ∷ []) (λ d. hold_at d p.conditions.items (start (bare b) v))
   all_hold_so condition following found given truth w e is next at none g =
-      all_hold b p v condition w i (truth_is condition given truth true w e is g) (ap (λ (k : ℕ). slice_get p.conditions.items k) (sym next) ∙ (sym at ∙ none))
+      all_hold b p v condition w (truth_is condition given truth true w e is g) (ap (λ (k : ℕ). slice_get p.conditions.items k) (sym next) ∙ (sym at ∙ none))
 
   pub next_so : (condition following node : ℕ) (found : Option ℕ) (given : Value) (truth : Bool) (fs : List Frame) (w : World) → given ≡ Truth truth → truth ≡ true → following ≡ condition + 1 → found ≡ slice_get p.conditions.items following → found ≡ Some node → fs ≡ [] → Gave b p v condition given w
       → GoesOn b p v following fs (tasks.Evaluate node) w
@@ -463,7 +440,7 @@ module _ (b : Bounds) (p : Predicate) (v : List ℕ) (i : IsVector (space_of (ba
       (next_comes b p v condition node w (truth_is condition given truth true w e is g) (ap (λ (k : ℕ). slice_get p.conditions.items k) (sym next) ∙ (sym at ∙ some))))
 
   pub false_so : (condition : ℕ) (given : Value) (truth : Bool) (w : World) → given ≡ Truth truth → truth ≡ false → Gave b p v condition given w → HoldsAs p.code (Ok false) w (This ∷ []) (λ d. hold_at d p.conditions.items (start (bare b) v))
-  false_so condition given truth w e is g = one_false b p v condition w i (truth_is condition given truth false w e is g)
+  false_so condition given truth w e is g = one_false b p v condition w (truth_is condition given truth false w e is g)
 
   pub stuck_so : (condition : ℕ) (given other : Value) (w : World) → given ≡ other → ((m : Run Bool) (s : State) → where_true other m s ≡ stop Stuck s) → Gave b p v condition given w → HoldsAs p.code (Err (Ended ends.Stuck)) w (This ∷ []) (λ d. hold_at d p.conditions.items (start (bare b) v))
-  stuck_so condition given other w e h g = one_stuck b p v condition other w i (subst (λ (x : Value). Gave b p v condition x w) e g) h
+  stuck_so condition given other w e h g = one_stuck b p v condition other w (subst (λ (x : Value). Gave b p v condition x w) e g) h

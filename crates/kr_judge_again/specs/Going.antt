@@ -1,6 +1,5 @@
 -- Between crates: what is answered on the way of a run.
-use Rattle.std.specs.Prelude.{◌≡◌, ◌⊎◌, ℕ, ◌+◌, ◌<◌, ◌≤◌, Bool, true, List, [], ◌∷◌, ◌++◌, length, map, take, Option, Some, None, Result, Ok, Err}
-use Rattle.kr_base.specs.declared.memory.NoMemory.{NoMemory}
+use Rattle.std.specs.Prelude.{◌≡◌, ◌⊎◌, ℕ, ◌<◌, ◌≤◌, Bool, true, List, [], ◌∷◌, ◌++◌, length, map, take, Result, Ok, Err}
 use Rattle.std.specs.List.{All}
 use Rattle.std.proofs.Common.{get_or}
 use Rattle.kr_value.specs.declared.value.Value.{Value}
@@ -15,7 +14,7 @@ use Rattle.kr_run_state.specs.declared.action.Action.{Action}
 use Rattle.kr_run_state.specs.declared.world.World.{World}
 use Rattle.kr_run_state.specs.declared.world.End.{End}
 use Rattle.kr_run_state.specs.declared.world.Halt.{Halt}
-use Rattle.kr_run_state.specs.declared.world.Halt.TheVariants.{Ended, Memory, Written}
+use Rattle.kr_run_state.specs.declared.world.Halt.TheVariants.{Ended, Memory}
 use Rattle.kr_run_state.specs.Noting.{noted_once}
 use Rattle.kr_judge_again.specs.States.{HasStateOf}
 use Rattle.kr_run_frames.specs.Copies.{GoOnAlike}
@@ -36,7 +35,6 @@ abbrev pub Gives : Bounds → Predicate → List ℕ → ℕ → Result Value Ha
 Gives b p v condition (Ok given) w = Gave b p v condition given w
 Gives b p v condition (Err (Ended e)) w = HoldsAs p.code (Err (Ended e)) w (This ∷ []) (λ d. hold_at d p.conditions.items (start (bare b) v))
 Gives b p v condition (Err (Memory why)) w = Unit {0}
-Gives b p v condition (Err Written) w = Unit {0}
 
 -- A copy of where a run stands.
 pub record IsCopyOf (condition : ℕ) (action : Action) (fs : List Frame) (w : World) (c : Check) : Type 0 where
@@ -77,12 +75,11 @@ pub record Wakes (checks : List Check) (start : Start) (reads : List SlotPlace) 
 abbrev pub IsRunTo : Problem → List ℕ → Result Bool End → List SlotPlace → Type 0
 IsRunTo problem vector end reads = (end_said end ≡ end_on problem vector) × (reads ≡ noted_once [] (outcome_of problem vector).reads)
 
--- the candidates are the vector's where the run has come to an end
+-- where the run has come to an end the candidates are the vector's, unless it has written one
 abbrev pub Stays : {A : Type 0} → Bounds → List ℕ → Result A Halt → World → Type 0
-Stays b v (Ok a) w = w.candidates ≡ heap_of (bare b) v
-Stays b v (Err (Ended e)) w = w.candidates ≡ heap_of (bare b) v
+Stays b v (Ok a) w = w.is_frozen ≡ true → w.candidates ≡ heap_of (bare b) v
+Stays b v (Err (Ended e)) w = w.is_frozen ≡ true → w.candidates ≡ heap_of (bare b) v
 Stays b v (Err (Memory why)) w = Unit {0}
-Stays b v (Err Written) w = Unit {0}
 
 -- a heap is a candidate's
 abbrev pub IsHeapOf : Bounds → List ℕ → Heap → Type 0
@@ -108,9 +105,3 @@ pub record HasGone (b : Bounds) (p : Predicate) (v : List ℕ) (went : Went) (kn
   pub kept : All (Kept b p v) checks
   pub reads : AreReads b p v w.reads
   pub shared : AreShared b p v (map place_in accesses.places.items) went.shared
-
--- a run counts itself, also where memory was refused; one that was given up doesn't
-abbrev pub IsCounted : {A : Type 0} → Result (Option A) NoMemory → ℕ → ℕ → Type 0
-IsCounted (Ok (Some a)) old new = new ≡ old + 1
-IsCounted (Ok None) old new = new ≡ old
-IsCounted (Err why) old new = new ≡ old + 1

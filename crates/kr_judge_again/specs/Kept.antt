@@ -1,5 +1,5 @@
 -- Between crates: what is left of a run, with which candidates, and what a checkpoint keeps.
-use Rattle.std.specs.Prelude.{◌≡◌, ℕ, ◌+◌, Bool, true, List, [], ◌∷◌, drop, length, take, Some}
+use Rattle.std.specs.Prelude.{◌≡◌, ℕ, ◌+◌, Bool, true, List, [], ◌∷◌, drop, length, take, Option, Some, None}
 use Rattle.kr_value.specs.declared.value.Value.{Value}
 use Rattle.kr_value.specs.declared.object.Spot.TheVariants.{Length, Element}
 use Rattle.kr_value.specs.Heaps.{Heap}
@@ -13,7 +13,7 @@ use Rattle.kr_code.specs.Doing.{Doing, IsMeaning}
 use Rattle.kr_space_layout.specs.Bounds.{Bounds, bare}
 use Rattle.kr_run_state.specs.declared.world.World.{World}
 use Rattle.kr_run_state.specs.Noting.{is_read, noting}
-use Rattle.kr_run_state.specs.Worlds.{StandFor, state_at, state_of}
+use Rattle.kr_run_state.specs.Worlds.{Allows, Others, StandFor, state_at, state_of}
 use Rattle.kr_run_frames.specs.Frame.{Frame}
 use Rattle.kr_run_frames.specs.declared.task.Task.{Task}
 use Rattle.kr_run_frames.specs.declared.task.Task.TheVariants as tasks
@@ -36,29 +36,39 @@ behind p condition = drop (condition + 1) p.conditions.items
 abbrev pub rest_of : Code → Doing → List ℕ → List Frame → Task → State → Outcome Bool
 rest_of code d rest fs task s = continued (resumed code d fs task s) (λ v. where_true v (hold_at d rest))
 
--- The whole run is what has come, for all candidates that a run can't tell from its own by what it has read.
+-- the whole run on a candidate that has the roots of a vector and the heap of another, and what it reads
+abbrev pub whole : Bounds → Predicate → List ℕ → List ℕ → Doing → Outcome Bool
+whole b p v u d = noting (This ∷ []) (hold_at d p.conditions.items (with_heap (start (bare b) v) (heap_of (bare b) u)))
+
+-- the heap of another vector in place of a run's candidates, or those
+abbrev pub heap_in : Bounds → Option (List ℕ) → Others
+heap_in b None = None
+heap_in b (Some u) = Some (heap_of (bare b) u)
+
+abbrev pub IsOther : Bounds → Option (List ℕ) → Type 0
+IsOther b None = Unit {0}
+IsOther b (Some u) = IsVector (space_of (bare b)) u
+
+abbrev pub other_or : List ℕ → Option (List ℕ) → List ℕ
+other_or v None = v
+other_or v (Some u) = u
+
+-- The whole run is what has come, also for all candidates that a run can't tell from its own by what it has read. Its own are
+-- the vector's until it writes one.
 pub record GoesOn (b : Bounds) (p : Predicate) (v : List ℕ) (condition : ℕ) (fs : List Frame) (task : Task) (w : World) : Type 0 where
-  pub frozen : w.is_frozen ≡ true
-  pub same : w.candidates ≡ heap_of (bare b) v
-  pub is : (u : List ℕ) → IsVector (space_of (bare b)) u → StandFor true w.reads (heap_of (bare b) v) (heap_of (bare b) u) → (d : Doing) → IsMeaning p.code d
-      → noting (This ∷ []) (hold_at d p.conditions.items (with_heap (start (bare b) v) (heap_of (bare b) u))) ≡ noting w.reads (rest_of p.code d (behind p condition) fs task (state_at w (Some (heap_of (bare b) u))))
+  pub same : w.is_frozen ≡ true → w.candidates ≡ heap_of (bare b) v
+  pub is : (x : Option (List ℕ)) → IsOther b x → Allows w (heap_in b x) → (d : Doing) → IsMeaning p.code d → whole b p v (other_or v x) d ≡ noting w.reads (rest_of p.code d (behind p condition) fs task (state_at w (heap_in b x)))
 
 -- A condition has given a value.
 pub record Gave (b : Bounds) (p : Predicate) (v : List ℕ) (condition : ℕ) (given : Value) (w : World) : Type 0 where
-  pub frozen : w.is_frozen ≡ true
-  pub same : w.candidates ≡ heap_of (bare b) v
-  pub is : (u : List ℕ) → IsVector (space_of (bare b)) u → StandFor true w.reads (heap_of (bare b) v) (heap_of (bare b) u) → (d : Doing) → IsMeaning p.code d
-      → noting (This ∷ []) (hold_at d p.conditions.items (with_heap (start (bare b) v) (heap_of (bare b) u))) ≡ noting w.reads (where_true given (hold_at d (behind p condition)) (state_at w (Some (heap_of (bare b) u))))
+  pub same : w.is_frozen ≡ true → w.candidates ≡ heap_of (bare b) v
+  pub is : (x : Option (List ℕ)) → IsOther b x → Allows w (heap_in b x) → (d : Doing) → IsMeaning p.code d → whole b p v (other_or v x) d ≡ noting w.reads (where_true given (hold_at d (behind p condition)) (state_at w (heap_in b x)))
 
 -- ---- checkpoints
 
 -- a world that pauses, with candidates
 abbrev pub woken : World → Heap → World
 woken w heap = record w { candidates = heap; is_frozen = true }
-
--- the whole run on a candidate that has the roots of a vector and the heap of another, and what it reads
-abbrev pub whole : Bounds → Predicate → List ℕ → List ℕ → Doing → Outcome Bool
-whole b p v u d = noting (This ∷ []) (hold_at d p.conditions.items (with_heap (start (bare b) v) (heap_of (bare b) u)))
 
 abbrev pub reads_on : Bounds → Predicate → List ℕ → Doing → List SlotPlace
 reads_on b p v d = (whole b p v v d).reads

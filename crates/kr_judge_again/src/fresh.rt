@@ -58,3 +58,23 @@ pub(crate) fn refresh(
     *heap = build(alloc, layout, vector)?;
     Ok(())
 }
+
+/// Makes a heap the candidate's again, where a run has written it.
+pub(crate) fn restore(
+    alloc: Global,
+    layout: &Layout,
+    vector: &Vector,
+    is_unwritten: bool,
+    heap: &mut Heap,
+) -> Result<(), NoMemory>
+    requires well { IsWellFormed (bare layout.now) }
+    requires vector { IsVector (space_of (bare layout.now)) vector.now }
+    requires small { length (slots (bare layout.now)) < 2 ^ 31 }
+    requires unwritten { is_unwritten ≡ true → heap.old ≡ heap_of (bare layout.now) vector.now }
+    ensures { OnOk result (heap.new ≡ heap_of (bare layout.now) vector.now) }
+{
+    if !is_unwritten {
+        *heap = build(alloc, layout, vector)?;
+    }
+    Ok(())
+}

@@ -1,5 +1,5 @@
 // A run that goes on from where it stands, with a checkpoint before each first read.
-ghost use Rattle.std.specs.Prelude.{◌≡◌, ◌<◌, ◌≤◌, ◌^◌, ◌∷◌, [], ℕ, List, IfOk, IfSome, OnOk, Some, false, length, slice_get, take, true};
+ghost use Rattle.std.specs.Prelude.{◌≡◌, ◌<◌, ◌≤◌, ◌^◌, ◌∷◌, [], ℕ, List, ◌+◌, IfOk, IfSome, OnOk, Some, false, length, slice_get, take, true};
 ghost use Rattle.std.specs.List.{All};
 ghost use Rattle.kr_code.specs.Resolved.{Numbering};
 ghost use Rattle.kr_mean.specs.Heaps.{heap_of};
@@ -15,11 +15,11 @@ ghost use Rattle.kr_judge.specs.Judged.{HoldsAs, hold_at};
 ghost use Rattle.kr_judge.specs.Predicates.{IsPredicateOf};
 ghost use Rattle.kr_build.specs.Renewed.{IsSameBut};
 ghost use Rattle.kr_judge_again.specs.Foretelling.{Decides, IsForetold, ReadOn};
-ghost use Rattle.kr_judge_again.specs.Going.{Alike, Gives, HasGone, IsCounted, IsHeld, IsLast, IsRunTo, Stays};
+ghost use Rattle.kr_judge_again.specs.Going.{Alike, Gives, HasGone, IsHeld, IsLast, IsRunTo, Stays};
 ghost use Rattle.kr_judge_again.specs.Kept.{AreShared, GoesOn, Kept, Shares};
 
 use crate::checks::{Checks, Start};
-use crate::fresh::refresh;
+use crate::fresh::{refresh, restore};
 use crate::pauses::pause_of;
 use kr_base::{NoMemory, Steps};
 use kr_judge::{Accesses, Predicate, begin};
@@ -103,6 +103,14 @@ fn condition_at(predicate: &Predicate, condition: usize) -> Option<u32>
     ensures { result ≡ slice_get predicate.now.conditions.items condition }
 {
     predicate.conditions.get(condition).copied()
+}
+
+/// The node of the first condition.
+fn first_condition(predicate: &Predicate) -> u32
+    requires { 0 < length predicate.now.conditions.items }
+    ensures { slice_get predicate.now.conditions.items 0 ≡ Some result }
+{
+    predicate.conditions[0]
 }
 
 /// Runs on: whether all conditions hold.
@@ -266,9 +274,9 @@ fn foretell(
 }
 
 /// The run of a candidate, with checkpoints of the last run, in a world and on a stack whose room is used: how it ends, and
-/// the places that the world then has read; none where the candidate has no conditions, or would have been written. If the
-/// known vector is known, it is the one of the last run, the world has its heap, and the accesses are that run's; the
-/// candidate has its indices at so many of their first slots, and at all but those from one to another.
+/// the places that the world then has read. If the known vector is known, it is the one of the last run, the world has its
+/// heap, and the accesses are that run's; the candidate has its indices at so many of their first slots, and at all but those
+/// from one to another.
 fn attempt(
     alloc: Global,
     layout: &Layout,
@@ -283,23 +291,22 @@ fn attempt(
     checks: &mut Checks,
     world: &mut World,
     stack: &mut Stack,
-) -> Result<Option<Went>, NoMemory>
+) -> Result<Went, NoMemory>
     requires well { IsWellFormed (bare layout.now) }
     requires vector { IsVector (space_of (bare layout.now)) vector.now }
     requires small { length (slots (bare layout.now)) < 2 ^ 31 }
+    requires some { 0 < length predicate.now.conditions.items }
     requires long { length known.old ≡ length (slots (bare layout.now)) }
     requires follow { Follow (slots_for (bare layout.now)) accesses.now }
     requires last { is_known ≡ true → IsLast layout.now predicate.now known.old checks.old world.old accesses.now }
     requires same { is_known ≡ true → IsSameBut known.old vector.now low high }
     requires high { high ≤ length (slots (bare layout.now)) }
     requires alike { is_known ≡ true → Alike layout.now known.old vector.now fresh accesses.now }
-    ensures ends { IfOk result (λ found. IfSome found (λ went. (program : Program) (n : Numbering) → IsPredicateOf (problem_with program layout.now) predicate.now n → IsRunTo (problem_with program layout.now) vector.now went.end world.new.reads)) }
-    ensures went { IfOk result (λ found. IfSome found (λ went. HasGone layout.now predicate.now vector.now went known.new checks.new world.new accesses.now)) }
+    ensures ends { IfOk result (λ went. (program : Program) (n : Numbering) → IsPredicateOf (problem_with program layout.now) predicate.now n → IsRunTo (problem_with program layout.now) vector.now went.end world.new.reads) }
+    ensures went { IfOk result (λ went. HasGone layout.now predicate.now vector.now went known.new checks.new world.new accesses.now) }
     ensures long { length known.new ≡ length known.old }
 {
-    let Some(node) = condition_at(predicate, 0) else {
-        return Ok(None);
-    };
+    let node = first_condition(predicate);
     settle(checks, is_known, accesses, fresh);
     refresh(
         alloc,
@@ -312,7 +319,7 @@ fn attempt(
         &mut world.candidates,
     )?;
     match foretell(predicate, checks, world)? {
-        Some(went) => return Ok(Some(went)),
+        Some(went) => return Ok(went),
         None => {}
     }
     world.is_frozen = true;
@@ -329,15 +336,19 @@ fn attempt(
         start.task,
         stack,
     );
-    match ended(answer) {
-        Err(why) => Err(why),
-        Ok(None) => Ok(None),
-        Ok(Some(end)) => Ok(Some(Went { end, shared })),
-    }
+    let end = ended(answer)?;
+    restore(
+        alloc,
+        layout,
+        vector,
+        world.is_frozen,
+        &mut world.candidates,
+    )?;
+    Ok(Went { end, shared })
 }
 
-/// Such a run, which counts itself. One that is given up gives nothing, and isn't counted: it has to be made from the
-/// beginning. No other function of the crate starts the machine, or wakes a checkpoint.
+/// Such a run, which counts itself, also where memory is refused. No other function of the crate starts the machine, or wakes
+/// a checkpoint.
 pub(crate) fn run<L: Ledger>(
     alloc: Global,
     layout: &Layout,
@@ -353,33 +364,25 @@ pub(crate) fn run<L: Ledger>(
     world: &mut World,
     stack: &mut Stack,
     runs: &mut Steps<L>,
-) -> Result<Option<Went>, NoMemory>
+) -> Result<Went, NoMemory>
     requires well { IsWellFormed (bare layout.now) }
     requires vector { IsVector (space_of (bare layout.now)) vector.now }
     requires small { length (slots (bare layout.now)) < 2 ^ 31 }
+    requires some { 0 < length predicate.now.conditions.items }
     requires long { length known.old ≡ length (slots (bare layout.now)) }
     requires follow { Follow (slots_for (bare layout.now)) accesses.now }
     requires last { is_known ≡ true → IsLast layout.now predicate.now known.old checks.old world.old accesses.now }
     requires same { is_known ≡ true → IsSameBut known.old vector.now low high }
     requires high { high ≤ length (slots (bare layout.now)) }
     requires alike { is_known ≡ true → Alike layout.now known.old vector.now fresh accesses.now }
-    ensures ends { IfOk result (λ found. IfSome found (λ went. (program : Program) (n : Numbering) → IsPredicateOf (problem_with program layout.now) predicate.now n → IsRunTo (problem_with program layout.now) vector.now went.end world.new.reads)) }
-    ensures went { IfOk result (λ found. IfSome found (λ went. HasGone layout.now predicate.now vector.now went known.new checks.new world.new accesses.now)) }
+    ensures ends { IfOk result (λ went. (program : Program) (n : Numbering) → IsPredicateOf (problem_with program layout.now) predicate.now n → IsRunTo (problem_with program layout.now) vector.now went.end world.new.reads) }
+    ensures went { IfOk result (λ went. HasGone layout.now predicate.now vector.now went known.new checks.new world.new accesses.now) }
     ensures long { length known.new ≡ length known.old }
-    ensures runs { IsCounted result runs.old runs.new }
+    ensures runs { runs.new ≡ runs.old + 1 }
 {
-    match attempt(
+    runs.tick();
+    attempt(
         alloc, layout, predicate, vector, is_known, known, low, high, fresh, accesses, checks,
         world, stack,
-    ) {
-        Ok(None) => Ok(None),
-        Ok(Some(went)) => {
-            runs.tick();
-            Ok(Some(went))
-        }
-        Err(why) => {
-            runs.tick();
-            Err(why)
-        }
-    }
+    )
 }

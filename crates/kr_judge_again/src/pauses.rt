@@ -1,5 +1,5 @@
-// Before which steps a run pauses: correctness doesn't depend on it.
-ghost use Rattle.std.specs.Prelude.{◌≡◌, IfSome};
+// Before which steps a run pauses: correctness doesn't depend on it, but that a run which has written a candidate doesn't.
+ghost use Rattle.std.specs.Prelude.{◌≡◌, IfSome, true};
 ghost use Rattle.kr_run_frames.specs.declared.task.Task.TheVariants.{Act};
 
 use kr_code::Code;
@@ -69,15 +69,16 @@ fn is_small(world: &World, stack: &Stack) -> bool {
     true
 }
 
-/// Where a run pauses: before it reads a place for the first time, where a copy is small.
+/// Where a run pauses that has written no candidate: before it reads a place for the first time, where a copy is small.
 #[inline(always)]
 pub(crate) fn pause_of(code: &Code, world: &World, stack: &Stack, task: &Task) -> Option<Action>
-    ensures { IfSome result (λ action. task.now ≡ Act action) }
+    ensures before { IfSome result (λ action. task.now ≡ Act action) }
+    ensures frozen { IfSome result (λ action. world.now.is_frozen ≡ true) }
 {
     let Task::Act(action) = task else {
         return None;
     };
-    if action_reads(code, world, *action) && is_small(world, stack) {
+    if world.is_frozen && action_reads(code, world, *action) && is_small(world, stack) {
         Some(*action)
     } else {
         None

@@ -19,7 +19,7 @@ use crate::checks::Checks;
 use crate::going::run;
 use kr_base::{NoMemory, Steps};
 use kr_iso::{Object, Slots};
-use kr_judge::{Accesses, Predicate, run_predicate};
+use kr_judge::{Accesses, Predicate};
 use kr_judge_prepared::Prepared;
 use kr_run_frames::Stack;
 use kr_run_state::{End, World};
@@ -155,6 +155,7 @@ impl<'s> Runner<'s> {
         requires well { IsWellFormed (bare self.old.bounds) }
         requires vector { IsVector (space_of (bare self.old.bounds)) self.old.vector }
         requires small { length (slots (bare self.old.bounds)) < 2 ^ 31 }
+        requires some { 0 < length self.old.predicate.conditions.items }
         ensures ends { IfOk result (λ end. (program : Program) (n : Numbering) → IsPredicateOf (problem_with program self.old.bounds) self.old.predicate n → end_said end ≡ end_on (problem_with program self.old.bounds) self.old.vector) }
         ensures order { OnOk result ((program : Program) (n : Numbering) → IsPredicateOf (problem_with program self.old.bounds) self.old.predicate n → self.new.order ≡ order_of (problem_with program self.old.bounds) self.old.vector) }
         ensures others { self.new ≡ record self.old { order = self.new.order } }
@@ -162,7 +163,7 @@ impl<'s> Runner<'s> {
     {
         let is_known = self.is_known;
         self.is_known = false;
-        match run(
+        let went = run(
             self.alloc,
             self.layout,
             self.predicate,
@@ -177,34 +178,19 @@ impl<'s> Runner<'s> {
             &mut self.world,
             &mut self.stack,
             runs,
-        )? {
-            Some(went) => {
-                self.accesses.take(
-                    self.layout,
-                    &self.vector,
-                    went.end,
-                    &self.world.reads,
-                    went.shared,
-                )?;
-                self.is_known = true;
-                self.fresh = self.accesses.order.len();
-                self.low = u32::MAX;
-                self.high = 0;
-                Ok(went.end)
-            }
-            None => {
-                let ran = run_predicate(
-                    self.alloc,
-                    self.layout,
-                    self.predicate,
-                    &self.vector,
-                    runs,
-                )?;
-                self.accesses
-                    .take(self.layout, &self.vector, ran.end, &ran.reads, 0)?;
-                Ok(ran.end)
-            }
-        }
+        )?;
+        self.accesses.take(
+            self.layout,
+            &self.vector,
+            went.end,
+            &self.world.reads,
+            went.shared,
+        )?;
+        self.is_known = true;
+        self.fresh = self.accesses.order.len();
+        self.low = u32::MAX;
+        self.high = 0;
+        Ok(went.end)
     }
 }
 

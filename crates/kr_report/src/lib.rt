@@ -3,12 +3,10 @@
 
 mod lines;
 mod names;
-mod pieces;
 mod verdicts;
 
 pub use lines::{
     Summary, once_written, put_out_of_memory, put_read_fault, put_usage_fault, summary_text,
 };
 pub use names::{field_name_among, parameter_name_of};
-pub use pieces::{add_bytes, add_key, add_number};
-pub use verdicts::{add_verdict, put_verdict};
+pub use verdicts::put_verdict;

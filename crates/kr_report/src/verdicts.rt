@@ -1,15 +1,13 @@
 // Verdicts, as rows have them.
-ghost use Rattle.std.specs.Prelude.{◌≡◌, ◌++◌, OnOk, Some, codes};
+ghost use Rattle.std.specs.Prelude.{◌≡◌, ◌++◌, Some, codes};
 ghost use Rattle.kr_base.specs.Told.{Writes};
 ghost use Rattle.kr_mean.specs.declared.kind.Verdict.TheVariants.{Ensures};
 ghost use Rattle.kr_report.specs.Texts.{trap_text, verdict_text};
-ghost use Rattle.kr_text.specs.Lines.{line_bytes};
 
-use crate::pieces::{add_bytes, add_number};
 use itoa::Buffer;
-use kr_base::{Failed, NoMemory, Sink, put_all};
+use kr_base::{Failed, Sink, put_all};
 use kr_mean::{Kind, Verdict};
-use kr_text::{Line, put_pieces};
+use kr_text::put_pieces;
 
 /// Why a run traps, by its name.
 fn trap_name(kind: Kind) -> &'static [u8]
@@ -24,39 +22,6 @@ fn trap_name(kind: Kind) -> &'static [u8]
         Kind::NoSuchElementException => b"NoSuchElementException",
         Kind::NoReturn => b"NoReturn",
         Kind::ArrayTooLong => b"ArrayTooLong",
-    }
-}
-
-/// Adds `ensures N` and a space.
-fn add_ensures(line: &mut Line, number: u32) -> Result<(), NoMemory>
-    ensures { OnOk result (line_bytes line.new ≡ line_bytes line.old ++ verdict_text (Some (Ensures number))) }
-{
-    add_bytes(line, b"ensures ")?;
-    add_number(line, number)?;
-    add_bytes(line, b" ")
-}
-
-/// Adds a word, why a run traps, and a space.
-fn add_trap(line: &mut Line, word: &[u8], kind: Kind) -> Result<(), NoMemory>
-    ensures { OnOk result (line_bytes line.new ≡ line_bytes line.old ++ (word.now ++ trap_text kind ++ codes " ")) }
-{
-    add_bytes(line, word)?;
-    add_bytes(line, trap_name(kind))?;
-    add_bytes(line, b" ")
-}
-
-/// Adds a verdict and a space; of none nothing.
-pub fn add_verdict(line: &mut Line, verdict: Option<Verdict>) -> Result<(), NoMemory>
-    ensures { OnOk result (line_bytes line.new ≡ line_bytes line.old ++ verdict_text verdict) }
-{
-    match verdict {
-        None => Ok(()),
-        Some(Verdict::Pass) => add_bytes(line, b"pass "),
-        Some(Verdict::Ensures(number)) => add_ensures(line, number),
-        Some(Verdict::RepOk) => add_bytes(line, b"repOk "),
-        Some(Verdict::Trap(kind)) => add_trap(line, b"trap ", kind),
-        Some(Verdict::CheckTrap(kind)) => add_trap(line, b"check-trap ", kind),
-        Some(Verdict::Spent) => add_bytes(line, b"spent "),
     }
 }
 

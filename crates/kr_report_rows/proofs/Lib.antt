@@ -1,3 +1,4 @@
+pub mod Past
 pub mod Fronts
 pub mod Absent
 pub mod Stretches

@@ -1,5 +1,5 @@
 -- Where the slots of an object stand.
-use Rattle.std.proofs.Common.{◌≡◌, ℕ, ◌+◌, ◌-◌, ◌<◌, ◌≤◌, ◌⊎◌, inl, inr, Bool, true, false, Option, Some, None, length, refl, sym, ap, ◌∙◌, arith}
+use Rattle.std.proofs.Common.{◌≡◌, ℕ, ◌+◌, ◌-◌, ◌^◌, ◌<◌, ◌≤◌, ◌⊎◌, inl, inr, Bool, true, false, Option, Some, None, length, refl, sym, ap, ◌∙◌, arith}
 use Rattle.std.proofs.lemmas.Bool.{cases_lt}
 use Rattle.kr_build.proofs.Changed.{owner_in, stands_in}
 use Rattle.kr_build.proofs.Rows.{first_same}
@@ -32,22 +32,26 @@ module _ (problem : Problem) (o : DomainObject) where
   ]
 
   -- its own slots
-  pub stands : (stretch : Stretch) → o.domain < length problem.domains → o.number < count_at problem o.domain → stretch.first ≡ first_slot problem o → stretch.count ≡ width_at problem o.domain → IsStretch problem o stretch
-  stands stretch d k first count s true h =
+  pub stands : (stretch : Stretch) → o.domain < length problem.domains → o.number < count_at problem o.domain → stretch.first ≡ first_slot problem o → stretch.count ≤ width_at problem o.domain → (width_at problem o.domain ≤ stretch.count) ⊎ (2 ^ 32 ≤ stretch.count) → IsStretch problem o stretch
+  stands stretch d k first few all s true small h =
       let same = first_same problem o.domain o.number in
       let j = s - stretch.first in
       let at : numbering.first_slot problem o.domain o.number + j ≡ s = omega (arith, h.0, first, same) in
-      let inside : j < width_at problem o.domain = omega (arith, h.0, h.1, count) in
+      let inside : j < width_at problem o.domain = omega (arith, h.0, h.1, few) in
       let owner : (slot_at problem s).owner ≡ Some o =
       ap (λ (n : ℕ). (slot_at problem n).owner) (sym at) ∙ ap (λ (x : Slot). x.owner) (object_slot problem o.domain o.number j d k inside).1 in
       ap (is_owner o) owner ∙ same_object o
-  stands stretch d k first count s false h =
+  stands stretch d k first few all s false small h =
       not_owner s (λ e.
       let is = stands_in problem s o (there s e) e in
       let same = first_same problem o.domain o.number in
-      h (omega (arith, is.after, first, same)) (omega (arith, is.within, first, same, count)))
+      let after : stretch.first ≤ s = omega (arith, is.after, first, same) in
+      elim all [
+        | inl wide ↦ h after (omega (arith, is.within, first, same, wide))
+        | inr most ↦ h after (omega (arith, small, most))
+      ])
 
   -- an object that isn't there has none
   pub nowhere : (stretch : Stretch) → (o.domain < length problem.domains → o.number < count_at problem o.domain → ⊥) → stretch.count ≡ 0 → IsStretch problem o stretch
-  nowhere stretch absent count s true h = absurd (omega (arith, h.0, h.1, count))
-  nowhere stretch absent count s false h = not_owner s (λ e. let is = owner_in problem s o (there s e) e in absent is.domain is.number)
+  nowhere stretch absent count s true small h = absurd (omega (arith, h.0, h.1, count))
+  nowhere stretch absent count s false small h = not_owner s (λ e. let is = owner_in problem s o (there s e) e in absent is.domain is.number)

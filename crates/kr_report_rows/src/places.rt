@@ -1,5 +1,5 @@
 // Slots and objects of a layout, also where they aren't there.
-ghost use Rattle.std.specs.Prelude.{◌≡◌};
+ghost use Rattle.std.specs.Prelude.{◌≡◌, ◌<◌, ◌≤◌, ◌^◌, ◌⊎◌};
 ghost use Rattle.kr_iso.specs.Objects.{object_of};
 ghost use Rattle.kr_mean.specs.Heaps.{is_same_object};
 ghost use Rattle.kr_mean.specs.Places.{place_of};
@@ -96,7 +96,20 @@ pub(crate) fn spot_at(layout: &Layout, slot: u32) -> Option<Spot>
     spot_in(place_of(layout, slot))
 }
 
-/// Slots that stand together: so many from one on.
+/// So many slots, or as many as numbers name, if that is fewer.
+fn at_most_all(width: usize) -> usize
+    ensures few { result ≤ width }
+    ensures bounded { result ≤ 2 ^ 32 }
+    ensures all { (width ≤ result) ⊎ (2 ^ 32 ≤ result) }
+{
+    if width < 4294967296 {
+        width
+    } else {
+        4294967296
+    }
+}
+
+/// Slots that stand together: so many from one on, at most as many as numbers name.
 #[derive(Clone, Copy)]
 pub(crate) struct Stretch {
     pub(crate) first: u32,
@@ -108,7 +121,8 @@ const NOWHERE: Stretch = Stretch { first: 0, count: 0 };
 
 /// Where the slots of an object stand; of one that isn't there nowhere.
 pub(crate) fn stretch_of(layout: &Layout, object: Object) -> Stretch
-    ensures { IsStretch (bare layout.now) (object_of object) result }
+    ensures are { IsStretch (bare layout.now) (object_of object) result }
+    ensures few { result.count ≤ 2 ^ 32 }
 {
     if object.domain as usize >= layout.domains() {
         return NOWHERE;
@@ -118,16 +132,31 @@ pub(crate) fn stretch_of(layout: &Layout, object: Object) -> Stretch
     }
     Stretch {
         first: layout.first_slot(object),
-        count: layout.width(object.domain),
+        count: at_most_all(layout.width(object.domain)),
     }
+}
+
+/// Whether a slot is one of so many from one on, by one comparison: one that stands before the first is far behind the last then.
+#[inline(always)]
+fn is_among(first: u32, count: usize, slot: u32) -> bool
+    requires { count ≤ 2 ^ 32 }
+    ensures { IsWithin (record { first = first; count = count }) slot result }
+{
+    let past = u64::from(slot).wrapping_sub(u64::from(first));
+    if past < count as u64 {
+        return true;
+    }
+    false
 }
 
 /// Whether a slot is one of them.
 #[inline(always)]
 pub(crate) fn is_within(stretch: Stretch, slot: u32) -> bool
-    ensures { IsWithin stretch slot result }
+    requires { stretch.count ≤ 2 ^ 32 }
+    ensures within { IsWithin stretch slot result }
+    ensures small { slot < 2 ^ 32 }
 {
-    slot >= stretch.first && ((slot - stretch.first) as usize) < stretch.count
+    is_among(stretch.first, stretch.count, slot)
 }
 
 /// The number of the parameter whose slot it is, if it is one's.

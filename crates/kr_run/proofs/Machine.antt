@@ -19,15 +19,13 @@ use Rattle.kr_run_state.specs.Shown.{local_of}
 use Rattle.kr_run_frames.specs.declared.frame.Change.TheVariants as changes
 use Rattle.kr_run_state.specs.declared.world.World.{World}
 use Rattle.kr_run_state.specs.declared.world.Halt.{Halt}
-use Rattle.kr_run_state.specs.declared.world.Halt.TheVariants.{Written}
-use Rattle.kr_run_state.specs.Worlds.{HasFrozen, Others}
+use Rattle.kr_run_state.specs.Worlds.{Others}
 use Rattle.kr_run_frames.specs.declared.task.Task.{Task}
 use Rattle.kr_run_frames.specs.Frame.{Frame}
 use Rattle.kr_run_frames.specs.Kept.{values_on}
 use Rattle.kr_run_frames.specs.Leads.{Leads}
 use Rattle.kr_run_frames.specs.Frames.{continued, altered}
 use Rattle.kr_run_frames.proofs.Outcomes.{continued_reads, leads_alike}
-use Rattle.kr_run.specs.Answers.{StepsTo}
 
 pub locals_cut : (locals : List Local) (n : ℕ) → take n (map local_of locals) ≡ map local_of (take n locals)
 locals_cut locals n = take-map local_of n locals
@@ -87,8 +85,3 @@ taken code r gs w before top rest after vs found f o p is behind values has same
     (leads_alike code r gs w before (o (f vs ∷ rest)) (p rest vs) (λ x d m. same x d)
     (subst (λ (us : List Value). Leads code r gs w before (p rest us)) (values ∙ ap values_on is ∙ has)
     (subst (λ (fs : List Frame). Leads code r gs w before (p fs found)) (behind ∙ ap (λ (fs : List Frame). drop 1 fs) is) h)))
-
--- ---- candidates that aren't written
-
-pub held : (code : Code) (h : Halt) (task : Task) (fs : List Frame) (w before : World) (o : Doing → Others → Outcome Value) → h ≡ Written → StepsTo code (Err h) task fs w before o → HasFrozen before
-held code h task fs w before o e s = subst (λ (g : Halt). StepsTo code (Err g) task fs w before o) e s

@@ -7,9 +7,9 @@ use Rattle.kr_code.specs.Doing.{Doing, IsMeaning}
 use Rattle.kr_run_state.specs.declared.world.World.{World}
 use Rattle.kr_run_state.specs.declared.world.End.{End}
 use Rattle.kr_run_state.specs.declared.world.Halt.{Halt}
-use Rattle.kr_run_state.specs.declared.world.Halt.TheVariants.{Ended, Memory, Written}
+use Rattle.kr_run_state.specs.declared.world.Halt.TheVariants.{Ended, Memory}
 use Rattle.kr_run_state.specs.Noting.{noting}
-use Rattle.kr_run_state.specs.Worlds.{Others, Allows, HasFrozen, Keeps, state_at}
+use Rattle.kr_run_state.specs.Worlds.{Others, Allows, Keeps, state_at}
 use Rattle.kr_run_frames.specs.Frame.{Frame}
 use Rattle.kr_run_frames.specs.declared.task.Task.{Task}
 use Rattle.kr_run_frames.specs.Leads.{Leads, HasEnded}
@@ -30,12 +30,9 @@ StepsTo code (Ok More) task fs w before o = Leads code (Ok task) fs w before o
 StepsTo code (Ok (Finished v)) task fs w before o = Gives code v w before o
 StepsTo code (Err (Ended e)) task fs w before o = EndsSo code e w before o
 StepsTo code (Err (Memory why)) task fs w before o = Unit {0}
-StepsTo code (Err Written) task fs w before o = HasFrozen before
 
--- the value, or the end; where memory ran out nothing is said, and that a candidate would have been written that must not be is
--- answered only where there are such
+-- the value, or the end; where memory ran out nothing is said
 abbrev pub Answers : Code → Result Value Halt → World → World → (Doing → Others → Outcome Value) → Type 0
 Answers code (Ok v) w before o = Gives code v w before o
 Answers code (Err (Ended e)) w before o = EndsSo code e w before o
 Answers code (Err (Memory why)) w before o = Unit {0}
-Answers code (Err Written) w before o = HasFrozen before

@@ -113,7 +113,7 @@ fn execute_statement(
     ensures { Leads code.now (next_task result task.new) stack.new world.new world.old (λ d x. out_flow code.now d stack.old (statement_done code.now d statement.now (state_at world.old x))) }
 {
     match declarators(statement) {
-        Some(nodes) => declare(code, world, stack, nodes, task),
+        Some(nodes) => declare(alloc, code, world, stack, nodes, task),
         None => tick_statement(alloc, code, world, stack, statement, task),
     }
 }
@@ -456,7 +456,7 @@ fn act_on(
     ensures { Leads code.now (next_task result task.new) stack.new world.new world.old (λ d x. out_value code.now d stack.old (acted code.now action (state_at world.old x))) }
 {
     match act(alloc, code, action, world) {
-        Ok(given) => feed(code, world, stack, given, task),
+        Ok(given) => feed(alloc, code, world, stack, given, task),
         Err(halt) => Err(halt),
     }
 }
@@ -480,7 +480,7 @@ fn do_task(
         Task::Done => return give_nothing(alloc, code, world, stack, task),
         Task::Act(action) => return act_on(alloc, code, world, stack, action, task),
         Task::All(nodes) => return all(code, world, stack, nodes, task),
-        Task::Declare(nodes) => return declare(code, world, stack, nodes, task),
+        Task::Declare(nodes) => return declare(alloc, code, world, stack, nodes, task),
         Task::Update(nodes) => return update(code, world, stack, nodes, task),
         Task::Repeat(turn) => return repeat(alloc, code, world, stack, turn, task),
         Task::Alter(change, cell, old) => {
@@ -640,7 +640,6 @@ pub fn advance(
         match step(alloc, code, world, stack, task) {
             Err(Halt::Ended(end)) => return Err(Halt::Ended(end)),
             Err(Halt::Memory(why)) => return Err(Halt::Memory(why)),
-            Err(Halt::Written) => return Err(Halt::Written),
             Ok(Step::Finished(given)) => return Ok(Step::Finished(given)),
             Ok(Step::More) => {
                 if may_read(task) {
@@ -665,7 +664,6 @@ pub fn evaluate(alloc: Global, code: &Code, world: &mut World, node: u32) -> Res
         match advance(alloc, code, world, &mut stack, &mut task) {
             Err(Halt::Ended(end)) => return Err(Halt::Ended(end)),
             Err(Halt::Memory(why)) => return Err(Halt::Memory(why)),
-            Err(Halt::Written) => return Err(Halt::Written),
             Ok(Step::Finished(given)) => return Ok(given),
             Ok(Step::More) => {}
         }

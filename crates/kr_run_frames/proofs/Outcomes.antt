@@ -16,11 +16,11 @@ use Rattle.kr_run_state.specs.declared.world.Local.{Local}
 use Rattle.kr_run_state.specs.declared.world.World.{World}
 use Rattle.kr_run_state.specs.declared.world.End.{End}
 use Rattle.kr_run_state.specs.declared.world.Halt.{Halt}
-use Rattle.kr_run_state.specs.declared.world.Halt.TheVariants.{Ended, Memory, Written}
+use Rattle.kr_run_state.specs.declared.world.Halt.TheVariants.{Ended, Memory}
 use Rattle.kr_run_state.specs.Noting.{noting, noted_once, with_read}
 use Rattle.kr_run_state.specs.Shown.{stop_of}
 use Rattle.kr_run_state.specs.Worlds.{Others, Allows, Keeps, Agrees, candidates_of, state_at}
-use Rattle.kr_run_state.proofs.Candidates.{frozen_then, kept_same, kept_then}
+use Rattle.kr_run_state.proofs.Candidates.{kept_same, kept_then}
 use Rattle.kr_run_frames.specs.Frame.{Frame}
 use Rattle.kr_run_frames.specs.Frame as frames
 use Rattle.kr_run_frames.specs.declared.task.Task.{Task}
@@ -222,7 +222,6 @@ pub halts : {A : Type 0} (code : Code) (h : Halt) (gs : List Frame) (w before : 
     → (o : Others → Outcome A) → Agrees {A = A} (Err h) w before o → Leads code (Err h) gs w before (λ d x. out d (o x))
 halts code (Ended e) gs w before out law o a = λ x y. let r = a x y in (r.0, λ d m. has_ended (out d) (law d) e w x before.reads (o x) r.1)
 halts code (Memory why) gs w before out law o a = tt
-halts code Written gs w before out law o a = a
 
 pub value_halts : (code : Code) (h : Halt) (fs gs : List Frame) (w before : World) (o : Others → Outcome Value) → Agrees {A = Value} (Err h) w before o → Leads code (Err h) gs w before (λ d x. out_value code d fs (o x))
 value_halts code h fs gs w before o a = halts code h gs w before (λ d q. out_value code d fs q) (λ d s heap fuel reads q y. value_ends code d s heap fuel reads fs q y) o a
@@ -245,7 +244,6 @@ leads_same code (Err (Ended end)) fs w middle before o o' e h = λ x a. let y = 
   },
 )
 leads_same code (Err (Memory why)) fs w middle before o o' e h = tt
-leads_same code (Err Written) fs w middle before o o' e h = frozen_then before middle (e None tt).0 h
 
 -- the same outcome
 pub leads_alike : (code : Code) (r : Result Task Halt) (fs : List Frame) (w before : World) (o o' : Doing → Others → Outcome Value)

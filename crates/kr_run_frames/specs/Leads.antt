@@ -7,10 +7,10 @@ use Rattle.kr_code.specs.Doing.{Doing, IsMeaning}
 use Rattle.kr_run_state.specs.declared.world.World.{World}
 use Rattle.kr_run_state.specs.declared.world.End.{End}
 use Rattle.kr_run_state.specs.declared.world.Halt.{Halt}
-use Rattle.kr_run_state.specs.declared.world.Halt.TheVariants.{Ended, Memory, Written}
+use Rattle.kr_run_state.specs.declared.world.Halt.TheVariants.{Ended, Memory}
 use Rattle.kr_run_state.specs.Noting.{noting}
 use Rattle.kr_run_state.specs.Shown.{stop_of}
-use Rattle.kr_run_state.specs.Worlds.{Others, Allows, Keeps, HasFrozen, candidates_of, state_at}
+use Rattle.kr_run_state.specs.Worlds.{Others, Allows, Keeps, candidates_of, state_at}
 use Rattle.kr_run_frames.specs.declared.task.Task.{Task}
 use Rattle.kr_run_frames.specs.Frame.{Frame}
 use Rattle.kr_run_frames.specs.Frames.{resumed}
@@ -23,13 +23,11 @@ pub record HasEnded (e : End) (w : World) (x : Others) (o : Outcome Value) : Typ
   pub reads : o.reads ≡ w.reads
 
 -- After a step the run's outcome, with what was read before, is that of what is left to do; or the run has ended: with all
--- candidates that what was read until then allows. Where memory ran out nothing is said. That a candidate would have been
--- written that must not be is answered only where there are such.
+-- candidates that what was read until then allows. Where memory ran out nothing is said.
 abbrev pub Leads : Code → Result Task Halt → List Frame → World → World → (Doing → Others → Outcome Value) → Type 0
 Leads code (Ok task) fs w before o = (x : Others) → Allows w x → Keeps before w x × ((d : Doing) → IsMeaning code d → noting before.reads (o d x) ≡ noting w.reads (resumed code d fs task (state_at w x)))
 Leads code (Err (Ended e)) fs w before o = (x : Others) → Allows w x → Keeps before w x × ((d : Doing) → IsMeaning code d → HasEnded e w x (noting before.reads (o d x)))
 Leads code (Err (Memory why)) fs w before o = Unit {0}
-Leads code (Err Written) fs w before o = HasFrozen before
 
 -- the task that stands there now, or why none does
 abbrev pub next_task : Result (Unit {0}) Halt → Task → Result Task Halt

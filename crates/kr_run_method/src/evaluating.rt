@@ -1,5 +1,5 @@
 // An expression of a contract is evaluated.
-ghost use Rattle.std.specs.Prelude.{◌≡◌, ◌≤◌, ◌⊎◌, ◌++◌, [], IfOk, OnOk, false, map, true};
+ghost use Rattle.std.specs.Prelude.{◌≡◌, ◌≤◌, ◌⊎◌, ◌++◌, [], IfOk, OnOk, false, map};
 ghost use Rattle.kr_code.specs.Doing.{Doing, IsMeaning};
 ghost use Rattle.kr_code.specs.Resolved.{IsCodeOf, Numbering};
 ghost use Rattle.kr_classes_table.specs.Table.{Method as TableMethod};
@@ -65,7 +65,6 @@ fn show(world: &mut World, places: &[Place], env: &Env) -> Result<(), NoMemory>
     requires none { world.old.candidates ≡ [] }
     ensures state { OnOk result (state_of world.new ≡ seen places.now env.now (state_of world.old).heap (state_of world.old).fuel) }
     ensures candidates { world.new.candidates ≡ world.old.candidates }
-    ensures frozen { world.new.is_frozen ≡ world.old.is_frozen }
 {
     world.this = env.this;
     world.result = env.result;
@@ -76,22 +75,18 @@ fn show(world: &mut World, places: &[Place], env: &Env) -> Result<(), NoMemory>
 
 /// Evaluates a node in a world without candidates.
 fn evaluate_in(alloc: Global, code: &Code, world: World, node: u32) -> Result<Executed, NoMemory>
-    requires candidates { world.candidates ≡ [] }
-    requires frozen { world.is_frozen ≡ true }
+    requires { world.candidates ≡ [] }
     ensures { IfOk result (λ run. (d : Doing) → IsMeaning code.now d → run ≡ left_by false (d.value node (state_of world))) }
 {
     let mut world = world;
     let mut stack = Stack::new(alloc);
     let said = value_of(alloc, code, &mut world, &mut stack, node);
-    match ended(said)? {
-        Some(end) => Ok(Executed {
-            end: given(false, end),
-            heap: world.made,
-            left: world.fuel,
-        }),
-        // there are no candidates
-        None => unreachable!(),
-    }
+    let end = ended(said)?;
+    Ok(Executed {
+        end: given(false, end),
+        heap: world.made,
+        left: world.fuel,
+    })
 }
 
 /// Evaluates an expression of a method's contract, by its node in the code, where the method's `\old`s stand at these places,

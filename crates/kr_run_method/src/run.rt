@@ -1,5 +1,5 @@
 // A method is run.
-ghost use Rattle.std.specs.Prelude.{◌≡◌, [], IfOk, Result, true};
+ghost use Rattle.std.specs.Prelude.{◌≡◌, [], IfOk, Result};
 ghost use Rattle.kr_code.specs.Doing.{Doing, IsMeaning, run_method as run_step};
 ghost use Rattle.kr_code.specs.Resolved.{IsCodeOf, Numbering};
 ghost use Rattle.kr_code.specs.Tables.{method_at};
@@ -25,13 +25,12 @@ use kr_run_state::{End, Halt, Reads, World, ended};
 use kr_value::Value;
 use std::alloc::Global;
 
-/// The world in which a run begins. It has no candidates, so that none is written where they are frozen.
+/// The world in which a run begins. It has no candidates.
 pub(crate) fn world_of(alloc: Global, heap: Heap, fuel: u64) -> World
     ensures state { state_of result ≡ begun heap fuel }
     ensures locals { result.locals.items ≡ [] }
     ensures olds { result.olds.items ≡ [] }
     ensures candidates { result.candidates ≡ [] }
-    ensures frozen { result.is_frozen ≡ true }
 {
     World {
         this: Value::Null,
@@ -63,7 +62,6 @@ fn run(
         match advance(alloc, code, world, stack, &mut next) {
             Err(Halt::Ended(end)) => return Err(Halt::Ended(end)),
             Err(Halt::Memory(why)) => return Err(Halt::Memory(why)),
-            Err(Halt::Written) => return Err(Halt::Written),
             Ok(Step::Finished(given)) => return Ok(given),
             Ok(Step::More) => {}
         }
@@ -143,15 +141,12 @@ fn run_on(
     let said = call(
         alloc, code, &mut world, &mut stack, method, receiver, arguments,
     );
-    match ended(said)? {
-        Some(end) => Ok(Executed {
-            end: given(is_void(code, method), end),
-            heap: world.made,
-            left: world.fuel,
-        }),
-        // there are no candidates
-        None => unreachable!(),
-    }
+    let end = ended(said)?;
+    Ok(Executed {
+        end: given(is_void(code, method), end),
+        heap: world.made,
+        left: world.fuel,
+    })
 }
 
 /// Runs a method on values, the receiver first where it isn't static.

@@ -73,6 +73,13 @@ no_flow_tick code h fs gs w before n a =
     (λ x d m. ap (λ (q : Outcome Flow). out_flow code d fs q) (sym (given_then tick Null (λ v. n d) (state_at before x))))
     (halts code h gs w before (λ d q. out_flow code d fs (continued q (λ v. n d))) (λ d e heap fuel reads o y. flow_ends code d e heap fuel reads fs _ (ends_on e heap fuel reads o (λ v. n d) y)) (λ x. bind tick (λ u. give Null) (state_at before x)) a)
 
+-- a step ends the run, and no statement leads on
+pub no_flow : (code : Code) (h : Halt) (fs gs : List Frame) (w before : World) (m : Run Value) (k : Doing → Value → Run Flow)
+    → Agrees {A = Value} (Err h) w before (λ x. m (state_at before x)) → Leads code (Err h) gs w before (λ d x. out_flow code d fs (bind m (k d) (state_at before x)))
+unfolding bind
+no_flow code h fs gs w before m k a =
+    halts code h gs w before (λ d q. out_flow code d fs (continued q (k d))) (λ d e heap fuel reads o y. flow_ends code d e heap fuel reads fs _ (ends_on e heap fuel reads o (k d) y)) (λ x. m (state_at before x)) a
+
 -- ---- lists
 
 -- the only argument
@@ -80,7 +87,7 @@ pub one_value : {B : Type 0} (d : Doing) (i : ℕ) (k : List Value → Run B) (s
 unfolding bind
 one_value d i k s = mapped (d.value i) (λ v. v ∷ []) k s
 
-none_listed : (code : Code) (ns : Nodes) → ns.count ≡ 0 → listed code ns ≡ []
+pub none_listed : (code : Code) (ns : Nodes) → ns.count ≡ 0 → listed code ns ≡ []
 none_listed code ns e = ap (λ (n : ℕ). take n (drop ns.first code.links.items)) e
 
 pub one_listed : (code : Code) (ns others : Nodes) (i : ℕ) → listed code ns ≡ i ∷ listed code others → others.count ≡ 0 → listed code ns ≡ i ∷ []

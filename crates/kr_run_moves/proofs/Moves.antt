@@ -1,25 +1,29 @@
 -- What the moves need of the meaning.
-use Rattle.std.proofs.Common.{◌≡◌, List, [], ◌∷◌, ◌++◌, length, Result, Ok, Err, refl, sym, ap, ◌∙◌}
+use Rattle.std.proofs.Common.{◌≡◌, ℕ, Some, List, [], ◌∷◌, ◌++◌, length, Result, Ok, Err, refl, sym, ap, ◌∙◌}
 use Rattle.std.specs.Prelude.{map, reverse, Bool}
 use Rattle.std.proofs.lemmas.List.{length-map, append_assoc, append-nil, reverse-append, reverse-reverse}
 use Rattle.kr_value.specs.declared.value.Value.{Value}
 use Rattle.kr_value.specs.declared.value.Value.TheVariants.{Null}
 use Rattle.kr_ast.specs.declared.node.StepOperator.{StepOperator}
 use Rattle.kr_mean.specs.Places.{SlotPlace}
-use Rattle.kr_mean.specs.Steps.{Stop, State, Run, after_reads, go_on, bind, give, tick}
+use Rattle.kr_mean.specs.Steps.{Stop, State, Run, after_reads, assign, declare, go_on, bind, give, tick}
 use Rattle.kr_mean.specs.Operators.{gives_old}
 use Rattle.kr_mean.specs.Meaning.{change_from}
 use Rattle.kr_code.specs.declared.code.Code.{Code}
 use Rattle.kr_code.specs.Tables.{listed}
-use Rattle.kr_code.specs.Doing.{Doing, IsMeaning}
+use Rattle.kr_code.specs.Doing.{Doing, IsMeaning, all_declared, declared, initial_value}
+use Rattle.kr_code.specs.declared.expression.Nodes.{Nodes}
+use Rattle.kr_code.specs.declared.statement.Declarator.{Declarator}
 use Rattle.kr_run_state.specs.declared.world.Local.{Local}
 use Rattle.kr_run_state.specs.declared.action.Cell.{Cell}
-use Rattle.kr_run_state.specs.Actions.{written}
+use Rattle.kr_run_state.specs.declared.action.Action.TheVariants as actions
+use Rattle.kr_run_state.specs.Actions.{acted, written}
 use Rattle.kr_run_state.specs.Shown.{local_of}
 use Rattle.kr_run_frames.specs.declared.frame.Loop.{Loop}
 use Rattle.kr_run_frames.specs.declared.frame.Loop.TheVariants as loops
+use Rattle.kr_run_frames.specs.declared.frame.TestFrame.TheVariants as tests
 use Rattle.kr_run_frames.specs.declared.frame.WriteFrame.TheVariants as writes
-use Rattle.kr_run_frames.specs.Frames.{continued, onto, repeated, test_of, turned, wrote}
+use Rattle.kr_run_frames.specs.Frames.{continued, onto, repeated, test_of, tested, turned, wrote}
 use Rattle.kr_run_frames.proofs.Outcomes.{continued_reads}
 
 pub locals_long : (locals : List Local) → length (map local_of locals) ≡ length locals
@@ -48,6 +52,41 @@ mapped {A} {B} {C} m h g s = go (m s).said
 pub given_then : {A B C : Type 0} (m : Run A) (x : B) (f : B → Run C) (s : State) → continued (bind m (λ a. give x) s) f ≡ bind m (λ a. f x) s
 unfolding bind
 given_then m x f s = mapped m (λ a. x) f s
+
+-- what goes on in the same way
+alike : {A B : Type 0} (m : Run A) (f g : A → Run B) (s : State) → ((a : A) (t : State) → f a t ≡ g a t) → bind m f s ≡ bind m g s
+unfolding bind
+alike {A} m f g s e = go (m s).said
+  where
+    go : (r : Result A Stop) → go_on r (m s).after (m s).reads f ≡ go_on r (m s).after (m s).reads g
+    go (Ok a) = ap (after_reads (m s).reads) (e a (m s).after)
+    go (Err x) = refl
+
+-- ---- declarators
+
+-- a unit, a local, an initial value, and then the other declarators
+pub declares : (code : Code) (d : Doing) (x : Declarator) (ns : Nodes) (s : State)
+    → bind (declared d (Some x)) (λ u. all_declared code d (listed code ns)) s ≡ bind (acted code (actions.Declare x.default)) (tested code d (tests.Declared x.local x.initial ns)) s
+unfolding bind
+declares code d x ns s =
+    let rest = all_declared code d (listed code ns) in
+    let first = initial_value d x.local x.initial in
+    assoc tick (λ u. bind (declare x.default) (λ w. first)) (λ u. rest) s
+    ∙ (alike tick (λ u. bind (bind (declare x.default) (λ w. first)) (λ v. rest)) (λ u. bind (declare x.default) (λ w. bind first (λ v. rest))) s (λ u t. assoc (declare x.default) (λ w. first) (λ v. rest) t)
+    ∙ (sym (alike tick (λ u. bind (bind (declare x.default) (λ w. give Null)) (λ v. bind first (λ y. rest))) (λ u. bind (declare x.default) (λ w. bind first (λ v. rest))) s (λ u t. given_then (declare x.default) Null (λ v. bind first (λ y. rest)) t))
+    ∙ sym (assoc tick (λ u. bind (declare x.default) (λ w. give Null)) (λ v. bind first (λ y. rest)) s)))
+
+-- an initial value, and then the other declarators
+pub begins : (code : Code) (d : Doing) (k e : ℕ) (ns : Nodes) (v : Value) (s : State)
+    → tested code d (tests.Declared k (Some e) ns) v s ≡ bind (d.value e) (tested code d (tests.Initial k ns)) s
+unfolding bind
+begins code d k e ns v s = assoc (d.value e) (λ w. assign k w) (λ u. all_declared code d (listed code ns)) s
+
+-- a local has its initial value, and then the other declarators
+pub initial_then : (code : Code) (d : Doing) (k : ℕ) (v : Value) (ns : Nodes) (s : State)
+    → tested code d (tests.Initial k ns) v s ≡ bind (bind (assign k v) (λ u. give v)) (λ u. all_declared code d (listed code ns)) s
+unfolding bind
+initial_then code d k v ns s = sym (given_then (assign k v) v (λ u. all_declared code d (listed code ns)) s)
 
 -- ---- lists
 

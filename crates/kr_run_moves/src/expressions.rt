@@ -174,6 +174,7 @@ fn enter_element(
 
 /// A call on a collection, with arguments that are there.
 fn collected(
+    alloc: Global,
     code: &Code,
     world: &mut World,
     stack: &mut Stack,
@@ -185,13 +186,14 @@ fn collected(
     ensures { Leads code.now (next_task result task.new) stack.new world.new world.old (λ d x. out_value code.now d stack.old (collect_step (name_of call) object arguments.now (state_at world.old x))) }
 {
     match collect(world, call, object, arguments) {
-        Ok(given) => feed(code, world, stack, given, task),
+        Ok(given) => feed(alloc, code, world, stack, given, task),
         Err(halt) => Err(halt),
     }
 }
 
 /// A call on a collection with one argument.
 fn collected_with(
+    alloc: Global,
     code: &Code,
     world: &mut World,
     stack: &mut Stack,
@@ -202,7 +204,7 @@ fn collected_with(
 ) -> Result<(), Halt>
     ensures { Leads code.now (next_task result task.new) stack.new world.new world.old (λ d x. out_value code.now d stack.old (collect_step (name_of call) object (argument ∷ []) (state_at world.old x))) }
 {
-    collected(code, world, stack, call, object, &[argument], task)
+    collected(alloc, code, world, stack, call, object, &[argument], task)
 }
 
 /// A call on a collection with one argument, which comes first, unless it is known.
@@ -221,7 +223,7 @@ fn collect_one(
     ensures { Leads code.now (next_task result task.new) stack.new world.new world.old (λ d x. out_value code.now d stack.old (bind (values_at d (listed code.now arguments)) (collect_step (name_of call) object) (state_at world.old x))) }
 {
     match at_once(code, world, node) {
-        Some(argument) => collected_with(code, world, stack, call, object, argument, task),
+        Some(argument) => collected_with(alloc, code, world, stack, call, object, argument, task),
         None => collect_later(alloc, code, world, stack, call, object, arguments, task),
     }
 }
@@ -241,7 +243,7 @@ fn collect_next(
     ensures { Leads code.now (next_task result task.new) stack.new world.new world.old (λ d x. out_value code.now d stack.old (bind (values_at d (listed code.now arguments)) (collect_step (name_of call) object) (state_at world.old x))) }
 {
     match code.split(arguments) {
-        None => collected(code, world, stack, call, object, &[], task),
+        None => collected(alloc, code, world, stack, call, object, &[], task),
         Some((node, others)) => {
             if others.count == 0 {
                 collect_one(

@@ -1,17 +1,19 @@
 // Lists of nodes: statements, declarators, updates, arguments.
-ghost use Rattle.std.specs.Prelude.{◌≡◌, ◌∷◌};
+ghost use Rattle.std.specs.Prelude.{◌≡◌, ◌∷◌, None, Some};
 ghost use Rattle.kr_mean.specs.Steps.{bind};
 ghost use Rattle.kr_code.specs.Tables.{listed};
-ghost use Rattle.kr_code.specs.Doing.{all_at, all_declared, updates_at};
-ghost use Rattle.kr_run_frames.specs.Frames.{out_flow, repeated};
+ghost use Rattle.kr_code.specs.Doing.{all_at, all_declared, declared, updates_at};
+ghost use Rattle.kr_run_frames.specs.Frames.{out_flow, repeated, tested};
+ghost use Rattle.kr_run_frames.specs.declared.frame.TestFrame.TheVariants as tests;
 ghost use Rattle.kr_run_frames.specs.Leads.{Leads, next_task};
 ghost use Rattle.kr_run_state.specs.Worlds.{state_at};
 
 use crate::pushes::{flow, test};
-use crate::values::{begin_round, stop};
-use kr_code::{Code, Nodes};
+use crate::values::{begin_round, stop, test_next};
+use kr_code::{Code, Declarator, Nodes};
 use kr_run_frames::{Flow, FlowFrame, Loop, Stack, Task, TestFrame};
-use kr_run_state::{Action, Halt, World, tick};
+use kr_run_state::{Halt, World, declare as add_local, tick};
+use kr_value::Value;
 use std::alloc::Global;
 
 /// The last one of some statements: none waits for it.
@@ -102,16 +104,90 @@ pub fn repeat(
     }
 }
 
+/// A local is declared, whose initial value, if it has one, comes next, and then the other declarators.
+fn begin_local(
+    alloc: Global,
+    code: &Code,
+    world: &mut World,
+    stack: &mut Stack,
+    local: u32,
+    initial: Option<u32>,
+    others: Nodes,
+    given: Value,
+    task: &mut Task,
+) -> Result<(), Halt>
+    ensures { Leads code.now (next_task result task.new) stack.new world.new world.old (λ d x. out_flow code.now d stack.old (tested code.now d (tests.Declared local initial others) given (state_at world.old x))) }
+{
+    match initial {
+        None => next_declared(code, &*world, stack, local, others, given, task),
+        Some(node) => test_next(
+            alloc,
+            code,
+            world,
+            stack,
+            TestFrame::Initial(local, others),
+            node,
+            task,
+        ),
+    }
+}
+
+/// A local without an initial value is declared; the other declarators come next.
+#[tactic(auto, unfolding(kr_mean::specs::Steps::bind))]
+fn next_declared(
+    code: &Code,
+    world: &World,
+    stack: &Stack,
+    local: u32,
+    others: Nodes,
+    given: Value,
+    task: &mut Task,
+) -> Result<(), Halt>
+    ensures { Leads code.now (next_task result task.new) stack.now world.now world.now (λ d x. out_flow code.now d stack.now (tested code.now d (tests.Declared local None others) given (state_at world.now x))) }
+{
+    *task = Task::Declare(others);
+    Ok(())
+}
+
+/// A unit, a new local, its initial value, and then the other declarators.
+fn declare_local(
+    alloc: Global,
+    code: &Code,
+    world: &mut World,
+    stack: &mut Stack,
+    declarator: Declarator,
+    others: Nodes,
+    task: &mut Task,
+) -> Result<(), Halt>
+    ensures { Leads code.now (next_task result task.new) stack.new world.new world.old (λ d x. out_flow code.now d stack.old (bind (declared d (Some declarator)) (λ u. all_declared code.now d (listed code.now others)) (state_at world.old x))) }
+{
+    match add_local(world, declarator.default) {
+        Err(halt) => Err(halt),
+        Ok(given) => begin_local(
+            alloc,
+            code,
+            world,
+            stack,
+            declarator.local,
+            declarator.initial,
+            others,
+            given,
+            task,
+        ),
+    }
+}
+
 /// Declarators, one after another.
 #[tactic(auto, unfolding(kr_mean::specs::Steps::bind))]
 pub fn declare(
+    alloc: Global,
     code: &Code,
-    world: &World,
+    world: &mut World,
     stack: &mut Stack,
     nodes: Nodes,
     task: &mut Task,
 ) -> Result<(), Halt>
-    ensures { Leads code.now (next_task result task.new) stack.new world.now world.now (λ d x. out_flow code.now d stack.old (all_declared code.now d (listed code.now nodes) (state_at world.now x))) }
+    ensures { Leads code.now (next_task result task.new) stack.new world.new world.old (λ d x. out_flow code.now d stack.old (all_declared code.now d (listed code.now nodes) (state_at world.old x))) }
 {
     match code.split(nodes) {
         None => {
@@ -119,15 +195,8 @@ pub fn declare(
             Ok(())
         }
         Some((node, others)) => match code.declarator(node) {
-            None => stop(code, world, stack, task),
-            Some(declarator) => {
-                test(
-                    stack,
-                    TestFrame::Declared(declarator.local, declarator.initial, others),
-                )?;
-                *task = Task::Act(Action::Declare(declarator.default));
-                Ok(())
-            }
+            None => stop(code, &*world, stack, task),
+            Some(declarator) => declare_local(alloc, code, world, stack, declarator, others, task),
         },
     }
 }

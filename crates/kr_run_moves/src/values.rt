@@ -5,6 +5,8 @@ ghost use Rattle.kr_mean.specs.Operators.{gives_old as gives_old_step};
 ghost use Rattle.kr_mean.specs.Operators.{operated as operated_step, operated_alone as alone_step};
 ghost use Rattle.kr_mean.specs.Steps.{Stuck, bind, give, say, stop as stop_step};
 ghost use Rattle.kr_code.specs.Steps.{load_named};
+ghost use Rattle.kr_code.specs.Doing.{all_declared};
+ghost use Rattle.kr_code.specs.Tables.{listed};
 ghost use Rattle.kr_mean.specs.Steps.{element as element_step};
 ghost use Rattle.kr_run_frames.specs.declared.frame.WriteFrame.TheVariants as writes;
 ghost use Rattle.kr_run_frames.specs.declared.frame.TestFrame.TheVariants as tests;
@@ -20,7 +22,7 @@ use kr_run_frames::{
     Flow, FlowFrame, Goal, Loop, Stack, Task, TestFrame, ValueFrame, Waiting, WriteFrame,
 };
 use kr_run_known::at_once;
-use kr_run_state::{Action, Cell, End, Halt, World, operated, operated_alone};
+use kr_run_state::{Action, Cell, End, Halt, World, act, operated, operated_alone};
 use kr_value::Value;
 use std::alloc::Global;
 
@@ -152,9 +154,65 @@ pub(crate) fn feed_test(
     }
 }
 
+/// No declarators are left.
+#[inline(always)]
+fn declare_none(
+    code: &Code,
+    world: &World,
+    stack: &Stack,
+    others: Nodes,
+    task: &mut Task,
+) -> Result<(), Halt>
+    requires { others.count ≡ 0 }
+    ensures { Leads code.now (next_task result task.new) stack.now world.now world.now (λ d x. out_flow code.now d stack.now (all_declared code.now d (listed code.now others) (state_at world.now x))) }
+{
+    *task = Task::Led(Flow::Next);
+    Ok(())
+}
+
+/// The other declarators come next, if there are any.
+#[inline(always)]
+fn declare_rest(
+    code: &Code,
+    world: &World,
+    stack: &Stack,
+    others: Nodes,
+    task: &mut Task,
+) -> Result<(), Halt>
+    ensures { Leads code.now (next_task result task.new) stack.now world.now world.now (λ d x. out_flow code.now d stack.now (all_declared code.now d (listed code.now others) (state_at world.now x))) }
+{
+    if others.count == 0 {
+        return declare_none(code, world, stack, others, task);
+    }
+    *task = Task::Declare(others);
+    Ok(())
+}
+
+/// A local gets its initial value, and the other declarators come next.
+#[inline(always)]
+fn take_initial(
+    alloc: Global,
+    code: &Code,
+    world: &mut World,
+    stack: &Stack,
+    local: u32,
+    others: Nodes,
+    given: Value,
+    task: &mut Task,
+) -> Result<(), Halt>
+    ensures { Leads code.now (next_task result task.new) stack.now world.new world.old (λ d x. out_flow code.now d stack.now (tested code.now d (tests.Initial local others) given (state_at world.old x))) }
+{
+    let action = Action::Write(Cell::Local(local), given, given);
+    match act(alloc, code, action, world) {
+        Ok(_) => declare_rest(code, &*world, stack, others, task),
+        Err(halt) => Err(halt),
+    }
+}
+
 /// A value comes to the topmost frame, where that is an operator or a test; else it comes next.
 #[tactic(auto, unfolding(kr_mean::specs::Steps::bind))]
 pub fn feed(
+    alloc: Global,
     code: &Code,
     world: &mut World,
     stack: &mut Stack,
@@ -175,6 +233,10 @@ pub fn feed(
         Waiting::Value(ValueFrame::Left(operator, right)) => {
             stack.drop_top();
             return take_left(code, world, stack, operator, right, given, task);
+        }
+        Waiting::Test(TestFrame::Initial(local, others)) => {
+            stack.drop_top();
+            return take_initial(alloc, code, world, stack, local, others, given, task);
         }
         Waiting::Test(frame) => {
             stack.drop_top();

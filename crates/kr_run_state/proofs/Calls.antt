@@ -13,7 +13,7 @@ use Rattle.kr_mean.specs.Steps.{Stop, Trapped, Stuck, State, Outcome, collect, c
 use Rattle.kr_run_state.specs.declared.world.World.{World}
 use Rattle.kr_run_state.specs.declared.world.End.TheVariants as ends
 use Rattle.kr_run_state.specs.declared.world.Halt.{Halt}
-use Rattle.kr_run_state.specs.declared.world.Halt.TheVariants.{Ended, Memory, Written}
+use Rattle.kr_run_state.specs.declared.world.Halt.TheVariants.{Ended, Memory}
 use Rattle.kr_run_state.specs.Collecting.{Collects}
 use Rattle.kr_run_state.specs.Noting.{noting}
 use Rattle.kr_run_state.specs.Worlds.{Others, Agrees, Allows, Keeps, state_at, state_of, candidates_of}
@@ -46,28 +46,30 @@ collects_at r c c' n args args' old old' new class arguments members h =
 pub collects_made : (r : Result Value Halt) (w : World) (n : List ℕ) (o k : ℕ) (args new : List Value) → o ≡ length w.candidates + k → Collects r (object_in w.made k).values new (collected (object_in w.made k).class n args (object_in w.made k).values)
     → Agrees r (record w { made = with_values w.made k new }) w (λ x. collect n (Reference o) args (state_at w x))
 collects_made (Ok v) w n o k args new e h = λ x a. (
-  record { allowed = a; frozen = λ e. e; frozen_before = λ e. e; same = λ e. refl },
+  record { allowed = a; frozen_before = λ e. e; same = λ e. refl; long = refl },
   ap (λ (q : Outcome Value). noting w.reads q) (called n o args (object_in w.made k) (Ok v) new (state_at w x) (object_made w.is_frozen w.candidates w.reads w.made x o k a e) h)
       ∙ ap (λ (heap : Heap). record { said = Ok v; after = record (state_at w x) { heap = heap }; reads = w.reads }) (sym (values_made w.is_frozen w.candidates w.reads w.made x o k new a e)),
 )
 collects_made (Err (Ended (ends.Trapped kind))) w n o k args new e h = λ x a. (
-  record { allowed = a; frozen = λ e. e; frozen_before = λ e. e; same = λ e. refl },
+  record { allowed = a; frozen_before = λ e. e; same = λ e. refl; long = refl },
   ap (λ (q : Outcome Value). noting w.reads q) (called n o args (object_in w.made k) (Err kind) new (state_at w x) (object_made w.is_frozen w.candidates w.reads w.made x o k a e) h)
       ∙ ap (λ (heap : Heap). record { said = collected_said (Err kind); after = record (state_at w x) { heap = heap }; reads = w.reads }) (sym (values_made w.is_frozen w.candidates w.reads w.made x o k new a e)),
 )
 collects_made (Err (Ended ends.Stuck)) w n o k args new e h = λ x a. (
-  record { allowed = a; frozen = λ e. e; frozen_before = λ e. e; same = λ e. refl },
+  record { allowed = a; frozen_before = λ e. e; same = λ e. refl; long = refl },
   ap (λ (q : Outcome Value). noting w.reads q) (missed n o args (object_in w.made k) (state_at w x) (object_made w.is_frozen w.candidates w.reads w.made x o k a e) h.0
       ∙ ap (λ (made : Heap). collect_as None o (record (state_at w x) { heap = candidates_of w.candidates x ++ made })) (sym (same_values w.made k new h.1))),
 )
 collects_made (Err (Ended ends.OutOfFuel)) w n o k args new e h = absurd h
 collects_made (Err (Memory why)) w n o k args new e h = tt
-collects_made (Err Written) w n o k args new e h = absurd h
 
--- a candidate that may be written has other members
-module _ (w : World) (n : List ℕ) (o : ℕ) (args new : List Value) (free : w.is_frozen ≡ false) (lt : o < length w.candidates) where
+-- a candidate, which is thawed, has other members
+module _ (w : World) (n : List ℕ) (o : ℕ) (args new : List Value) (lt : o < length w.candidates) where
   changed : World
-  changed = record w { candidates = with_values w.candidates o new }
+  changed = record w { candidates = with_values w.candidates o new; is_frozen = false }
+
+  long : length (with_values w.candidates o new) ≡ length w.candidates
+  long = length-set w.candidates o (record { class = (object_in w.candidates o).class; values = new })
 
   there : object_in (w.candidates ++ w.made) o ≡ object_in w.candidates o
   there = get_or_append_left w.candidates w.made no_object o lt
@@ -79,7 +81,7 @@ module _ (w : World) (n : List ℕ) (o : ℕ) (args new : List Value) (free : w.
   unfolding changed told
   after said =
       ap (λ (h : Heap). record { said = said; after = record (state_of w) { heap = h }; reads = w.reads }) (sym (values_candidate w.is_frozen w.candidates w.made o new lt))
-      ∙ ap (λ (k : ℕ). record { said = said; after = record (state_of w) { heap = with_values w.candidates o new ++ w.made; candidates = k }; reads = w.reads }) (sym (length-set w.candidates o (record { class = (object_in w.candidates o).class; values = new })))
+      ∙ ap (λ (k : ℕ). record { said = said; after = record (state_of w) { heap = with_values w.candidates o new ++ w.made; candidates = k }; reads = w.reads }) (sym long)
 
   gives_candidate : (said : Result Value Kind) → collected (object_in w.candidates o).class n args (object_in w.candidates o).values ≡ Some (record { given = said; members = new })
       → noting w.reads (collect n (Reference o) args (state_of w)) ≡ record { said = collected_said said; after = state_of changed; reads = w.reads }
@@ -97,15 +99,14 @@ module _ (w : World) (n : List ℕ) (o : ℕ) (args new : List Value) (free : w.
   own_only : (said : Result Value Stop) → noting w.reads (collect n (Reference o) args (state_of w)) ≡ record { said = said; after = state_of changed; reads = w.reads }
       → (x : Others) → Allows changed x → Keeps w changed x × (noting w.reads (collect n (Reference o) args (state_at w x)) ≡ record { said = said; after = state_at changed x; reads = w.reads })
   unfolding changed
-  own_only said h None a = (record { allowed = tt; frozen = λ e. e; frozen_before = λ e. e; same = λ e. absurd (cc (e, free)) }, h)
-  own_only said h (Some others) a = absurd (cc (free, a.unwritten))
+  own_only said h None a = (record { allowed = tt; frozen_before = λ e. absurd (cc (e)); same = λ e. absurd (cc (e)); long = long }, h)
+  own_only said h (Some others) a = absurd (cc (a.unwritten))
 
   pub collects_candidate : (r : Result Value Halt) → Collects r (object_in w.candidates o).values new (collected (object_in w.candidates o).class n args (object_in w.candidates o).values)
-      → Agrees r (record w { candidates = with_values w.candidates o new }) w (λ x. collect n (Reference o) args (state_at w x))
+      → Agrees r (record w { candidates = with_values w.candidates o new; is_frozen = false }) w (λ x. collect n (Reference o) args (state_at w x))
   unfolding changed
   collects_candidate (Ok v) h = own_only (Ok v) (gives_candidate (Ok v) h)
   collects_candidate (Err (Ended (ends.Trapped kind))) h = own_only (Err (Trapped kind)) (gives_candidate (Err kind) h)
   collects_candidate (Err (Ended ends.Stuck)) h = own_only (Err Stuck) (misses_candidate h.0 h.1)
   collects_candidate (Err (Ended ends.OutOfFuel)) h = absurd h
   collects_candidate (Err (Memory why)) h = tt
-  collects_candidate (Err Written) h = absurd h

@@ -17,10 +17,10 @@ use Rattle.kr_heap.specs.Objects.{found, with_value, with_values}
 use Rattle.kr_mean.specs.Places.{SlotPlace, At}
 use Rattle.kr_mean.specs.Runs.{is_same_place, is_same_spot}
 use Rattle.kr_run_state.specs.Noting.{is_read, with_read, noted_once, noting}
-use Rattle.kr_run_state.specs.Worlds.{Others, AreLike, candidates_of, is_fixed, IsArray, Allows, Agrees, Keeps, HasFrozen}
+use Rattle.kr_run_state.specs.Worlds.{Others, AreLike, candidates_of, is_fixed, IsArray, Allows, Agrees, Keeps}
 use Rattle.kr_run_state.specs.declared.world.World.{World}
 use Rattle.kr_run_state.specs.declared.world.Halt.{Halt}
-use Rattle.kr_run_state.specs.declared.world.Halt.TheVariants.{Ended, Memory, Written}
+use Rattle.kr_run_state.specs.declared.world.Halt.TheVariants.{Ended, Memory}
 
 -- ---- what was read
 
@@ -295,36 +295,51 @@ module _ (frozen : Bool) (own : Heap) where
 
   -- ---- writing candidates
 
-  -- another value in a candidate, where that is written
-  pub puts_candidate : (seen : List SlotPlace) (new made : Heap) (x : Others) (o at : ℕ) (v : Value) (s : State) → frozen ≡ false → new ≡ with_value own o at v → o < length own → AreLike frozen seen new x
+  pub put_long : (o at : ℕ) (v : Value) → length (with_value own o at v) ≡ length own
+  put_long o at v = length-set own o (record { class = (object_in own o).class; values = slice_set (object_in own o).values at v })
+
+  -- another value in a candidate, which is thawed
+  pub puts_candidate : (seen : List SlotPlace) (new made : Heap) (x : Others) (o at : ℕ) (v : Value) (s : State) → new ≡ with_value own o at v → o < length own → AreLike false seen new x
       → AreLike frozen seen own x × (record s { heap = with_value (candidates_of own x ++ made) o at v; candidates = length own } ≡ record s { heap = candidates_of new x ++ made; candidates = length new })
-  puts_candidate seen new made None o at v s free is lt a = (
+  puts_candidate seen new made None o at v s is lt a = (
     tt,
     ap (λ (h : Heap). record s { heap = h; candidates = length own }) (sym (value_candidate made o at v lt) ∙ ap (λ (h : Heap). h ++ made) (sym is))
-        ∙ ap (λ (n : ℕ). record s { heap = new ++ made; candidates = n }) (sym (ap length is ∙ length-set own o (record { class = (object_in own o).class; values = slice_set (object_in own o).values at v }))),
+        ∙ ap (λ (n : ℕ). record s { heap = new ++ made; candidates = n }) (sym (ap length is ∙ put_long o at v)),
   )
-  puts_candidate seen new made (Some others) o at v s free is lt a = absurd (cc (free, a.unwritten))
+  puts_candidate seen new made (Some others) o at v s is lt a = absurd (cc (a.unwritten))
+
+  -- what is allowed once candidates may be thawed
+  pub allowed_frozen : (still : Bool) (seen : List SlotPlace) (x : Others) → (still ≡ true → frozen ≡ true) → AreLike still seen own x → AreLike frozen seen own x
+  allowed_frozen still seen None f a = tt
+  allowed_frozen still seen (Some others) f a = record { unwritten = f a.unwritten; long = a.long; each = a.each }
 
 pub kept_same : (w : World) (x : Others) → Allows w x → Keeps w w x
-kept_same w x a = record { allowed = a; frozen = λ e. e; frozen_before = λ e. e; same = λ e. refl }
+kept_same w x a = record { allowed = a; frozen_before = λ e. e; same = λ e. refl; long = refl }
 
 pub kept_then : (before middle w : World) (x : Others) → Keeps before middle x → Keeps middle w x → Keeps before w x
 kept_then before middle w x k l = record {
   allowed = k.allowed;
-  frozen = λ e. l.frozen (k.frozen e);
   frozen_before = λ e. k.frozen_before (l.frozen_before e);
-  same = λ e. l.same (k.frozen e) ∙ k.same e;
+  same = λ e. l.same e ∙ k.same (l.frozen_before e);
+  long = l.long ∙ k.long;
 }
-
--- candidates that must not be written were there before
-pub frozen_then : (before middle : World) → Keeps before middle None → HasFrozen middle → HasFrozen before
-frozen_then before middle k f =
-    let frozen = k.frozen_before f.frozen in
-    record { frozen = frozen; some = subst (λ (own : Heap). 0 < length own) (k.same frozen) f.some }
 
 -- the same by another way, where that is allowed
 pub agrees_same : {A : Type 0} (r : Result A Halt) (w before : World) (o o' : Others → Outcome A) → ((x : Others) → Allows before x → o x ≡ o' x) → Agrees r w before o' → Agrees r w before o
 agrees_same {A} (Ok v) w before o o' e h = λ x a. let r = h x a in (r.0, ap (λ (q : Outcome A). noting before.reads q) (e x r.0.allowed) ∙ r.1)
 agrees_same {A} (Err (Ended end)) w before o o' e h = λ x a. let r = h x a in (r.0, ap (λ (q : Outcome A). noting before.reads q) (e x r.0.allowed) ∙ r.1)
 agrees_same (Err (Memory why)) w before o o' e h = tt
-agrees_same (Err Written) w before o o' e h = h
+
+-- candidates that may be thawed first
+kept_thawed : (still : Bool) (before w : World) (x : Others) → (still ≡ true → before.is_frozen ≡ true) → Keeps (record before { is_frozen = still }) w x → Keeps before w x
+kept_thawed still before w x f k = record {
+  allowed = allowed_frozen before.is_frozen before.candidates still before.reads x f k.allowed;
+  frozen_before = λ e. f (k.frozen_before e);
+  same = k.same;
+  long = k.long;
+}
+
+pub agrees_thawed : {A : Type 0} (r : Result A Halt) (still : Bool) (w before : World) (o : Others → Outcome A) → (still ≡ true → before.is_frozen ≡ true) → Agrees r w (record before { is_frozen = still }) o → Agrees r w before o
+agrees_thawed (Ok v) still w before o f h = λ x a. (kept_thawed still before w x f (h x a).0, (h x a).1)
+agrees_thawed (Err (Ended end)) still w before o f h = λ x a. (kept_thawed still before w x f (h x a).0, (h x a).1)
+agrees_thawed (Err (Memory why)) still w before o f h = tt

@@ -9,7 +9,7 @@ use Rattle.kr_mean.specs.Places.{SlotPlace, At}
 use Rattle.kr_mean.specs.Steps.{State, Outcome}
 use Rattle.kr_run_state.specs.declared.world.World.{World}
 use Rattle.kr_run_state.specs.declared.world.Halt.{Halt}
-use Rattle.kr_run_state.specs.declared.world.Halt.TheVariants.{Ended, Memory, Written}
+use Rattle.kr_run_state.specs.declared.world.Halt.TheVariants.{Ended, Memory}
 use Rattle.kr_run_state.specs.Noting.{noting, is_read}
 use Rattle.kr_run_state.specs.Shown.{local_of, old_of, stop_of}
 
@@ -36,7 +36,7 @@ pub record StandsFor (seen : List SlotPlace) (o : ℕ) (own other : HeapObject) 
   pub fields : (spot : Spot) → is_fixed spot ≡ true → has_spot other spot ≡ has_spot own spot
   pub told : (spot : Spot) → is_read (At o spot) seen ≡ true → has_spot own spot ≡ true → has_spot other spot ≡ true → value_of_spot other spot ≡ value_of_spot own spot
 
--- As many candidates, each in the place of one, where a run writes none.
+-- As many candidates, each in the place of one, where a run has written none.
 pub record StandFor (frozen : Bool) (seen : List SlotPlace) (own others : Heap) : Type 0 where
   pub unwritten : frozen ≡ true
   pub long : length others ≡ length own
@@ -67,31 +67,20 @@ state_at w x = record {
 abbrev pub state_of : World → State
 state_of w = state_at w None
 
--- What a step leaves as it was: what other candidates are allowed after it was allowed before; frozen candidates stay.
+-- What a step leaves as it was: what other candidates are allowed after it was allowed before; candidates that are frozen
+-- after it were so before, and are the same; there are as many.
 pub record Keeps (before w : World) (x : Others) : Type 0 where
   pub allowed : Allows before x
-  pub frozen : before.is_frozen ≡ true → w.is_frozen ≡ true
   pub frozen_before : w.is_frozen ≡ true → before.is_frozen ≡ true
-  pub same : before.is_frozen ≡ true → w.candidates ≡ before.candidates
-
--- It has candidates, and they aren't written.
-pub record HasFrozen (w : World) : Type 0 where
-  pub frozen : w.is_frozen ≡ true
-  pub some : 0 < length w.candidates
+  pub same : w.is_frozen ≡ true → w.candidates ≡ before.candidates
+  pub long : length w.candidates ≡ length before.candidates
 
 -- The answer, the world and its reads are the outcome's, after what was read before: with all candidates that what was read
--- until then allows. Where memory ran out nothing is said. That a candidate would have been written that must not be is
--- answered only where there are such.
+-- until then allows. Where memory ran out nothing is said.
 abbrev pub Agrees : {A : Type 0} → Result A Halt → World → World → (Others → Outcome A) → Type 0
 Agrees (Ok a) w before o = (x : Others) → Allows w x → Keeps before w x × (noting before.reads (o x) ≡ record { said = Ok a; after = state_at w x; reads = w.reads })
 Agrees (Err (Ended e)) w before o = (x : Others) → Allows w x → Keeps before w x × (noting before.reads (o x) ≡ record { said = Err (stop_of e); after = state_at w x; reads = w.reads })
 Agrees (Err (Memory why)) w before o = Unit {0}
-Agrees (Err Written) w before o = HasFrozen before
-
--- whether an object is a candidate that must not be written
-abbrev pub IsKept : World → ℕ → Bool → Type 0
-IsKept w o true = (w.is_frozen ≡ true) × (o < length w.candidates)
-IsKept w o false = o < length w.candidates → w.is_frozen ≡ false
 
 abbrev pub IsArray : Class → Type 0
 IsArray (Array t) = Unit {0}

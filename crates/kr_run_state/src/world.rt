@@ -17,12 +17,11 @@ pub enum End {
     Stuck,
 }
 
-/// Why a machine doesn't go on: the run has ended, memory ran out, or a candidate would have been written that must not be.
+/// Why a machine doesn't go on: the run has ended, or memory ran out.
 #[derive(Clone, Copy)]
 pub enum Halt {
     Ended(End),
     Memory(NoMemory),
-    Written,
 }
 
 impl From<NoMemory> for Halt {
@@ -33,15 +32,14 @@ impl From<NoMemory> for Halt {
     }
 }
 
-/// How a run has ended; none where a candidate would have been written that must not be.
-pub fn ended<T: Copy>(answer: Result<T, Halt>) -> Result<Option<Result<T, End>>, NoMemory>
+/// How a run has ended.
+pub fn ended<T: Copy>(answer: Result<T, Halt>) -> Result<Result<T, End>, NoMemory>
     ensures { IsEnd answer result }
 {
     match answer {
-        Ok(value) => Ok(Some(Ok(value))),
-        Err(Halt::Ended(end)) => Ok(Some(Err(end))),
+        Ok(value) => Ok(Ok(value)),
+        Err(Halt::Ended(end)) => Ok(Err(end)),
         Err(Halt::Memory(why)) => Err(why),
-        Err(Halt::Written) => Ok(None),
     }
 }
 
@@ -60,7 +58,7 @@ pub struct Old {
 }
 
 /// The state of a run, and what was read. The heap's objects are the candidates, and behind them those that the run has made;
-/// frozen candidates aren't written.
+/// candidates are frozen until one is written, which thaws them.
 #[derive(Drop)]
 pub struct World {
     pub this: Value,

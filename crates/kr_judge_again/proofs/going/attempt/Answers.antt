@@ -1,4 +1,4 @@
-use Rattle.std.proofs.Common.{[], ◌∷◌, Bool, List, Ok, Result, Some, sym, subst}
+use Rattle.std.proofs.Common.{[], ◌∷◌, List, sym, subst}
 use Rattle.std.specs.Prelude.{IfSome, Option, map}
 use Rattle.std.specs.List.{All}
 use Rattle.kr_mean.specs.Code.{Node}
@@ -6,8 +6,6 @@ use Rattle.kr_mean.specs.Places.{This}
 use Rattle.kr_mean.specs.Runs.{conditions, end_on, hold_all, start}
 use Rattle.kr_mean.specs.Steps.{State}
 use Rattle.kr_space_layout.specs.Bounds.{bare, problem_with}
-use Rattle.kr_run_state.specs.Ends.{IsEnd}
-use Rattle.kr_run_state.specs.declared.world.End.{End}
 use Rattle.kr_judge.specs.Judged.{MeansAs}
 use Rattle.kr_judge.proofs.Ends.{ran}
 use Rattle.kr_judge.proofs.Holding.{means}
@@ -20,20 +18,19 @@ use Rattle.kr_judge_again.specs.Kept.{Kept, Shares}
 use Rattle.kr_judge_again.proofs.Told.{ends_as, gone_told, is_run_to, share_still}
 use Rattle.kr_judge_again.proofs.going.attempt.Goals as goal
 
-pub returns-in-Ok-Some-clause-ends : goal.returns-in-Ok-Some-clause-ends
+pub returns-clause-ends : goal.returns-clause-ends
 unfolding end_on
-returns-in-Ok-Some-clause-ends c = λ program n p.
+returns-clause-ends c = λ program n p.
     let b = c.args.layout.now in
     let v = c.args.vector.now in
     let code = c.args.predicate.now.code in
     let is = c.args.predicate.now.conditions.items in
     let w = c.go_on-answer.new.world in
     let answer = c.go_on-answer.result in
-    let said : IsEnd answer (Ok (Some c.in-Ok-Some.end)) = subst (λ (found : Option (Result Bool End)). IsEnd answer (Ok found)) c.in-Ok-Some.field-0-is c.in-Ok-Some.ensures in
     let begun = means code answer w (This ∷ []) is (start (bare b) v) c.go_on-answer.ensures.means program n p.code in
     let same = subst (λ (s : State). MeansAs answer w (This ∷ []) (hold_all program (map n.origin is) s)) (start_same program b v) begun in
     let whole = subst (λ (es : List Node). MeansAs answer w (This ∷ []) (hold_all program es (start (problem_with program b) v))) p.conditions same in
-    let r = ran answer c.in-Ok-Some.end w (hold_all program (conditions (problem_with program b)) (start (problem_with program b) v)) said whole in
+    let r = ran answer c.in_ok-end.end w (hold_all program (conditions (problem_with program b)) (start (problem_with program b) v)) c.in_ok-end.ensures whole in
     (r.0, r.1)
 
 pub stand-requires-clause-kept : goal.stand-requires-clause-kept
@@ -55,8 +52,8 @@ stand-requires-clause-shared c =
     subst (All (Shares b p v c.foretell.new.world.reads)) (sym c.in_ok-went.ensures.same)
     (share_still b p v c.settle.new.checks c.args.world.now.reads c.foretell.new.world.reads s.kept s.with_reads c.in_ok-went.ensures.reads)
 
-pub returns-in-Some-2-clause-ends : goal.returns-in-Some-2-clause-ends
-returns-in-Some-2-clause-ends c =
+pub returns-in-Some-clause-ends : goal.returns-in-Some-clause-ends
+returns-in-Some-clause-ends c =
     let b = c.args.layout.now in
     let p = c.args.predicate.now in
     let v = c.args.vector.now in
@@ -65,11 +62,11 @@ returns-in-Some-2-clause-ends c =
     let after = c.foretell.new.world in
     let s = settled b p c.args.known.now v c.requires.well c.requires.vector c.args.is_known c.args.fresh c.args.accesses.now c.args.checks.now c.settle.new.checks c.args.world.now c.requires.follow
     c.requires.last c.requires.alike c.settle.ensures.front c.settle.ensures.known c.settle.ensures.fresh c.settle.ensures.held in
-    let told = subst (λ (found : Option Went). IfSome found (λ went. IsForetold p checks before after went)) c.in-Some-2.is c.in_ok-went.ensures.foretold in
-    is_run_to b p v c.in-Some-2.went.end after.reads (ends_as b p v checks before after c.in-Some-2.went c.requires.vector c.in_ok-refresh.ensures.heap s.kept s.with_reads told)
+    let told = subst (λ (found : Option Went). IfSome found (λ went. IsForetold p checks before after went)) c.in-Some.is c.in_ok-went.ensures.foretold in
+    is_run_to b p v c.in-Some.went.end after.reads (ends_as b p v checks before after c.in-Some.went c.requires.vector c.in_ok-refresh.ensures.heap s.kept s.with_reads told)
 
-pub returns-in-Some-2-clause-went : goal.returns-in-Some-2-clause-went
-returns-in-Some-2-clause-went c =
+pub returns-in-Some-clause-went : goal.returns-in-Some-clause-went
+returns-in-Some-clause-went c =
     let b = c.args.layout.now in
     let p = c.args.predicate.now in
     let v = c.args.vector.now in
@@ -78,25 +75,24 @@ returns-in-Some-2-clause-went c =
     let after = c.foretell.new.world in
     let s = settled b p c.args.known.now v c.requires.well c.requires.vector c.args.is_known c.args.fresh c.args.accesses.now c.args.checks.now c.settle.new.checks c.args.world.now c.requires.follow
     c.requires.last c.requires.alike c.settle.ensures.front c.settle.ensures.known c.settle.ensures.fresh c.settle.ensures.held in
-    let told = subst (λ (found : Option Went). IfSome found (λ went. IsForetold p checks before after went)) c.in-Some-2.is c.in_ok-went.ensures.foretold in
-    gone_told b p v checks c.foretell.new.checks before after c.in-Some-2.went c.refresh.new.known c.args.accesses.now c.requires.vector c.in_ok-refresh.ensures.built c.in_ok-refresh.ensures.heap c.in_ok-went.ensures.candidates c.in_ok-went.ensures.same s told
+    let told = subst (λ (found : Option Went). IfSome found (λ went. IsForetold p checks before after went)) c.in-Some.is c.in_ok-went.ensures.foretold in
+    gone_told b p v checks c.foretell.new.checks before after c.in-Some.went c.refresh.new.known c.args.accesses.now c.requires.vector c.in_ok-refresh.ensures.built c.in_ok-refresh.ensures.heap c.in_ok-went.ensures.candidates c.in_ok-went.ensures.same s told
 
-pub returns-in-Ok-Some-clause-went : goal.returns-in-Ok-Some-clause-went
-returns-in-Ok-Some-clause-went c =
+pub returns-clause-went : goal.returns-clause-went
+returns-clause-went c =
     let b = c.args.layout.now in
     let p = c.args.predicate.now in
     let v = c.args.vector.now in
     let answer = c.go_on-answer.result in
-    let said : IsEnd answer (Ok (Some c.in-Ok-Some.end)) = subst (λ (found : Option (Result Bool End)). IsEnd answer (Ok found)) c.in-Ok-Some.field-0-is c.in-Ok-Some.ensures in
     let w = c.go_on-answer.new.world in
     let s = settled b p c.args.known.now v c.requires.well c.requires.vector c.args.is_known c.args.fresh c.args.accesses.now c.args.checks.now c.settle.new.checks c.args.world.now c.requires.follow
     c.requires.last c.requires.alike c.settle.ensures.front c.settle.ensures.known c.settle.ensures.fresh c.settle.ensures.held in
     let places = map place_in c.args.accesses.now.places.items in
     record {
       known_is = c.in_ok-refresh.ensures.built;
-      heap = stays_same b p v c.requires.vector answer c.in-Ok-Some.end w said c.go_on-answer.ensures.stays;
+      heap = c.in_ok-restore.ensures;
       kept = c.go_on-answer.ensures.kept;
-      reads = reads_of b p v c.requires.vector answer c.in-Ok-Some.end w said c.go_on-answer.ensures.means;
+      reads = reads_of b p v answer c.in_ok-end.end w c.in_ok-end.ensures c.go_on-answer.ensures.means;
       shared = c.in_ok-start.ensures.shared places (subst (All (Shares b p v places)) (sym c.in_ok-went.ensures.same) s.with_places);
     }
 
@@ -108,3 +104,7 @@ go_on-answer-requires-clause-kept c =
     let s = settled b p c.args.known.now v c.requires.well c.requires.vector c.args.is_known c.args.fresh c.args.accesses.now c.args.checks.now c.settle.new.checks c.args.world.now c.requires.follow
     c.requires.last c.requires.alike c.settle.ensures.front c.settle.ensures.known c.settle.ensures.fresh c.settle.ensures.held in
     subst (All (Kept b p v)) (sym c.in_ok-went.ensures.same) s.kept
+
+pub restore-requires-clause-unwritten : goal.restore-requires-clause-unwritten
+restore-requires-clause-unwritten c =
+    stays_same c.args.layout.now c.args.predicate.now c.args.vector.now c.go_on-answer.result c.in_ok-end.end c.go_on-answer.new.world c.in_ok-end.ensures c.go_on-answer.ensures.stays

@@ -10,7 +10,7 @@ returns c =
     let v = c.args.vector.now in
     record {
       kept = all_added (Kept b p v) (IsCheckOf c.args.condition c.in-Some.action c.args.stack.now c.args.world.now)
-          (λ x k. check_kept b p v x c.args.condition c.in-Some.action c.args.stack.now c.args.task.now c.args.world.now c.requires.vector c.requires.goes_on c.in-Some.ensures k)
+          (λ x k. check_kept b p v x c.args.condition c.in-Some.action c.args.stack.now c.args.task.now c.args.world.now c.in-Some.ensures.frozen c.requires.goes_on c.in-Some.ensures.before k)
           c.args.checks.now c.keep.new.self c.in_ok-keep.ensures c.requires.kept;
     }
 
@@ -21,6 +21,6 @@ returns-in_err-keep c =
     let v = c.args.vector.now in
     record {
       kept = all_added (Kept b p v) (IsCheckOf c.args.condition c.in-Some.action c.args.stack.now c.args.world.now)
-          (λ x k. check_kept b p v x c.args.condition c.in-Some.action c.args.stack.now c.args.task.now c.args.world.now c.requires.vector c.requires.goes_on c.in-Some.ensures k)
+          (λ x k. check_kept b p v x c.args.condition c.in-Some.action c.args.stack.now c.args.task.now c.args.world.now c.in-Some.ensures.frozen c.requires.goes_on c.in-Some.ensures.before k)
           c.args.checks.now c.keep.new.self c.in_err-keep.ensures c.requires.kept;
     }

@@ -31,7 +31,7 @@ returns-in_err-any g c =
     let ps = flat_map f (take k xs) in
     let rest = flat_map f (drop (k + 1) xs) in
     let P : Option Spot → Type 0 = λ spot. Stopped g.K.Sink.taken g.K.Sink.faults c.loop-entry.out c.put_spot.new.out (separated (codes ",") c.loop-entry.any (part_named b names (get_or xs k d).1 spot)) in
-    let owned : is_owner o (slot_at b s).owner ≡ true = c.stretch_of-stretch.ensures s true (subst (IsWithin c.stretch_of-stretch.result s) c.if-is_within.true c.is_within.ensures) in
+    let owned : is_owner o (slot_at b s).owner ≡ true = c.stretch_of-stretch.ensures.are s true c.is_within.ensures.small (subst (IsWithin c.stretch_of-stretch.result s) c.if-is_within.true c.is_within.ensures.within) in
     let spot : c.spot_at-spot.result ≡ spot_of b o s = c.spot_at-spot.ensures ∙ sym (ap (λ (x : Bool). if x then spot_in (slot_at b s).place else None) owned) in
     writes_exit c.from_residual.result c.from_residual.ensures.0
     (stopped_early (separated (codes ",") (are_any (ps ++ f (get_or xs k d))) rest)
@@ -56,7 +56,7 @@ loop-entry-preserved g c =
       | then-is_within+in_ok-any w ↦
           let P : Option Spot → Type 0 = λ spot. Added g.K.Sink.taken g.K.Sink.faults c.loop-entry.out w.put_spot.new.out (separated (codes ",") c.loop-entry.any (part_named b names v spot)) in
           let Q : Option Spot → Type 0 = λ spot. w.in_ok-any.any ≡ (c.loop-entry.any || are_any (part_named b names v spot)) in
-          let owned : is_owner o (slot_at b s).owner ≡ true = c.stretch_of-stretch.ensures s true (subst (IsWithin c.stretch_of-stretch.result s) w.if-is_within.true c.is_within.ensures) in
+          let owned : is_owner o (slot_at b s).owner ≡ true = c.stretch_of-stretch.ensures.are s true c.is_within.ensures.small (subst (IsWithin c.stretch_of-stretch.result s) w.if-is_within.true c.is_within.ensures.within) in
           let spot : w.spot_at-spot.result ≡ spot_of b o s = w.spot_at-spot.ensures ∙ sym (ap (λ (y : Bool). if y then spot_in (slot_at b s).place else None) owned) in
           rw (w.out-is, w.any-is) (record {
             any = any_grown c.loop-entry.any w.in_ok-any.any ps x c.loop-entry.invariant.any (subst Q spot w.in_ok-any.ensures.any) ∙ ap are_any (sym grown);
@@ -64,7 +64,7 @@ loop-entry-preserved g c =
                 (ap (joined_by (codes ",")) grown ∙ joined_grown (codes ",") c.loop-entry.any ps x c.loop-entry.invariant.any);
           })
       | else-is_within w ↦
-          let apart : is_owner o (slot_at b s).owner ≡ false = c.stretch_of-stretch.ensures s false (subst (IsWithin c.stretch_of-stretch.result s) w.if-is_within.false c.is_within.ensures) in
+          let apart : is_owner o (slot_at b s).owner ≡ false = c.stretch_of-stretch.ensures.are s false c.is_within.ensures.small (subst (IsWithin c.stretch_of-stretch.result s) w.if-is_within.false c.is_within.ensures.within) in
           let none : x ≡ [] = ap (λ (y : Bool). part_named b names v (if y then spot_in (slot_at b s).place else None)) apart in
           let same : flat_map f (take (k + 1) xs) ≡ ps = grown ∙ (ap (λ (t : List (List ℕ)). ps ++ t) none ∙ append-nil ps) in
           rw (w.out-is, w.any-is) (record {

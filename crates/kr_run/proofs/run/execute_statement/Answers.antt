@@ -22,6 +22,6 @@ pub returns-in-Some : goal.returns-in-Some
 returns-in-Some c =
     let code = c.args.code.now in
     let w = c.args.world.now in
-    leads_alike code (next_task c.declare.result c.declare.new.task) c.declare.new.stack w w (λ d x. out_flow code d c.args.stack.now (statement_done code d c.args.statement.now (state_at w x))) (λ d x. out_flow code d c.args.stack.now (all_declared code d (listed code c.in-Some.nodes) (state_at w x)))
+    leads_alike code (next_task c.declare.result c.declare.new.task) c.declare.new.stack c.declare.new.world w (λ d x. out_flow code d c.args.stack.now (statement_done code d c.args.statement.now (state_at w x))) (λ d x. out_flow code d c.args.stack.now (all_declared code d (listed code c.in-Some.nodes) (state_at w x)))
     (λ x d m. ap (λ (t : Statement). out_flow code d c.args.stack.now (statement_done code d t (state_at w x))) c.in-Some.ensures)
     c.declare.ensures

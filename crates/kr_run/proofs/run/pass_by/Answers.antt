@@ -19,7 +19,7 @@ frames-preserved c =
     (on.is ∙ ap (λ (top : Waiting). frame_of top on.values on.locals ∷ on.rest) c.in-Scope.is)
     c.drop_top-in-Scope.ensures
     (λ x a. a)
-    (λ x k. record { allowed = k.allowed; frozen = k.frozen; frozen_before = k.frozen_before; same = k.same })
+    (λ x k. record { allowed = k.allowed; frozen_before = k.frozen_before; same = k.same; long = k.long })
     refl
     (λ x. ap (λ (ls : List Local). record (state_at w x) { locals = map local_of ls }) c.truncate.ensures.items)
     c.frames.invariant

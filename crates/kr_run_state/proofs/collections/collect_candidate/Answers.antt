@@ -8,5 +8,5 @@ pub returns : goal.returns
 returns c =
     let w = c.args.world.now in
     let r = object_in w.candidates c.args.object in
-    collects_candidate w (name_of c.args.call) c.args.object c.args.arguments.now c.call_on.new.members c.if-world.false c.requires c.call_on.result
+    collects_candidate w (name_of c.args.call) c.args.object c.args.arguments.now c.call_on.new.members c.requires c.call_on.result
     (collects_at c.call_on.result c.class_of-class.result r.class (name_of c.args.call) c.args.arguments.now c.args.arguments.now c.members_mut-members.result.now r.values c.call_on.new.members c.class_of-class.ensures refl c.members_mut-members.ensures.members c.call_on.ensures)

@@ -11,7 +11,7 @@ returns-in-None-clause-agrees c = λ x a.
     let w = c.args.world.now in
     let is = c.in_ok-note.ensures.noted in
     let r = misses_candidate w.is_frozen w.candidates w.reads c.note.new.self w.made x c.args.object c.args.index (state_at w x) refl refl is c.requires.candidate c.requires.array (search rules) a in
-    (record { allowed = r.0; frozen = λ e. e; frozen_before = λ e. e; same = λ e. refl }, r.1)
+    (record { allowed = r.0; frozen_before = λ e. e; same = λ e. refl; long = refl }, r.1)
 
 pub returns-in_ok-note-in-Some-read-clause-agrees : goal.returns-in_ok-note-in-Some-read-clause-agrees
 returns-in_ok-note-in-Some-read-clause-agrees c = λ x a.
@@ -19,7 +19,7 @@ returns-in_ok-note-in-Some-read-clause-agrees c = λ x a.
     let first = c.in_ok-note.ensures.noted in
     let then = c.in_ok-note-in-Some-read.ensures.noted in
     let r = reads_candidate w.is_frozen w.candidates w.reads c.note.new.self c.note-in-Some-read.new.self w.made x c.args.object c.in-Some.at c.args.index c.in-Some-read.value (state_at w x) refl refl first then c.requires.candidate c.requires.array (search rules) (sym c.read.ensures ∙ c.in-Some-read.is) a in
-    (record { allowed = r.0; frozen = λ e. e; frozen_before = λ e. e; same = λ e. refl }, r.1)
+    (record { allowed = r.0; frozen_before = λ e. e; same = λ e. refl; long = refl }, r.1)
 
 pub returns-in_ok-note-in-Some-read-clause-only : goal.returns-in_ok-note-in-Some-read-clause-only
 returns-in_ok-note-in-Some-read-clause-only c =

@@ -8,4 +8,4 @@ returns-clause-agrees c = λ x a.
     let w = c.args.world.now in
     let is = c.in_ok-note.ensures.noted in
     let r = loads_candidate w.is_frozen w.candidates w.reads c.note.new.self w.made x c.args.object c.args.spot c.in-Some.value (state_at w x) refl refl is c.requires.candidate c.requires.fixed (sym c.read.ensures ∙ c.in-Some.is) a in
-    (record { allowed = r.0; frozen = λ e. e; frozen_before = λ e. e; same = λ e. refl }, r.1)
+    (record { allowed = r.0; frozen_before = λ e. e; same = λ e. refl; long = refl }, r.1)

@@ -9,4 +9,4 @@ use Rattle.kr_run_state.proofs.names.assign.Goals as goal
 pub returns-then-local-len : goal.returns-then-local-len
 returns-then-local-len c = λ x a.
     let lt : c.args.local < length c.args.world.now.locals.items = search arith in
-    (record { allowed = a; frozen = λ e. e; frozen_before = λ e. e; same = λ e. refl }, ap (λ (o : Outcome Value). noting c.args.world.now.reads o) (assigned (state_at c.args.world.now x) c.args.world.now.locals.items c.args.local c.args.value c.args.given refl lt))
+    (record { allowed = a; frozen_before = λ e. e; same = λ e. refl; long = refl }, ap (λ (o : Outcome Value). noting c.args.world.now.reads o) (assigned (state_at c.args.world.now x) c.args.world.now.locals.items c.args.local c.args.value c.args.given refl lt))

@@ -11,7 +11,7 @@ pub returns-in_ok-note-in-Some : goal.returns-in_ok-note-in-Some
 returns-in_ok-note-in-Some c = λ x a.
     let w = c.args.world.now in
     let is = c.in_ok-note-in-Some.ensures.noted in (
-      record { allowed = allowed_before w.is_frozen w.candidates (Parameter c.in-Some.number) w.reads x (subst (λ (ps : List SlotPlace). AreLike w.is_frozen ps w.candidates x) is a); frozen = λ e. e; frozen_before = λ e. e; same = λ e. refl },
+      record { allowed = allowed_before w.is_frozen w.candidates (Parameter c.in-Some.number) w.reads x (subst (λ (ps : List SlotPlace). AreLike w.is_frozen ps w.candidates x) is a); frozen_before = λ e. e; same = λ e. refl; long = refl },
       ap (λ (k : Option ℕ). noting w.reads (record { said = Ok tt; after = state_at w x; reads = place_reads (option_map (λ i. Parameter i) k) })) c.in-Some.is
           ∙ ap (λ (ps : List SlotPlace). record { said = Ok tt; after = state_at w x; reads = ps }) (sym is),
     )

@@ -5,7 +5,7 @@ use Rattle.kr_mean.specs.WellFormed.{IsWellFormed}
 use Rattle.kr_space_problem.specs.Posed.{posed}
 use Rattle.kr_judge_prepared.proofs.Laid.{space_same, well_formed}
 use Rattle.kr_judge_again.specs.Seen.{IsRunOn, Seen}
-use Rattle.kr_judge_again.proofs.Runs.{ends_as, order_as}
+use Rattle.kr_judge_again.proofs.Runs.{ends_as, order_as, some_condition}
 use Rattle.kr_judge_again.proofs.runner.RunnerCandidates.run.Goals as goal
 
 pub judge-requires-clause-well : goal.judge-requires-clause-well
@@ -22,6 +22,11 @@ pub judge-requires-clause-small : goal.judge-requires-clause-small
 judge-requires-clause-small g c =
     let is = subst (λ (s : Seen). IsRunOn (posed s.problem) s.bounds s.predicate) c.self.view_is c.self.invariant.5 in
     subst (λ (p : Problem). length (slots p) < 2 ^ 31) is.laid (subst (λ (s : Seen). length (slots (posed s.problem)) < 2 ^ 31) c.self.view_is c.laws.ensures.small)
+
+pub judge-requires-clause-some : goal.judge-requires-clause-some
+judge-requires-clause-some g c =
+    let is = subst (λ (s : Seen). IsRunOn (posed s.problem) s.bounds s.predicate) c.self.view_is c.self.invariant.5 in
+    some_condition (posed c.args.self.now.problem) c.args.self.now.predicate is.run
 
 pub returns-clause-ends : goal.returns-clause-ends
 returns-clause-ends g c =
