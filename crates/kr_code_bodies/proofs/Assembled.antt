@@ -18,8 +18,8 @@ use Rattle.kr_code.specs.declared.code.Constructor as made
 use Rattle.kr_code.specs.declared.code.Initialiser.{Initialiser}
 use Rattle.kr_code.specs.declared.expression.Nodes.{Nodes}
 use Rattle.kr_code.specs.Resolved.{AreInitialisers, initialised_fields}
-use Rattle.kr_code_members.specs.Rosters.{all_fields, fields_of_class, first_of}
-use Rattle.kr_code_members.proofs.Sections.{one_more}
+use Rattle.kr_classes_roster.specs.Rosters.{all_fields, fields_of_class, first_of}
+use Rattle.kr_classes_roster.proofs.Sections.{one_more}
 use Rattle.kr_code_lowering.specs.Origins.{Final, numbering_of}
 use Rattle.kr_code_lowering.specs.Sites.{Becomes}
 use Rattle.kr_code_lowering.proofs.Growth.{grown_none, grown_on}

@@ -29,8 +29,8 @@ use Rattle.kr_code.specs.declared.code.Node.TheVariants as nodes
 use Rattle.kr_code.specs.declared.code.Initialiser.{Initialiser}
 use Rattle.kr_code.specs.Tables.{initialiser_of, node_at}
 use Rattle.kr_code.specs.Resolved.{AreInitialisers, IsInitialiser, IsPart, has_initial, initial_or_none}
-use Rattle.kr_code_members.specs.Rosters.{all_fields, field_numbered, fields_of_class, first_of, no_field}
-use Rattle.kr_code_members.proofs.Sections.{section}
+use Rattle.kr_classes_roster.specs.Rosters.{all_fields, field_numbered, fields_of_class, first_of, no_field}
+use Rattle.kr_classes_roster.proofs.Sections.{section}
 use Rattle.kr_code_lowering.specs.declared.site.Site.{Site}
 use Rattle.kr_code_lowering.specs.Origins.{Final, numbering_of}
 use Rattle.kr_code_lowering.specs.Sites.{IsHere, arena_at, scope_at, tree_at}

@@ -10,7 +10,7 @@ use Rattle.kr_classes_members.specs.Shown.{table_in}
 use Rattle.kr_classes_types.specs.Listed.{AreApart}
 use Rattle.kr_classes_names.proofs.ClassNumbers.{is_other}
 use Rattle.kr_mean.specs.Program.{position_from}
-use Rattle.kr_code_members.specs.Rosters.{all_fields, fields_of_class, no_name}
+use Rattle.kr_classes_roster.specs.Rosters.{all_fields, fields_of_class, no_name}
 use Rattle.kr_code_bodies.specs.Tabled.{IsPosition, name_numbered}
 
 -- ---- fields with names no longer than this

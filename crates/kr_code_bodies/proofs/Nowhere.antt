@@ -6,7 +6,7 @@ use Rattle.kr_ast.specs.Arena.{Arena}
 use Rattle.kr_classes_table.specs.Table.{Field, Method, is_below, method_named}
 use Rattle.kr_classes_members.specs.Shown.{IsField, table_in}
 use Rattle.kr_mean.specs.Program.{field_position, position_from}
-use Rattle.kr_code_members.specs.Rosters.{no_field, no_method}
+use Rattle.kr_classes_roster.specs.Rosters.{no_field, no_method}
 use Rattle.kr_code_bodies.specs.Tabled.{AreFieldsOf, IsOverrider, IsPosition, IsSpot, program_in}
 use Rattle.kr_code_bodies.proofs.Lines.{fields_past, methods_past, never_below}
 

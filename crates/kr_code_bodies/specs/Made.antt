@@ -17,7 +17,7 @@ use Rattle.kr_code.specs.declared.code.Initialiser.{Initialiser}
 use Rattle.kr_code.specs.declared.expression.Nodes.{Nodes}
 use Rattle.kr_code.specs.Tables.{class_at, listed, method_at}
 use Rattle.kr_code.specs.Resolved.{Numbering, IsClassCode, IsMaybeConstructor, IsMethodCode, IsPart}
-use Rattle.kr_code_members.specs.Rosters.{field_numbered, method_numbered}
+use Rattle.kr_classes_roster.specs.Rosters.{field_numbered, method_numbered}
 use Rattle.kr_code_lowering.specs.Origins.{Final, numbering_of}
 use Rattle.kr_code_lowering.specs.Sites.{Becomes}
 

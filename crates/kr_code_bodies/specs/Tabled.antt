@@ -10,7 +10,7 @@ use Rattle.kr_classes_members.specs.declared.fields.Field as members
 use Rattle.kr_classes_types.specs.Types.{TypeList, type_at}
 use Rattle.kr_mean.specs.Program.{Program, program_with, field_position, spot_of_field, overriding, is_of_type}
 use Rattle.kr_code.specs.Tables.{row_items}
-use Rattle.kr_code_members.specs.Rosters.{all_methods, field_numbered, method_numbered, no_name}
+use Rattle.kr_classes_roster.specs.Rosters.{all_methods, field_numbered, method_numbered, no_name}
 use Rattle.kr_code_bodies.specs.declared.field_lists.ObjectFields.{ObjectFields}
 use Rattle.kr_code_bodies.specs.declared.tables.Tables.{Tables}
 use Rattle.kr_code_bodies.specs.Rows.{AreRows}

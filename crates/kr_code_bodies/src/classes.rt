@@ -3,7 +3,7 @@ ghost use Rattle.std.specs.Prelude.{◌≡◌, ◌<◌, ◌≤◌, ◌^◌, ℕ,
 ghost use Rattle.kr_classes_types.specs.Listed.{IsGrown};
 ghost use Rattle.kr_types.specs.Programs.{IsProgram};
 ghost use Rattle.kr_code_members.specs.Nodes.{IsClassNodes};
-ghost use Rattle.kr_code_members.specs.Rosters.{all_fields, fields_of_class, first_of};
+ghost use Rattle.kr_classes_roster.specs.Rosters.{all_fields, fields_of_class, first_of};
 ghost use Rattle.kr_space_problem.specs.Posed.{table};
 ghost use Rattle.kr_code_bodies.specs.Made.{AddsInitialisers, IsClassMade};
 

@@ -5,7 +5,7 @@ ghost use Rattle.kr_classes_types.specs.Listed.{IsGrown};
 ghost use Rattle.kr_types.specs.Programs.{IsProgram};
 ghost use Rattle.kr_code_members.specs.Nodes.{IsMethodNode, IsThere};
 ghost use Rattle.kr_code.specs.declared.code.MethodCode.{MethodCode as Made};
-ghost use Rattle.kr_code_members.specs.Rosters.{method_numbered};
+ghost use Rattle.kr_classes_roster.specs.Rosters.{method_numbered};
 ghost use Rattle.kr_space_problem.specs.Posed.{table};
 ghost use Rattle.kr_code_bodies.specs.Made.{IsMethodMade, IsMethodNumbered};
 

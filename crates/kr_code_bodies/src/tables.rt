@@ -4,7 +4,7 @@ ghost use Rattle.kr_classes_members.specs.Kept.{AreMembers};
 ghost use Rattle.kr_classes_types.specs.Listed.{AreApart};
 ghost use Rattle.kr_classes_types.specs.Types.{count, type_at};
 ghost use Rattle.kr_code.specs.Tables.{row_items};
-ghost use Rattle.kr_code_members.specs.Rosters.{IsRoster};
+ghost use Rattle.kr_classes_roster.specs.Rosters.{IsRoster};
 ghost use Rattle.kr_code_bodies.specs.Tabled.{AreTabled};
 
 use crate::dispatch::dispatch;
@@ -15,9 +15,9 @@ use crate::spots::spots;
 use kr_ast::Tree;
 use kr_base::NoMemory;
 use kr_classes_members::Members;
+use kr_classes_roster::Roster;
 use kr_classes_table::{MethodId, TypeId};
 use kr_classes_types::Types;
-use kr_code_members::Roster;
 use std::alloc::Global;
 
 /// Rows by number: where the objects of each class have the field of a name, where they have a field, which method they run in place

@@ -24,7 +24,7 @@ use Rattle.kr_code.specs.declared.expression.Expression.TheVariants as expressio
 use Rattle.kr_code.specs.Resolved as resolved
 use Rattle.kr_code.specs.Resolved.{AreParts, IsExpression, IsMethod, IsPart}
 use Rattle.kr_code.specs.Tables.{listed}
-use Rattle.kr_code_members.specs.Rosters.{all_methods, no_method}
+use Rattle.kr_classes_roster.specs.Rosters.{all_methods, no_method}
 use Rattle.kr_code_lowering.specs.declared.site.Site.{Site}
 use Rattle.kr_space_problem.specs.Posed.{table}
 use Rattle.kr_code_lowering.specs.Origins.{Final, node_scope, node_tree, numbering_of}
@@ -42,7 +42,7 @@ use Rattle.kr_code.specs.declared.expression.Expression.{Expression}
 use Rattle.kr_code.specs.Collections.{call_named}
 use Rattle.kr_code.specs.Tables.{class_at}
 use Rattle.kr_code.specs.Resolved.{is_uncreatable}
-use Rattle.kr_code_members.specs.Rosters.{method_numbered}
+use Rattle.kr_classes_roster.specs.Rosters.{method_numbered}
 use Rattle.kr_code_lowering.specs.Calls.{IsCalledOn, IsCreator}
 use Rattle.kr_code_lowering.proofs.Created.{class_there}
 use Rattle.kr_code_lowering.proofs.Parts.{part_in, part_scope, tree_is}

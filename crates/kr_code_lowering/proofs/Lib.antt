@@ -4,10 +4,10 @@ pub mod Items
 pub mod Growth
 pub mod Meant
 pub mod Naming
+pub mod Read
 pub mod Created
 pub mod Called
 pub mod TypeNames
-pub mod Rostered
 pub mod Variables
 pub mod Assigned
 pub mod Dispatch

@@ -29,16 +29,14 @@ use Rattle.kr_code_lowering.specs.Origins.{Final, node_scope, node_tree, numberi
 use Rattle.kr_code_lowering.specs.Sites.{Becomes, IsHere, Resolves, arena_at, scope_at}
 use Rattle.std.proofs.Common.{map}
 use Rattle.std.specs.Prelude.{IfSome}
-use Rattle.std.proofs.lemmas.Option.{slice_get-get_or}
-use Rattle.kr_classes_table.specs.Table.{headings_of, number_of, table_of}
-use Rattle.kr_classes_table.specs.Constants.{field_meant}
-use Rattle.kr_types_meaning.specs.Scopes.{Meant, class_if_none, field_or_none, meant_by}
+use Rattle.kr_classes_table.specs.Table.{headings_of, table_of}
+use Rattle.kr_types_meaning.specs.Scopes.{meant_by}
 use Rattle.kr_ast.specs.Files.{file_at}
 use Rattle.kr_types_scopes.specs.declared.lookup.LocalFound.{LocalFound}
 use Rattle.kr_types_scopes.specs.Lookups.{IsLocalAt}
 use Rattle.kr_types_scopes.specs.Settings.{setting, type_there}
-use Rattle.kr_code_members.specs.Rosters.{all_fields, field_numbered, no_field, no_name}
-use Rattle.kr_code_lowering.specs.Named.{IsLocal, IsNamed, IsNoLocal, is_nothing, literal_of}
+use Rattle.kr_classes_roster.specs.Rosters.{no_name}
+use Rattle.kr_code_lowering.specs.Named.{IsLocal, IsNamed, literal_of}
 use Rattle.kr_code_lowering.proofs.Growth.{got_grown}
 use Rattle.kr_code_lowering.proofs.Meant.{meant_so}
 use Rattle.kr_code_lowering.proofs.Parts.{part_in, small_number, tree_is}
@@ -84,21 +82,6 @@ LocalOf p f i n l = IsLocal (node_scope p f i) n l.number
 pub local_found : (p : Program) (f i : ℕ) (t : TypedFile) (n : List ℕ) → slice_get p.files.items f ≡ Some t → (o : Option LocalFound) → IfSome o (IsLocalAt (file_at p.trees.items f) t.scopes.bindings.items t.scopes.within.items i n) → IfSome o (LocalOf p f i n)
 local_found p f i t n e None h = tt
 local_found p f i t n e (Some l) h = λ g. (type_there (setting (table p) (values_of (table p)) (file_at p.trees.items f)) l.declared, ap (λ (o : Option TypedFile). meant_by (scope_in p f i o).locals g n) e ∙ h (table p) (values_of (table p)) g)
-
-pub field_named_there : (p : Program) (f i : ℕ) (x : List ℕ) (class k : ℕ) → IsNoLocal (node_scope p f i) x → (node_scope p f i).class ≡ class → slice_get (all_fields (table p)) k ≡ field_meant (table p) class x → k < length (all_fields (table p))
-    → meant (node_scope p f i) x ≡ FieldName (field_numbered (table p) k)
-field_named_there p f i x class k none c e h =
-    let s = node_scope p f i in
-    let g : field_meant s.table s.class x ≡ field_meant (table p) class x = ap (λ t. field_meant t s.class x) (scope_table p f i) ∙ ap (λ j. field_meant (table p) j x) c in
-    none (field_meant s.table s.class x) ∙ ap field_or_none (g ∙ (sym e ∙ slice_get-get_or (all_fields (table p)) k (no_field (table p)) h))
-
-pub nothing_class : (s : Scope) (n : List ℕ) → is_nothing (meant s n) ≡ true → class_if_none s n (meant s n) ≡ number_of s.table.headings n
-nothing_class s n = go (meant s n)
-  where
-    go : (m : Meant) → is_nothing m ≡ true → class_if_none s n m ≡ number_of s.table.headings n
-    go NoName h = refl
-    go (LocalName k t) h = absurd (cc (h))
-    go (FieldName f) h = absurd (cc (h))
 
 pub headings_are : (p : Program) → (table p).headings ≡ headings_of (map arenas.root p.trees.items)
 unfolding table_of

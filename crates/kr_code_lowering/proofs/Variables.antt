@@ -26,7 +26,7 @@ use Rattle.kr_code.specs.declared.expression.Variable.{Variable}
 use Rattle.kr_code.specs.declared.expression.Variable.TheVariants as variables
 use Rattle.kr_code.specs.Resolved as resolved
 use Rattle.kr_code.specs.Resolved.{IsPart, IsVariable}
-use Rattle.kr_code_members.specs.Rosters.{field_numbered, no_name}
+use Rattle.kr_classes_roster.specs.Rosters.{field_numbered, no_name}
 use Rattle.kr_code_lowering.specs.declared.site.Site.{Site}
 use Rattle.kr_code_lowering.specs.declared.named.Named.TheVariants as named
 use Rattle.kr_space_problem.specs.Posed.{table}

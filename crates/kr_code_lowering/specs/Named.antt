@@ -1,15 +1,14 @@
 -- Between crates: what a name means where a node stands, by numbers.
-use Rattle.std.specs.Prelude.{◌≡◌, ℕ, Bool, true, false, List, Option, Some, None}
+use Rattle.std.specs.Prelude.{◌≡◌, ℕ, true, false, List, Option, Some, None}
 use Rattle.kr_value.specs.declared.value.Value.{Value}
 use Rattle.kr_classes_table.specs.Types.{JavaType}
 use Rattle.kr_classes_table.specs.Table.{Field}
-use Rattle.kr_classes_table.specs.Constants.{values_of}
-use Rattle.kr_types_meaning.specs.Scopes.{Scope, Meant, LocalName, FieldName, NoName, field_or_none, meant, meant_by}
+use Rattle.kr_types_meaning.specs.Scopes.{Scope, LocalName, FieldName, NoName, field_or_none, meant, meant_by}
 use Rattle.kr_types.specs.declared.program.Program.{Program}
 use Rattle.kr_code.specs.declared.expression.Expression.{Expression}
 use Rattle.kr_code.specs.declared.expression.Expression.TheVariants as expressions
 use Rattle.kr_code.specs.Resolved.{constant_meant}
-use Rattle.kr_code_members.specs.Rosters.{field_numbered}
+use Rattle.kr_classes_roster.specs.Rosters.{field_numbered}
 use Rattle.kr_code_lowering.specs.declared.named.Named.{Named}
 use Rattle.kr_code_lowering.specs.declared.named.Named.TheVariants as named
 use Rattle.kr_space_problem.specs.Posed.{table}
@@ -27,14 +26,6 @@ IsNamed p s x (named.Local k) = (t : JavaType) × (meant s x ≡ LocalName k t)
 IsNamed p s x (named.Constant v) = (f : Field) × (meant s x ≡ FieldName f) × (f.is_static ≡ true) × (constant_meant s (Some f) ≡ v)
 IsNamed p s x (named.Own k) = (f : Field) × (meant s x ≡ FieldName f) × (f.is_static ≡ false) × (field_numbered (table p) k ≡ f)
 IsNamed p s x named.Nothing = meant s x ≡ NoName
-
--- what the name of a field by number means, where it means that field
-abbrev pub IsFieldNamed : Program → ℕ → Named → Type 0
-IsFieldNamed p k m = (s : Scope) (x : List ℕ) → s.values ≡ values_of (table p) → meant s x ≡ FieldName (field_numbered (table p) k) → IsNamed p s x m
-
-abbrev pub is_nothing : Meant → Bool
-is_nothing NoName = true
-is_nothing m = false
 
 -- a constant without a value has no meaning
 abbrev pub literal_of : Option Value → Expression

@@ -16,7 +16,7 @@ use Rattle.kr_types.specs.declared.program.TypedFile.{TypedFile}
 use Rattle.kr_types.specs.Programs.{scope_there}
 use Rattle.kr_mean.specs.Code.{Node}
 use Rattle.kr_code.specs.Resolved.{Numbering}
-use Rattle.kr_code_members.specs.Rosters.{field_numbered, method_numbered, no_name}
+use Rattle.kr_classes_roster.specs.Rosters.{field_numbered, method_numbered, no_name}
 
 -- ---- nodes
 

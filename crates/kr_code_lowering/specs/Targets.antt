@@ -10,7 +10,7 @@ use Rattle.kr_classes_types.specs.Listed.{IsGrown}
 use Rattle.kr_types.specs.declared.program.Program.{Program}
 use Rattle.kr_code.specs.declared.expression.Variable.{Variable}
 use Rattle.kr_code.specs.Resolved.{IsVariable}
-use Rattle.kr_code_members.specs.Rosters.{field_numbered}
+use Rattle.kr_classes_roster.specs.Rosters.{field_numbered}
 use Rattle.kr_space_problem.specs.Posed.{table}
 use Rattle.kr_code_lowering.specs.Origins.{Final, numbering_of}
 

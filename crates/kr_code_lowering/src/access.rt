@@ -1,23 +1,24 @@
 // Names and field accesses as expressions.
 ghost use Rattle.std.specs.Prelude.{◌≡◌, ◌∷◌, [], List, ℕ, Some, IfOk, option_map};
 ghost use Rattle.kr_ast.specs.declared.node.Node.TheVariants as nodes;
+ghost use Rattle.kr_ast.specs.Arena.{name_in};
+ghost use Rattle.kr_types_meaning.specs.Scopes.{class_before};
 ghost use Rattle.kr_classes_table.specs.Constants.{constant_of, known_value, values_of};
 ghost use Rattle.kr_mean.specs.Operators.{value_of_constant};
 ghost use Rattle.kr_classes_types.specs.Listed.{IsGrown};
 ghost use Rattle.kr_types.specs.Programs.{IsProgram};
-ghost use Rattle.kr_code_members.specs.Rosters.{IsRoster};
 ghost use Rattle.kr_space_problem.specs.Posed.{table};
-ghost use Rattle.kr_code_lowering.specs.Sites.{IsHere, Resolves};
+ghost use Rattle.kr_code_lowering.specs.Origins.{node_tree};
+ghost use Rattle.kr_code_lowering.specs.Sites.{IsHere, Resolves, arena_at, scope_at};
 ghost use Rattle.kr_code_lowering.specs.Named.{literal_of};
 
-use crate::named::{Named, class_before, constant_named, constant_value, meaning_of};
+use crate::known::meaning_at;
+use crate::named::{Named, class_before, constant_value, name_at};
 use crate::names::Names;
 use crate::site::Site;
 use kr_ast::{Entry, Name};
 use kr_base::NoMemory;
-use kr_classes_table::ClassId;
 use kr_code::Expression;
-use kr_code_members::Roster;
 use kr_types::Program;
 use kr_value::Value;
 use std::alloc::Global;
@@ -32,15 +33,22 @@ fn literal(value: Option<Value>) -> Expression
     }
 }
 
-/// The value of a class's constant, if there is one.
-fn class_constant(program: &Program, roster: &Roster, class: ClassId, name: &[u8]) -> Option<Value>
+/// The value of the constant behind a class's name, if there is one.
+fn class_constant(
+    program: &Program,
+    site: Site,
+    _entry: Entry,
+    _object: u32,
+    _name: Name,
+) -> Option<Value>
     requires program { IsProgram program.now }
-    requires roster { IsRoster program.now.trees.items roster.now }
-    ensures { result ≡ option_map value_of_constant (known_value (values_of (table program.now)) (constant_of (table program.now) (Some class) name.now)) }
+    requires here { IsHere program.now site _entry }
+    requires node { _entry.node ≡ nodes.FieldAccess _object _name }
+    ensures { (class : ℕ) → class_before (scope_at program.now site) (node_tree program.now site.file _object) ≡ Some class → result ≡ option_map value_of_constant (known_value (values_of (table program.now)) (constant_of (table program.now) (Some class) (name_in (arena_at program.now site).text _name))) }
 {
-    match constant_named(program, roster, class, name) {
+    match meaning_at(program, site).constant() {
         None => None,
-        Some(number) => constant_value(program, roster, number),
+        Some(number) => constant_value(program, number),
     }
 }
 
@@ -48,25 +56,22 @@ fn class_constant(program: &Program, roster: &Roster, class: ClassId, name: &[u8
 pub(crate) fn name_expression(
     alloc: Global,
     program: &Program,
-    roster: &Roster,
     names: &mut Names,
     site: Site,
     entry: Entry,
     name: Name,
 ) -> Result<Expression, NoMemory>
     requires program { IsProgram program.now }
-    requires roster { IsRoster program.now.trees.items roster.now }
     requires here { IsHere program.now site entry }
     requires node { entry.node ≡ nodes.Variable name }
     ensures grown { IsGrown names.old names.new }
     ensures resolves { (arrays links : List ℕ) → IfOk result (Resolves program.now arrays site names.new links) }
 {
-    let text = site.text(program, name);
-    match meaning_of(program, roster, site, text)? {
+    match name_at(program, site, entry, name) {
         Named::Local(number) => Ok(Expression::Local(number)),
         Named::Constant(value) => Ok(literal(value)),
         Named::Own(_) => {
-            let number = names.number(alloc, text)?;
+            let number = names.number(alloc, site.text(program, name))?;
             Ok(Expression::OwnField(number))
         }
         Named::Nothing => Ok(Expression::Stuck),
@@ -77,7 +82,6 @@ pub(crate) fn name_expression(
 pub(crate) fn access_expression(
     alloc: Global,
     program: &Program,
-    roster: &Roster,
     names: &mut Names,
     site: Site,
     entry: Entry,
@@ -85,17 +89,15 @@ pub(crate) fn access_expression(
     name: Name,
 ) -> Result<Expression, NoMemory>
     requires program { IsProgram program.now }
-    requires roster { IsRoster program.now.trees.items roster.now }
     requires here { IsHere program.now site entry }
     requires node { entry.node ≡ nodes.FieldAccess object name }
     ensures grown { IsGrown names.old names.new }
     ensures resolves { (arrays links : List ℕ) → IfOk result (Resolves program.now arrays site names.new links) }
 {
-    let text = site.text(program, name);
-    match class_before(program, roster, site, object) {
-        Some(class) => Ok(literal(class_constant(program, roster, class, text))),
+    match class_before(program, site, object) {
+        Some(_) => Ok(literal(class_constant(program, site, entry, object, name))),
         None => {
-            let number = names.number(alloc, text)?;
+            let number = names.number(alloc, site.text(program, name))?;
             Ok(Expression::FieldOf {
                 object: site.first + object,
                 name: number,

@@ -1,145 +1,99 @@
 // Calls as expressions.
-ghost use Rattle.std.specs.Prelude.{◌≡◌, ◌<◌, ◌∷◌, [], List, ℕ, Some, IfOk, IfSome, length, option_and_then, slice_get};
+ghost use Rattle.std.specs.Prelude.{◌≡◌, ◌∷◌, [], List, ℕ, Some, None, IfOk, option_and_then};
+ghost use Rattle.kr_ast.specs.Arena.{name_in};
 ghost use Rattle.kr_ast.specs.declared.node.Node.TheVariants as nodes;
 ghost use Rattle.kr_classes_table.specs.Table.{method_named};
-ghost use Rattle.kr_types_meaning.specs.Scopes.{Scope, method_meant, static_only, value};
-ghost use Rattle.kr_types_meaning.specs.Running.{running};
+ghost use Rattle.kr_types_meaning.specs.Scopes.{class_before, method_meant, static_only};
 ghost use Rattle.kr_mean.specs.Meaning.{super_method, typed_method};
 ghost use Rattle.kr_classes_types.specs.Listed.{IsGrown};
 ghost use Rattle.kr_types.specs.Programs.{IsProgram};
-ghost use Rattle.kr_code_members.specs.Rosters.{IsRoster, all_methods};
 ghost use Rattle.kr_space_problem.specs.Posed.{table};
-ghost use Rattle.kr_code_lowering.specs.Origins.{node_scope, node_tree};
-ghost use Rattle.kr_code_lowering.specs.Sites.{IsHere, IsSite, Resolves, scope_at, tree_at};
+ghost use Rattle.kr_code_lowering.specs.Origins.{node_tree};
+ghost use Rattle.kr_code_lowering.specs.Sites.{IsHere, Resolves, arena_at, scope_at};
 ghost use Rattle.kr_code_lowering.specs.Calls.{IsFound, IsOwnCallee, IsStaticCallee};
 
-use crate::known::{class_at, type_of};
+use crate::known::meaning_at;
 use crate::links::Links;
 use crate::lists::list_links;
-use crate::named::class_before;
 use crate::site::Site;
 use kr_ast::{Entry, Name};
 use kr_base::NoMemory;
-use kr_classes_table::{ClassId, MethodId};
-use kr_classes_types::TypeForm;
+use kr_classes_table::MethodId;
 use kr_code::{Callee, Expression};
-use kr_code_members::Roster;
 use kr_types::Program;
-
-/// The static method of a name, where the nearest of the name is static.
-fn static_method(
-    program: &Program,
-    roster: &Roster,
-    class: ClassId,
-    name: &[u8],
-) -> Option<MethodId>
-    requires program { IsProgram program.now }
-    requires roster { IsRoster program.now.trees.items roster.now }
-    ensures { IsFound program.now result (option_and_then static_only (method_named (table program.now) class name.now)) }
-{
-    match roster.method_named(&program.table.members, class, name) {
-        None => None,
-        Some(number) => {
-            if roster.methods[number as usize].is_static {
-                Some(number)
-            } else {
-                None
-            }
-        }
-    }
-}
-
-/// The method that a call without object means in the code of a class.
-fn method_meant(program: &Program, roster: &Roster, class: ClassId, name: &[u8]) -> Option<MethodId>
-    requires program { IsProgram program.now }
-    requires roster { IsRoster program.now.trees.items roster.now }
-    ensures { (s : Scope) → s.table ≡ table program.now → s.class ≡ class → IsFound program.now result (method_meant s name.now) }
-{
-    let members = &program.table.members;
-    match roster.method_named(members, class, name) {
-        Some(number) => Some(number),
-        None => match members.outer_class(class) {
-            None => None,
-            Some(outer) => static_method(program, roster, outer, name),
-        },
-    }
-}
+use kr_types_resolving::Meaning;
 
 /// What a call without object calls.
-fn own_callee(program: &Program, roster: &Roster, site: Site, name: &[u8]) -> Callee
+fn own_callee(program: &Program, site: Site, _entry: Entry, _name: Name, _arguments: u32) -> Callee
     requires program { IsProgram program.now }
-    requires roster { IsRoster program.now.trees.items roster.now }
-    requires site { IsSite program.now site }
-    ensures { IsOwnCallee program.now (method_meant (scope_at program.now site) name.now) result }
+    requires here { IsHere program.now site _entry }
+    requires node { _entry.node ≡ nodes.Call _name _arguments }
+    ensures { IsOwnCallee program.now (method_meant (scope_at program.now site) (name_in (arena_at program.now site).text _name)) result }
 {
-    match method_meant(program, roster, class_at(program, site), name) {
-        None => Callee::Unknown,
-        Some(number) => {
-            if roster.methods[number as usize].is_static {
-                Callee::Static(number)
-            } else {
-                Callee::Own(number)
-            }
-        }
+    match meaning_at(program, site) {
+        Meaning::Static(number) => Callee::Static(number),
+        Meaning::Virtual(number) => Callee::Own(number),
+        _ => Callee::Unknown,
     }
 }
 
 /// What a call behind a class's name calls.
 pub(crate) fn static_callee(
     program: &Program,
-    roster: &Roster,
-    class: ClassId,
-    name: &[u8],
+    site: Site,
+    _entry: Entry,
+    _object: u32,
+    _name: Name,
+    _arguments: u32,
 ) -> Callee
     requires program { IsProgram program.now }
-    requires roster { IsRoster program.now.trees.items roster.now }
-    ensures { IsStaticCallee program.now (option_and_then static_only (method_named (table program.now) class name.now)) result }
+    requires here { IsHere program.now site _entry }
+    requires node { _entry.node ≡ nodes.MethodCall _object _name _arguments }
+    ensures { (class : ℕ) → class_before (scope_at program.now site) (node_tree program.now site.file _object) ≡ Some class → IsStaticCallee program.now (option_and_then static_only (method_named (table program.now) class (name_in (arena_at program.now site).text _name))) result }
 {
-    match static_method(program, roster, class, name) {
+    match meaning_at(program, site).method() {
         None => Callee::Unknown,
         Some(number) => Callee::Static(number),
     }
 }
 
-/// The method of a name that the superclass of a node's class has.
-fn super_number(program: &Program, roster: &Roster, site: Site, name: &[u8]) -> Option<MethodId>
-    requires program { IsProgram program.now }
-    requires roster { IsRoster program.now.trees.items roster.now }
-    requires site { IsSite program.now site }
-    ensures { IsFound program.now result (super_method (scope_at program.now site) name.now) }
-{
-    let members = &program.table.members;
-    match members.superclass(class_at(program, site)) {
-        None => None,
-        Some(above) => roster.method_named(members, above, name),
-    }
-}
-
-/// The method of a name that an object's type has.
-pub(crate) fn typed_number(
+/// The method of the superclass that a call of `super.m` means.
+fn super_number(
     program: &Program,
-    roster: &Roster,
-    object: Site,
-    name: &[u8],
+    site: Site,
+    _entry: Entry,
+    _name: Name,
+    _arguments: u32,
 ) -> Option<MethodId>
     requires program { IsProgram program.now }
-    requires roster { IsRoster program.now.trees.items roster.now }
-    requires site { IsSite program.now object }
-    ensures { (s : Scope) → s.table ≡ table program.now → scope_at program.now object ≡ value s → IsFound program.now result (typed_method s (tree_at program.now object) name.now) }
+    requires here { IsHere program.now site _entry }
+    requires node { _entry.node ≡ nodes.SuperCall _name _arguments }
+    ensures { IsFound program.now result (super_method (scope_at program.now site) (name_in (arena_at program.now site).text _name)) }
 {
-    match type_of(program, object) {
-        None => None,
-        Some(number) => match program.table.types.form(number) {
-            TypeForm::Class(class) => roster.method_named(&program.table.members, class, name),
-            _ => None,
-        },
-    }
+    meaning_at(program, site).super_method()
+}
+
+/// The method that an object's type has.
+pub(crate) fn typed_number(
+    program: &Program,
+    site: Site,
+    _entry: Entry,
+    _object: u32,
+    _name: Name,
+    _arguments: u32,
+) -> Option<MethodId>
+    requires program { IsProgram program.now }
+    requires here { IsHere program.now site _entry }
+    requires node { _entry.node ≡ nodes.MethodCall _object _name _arguments }
+    requires object { class_before (scope_at program.now site) (node_tree program.now site.file _object) ≡ None }
+    ensures { IsFound program.now result (typed_method (scope_at program.now site) (node_tree program.now site.file _object) (name_in (arena_at program.now site).text _name)) }
+{
+    meaning_at(program, site).method()
 }
 
 /// A call without object as an expression.
 pub(crate) fn call_expression(
     program: &Program,
-    roster: &Roster,
     links: &mut Links,
     site: Site,
     entry: Entry,
@@ -147,14 +101,12 @@ pub(crate) fn call_expression(
     arguments: u32,
 ) -> Result<Expression, NoMemory>
     requires program { IsProgram program.now }
-    requires roster { IsRoster program.now.trees.items roster.now }
     requires here { IsHere program.now site entry }
     requires node { entry.node ≡ nodes.Call name arguments }
     ensures grown { IsGrown links.old links.new }
     ensures resolves { (arrays : List ℕ) (names : List (List ℕ)) → IfOk result (Resolves program.now arrays site names links.new) }
 {
-    let text = site.text(program, name);
-    let callee = own_callee(program, roster, site, text);
+    let callee = own_callee(program, site, entry, name, arguments);
     let arguments = list_links(program, site.at(arguments), links)?;
     Ok(Expression::Call { callee, arguments })
 }
@@ -162,7 +114,6 @@ pub(crate) fn call_expression(
 /// A call of the superclass's method as an expression.
 pub(crate) fn super_call_expression(
     program: &Program,
-    roster: &Roster,
     links: &mut Links,
     site: Site,
     entry: Entry,
@@ -170,14 +121,12 @@ pub(crate) fn super_call_expression(
     arguments: u32,
 ) -> Result<Expression, NoMemory>
     requires program { IsProgram program.now }
-    requires roster { IsRoster program.now.trees.items roster.now }
     requires here { IsHere program.now site entry }
     requires node { entry.node ≡ nodes.SuperCall name arguments }
     ensures grown { IsGrown links.old links.new }
     ensures resolves { (arrays : List ℕ) (names : List (List ℕ)) → IfOk result (Resolves program.now arrays site names links.new) }
 {
-    let text = site.text(program, name);
-    let method = super_number(program, roster, site, text);
+    let method = super_number(program, site, entry, name, arguments);
     let arguments = list_links(program, site.at(arguments), links)?;
     Ok(Expression::Call {
         callee: Callee::Super(method),

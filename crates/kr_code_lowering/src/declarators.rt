@@ -1,23 +1,24 @@
 // What a node is as a declarator of a local.
-ghost use Rattle.std.specs.Prelude.{◌≡◌, IfOk, length};
+ghost use Rattle.std.specs.Prelude.{◌≡◌, IfNone, IfOk, IfSome, length};
 ghost use Rattle.kr_classes_table.specs.Types.{JavaType};
 ghost use Rattle.kr_types_meaning.specs.Scopes.{Scope, bind_local};
 ghost use Rattle.kr_ast.specs.declared.node.Node.TheVariants as nodes;
 ghost use Rattle.kr_classes_types.specs.Types.{IsTypeNumber};
 ghost use Rattle.kr_types.specs.Programs.{IsProgram};
 ghost use Rattle.kr_code_lowering.specs.Sites.{IsHere, IsSite, scope_at};
+ghost use Rattle.kr_code_lowering.specs.Named.{IsLocal, IsNoLocal};
 ghost use Rattle.kr_code_lowering.specs.Statements.{Declares};
 
-use crate::named::local_at;
 use crate::site::Site;
 use crate::statements::maybe_part;
 use crate::types::default_value;
-use kr_ast::{Entry, Name};
+use kr_ast::{Entry, Name, tree_of};
 use kr_base::NoMemory;
 use kr_classes_table::TypeId;
 use kr_code::Declarator;
 use kr_types::Program;
 use kr_types_judging::type_of_node;
+use kr_types_scopes::LocalFound;
 
 /// The number of the type that a node's scope declares.
 fn declared_type(program: &Program, site: Site) -> TypeId
@@ -33,6 +34,17 @@ fn declared_type(program: &Program, site: Site) -> TypeId
         site.file,
         here.declared,
     )
+}
+
+/// The local or parameter that a name means where a node stands.
+fn local_at(program: &Program, site: Site, name: &[u8]) -> Option<LocalFound>
+    requires program { IsProgram program.now }
+    requires site { IsSite program.now site }
+    ensures found { IfSome result (λ l. IsLocal (scope_at program.now site) name.now l.number) }
+    ensures none { IfNone result (IsNoLocal (scope_at program.now site) name.now) }
+{
+    let tree = tree_of(&program.trees, site.file);
+    site.typed(program).scopes.local(tree, site.node, name)
 }
 
 /// The number of the local of a name in its own initial value: how many are declared before it.

@@ -11,7 +11,6 @@ ghost use Rattle.kr_code.specs.declared.expression.Expression.TheVariants.{Liter
 ghost use Rattle.kr_classes_types.specs.Listed.{IsGrown};
 ghost use Rattle.kr_classes_types.specs.Types.{count};
 ghost use Rattle.kr_types.specs.Programs.{IsProgram};
-ghost use Rattle.kr_code_members.specs.Rosters.{IsRoster};
 ghost use Rattle.kr_code_lowering.specs.Sites.{IsSite, Resolves};
 
 use crate::access::{access_expression, name_expression};
@@ -27,7 +26,6 @@ use kr_ast::Node;
 use kr_base::NoMemory;
 use kr_classes_table::TypeId;
 use kr_code::Expression;
-use kr_code_members::Roster;
 use kr_types::Program;
 use kr_value::Value;
 use std::alloc::Global;
@@ -120,14 +118,12 @@ fn is_operator(node: Node) -> bool
 pub(crate) fn expression_at(
     alloc: Global,
     program: &Program,
-    roster: &Roster,
     arrays: &[TypeId],
     names: &mut Names,
     links: &mut Links,
     site: Site,
 ) -> Result<Expression, NoMemory>
     requires program { IsProgram program.now }
-    requires roster { IsRoster program.now.trees.items roster.now }
     requires arrays { All (λ t. t < count program.now.table.types) arrays.now }
     requires few { length arrays.now < 2 ^ 32 }
     requires site { IsSite program.now site }
@@ -145,24 +141,20 @@ pub(crate) fn expression_at(
     match entry.node {
         Node::Number { value } => Ok(int_literal(value)),
         Node::Old { .. } => Ok(Expression::Old(entry.place)),
-        Node::Variable { name } => {
-            name_expression(alloc, program, roster, names, site, entry, name)
-        }
+        Node::Variable { name } => { name_expression(alloc, program, names, site, entry, name) }
         Node::FieldAccess { object, name } => {
-            access_expression(alloc, program, roster, names, site, entry, object, name)
+            access_expression(alloc, program, names, site, entry, object, name)
         }
         Node::Call { name, arguments } => {
-            call_expression(program, roster, links, site, entry, name, arguments)
+            call_expression(program, links, site, entry, name, arguments)
         }
         Node::MethodCall {
             object,
             name,
             arguments,
-        } => {
-            method_call_expression(program, roster, links, site, entry, object, name, arguments)
-        }
+        } => { method_call_expression(program, links, site, entry, object, name, arguments) }
         Node::SuperCall { name, arguments } => {
-            super_call_expression(program, roster, links, site, entry, name, arguments)
+            super_call_expression(program, links, site, entry, name, arguments)
         }
         Node::ObjectCreation { class, arguments } => {
             creation_expression(program, links, site, entry, class, arguments)
@@ -177,17 +169,15 @@ pub(crate) fn expression_at(
             Ok(cast_expression(program, site, entry, target, operand))
         }
         Node::Assignment { target, value } => {
-            assignment_expression(alloc, program, roster, names, site, entry, target, value)
+            assignment_expression(alloc, program, names, site, entry, target, value)
         }
         Node::CompoundAssignment {
             operator,
             target,
             value,
-        } => compound_expression(
-            alloc, program, roster, names, site, entry, operator, target, value,
-        ),
+        } => compound_expression(alloc, program, names, site, entry, operator, target, value),
         Node::Step { operator, target } => {
-            step_expression(alloc, program, roster, names, site, entry, operator, target)
+            step_expression(alloc, program, names, site, entry, operator, target)
         }
         _ => Ok(Expression::Stuck),
     }

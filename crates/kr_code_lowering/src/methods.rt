@@ -4,7 +4,7 @@ ghost use Rattle.kr_ast.specs.declared.node.Node.TheVariants as nodes;
 ghost use Rattle.kr_classes_types.specs.Listed.{IsGrown};
 ghost use Rattle.kr_classes_types.specs.Types.{count, type_at};
 ghost use Rattle.kr_types.specs.Programs.{IsProgram};
-ghost use Rattle.kr_code_members.specs.Rosters.{IsRoster, all_methods};
+ghost use Rattle.kr_classes_roster.specs.Rosters.{IsRoster, all_methods};
 ghost use Rattle.kr_space_problem.specs.Posed.{table};
 ghost use Rattle.kr_code_lowering.specs.Sites.{IsHere, Resolves};
 ghost use Rattle.kr_code_lowering.specs.Calls.{IsCalledOn, IsCreator};
@@ -20,19 +20,17 @@ use kr_base::NoMemory;
 use kr_classes_table::{MethodId, TypeId};
 use kr_classes_types::{TypeForm, Types};
 use kr_code::{Callee, CollectionCall, Expression, Nodes};
-use kr_code_members::Roster;
 use kr_types::Program;
 
 /// A call on an object, by the method that its type has: one that the type doesn't have is a collection's.
 pub fn called_on(
     program: &Program,
-    roster: &Roster,
     object: u32,
     method: Option<MethodId>,
     name: &[u8],
     arguments: Nodes,
 ) -> Expression
-    requires roster { IsRoster program.now.trees.items roster.now }
+    requires program { IsProgram program.now }
     requires method { IfSome method (λ k. k < length (all_methods (table program.now))) }
     ensures { IsCalledOn program.now object name.now arguments method result }
 {
@@ -43,7 +41,7 @@ pub fn called_on(
             arguments,
         },
         Some(method) => {
-            if roster.methods[method as usize].is_static {
+            if program.roster.methods[method as usize].is_static {
                 Expression::StaticCallOn {
                     object,
                     method,
@@ -63,7 +61,6 @@ pub fn called_on(
 /// A call behind a dot as an expression.
 pub(crate) fn method_call_expression(
     program: &Program,
-    roster: &Roster,
     links: &mut Links,
     site: Site,
     entry: Entry,
@@ -72,22 +69,21 @@ pub(crate) fn method_call_expression(
     arguments: u32,
 ) -> Result<Expression, NoMemory>
     requires program { IsProgram program.now }
-    requires roster { IsRoster program.now.trees.items roster.now }
     requires here { IsHere program.now site entry }
     requires node { entry.node ≡ nodes.MethodCall object name arguments }
     ensures grown { IsGrown links.old links.new }
     ensures resolves { (arrays : List ℕ) (names : List (List ℕ)) → IfOk result (Resolves program.now arrays site names links.new) }
 {
-    let text = site.text(program, name);
     let nodes = list_links(program, site.at(arguments), links)?;
-    match class_before(program, roster, site, object) {
-        Some(class) => Ok(Expression::Call {
-            callee: static_callee(program, roster, class, text),
+    match class_before(program, site, object) {
+        Some(_) => Ok(Expression::Call {
+            callee: static_callee(program, site, entry, object, name, arguments),
             arguments: nodes,
         }),
         None => {
-            let method = typed_number(program, roster, site.at(object), text);
-            Ok(called_on(program, roster, site.first + object, method, text, nodes))
+            let method = typed_number(program, site, entry, object, name, arguments);
+            let text = site.text(program, name);
+            Ok(called_on(program, site.first + object, method, text, nodes))
         }
     }
 }

@@ -3,7 +3,6 @@ ghost use Rattle.std.specs.Prelude.{◌≡◌, ◌+◌, ◌<◌, ◌^◌, suc, A
 ghost use Rattle.kr_classes_types.specs.Listed.{IsGrown};
 ghost use Rattle.kr_classes_types.specs.Types.{count};
 ghost use Rattle.kr_types.specs.Programs.{IsProgram};
-ghost use Rattle.kr_code_members.specs.Rosters.{IsRoster};
 ghost use Rattle.kr_types.specs.Programs.{all_entries};
 ghost use Rattle.kr_code_lowering.specs.Origins.{first_node};
 ghost use Rattle.kr_code_lowering.specs.Sites.{IsSite};
@@ -19,7 +18,6 @@ use kr_ast::{Node as TreeNode, tree_of};
 use kr_base::NoMemory;
 use kr_classes_table::TypeId;
 use kr_code::Node;
-use kr_code_members::Roster;
 use kr_types::Program;
 use std::alloc::Global;
 
@@ -27,14 +25,12 @@ use std::alloc::Global;
 fn node_at(
     alloc: Global,
     program: &Program,
-    roster: &Roster,
     arrays: &[TypeId],
     names: &mut Names,
     links: &mut Links,
     site: Site,
 ) -> Result<Node, NoMemory>
     requires program { IsProgram program.now }
-    requires roster { IsRoster program.now.trees.items roster.now }
     requires arrays { All (λ t. t < count program.now.table.types) arrays.now }
     requires few { length arrays.now < 2 ^ 32 }
     requires site { IsSite program.now site }
@@ -52,9 +48,7 @@ fn node_at(
             if is_no_expression(entry.node) {
                 Ok(Node::Statement(statement_at(program, links, site)?))
             } else {
-                Ok(Node::Expression(expression_at(
-                    alloc, program, roster, arrays, names, links, site,
-                )?))
+                Ok(Node::Expression(expression_at(alloc, program, arrays, names, links, site)?))
             }
         }
     }
@@ -64,7 +58,6 @@ fn node_at(
 fn add_file(
     alloc: Global,
     program: &Program,
-    roster: &Roster,
     arrays: &[TypeId],
     names: &mut Names,
     links: &mut Links,
@@ -72,7 +65,6 @@ fn add_file(
     nodes: &mut Vec<Node>,
 ) -> Result<(), NoMemory>
     requires program { IsProgram program.now }
-    requires roster { IsRoster program.now.trees.items roster.now }
     requires arrays { All (λ t. t < count program.now.table.types) arrays.now }
     requires few { length arrays.now < 2 ^ 32 }
     requires file { file < length program.now.trees.items }
@@ -87,7 +79,7 @@ fn add_file(
     let entries = tree_of(&program.trees, file).nodes();
     for node in 0..entries {
         let site = Site { file, node, first };
-        let made = node_at(alloc, program, roster, arrays, names, links, site)?;
+        let made = node_at(alloc, program, arrays, names, links, site)?;
         nodes.push(made)?;
     }
     Ok(())
@@ -105,11 +97,9 @@ pub struct ResolvedNodes {
 pub fn resolve_nodes(
     alloc: Global,
     program: &Program,
-    roster: &Roster,
     arrays: &[TypeId],
 ) -> Result<ResolvedNodes, NoMemory>
     requires program { IsProgram program.now }
-    requires roster { IsRoster program.now.trees.items roster.now }
     requires arrays { All (λ t. t < count program.now.table.types) arrays.now }
     requires few { length arrays.now < 2 ^ 32 }
     ensures count { IfOk result (λ r. length r.nodes.items ≡ length (all_entries program.now.trees.items)) }
@@ -122,7 +112,7 @@ pub fn resolve_nodes(
     let files = program.trees.len() as u32;
     for file in 0..files {
         add_file(
-            alloc, program, roster, arrays, &mut names, &mut links, file, &mut nodes,
+            alloc, program, arrays, &mut names, &mut links, file, &mut nodes,
         )?;
     }
     Ok(ResolvedNodes {

@@ -1,27 +1,26 @@
 // What an assignment writes.
 ghost use Rattle.std.specs.Prelude.{◌≡◌, ◌<◌, Some, IfOk};
 ghost use Rattle.kr_ast.specs.declared.node.Node.TheVariants as nodes;
-ghost use Rattle.kr_types_meaning.specs.Scopes.{Scope, value};
-ghost use Rattle.kr_classes_table.specs.Types.{ClassType};
-ghost use Rattle.kr_mean.specs.Meaning.{field_of_type, typed_field};
+ghost use Rattle.kr_ast.specs.Arena.{name_in};
+ghost use Rattle.kr_types_meaning.specs.Scopes.{value};
+ghost use Rattle.kr_mean.specs.Meaning.{typed_field};
 ghost use Rattle.kr_classes_types.specs.Types.{count, type_at};
 ghost use Rattle.kr_classes_types.specs.Listed.{IsGrown};
 ghost use Rattle.kr_types.specs.Programs.{IsProgram};
-ghost use Rattle.kr_code_members.specs.Rosters.{IsRoster};
 ghost use Rattle.kr_space_problem.specs.Posed.{table};
-ghost use Rattle.kr_code_lowering.specs.Sites.{IsHere, IsSite, scope_at, tree_at};
+ghost use Rattle.kr_code_lowering.specs.Origins.{node_tree};
+ghost use Rattle.kr_code_lowering.specs.Sites.{IsHere, IsSite, arena_at, scope_at, tree_at};
 ghost use Rattle.kr_code_lowering.specs.Targets.{IsFieldFound, IsTarget, is_array_type};
 
-use crate::known::type_of;
-use crate::named::{Named, meaning_of};
+use crate::known::{meaning_at, type_of};
+use crate::named::{Named, name_at};
 use crate::names::Names;
 use crate::site::Site;
 use kr_ast::{Entry, Name, Node};
 use kr_base::NoMemory;
-use kr_classes_table::{ClassId, FieldId, TypeId};
+use kr_classes_table::{FieldId, TypeId};
 use kr_classes_types::{TypeForm, Types};
 use kr_code::Variable;
-use kr_code_members::Roster;
 use kr_types::Program;
 use std::alloc::Global;
 
@@ -29,7 +28,6 @@ use std::alloc::Global;
 fn name_target(
     alloc: Global,
     program: &Program,
-    roster: &Roster,
     names: &mut Names,
     site: Site,
     at: Site,
@@ -37,18 +35,16 @@ fn name_target(
     name: Name,
 ) -> Result<Variable, NoMemory>
     requires program { IsProgram program.now }
-    requires roster { IsRoster program.now.trees.items roster.now }
-    requires site { IsSite program.now site }
     requires here { IsHere program.now at entry }
     requires node { entry.node ≡ nodes.Variable name }
+    requires handed { scope_at program.now at ≡ value (scope_at program.now site) }
     ensures grown { IsGrown names.old names.new }
     ensures target { IfOk result (IsTarget program.now (scope_at program.now site) (tree_at program.now at) names.new) }
 {
-    let text = at.text(program, name);
-    match meaning_of(program, roster, site, text)? {
+    match name_at(program, at, entry, name) {
         Named::Local(number) => Ok(Variable::Local(number)),
         Named::Own(field) => {
-            let number = names.number(alloc, text)?;
+            let number = names.number(alloc, at.text(program, name))?;
             Ok(Variable::Own {
                 name: number,
                 field,
@@ -59,50 +55,26 @@ fn name_target(
     }
 }
 
-/// The instance field of a name that an object's type has.
-fn field_number(program: &Program, roster: &Roster, object: Site, name: &[u8]) -> Option<FieldId>
-    requires program { IsProgram program.now }
-    requires roster { IsRoster program.now.trees.items roster.now }
-    requires site { IsSite program.now object }
-    ensures { (s : Scope) → s.table ≡ table program.now → scope_at program.now object ≡ value s → IsFieldFound program.now result (typed_field s (tree_at program.now object) name.now) }
-{
-    match type_of(program, object) {
-        None => None,
-        Some(number) => match program.table.types.form(number) {
-            TypeForm::Class(class) => instance_field(program, roster, class, name),
-            _ => None,
-        },
-    }
-}
-
-/// The instance field of a name that a class has.
-fn instance_field(
+/// The field that is written, by its number.
+fn field_number(
     program: &Program,
-    roster: &Roster,
-    class: ClassId,
-    name: &[u8],
+    site: Site,
+    _entry: Entry,
+    _object: u32,
+    _name: Name,
 ) -> Option<FieldId>
     requires program { IsProgram program.now }
-    requires roster { IsRoster program.now.trees.items roster.now }
-    ensures { IsFieldFound program.now result (field_of_type (table program.now) name.now (Some (ClassType class))) }
+    requires here { IsHere program.now site _entry }
+    requires node { _entry.node ≡ nodes.FieldAccess _object _name }
+    ensures { IsFieldFound program.now result (typed_field (scope_at program.now site) (node_tree program.now site.file _object) (name_in (arena_at program.now site).text _name)) }
 {
-    match roster.field_named(&program.table.members, class, name) {
-        None => None,
-        Some(number) => {
-            if roster.fields[number as usize].is_static {
-                None
-            } else {
-                Some(number)
-            }
-        }
-    }
+    meaning_at(program, site).instance()
 }
 
 /// A field of an object that is written.
 fn field_target(
     alloc: Global,
     program: &Program,
-    roster: &Roster,
     names: &mut Names,
     site: Site,
     at: Site,
@@ -111,18 +83,16 @@ fn field_target(
     name: Name,
 ) -> Result<Variable, NoMemory>
     requires program { IsProgram program.now }
-    requires roster { IsRoster program.now.trees.items roster.now }
     requires here { IsHere program.now at entry }
     requires node { entry.node ≡ nodes.FieldAccess object name }
     requires handed { scope_at program.now at ≡ value (scope_at program.now site) }
     ensures grown { IsGrown names.old names.new }
     ensures target { IfOk result (IsTarget program.now (scope_at program.now site) (tree_at program.now at) names.new) }
 {
-    let text = at.text(program, name);
-    match field_number(program, roster, at.at(object), text) {
+    match field_number(program, at, entry, object, name) {
         None => Ok(Variable::Unknown),
         Some(field) => {
-            let number = names.number(alloc, text)?;
+            let number = names.number(alloc, at.text(program, name))?;
             Ok(Variable::Of {
                 object: at.first + object,
                 name: number,
@@ -179,13 +149,11 @@ fn element_target(
 pub(crate) fn variable_at(
     alloc: Global,
     program: &Program,
-    roster: &Roster,
     names: &mut Names,
     site: Site,
     at: Site,
 ) -> Result<Variable, NoMemory>
     requires program { IsProgram program.now }
-    requires roster { IsRoster program.now.trees.items roster.now }
     requires site { IsSite program.now site }
     requires at { IsSite program.now at }
     requires handed { scope_at program.now at ≡ value (scope_at program.now site) }
@@ -194,11 +162,9 @@ pub(crate) fn variable_at(
 {
     let entry = at.entry(program);
     match entry.node {
-        Node::Variable { name } => {
-            name_target(alloc, program, roster, names, site, at, entry, name)
-        }
+        Node::Variable { name } => { name_target(alloc, program, names, site, at, entry, name) }
         Node::FieldAccess { object, name } => {
-            field_target(alloc, program, roster, names, site, at, entry, object, name)
+            field_target(alloc, program, names, site, at, entry, object, name)
         }
         Node::ArrayAccess { array, index } => {
             Ok(element_target(program, site, at, entry, array, index, names))

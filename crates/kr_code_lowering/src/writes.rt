@@ -3,7 +3,6 @@ ghost use Rattle.std.specs.Prelude.{◌≡◌, List, ℕ, IfOk};
 ghost use Rattle.kr_ast.specs.declared.node.Node.TheVariants as nodes;
 ghost use Rattle.kr_classes_types.specs.Listed.{IsGrown};
 ghost use Rattle.kr_types.specs.Programs.{IsProgram};
-ghost use Rattle.kr_code_members.specs.Rosters.{IsRoster};
 ghost use Rattle.kr_code_lowering.specs.Sites.{IsHere, Resolves};
 
 use crate::names::Names;
@@ -12,7 +11,6 @@ use crate::targets::variable_at;
 use kr_ast::{BinaryOperator, Entry, StepOperator};
 use kr_base::NoMemory;
 use kr_code::Expression;
-use kr_code_members::Roster;
 use kr_types::Program;
 use std::alloc::Global;
 
@@ -20,7 +18,6 @@ use std::alloc::Global;
 pub(crate) fn assignment_expression(
     alloc: Global,
     program: &Program,
-    roster: &Roster,
     names: &mut Names,
     site: Site,
     entry: Entry,
@@ -28,13 +25,12 @@ pub(crate) fn assignment_expression(
     value: u32,
 ) -> Result<Expression, NoMemory>
     requires program { IsProgram program.now }
-    requires roster { IsRoster program.now.trees.items roster.now }
     requires here { IsHere program.now site entry }
     requires node { entry.node ≡ nodes.Assignment target value }
     ensures grown { IsGrown names.old names.new }
     ensures resolves { (arrays links : List ℕ) → IfOk result (Resolves program.now arrays site names.new links) }
 {
-    let variable = variable_at(alloc, program, roster, names, site, site.at(target))?;
+    let variable = variable_at(alloc, program, names, site, site.at(target))?;
     Ok(Expression::Assign {
         variable,
         value: site.first + value,
@@ -45,7 +41,6 @@ pub(crate) fn assignment_expression(
 pub(crate) fn compound_expression(
     alloc: Global,
     program: &Program,
-    roster: &Roster,
     names: &mut Names,
     site: Site,
     entry: Entry,
@@ -54,13 +49,12 @@ pub(crate) fn compound_expression(
     value: u32,
 ) -> Result<Expression, NoMemory>
     requires program { IsProgram program.now }
-    requires roster { IsRoster program.now.trees.items roster.now }
     requires here { IsHere program.now site entry }
     requires node { entry.node ≡ nodes.CompoundAssignment operator target value }
     ensures grown { IsGrown names.old names.new }
     ensures resolves { (arrays links : List ℕ) → IfOk result (Resolves program.now arrays site names.new links) }
 {
-    let variable = variable_at(alloc, program, roster, names, site, site.at(target))?;
+    let variable = variable_at(alloc, program, names, site, site.at(target))?;
     Ok(Expression::Compound {
         operator,
         variable,
@@ -72,7 +66,6 @@ pub(crate) fn compound_expression(
 pub(crate) fn step_expression(
     alloc: Global,
     program: &Program,
-    roster: &Roster,
     names: &mut Names,
     site: Site,
     entry: Entry,
@@ -80,12 +73,11 @@ pub(crate) fn step_expression(
     target: u32,
 ) -> Result<Expression, NoMemory>
     requires program { IsProgram program.now }
-    requires roster { IsRoster program.now.trees.items roster.now }
     requires here { IsHere program.now site entry }
     requires node { entry.node ≡ nodes.Step operator target }
     ensures grown { IsGrown names.old names.new }
     ensures resolves { (arrays links : List ℕ) → IfOk result (Resolves program.now arrays site names.new links) }
 {
-    let variable = variable_at(alloc, program, roster, names, site, site.at(target))?;
+    let variable = variable_at(alloc, program, names, site, site.at(target))?;
     Ok(Expression::Step { operator, variable })
 }

@@ -6,5 +6,3 @@ pub mod Declaring
 pub mod Constructing
 pub mod Nested
 pub mod Tables
-pub mod Sections
-pub mod Found

@@ -15,7 +15,7 @@ use Rattle.kr_classes_names.proofs.ClassNumbers.{turned}
 use Rattle.kr_types.specs.declared.program.Program.{Program}
 use Rattle.kr_types.specs.Programs.{IsProgram}
 use Rattle.kr_mean.specs.Program.{constructor_of, first, program_with}
-use Rattle.kr_code_members.specs.Rosters.{methods_of_class}
+use Rattle.kr_classes_roster.specs.Rosters.{methods_of_class}
 use Rattle.kr_code_members.specs.Nodes.{table}
 use Rattle.kr_code_members.specs.Walk.{heading_numbered, no_heading}
 

@@ -1,3 +1,2 @@
 pub mod Nodes
 pub mod Walk
-pub mod Rosters

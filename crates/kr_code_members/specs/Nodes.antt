@@ -16,7 +16,7 @@ use Rattle.kr_classes_members.specs.Shown.{table_in}
 use Rattle.kr_types.specs.declared.program.Program.{Program}
 use Rattle.kr_types.specs.declared.program.TypedFile.{TypedFile}
 use Rattle.kr_types.specs.Programs.{scope_there}
-use Rattle.kr_code_members.specs.Rosters.{all_methods, method_numbered}
+use Rattle.kr_classes_roster.specs.Rosters.{all_methods, method_numbered}
 use Rattle.kr_mean.specs.Program.{constructor_of, constructor_scope, method_scope, program_with}
 use Rattle.kr_code_members.specs.declared.nodes.FieldNode.{FieldNode}
 use Rattle.kr_code_members.specs.declared.nodes.MethodNode.{MethodNode}

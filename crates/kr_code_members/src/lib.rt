@@ -9,10 +9,7 @@ mod lists;
 mod members;
 mod methods;
 mod nodes;
-mod read;
-mod roster;
 
 pub use lists::list_nodes;
 pub use members::member_nodes;
 pub use nodes::{ClassNodes, ConstructorNode, FieldNode, MemberNodes, MethodNode};
-pub use roster::Roster;

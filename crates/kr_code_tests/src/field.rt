@@ -1,14 +1,15 @@
 // `class A { int v = 7; }`: where its members stand, the code of its nodes, and the code of its members.
 ghost use Rattle.std.specs.Prelude.{◌≡◌};
 ghost use Rattle.kr_code_members.specs.Nodes.{AreMemberNodes, AreShaped};
-ghost use Rattle.kr_code_members.specs.Rosters.{IsRoster};
+ghost use Rattle.kr_classes_roster.specs.Rosters.{IsRoster};
 ghost use Rattle.kr_types.specs.Programs.{IsProgram};
 
 use kr_base::{NoMemory, Place};
+use kr_classes_roster::Roster;
 use kr_code::{Expression, Node};
 use kr_code_bodies::{Bodies, bodies_of};
 use kr_code_lowering::{Links, resolve_nodes};
-use kr_code_members::{ClassNodes, FieldNode, MemberNodes, Roster, member_nodes};
+use kr_code_members::{ClassNodes, FieldNode, MemberNodes, member_nodes};
 use kr_sources::{Unread, program_of};
 use kr_types::Program;
 use kr_value::Value;
@@ -117,7 +118,7 @@ fn nodes_fit(alloc: Global, program: &Program, roster: &Roster) -> Result<bool, 
     requires program { IsProgram program.now }
     requires roster { IsRoster program.now.trees.items roster.now }
 {
-    let resolved = resolve_nodes(alloc, program, roster, &[])?;
+    let resolved = resolve_nodes(alloc, program, &[])?;
     Ok(resolved_fit(program, resolved.nodes.as_slice()))
 }
 

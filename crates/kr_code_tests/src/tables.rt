@@ -2,14 +2,14 @@
 ghost use Rattle.std.specs.Prelude.{◌≡◌, ◌∷◌, [], IfOk, codes, map};
 ghost use Rattle.kr_code.specs.Tables.{row_items};
 ghost use Rattle.kr_classes_members.specs.Kept.{AreMembers};
-ghost use Rattle.kr_code_members.specs.Rosters.{IsRoster};
+ghost use Rattle.kr_classes_roster.specs.Rosters.{IsRoster};
 
 use kr_ast::Tree;
 use kr_base::NoMemory;
 use kr_classes_members::Members;
+use kr_classes_roster::Roster;
 use kr_classes_types::{TypeForm, Types};
 use kr_code_bodies::Tables;
-use kr_code_members::Roster;
 use std::alloc::Global;
 
 /// Whether a table has this row.

@@ -12,7 +12,7 @@ use Rattle.kr_types.specs.declared.program.Program.{Program}
 use Rattle.kr_types.specs.Programs.{all_entries}
 use Rattle.kr_space_problem.specs.declared.problem.Problem.{Problem}
 use Rattle.kr_space_problem.specs.Posed.{posed, run_program, table}
-use Rattle.kr_code_members.specs.Rosters.{all_methods, method_numbered, no_method}
+use Rattle.kr_classes_roster.specs.Rosters.{all_methods, method_numbered, no_method}
 use Rattle.kr_code_lowering.specs.declared.site.Site.{Site}
 use Rattle.kr_code_lowering.specs.Origins.{Final, node_scope, node_tree, nothing, numbering_of, origin_of}
 use Rattle.kr_code_lowering.specs.Sites.{scope_at, tree_at}

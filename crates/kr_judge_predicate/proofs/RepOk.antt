@@ -16,7 +16,7 @@ use Rattle.kr_code.specs.declared.expression.Expression.TheVariants as expressio
 use Rattle.kr_code.specs.Resolved as resolved
 use Rattle.kr_code.specs.Resolved.{Numbering, AreParts}
 use Rattle.kr_code.specs.Tables.{listed}
-use Rattle.kr_code_members.specs.Rosters.{all_methods, method_numbered, no_method}
+use Rattle.kr_classes_roster.specs.Rosters.{all_methods, method_numbered, no_method}
 use Rattle.kr_types.specs.declared.program.Program.{Program}
 use Rattle.kr_space_problem.specs.Posed.{run_program, table}
 use Rattle.kr_code_lowering.specs.Origins.{numbering_of}

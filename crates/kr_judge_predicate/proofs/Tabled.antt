@@ -11,7 +11,7 @@ use Rattle.kr_code.specs.Tables.{cell, is_instance, method_in, spot_in}
 use Rattle.kr_classes_types.specs.Types.{type_at}
 use Rattle.kr_types.specs.declared.program.Program.{Program}
 use Rattle.kr_space_problem.specs.Posed.{run_program, table}
-use Rattle.kr_code_members.specs.Rosters.{all_methods, method_numbered}
+use Rattle.kr_classes_roster.specs.Rosters.{all_methods, method_numbered}
 use Rattle.kr_code_lowering.specs.Origins.{Final, numbering_of}
 use Rattle.kr_code_lowering.proofs.Called.{there}
 use Rattle.kr_code_bodies.specs.declared.tables.Tables.{Tables}

@@ -3,7 +3,7 @@ use Rattle.std.proofs.Common.{◌≡◌, sym, ap, ◌∙◌, ℕ, List, [], ◌�
 use Rattle.kr_classes_types.specs.Listed.{IsGrown}
 use Rattle.kr_classes_types.specs.Types.{type_at}
 use Rattle.kr_types.specs.Programs.{all_entries}
-use Rattle.kr_code_members.specs.Rosters.{all_methods}
+use Rattle.kr_classes_roster.specs.Rosters.{all_methods}
 use Rattle.kr_code.specs.declared.code.Code.{Code}
 use Rattle.kr_code.specs.declared.code.Node.{Node}
 use Rattle.kr_code.specs.declared.code.Node.TheVariants as nodes

@@ -14,7 +14,7 @@ use Rattle.kr_code.specs.Resolved.{IsCodeOf, IsExpression, IsPart}
 use Rattle.kr_types.specs.declared.program.Program.{Program}
 use Rattle.kr_space_problem.specs.declared.problem.Problem.{Problem}
 use Rattle.kr_space_problem.specs.Posed.{posed, run_program, table}
-use Rattle.kr_code_members.specs.Rosters.{all_methods}
+use Rattle.kr_classes_roster.specs.Rosters.{all_methods}
 use Rattle.kr_code_lowering.specs.Origins.{Final, numbering_of}
 use Rattle.kr_code_lowering.specs.Sites.{Becomes}
 

@@ -1,6 +1,6 @@
 // The code of a problem's program.
 ghost use Rattle.std.specs.Prelude.{IfOk};
-ghost use Rattle.kr_code_members.specs.Rosters.{IsRoster};
+ghost use Rattle.kr_classes_roster.specs.Rosters.{IsRoster};
 ghost use Rattle.kr_code_members.specs.Nodes.{AreMemberNodes};
 ghost use Rattle.kr_space_problem.specs.Posed.{IsPosed};
 ghost use Rattle.kr_judge_predicate.specs.Compiled.{HasCall, IsCompiled};
@@ -8,10 +8,11 @@ ghost use Rattle.kr_judge_predicate.specs.Compiled.{HasCall, IsCompiled};
 use crate::call::rep_ok_call;
 use crate::root::root_class;
 use kr_base::NoMemory;
+use kr_classes_roster::Roster;
 use kr_code::{Code, Expression, Node};
 use kr_code_bodies::{Tables, bodies_of};
 use kr_code_lowering::{ResolvedNodes, resolve_nodes};
-use kr_code_members::{MemberNodes, Roster};
+use kr_code_members::MemberNodes;
 use kr_space_problem::Problem;
 use std::alloc::Global;
 
@@ -50,7 +51,7 @@ pub(crate) fn code_of(
         mut nodes,
         mut links,
         names,
-    } = resolve_nodes(alloc, program, roster, arrays)?;
+    } = resolve_nodes(alloc, program, arrays)?;
     add_call(problem, roster, &mut nodes)?;
     let made = bodies_of(alloc, program, roster, members, &mut nodes, &mut links)?;
     let tables = Tables::read(

@@ -1,7 +1,7 @@
 // The nodes of what has to hold.
 ghost use Rattle.std.specs.Prelude.{◌≡◌, ◌<◌, ◌++◌, IfOk, length, map};
 ghost use Rattle.kr_mean.specs.Runs.{conditions, requires_of, tested_method};
-ghost use Rattle.kr_code_members.specs.Rosters.{all_methods, method_numbered};
+ghost use Rattle.kr_classes_roster.specs.Rosters.{all_methods, method_numbered};
 ghost use Rattle.kr_code_members.specs.Nodes.{AreMemberNodes};
 ghost use Rattle.kr_space_problem.specs.Posed.{IsPosed, posed, table};
 ghost use Rattle.kr_code_lowering.specs.Calls.{IsFound};

@@ -1,6 +1,6 @@
 // The code of a problem.
 ghost use Rattle.std.specs.Prelude.{IfOk};
-ghost use Rattle.kr_code_members.specs.Rosters.{IsRoster};
+ghost use Rattle.kr_classes_roster.specs.Rosters.{IsRoster};
 ghost use Rattle.kr_code_members.specs.Nodes.{AreMemberNodes, AreShaped};
 ghost use Rattle.kr_space_problem.specs.Posed.{IsPosed, posed};
 ghost use Rattle.kr_judge_prepared.specs.Tested.{IsCodeFor};
@@ -10,7 +10,8 @@ use crate::predicate::conditions;
 use crate::root::tested_method;
 use crate::tested::tested_contract;
 use kr_base::NoMemory;
-use kr_code_members::{MemberNodes, Roster, member_nodes};
+use kr_classes_roster::Roster;
+use kr_code_members::{MemberNodes, member_nodes};
 use kr_judge::Predicate;
 use kr_judge_prepared::ProblemCode;
 use kr_space_problem::Problem;
@@ -44,7 +45,6 @@ pub fn problem_code(alloc: Global, problem: &Problem) -> Result<ProblemCode, NoM
     requires shaped { AreShaped problem.now.program }
     ensures { IfOk result (IsCodeFor (posed problem.now)) }
 {
-    let roster = Roster::read(alloc, &problem.program.table.members)?;
     let members = member_nodes(alloc, &problem.program)?;
-    code_by(alloc, problem, &roster, &members)
+    code_by(alloc, problem, &problem.program.roster, &members)
 }

@@ -2,13 +2,13 @@
 ghost use Rattle.std.specs.Prelude.{◌≡◌};
 ghost use Rattle.kr_classes_table.specs.Table.{method_named};
 ghost use Rattle.kr_types.specs.Programs.{IsProgram};
-ghost use Rattle.kr_code_members.specs.Rosters.{IsRoster};
+ghost use Rattle.kr_classes_roster.specs.Rosters.{IsRoster};
 ghost use Rattle.kr_mean.specs.Runs.{root_class, tested_method};
 ghost use Rattle.kr_space_problem.specs.Posed.{IsPosed, posed, table};
 ghost use Rattle.kr_code_lowering.specs.Calls.{IsFound};
 
+use kr_classes_roster::Roster;
 use kr_classes_table::{ClassId, MethodId};
-use kr_code_members::Roster;
 use kr_mean::Mode;
 use kr_space_problem::Problem;
 use kr_types::Program;

@@ -2,7 +2,7 @@
 ghost use Rattle.std.specs.Prelude.{◌<◌, IfOk, length};
 ghost use Rattle.kr_mean.specs.Runs.{tested_method};
 ghost use Rattle.kr_code.specs.declared.code.Code.{Code as CodeMade};
-ghost use Rattle.kr_code_members.specs.Rosters.{all_methods, method_numbered};
+ghost use Rattle.kr_classes_roster.specs.Rosters.{all_methods, method_numbered};
 ghost use Rattle.kr_code_members.specs.Nodes.{AreMemberNodes};
 ghost use Rattle.kr_space_problem.specs.Posed.{IsPosed, posed, table};
 ghost use Rattle.kr_code_lowering.specs.Calls.{IsFound};

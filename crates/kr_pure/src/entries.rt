@@ -1,6 +1,6 @@
 // The entries of what a node may run.
 ghost use Rattle.std.specs.Prelude.{IfOk};
-ghost use Rattle.kr_code_members.specs.Rosters.{IsRoster};
+ghost use Rattle.kr_classes_roster.specs.Rosters.{IsRoster};
 ghost use Rattle.kr_mean.specs.Code.{code_run};
 ghost use Rattle.kr_code_members.specs.Nodes.{AreMemberNodes, IsThere};
 ghost use Rattle.kr_space_problem.specs.Posed.{IsPosed, posed};
@@ -9,7 +9,8 @@ ghost use Rattle.kr_pure.specs.Entries.{Enter, node_of};
 use crate::members::{add_bodies, add_classes};
 use kr_ast::NodeId;
 use kr_base::NoMemory;
-use kr_code_members::{MemberNodes, Roster};
+use kr_classes_roster::Roster;
+use kr_code_members::MemberNodes;
 use kr_pure_effects::runs_of;
 use kr_space_problem::Problem;
 use std::alloc::Global;

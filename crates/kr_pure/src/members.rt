@@ -2,7 +2,7 @@
 ghost use Rattle.std.specs.Prelude.{◌≡◌, ◌<◌, ◌++◌, List, All, IfOk, flat_map, length, map};
 ghost use Rattle.kr_classes_table.specs.Types.{JavaType};
 ghost use Rattle.kr_classes_members.specs.Shown.{IsMethod, method_shown};
-ghost use Rattle.kr_code_members.specs.Rosters.{IsRoster};
+ghost use Rattle.kr_classes_roster.specs.Rosters.{IsRoster};
 ghost use Rattle.kr_types.specs.Programs.{IsProgram};
 ghost use Rattle.kr_mean.specs.Program.{program_with};
 ghost use Rattle.kr_mean.specs.Code.{Node as CodeNode, code_of_class, code_of_method};
@@ -12,7 +12,8 @@ ghost use Rattle.kr_pure.specs.Entries.{Enter, IsNamed, class_entries, construct
 use kr_ast::{NodeId, tree_of};
 use kr_base::NoMemory;
 use kr_classes_members::Method;
-use kr_code_members::{ClassNodes, ConstructorNode, FieldNode, MemberNodes, MethodNode, Roster};
+use kr_classes_roster::Roster;
+use kr_code_members::{ClassNodes, ConstructorNode, FieldNode, MemberNodes, MethodNode};
 use kr_types::Program;
 
 /// Where a method stands.

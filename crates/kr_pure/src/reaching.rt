@@ -2,7 +2,7 @@
 ghost use Rattle.std.specs.Prelude.{◌≡◌, Some, All, IfOk, map, slice_get};
 ghost use Rattle.kr_ast.specs.declared.node.Entry.{Entry as EntryMeant};
 ghost use Rattle.kr_ast.specs.Files.{IsNode};
-ghost use Rattle.kr_code_members.specs.Rosters.{IsRoster};
+ghost use Rattle.kr_classes_roster.specs.Rosters.{IsRoster};
 ghost use Rattle.kr_types.specs.Programs.{IsProgram};
 ghost use Rattle.kr_pure.specs.Walk.{walk_parts};
 ghost use Rattle.kr_pure.specs.Found.{AreFound, IsAdded};
@@ -15,7 +15,8 @@ use crate::roots::root_entries;
 use crate::{Found, count_nodes};
 use kr_ast::{Node, NodeId, Parts, tree_of};
 use kr_base::NoMemory;
-use kr_code_members::{MemberNodes, Roster, member_nodes};
+use kr_classes_roster::Roster;
+use kr_code_members::{MemberNodes, member_nodes};
 use kr_space_problem::Problem;
 use kr_types::Program;
 use std::alloc::Global;
@@ -110,12 +111,12 @@ pub fn predicate_nodes(alloc: Global, problem: &Problem) -> Result<Vec<NodeId>, 
 {
     let program = &problem.program;
     let trees = program.trees.as_slice();
-    let roster = Roster::read(alloc, &program.table.members)?;
+    let roster = &program.roster;
     let nodes = member_nodes(alloc, program)?;
     let count = count_nodes(trees);
     let mut found = Found::none(alloc, trees, count)?;
-    let entries = root_entries(alloc, problem, &roster, &nodes)?;
+    let entries = root_entries(alloc, problem, roster, &nodes)?;
     found.add_all(trees, &entries)?;
-    walk_on(alloc, problem, &roster, &nodes, &mut found)?;
+    walk_on(alloc, problem, roster, &nodes, &mut found)?;
     Ok(found.into_nodes())
 }

@@ -2,7 +2,7 @@
 ghost use Rattle.std.specs.Prelude.{◌≡◌, ◌++◌, List, IfOk, IfSome, option_map, option_to_list, flat_map, map};
 ghost use Rattle.kr_classes_table.specs.Types.{JavaType};
 ghost use Rattle.kr_classes_members.specs.Shown.{IsMethod, method_shown};
-ghost use Rattle.kr_code_members.specs.Rosters.{IsRoster};
+ghost use Rattle.kr_classes_roster.specs.Rosters.{IsRoster};
 ghost use Rattle.kr_types.specs.Programs.{IsProgram};
 ghost use Rattle.kr_mean.specs.Program.{program_with};
 ghost use Rattle.kr_mean.specs.Code.{Node as CodeNode, code, code_of_method};
@@ -17,7 +17,8 @@ use crate::members::{add_bodies, method_node};
 use kr_ast::NodeId;
 use kr_base::NoMemory;
 use kr_classes_members::Method;
-use kr_code_members::{MemberNodes, Roster};
+use kr_classes_roster::Roster;
+use kr_code_members::MemberNodes;
 use kr_mean::Mode;
 use kr_space_problem::Problem;
 use kr_types::Program;

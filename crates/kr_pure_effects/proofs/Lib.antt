@@ -1,6 +1,7 @@
 pub mod Finitized
 pub mod Found
 pub mod Parts
+pub mod Read
 pub mod Scanning
 pub mod Numbered
 pub mod Overridden

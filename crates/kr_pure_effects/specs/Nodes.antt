@@ -1,6 +1,6 @@
 -- Between crates: nodes of a program's files by their numbers: what an entry says of a node, how it runs, and whether it touches
 -- candidates.
-use Rattle.std.specs.Prelude.{◌≡◌, ℕ, ◌<◌, true, List, length}
+use Rattle.std.specs.Prelude.{◌≡◌, ℕ, ◌<◌, true, List, [], ◌∷◌, length}
 use Rattle.kr_ast.specs.declared.node.Entry.{Entry}
 use Rattle.kr_ast.specs.Arena.{Arena, ArePartsFrom, AreNamesIn, names, parts, tree_in, tree_of}
 use Rattle.kr_value.specs.declared.object.Class.{Class}
@@ -9,7 +9,10 @@ use Rattle.kr_ast.specs.Files.{file_at}
 use Rattle.kr_types.specs.declared.program.TypedFile.{TypedFile}
 use Rattle.kr_types.specs.Programs.{scope_there}
 use Rattle.kr_mean.specs.Problem.{Problem}
-use Rattle.kr_mean.specs.Code.{Node}
+use Rattle.kr_classes_table.specs.Table.{Method}
+use Rattle.kr_types_resolving.specs.Meanings.{Meaning, Virtual, Static, Super}
+use Rattle.kr_mean.specs.Program.{Program}
+use Rattle.kr_mean.specs.Code.{Node, overriders}
 use Rattle.kr_mean.specs.Purity.{IsFinitized, may_touch}
 
 -- the entry of a node of a file: its tree, its parts and its names
@@ -26,3 +29,10 @@ node_there files f t i = record { scope = running (scope_there files f t i); tre
 -- it creates, or may write, an object of a class that the finitization counts
 abbrev pub TouchesCandidates : Problem → Node → Type 0
 TouchesCandidates problem n = (class : Class) × (may_touch problem.program n.scope n.tree class ≡ true) × IsFinitized problem class
+
+-- the methods that a node of this meaning may run
+abbrev pub runs_by : Program → Meaning → List Method
+runs_by program (Virtual m) = overriders program m
+runs_by program (Static m) = m ∷ []
+runs_by program (Super m) = m ∷ []
+runs_by program m = []

@@ -1,15 +1,11 @@
 -- Between crates: what a node touches, as the code has it: which objects it creates, or may write a field or an element of.
-use Rattle.std.specs.Prelude.{ℕ, ◌<◌, Bool, true, false, ◌&&◌, ◌||◌, List, [], ◌∷◌, Option, None, nat_eq, nat_lt}
-use Rattle.kr_ast.specs.Tree as trees
-use Rattle.kr_ast.specs.Tree.{Tree}
+use Rattle.std.specs.Prelude.{ℕ, ◌<◌, Bool, true, false, ◌&&◌, ◌||◌, List, [], ◌∷◌, nat_eq, nat_lt}
 use Rattle.kr_value.specs.declared.object.Class.{Class}
 use Rattle.kr_value.specs.declared.object.Class.TheVariants.{Object}
-use Rattle.kr_classes_table.specs.Types.{JavaType}
 use Rattle.kr_classes_table.specs.Table.{is_below}
-use Rattle.kr_types_meaning.specs.Scopes.{Scope}
-use Rattle.kr_types_meaning.specs.Typing.{type_of}
 use Rattle.kr_classes_types.specs.Types.{TypeList, count, type_at}
 use Rattle.kr_mean.specs.Program.{Program, is_array_of}
+use Rattle.kr_types_resolving.specs.Meanings.{Meaning, Instance}
 use Rattle.kr_mean.specs.Problem.{ClassDomain}
 use Rattle.kr_pure_effects.specs.declared.touch.Touch.{Touch}
 use Rattle.kr_pure_effects.specs.declared.touch.Touch.TheVariants as touch
@@ -40,8 +36,7 @@ abbrev pub touches_some : Program → TypeList → Touch → List ClassDomain �
 touches_some program l t [] = false
 touches_some program l t (d ∷ ds) = touches_domain program l t d || touches_some program l t ds
 
--- the type of the object or array that a variable is a part of
-abbrev pub first_type : Scope → Tree → Option JavaType
-first_type s (trees.FieldAccess p e n) = type_of s e
-first_type s (trees.ArrayAccess p a i) = type_of s a
-first_type s t = None
+-- a write of a variable of this meaning
+abbrev pub field_written : Program → Meaning → Class → Bool
+field_written program (Instance f) (Object c) = is_below program.table c f.class
+field_written program m class = false

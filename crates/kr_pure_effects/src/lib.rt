@@ -11,7 +11,6 @@ mod runnable;
 mod runs;
 mod targets;
 mod touch;
-mod writes;
 
 pub use candidates::touches_candidates;
 pub use created::created_classes;

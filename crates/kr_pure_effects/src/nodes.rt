@@ -1,9 +1,8 @@
 // What a node touches.
-ghost use Rattle.std.specs.Prelude.{◌≡◌, ◌<◌, IfSome, Some, length, option_map, slice_get};
+ghost use Rattle.std.specs.Prelude.{◌≡◌, ◌<◌, Some, length, slice_get};
 ghost use Rattle.kr_ast.specs.Arena.{tree_in};
 ghost use Rattle.kr_types_meaning.specs.Running.{running};
 ghost use Rattle.kr_ast.specs.Files.{file_at};
-ghost use Rattle.kr_classes_types.specs.Types.{count, type_at};
 ghost use Rattle.kr_types.specs.Programs.{IsProgram, scope_there};
 ghost use Rattle.kr_types.specs.declared.program.TypedFile.{TypedFile as Typed};
 ghost use Rattle.kr_value.specs.declared.object.Class.{Class};
@@ -11,29 +10,13 @@ ghost use Rattle.kr_mean.specs.Program as meaning;
 ghost use Rattle.kr_mean.specs.Meaning.{target_of};
 ghost use Rattle.kr_mean.specs.Purity.{may_touch, writes_to};
 ghost use Rattle.kr_pure_effects.specs.Nodes.{node_there};
-ghost use Rattle.kr_pure_effects.specs.Touches.{IsTouchWithin, first_type, touches};
+ghost use Rattle.kr_pure_effects.specs.Touches.{IsTouchWithin, touches};
 
-use crate::known::{class_at, entry_at, named_type, typed_file};
-use crate::targets::creation_touch;
+use crate::known::{entry_at, named_type};
+use crate::targets::{creation_touch, element_touch, field_touch};
 use crate::touch::Touch;
-use crate::writes::target_touch;
 use kr_ast::Node;
 use kr_types::Program;
-
-/// The type of the object or array that a variable is a part of.
-fn first_type(program: &Program, file: u32, target: u32) -> Option<u32>
-    requires program { IsProgram program.now }
-    requires file { file < length program.now.trees.items }
-    requires target { target < length (file_at program.now.trees.items file).entries }
-    ensures within { IfSome result (λ t. t < count program.now.table.types) }
-    ensures shown { (t : Typed) → slice_get program.now.files.items file ≡ Some t → option_map (type_at program.now.table.types) result ≡ first_type (scope_there program.now.trees.items file t target) (tree_in (file_at program.now.trees.items file) target) }
-{
-    match entry_at(program, file, target).node {
-        Node::FieldAccess { object, .. } => program.type_of(file, object),
-        Node::ArrayAccess { array, .. } => program.type_of(file, array),
-        _ => None,
-    }
-}
 
 /// A write of a target.
 fn written_touch(program: &Program, file: u32, target: u32) -> Touch
@@ -43,16 +26,12 @@ fn written_touch(program: &Program, file: u32, target: u32) -> Touch
     ensures within { IsTouchWithin program.now.table.types result }
     ensures shown { (mean : meaning.Program) (t : Typed) (class : Class) → slice_get program.now.files.items file ≡ Some t → touches mean program.now.table.types result class ≡ writes_to mean (target_of (running (scope_there program.now.trees.items file t target)) (tree_in (file_at program.now.trees.items file) target)) class }
 {
-    target_touch(
-        &program.trees,
-        &program.table.types,
-        &program.table.members,
-        &typed_file(program, file).scopes,
-        file,
-        target,
-        class_at(program, file, target),
-        first_type(program, file, target),
-    )
+    match entry_at(program, file, target).node {
+        Node::ArrayAccess { array, .. } => {
+            element_touch(&program.table.types, program.type_of(file, array))
+        }
+        _ => field_touch(program, program.meaning_of(file, target)),
+    }
 }
 
 /// What a node of a program's file touches.

@@ -8,9 +8,9 @@ ghost use Rattle.kr_mean.specs.Program as meaning;
 ghost use Rattle.kr_mean.specs.Code.{classes_run, methods_run};
 ghost use Rattle.kr_pure_effects.specs.Nodes.{node_there};
 
-use crate::callees::{callees_behind, own_callees, super_callees};
+use crate::callees::methods_of;
 use crate::created_classes;
-use crate::known::{entry_at, name_at, named_type};
+use crate::known::{entry_at, named_type};
 use kr_ast::Node;
 use kr_base::NoMemory;
 use kr_classes_members::Method;
@@ -22,40 +22,6 @@ use std::alloc::Global;
 pub struct Runs {
     pub methods: Vec<Method>,
     pub classes: Vec<u32>,
-}
-
-/// The methods that a node may run.
-fn methods_of(
-    alloc: Global,
-    program: &Program,
-    file: u32,
-    node: u32,
-) -> Result<Vec<Method>, NoMemory>
-    requires program { IsProgram program.now }
-    requires file { file < length program.now.trees.items }
-    requires node { node < length (file_at program.now.trees.items file).entries }
-    ensures stands { IfOk result (λ methods. All (IsMethod program.now.trees.items) methods.items) }
-    ensures shown { IfOk result (λ methods. (mean : meaning.Program) (t : Typed) → mean.table ≡ table_in program.now.trees.items → slice_get program.now.files.items file ≡ Some t → let n = node_there program.now.trees.items file t node in map (method_shown program.now.trees.items) methods.items ≡ methods_run mean n.scope n.tree) }
-{
-    match entry_at(program, file, node).node {
-        Node::Call { name, .. } => {
-            own_callees(alloc, program, file, node, name_at(program, file, name))
-        }
-        Node::MethodCall { object, name, .. } => {
-            callees_behind(
-                alloc,
-                program,
-                file,
-                node,
-                object,
-                name_at(program, file, name),
-            )
-        }
-        Node::SuperCall { name, .. } => {
-            super_callees(alloc, program, file, node, name_at(program, file, name))
-        }
-        _ => Ok(Vec::new(alloc)),
-    }
 }
 
 /// The classes whose constructors and initial values a node may run.

@@ -39,6 +39,7 @@ program_kept p l e k = record {
     };
     unbroken = k.table.unbroken;
   };
+  roster = k.roster;
   count = k.count;
   files = λ f t g. typed_kept p.trees.items p.table.types l f t e (k.files f t g);
   well_typed = k.well_typed;

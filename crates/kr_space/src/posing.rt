@@ -185,6 +185,7 @@ pub fn problem(
     let Program {
         trees,
         table,
+        roster,
         files,
     } = program;
     let ClassTable {
@@ -211,6 +212,7 @@ pub fn problem(
     let program = Program {
         trees,
         table,
+        roster,
         files,
     };
     Ok(Problem {

@@ -60,6 +60,8 @@ got_push (z ∷ zs) y (suc k) x e = elim (got_push zs y k x e) [ inl l ↦ inl l
 pub typed_kept : (files : List Arena) (a b : TypeList) (f : ℕ) (t : TypedFile) → Extends a b → IsTypedFile files a f t → IsTypedFile files b f t
 typed_kept files a b f t x h = record {
   scopes = h.scopes;
+  resolved = h.resolved;
+  meant = h.meant;
   long = h.long;
   within = within_kept a b t.notes x h.within;
   judged = λ i l. ap (λ (ns : List noting.Note). noting.note_at ns i) (notes_same a b t.notes x h.within) ∙ h.judged i l;

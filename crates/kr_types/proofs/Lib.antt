@@ -1,5 +1,6 @@
 pub mod Making
 pub mod Passing
+pub mod Meant
 pub mod Absent
 pub mod Single
 pub mod Faults

@@ -54,6 +54,7 @@ pub site_kept : (s : Site) (a b : TypeList) → Extends a b → IsSite s a → I
 site_kept s a b x h = record {
   heads = h.heads;
   members = h.members;
+  roster = h.roster;
   numbers = λ f n. number_kept a b _ _ x (h.numbers f n);
   values = h.values;
   single = h.single;
@@ -105,7 +106,7 @@ module _ (s : Site) (a b : TypeList) (ns : List Note) (m : Note) (e : Entry) (fo
     noted = λ i f lt is. noted_either i f (elim (eq-or-lt_of_le (below i lt)) [ inl at ↦ inr at | inr l ↦ inl l ]) is;
   }
 
-some_entry : (es : List Entry) (i : ℕ) → i < length es → (e : Entry) × (slice_get es i ≡ Some e)
+pub some_entry : (es : List Entry) (i : ℕ) → i < length es → (e : Entry) × (slice_get es i ≡ Some e)
 some_entry [] i l = absurd (omega (arith, l))
 some_entry (e ∷ es) zero l = (e, refl)
 some_entry (e ∷ es) (suc i) l = some_entry es i (omega (arith, l))

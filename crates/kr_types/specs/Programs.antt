@@ -12,6 +12,8 @@ use Rattle.kr_ast.specs.Files.{file_at}
 use Rattle.kr_classes_members.specs.Shown.{table_in}
 use Rattle.kr_classes_types.specs.Types.{TypeList}
 use Rattle.kr_classes.specs.ClassTables.{IsClassTable}
+use Rattle.kr_types_resolving.specs.Shown.{IsMeant, meaning_at}
+use Rattle.kr_classes_roster.specs.Rosters.{IsRoster}
 use Rattle.kr_types_expressions.specs.Notes.{AreNotesWithin, shown_notes}
 use Rattle.kr_types.specs.declared.program.TypedFile.{TypedFile}
 use Rattle.kr_types.specs.declared.program.Program.{Program}
@@ -24,11 +26,13 @@ setting_in files f = setting (table_in files) (values_of (table_in files)) (file
 abbrev pub scope_there : List Arena → ℕ → TypedFile → ℕ → Scope
 scope_there files f t i = scope_at (setting_in files f) t.scopes.bindings.items t.scopes.within.items i
 
--- Of each node of the file there is its scope, and what is kept of its judgement.
+-- Of each node of the file there is its scope, what it means, and what is kept of its judgement.
 pub record IsTypedFile (files : List Arena) (l : TypeList) (f : ℕ) (t : TypedFile) : Type 0 where
   pub scopes : AreScopes (file_at files f) t.scopes.bindings.items t.scopes.within.items
   pub long : length t.notes ≡ length (file_at files f).entries
   pub within : AreNotesWithin l t.notes
+  pub resolved : length t.meanings.items ≡ length (file_at files f).entries
+  pub meant : (i : ℕ) → i < length (file_at files f).entries → IsMeant (table_in files) (scope_there files f t i) (tree_in (file_at files f) i) (meaning_at t.meanings.items i)
   pub judged : (i : ℕ) → i < length (file_at files f).entries → note_at (shown_notes l t.notes) i ≡ kept (judged (scope_there files f t i) (tree_in (file_at files f) i))
 
 -- of all files, of which there are so many
@@ -45,6 +49,7 @@ pub record IsProgram (p : Program) : Type 0 where
   pub few : length p.trees.items < 65
   pub small : length (all_entries p.trees.items) < 2 ^ 32
   pub table : IsClassTable p.trees.items p.table
+  pub roster : IsRoster p.trees.items p.roster
   pub count : length p.files.items ≡ length p.trees.items
   pub files : (f : ℕ) (t : TypedFile) → slice_get p.files.items f ≡ Some t → IsTypedFile p.trees.items p.table.types f t
   pub well_typed : IsWellTyped (map root p.trees.items)

@@ -1,11 +1,14 @@
 -- Between crates: what the notes of a file's nodes are made from, and what each note says.
-use Rattle.std.specs.Prelude.{◌≡◌, ℕ, ◌<◌, List, length, Some, slice_get}
+use Rattle.std.specs.Prelude.{◌≡◌, ℕ, ◌<◌, List, length, Option, Some, None, slice_get}
 use Rattle.kr_base.specs.declared.place.Place.{Place}
 use Rattle.kr_ast.specs.declared.node.Node.{Node}
+use Rattle.kr_ast.specs.declared.node.Node.TheVariants as nodes
 use Rattle.kr_ast.specs.declared.node.Entry.{Entry}
 use Rattle.kr_ast.specs.Arena.{Arena, tree_in, tree_of}
 use Rattle.kr_classes_table.specs.Constants.{values_of}
-use Rattle.kr_types_meaning.specs.Scopes.{Scope}
+use Rattle.kr_classes_table.specs.Types.{JavaType}
+use Rattle.kr_types_meaning.specs.Scopes.{Scope, class_before}
+use Rattle.kr_types_meaning.specs.Typing.{type_in}
 use Rattle.kr_types_scopes.specs.declared.within.Within.{Within}
 use Rattle.kr_types_scopes.specs.Settings.{scope_in}
 use Rattle.kr_types_scopes.specs.Scoped.{AreScopes, scope_at}
@@ -14,16 +17,21 @@ use Rattle.kr_classes_names.specs.Shown.{AreHeads}
 use Rattle.kr_ast.specs.Files.{file_at}
 use Rattle.kr_classes_members.specs.Shown.{table_in}
 use Rattle.kr_classes_members.specs.Kept.{AreMembers}
+use Rattle.kr_classes_roster.specs.Rosters.{IsRoster}
 use Rattle.kr_classes_types.specs.Types.{TypeList}
 use Rattle.kr_classes_types.specs.Numbers.{AreNodeTypes}
 use Rattle.kr_classes_constants.specs.Kept.{AreValues}
 use Rattle.kr_types_judging.specs.declared.notes.Note.{Note}
 use Rattle.kr_types_judging.specs.Shown.{IsNoteWithin, note_shown}
+use Rattle.kr_types_resolving.specs.Meanings as meanings
+use Rattle.kr_types_resolving.specs.Shown.{IsMeaningWithin, meaning_shown}
+use Rattle.kr_types_resolving.specs.declared.meaning.Meaning.{Meaning}
 use Rattle.kr_types_expressions.specs.Constructors.{AreSingle}
 use Rattle.kr_types_expressions.specs.Links.{IsLinked}
 use Rattle.kr_types_expressions.specs.Notes.{AreNotesWithin, IsRestBelow, shown_notes, typed_in}
 use Rattle.kr_types.specs.Programs.{setting_in}
 use Rattle.kr_types.specs.declared.site.Site.{Site}
+use Rattle.kr_types.specs.declared.notes.Noted.{Noted}
 
 -- the tree of the file
 abbrev pub tree_there : Site → Arena
@@ -33,6 +41,7 @@ tree_there s = file_at s.trees.now s.file
 pub record IsSite (s : Site) (l : TypeList) : Type 0 where
   pub heads : AreHeads s.trees.now s.heads.now
   pub members : AreMembers s.trees.now s.members.now
+  pub roster : IsRoster s.trees.now s.roster.now
   pub numbers : AreNodeTypes s.trees.now l s.numbers.now
   pub values : AreValues (values_of (table_in s.trees.now)) s.values.now
   pub single : AreSingle (table_in s.trees.now)
@@ -62,3 +71,29 @@ pub record IsNoteOf (s : Site) (l : TypeList) (ns : List Note) (i : ℕ) (here :
 pub record AreNoted (s : Site) (l : TypeList) (ns : List Note) : Type 0 where
   pub within : AreNotesWithin l ns
   pub noted : (i : ℕ) (e : Entry) → i < length ns → slice_get (tree_there s).entries i ≡ Some e → noting.note_at (shown_notes l ns) i ≡ noting.noted (scope_of s i) (tree_in (tree_there s) i) (noting.part_note (shown_notes l ns) e.node)
+
+-- the type that notes have of the object before a node's dot
+abbrev pub object_noted : List noting.Note → Node → Option JavaType
+object_noted ns (nodes.FieldAccess a n) = type_in (noting.note_at ns a).typed
+object_noted ns (nodes.MethodCall a n b) = type_in (noting.note_at ns a).typed
+object_noted ns n = None
+
+-- the class before the dot of the node i, if it has one
+abbrev pub IsBefore : Site → ℕ → Node → Option ℕ → Type 0
+IsBefore s i (nodes.FieldAccess a n) c = c ≡ class_before (scope_of s i) (tree_in (tree_there s) a)
+IsBefore s i (nodes.MethodCall a n b) c = c ≡ class_before (scope_of s i) (tree_in (tree_there s) a)
+IsBefore s i n c = Unit {0}
+
+-- what the node i means, by the notes of the nodes before it
+pub record IsMeantBy (s : Site) (ns : List noting.Note) (i : ℕ) (n : Node) (m : Meaning) : Type 0 where
+  pub within : IsMeaningWithin (table_in s.trees.now) m
+  pub shown : meaning_shown (table_in s.trees.now) m ≡ meanings.meaning_by (scope_of s i) (tree_in (tree_there s) i) (object_noted ns n)
+
+abbrev pub AreMeant : Site → TypeList → List Note → List Meaning → Type 0
+AreMeant s l ns ms = (i : ℕ) (e : Entry) (m : Meaning) → slice_get (tree_there s).entries i ≡ Some e → slice_get ms i ≡ Some m → IsMeantBy s (shown_notes l ns) i e.node m
+
+-- what is kept of the first nodes of the file
+pub record AreKept (s : Site) (l : TypeList) (k : Noted) : Type 0 where
+  pub noted : AreNoted s l k.notes
+  pub meant : AreMeant s l k.notes k.meanings.items
+  pub count : length k.meanings.items ≡ length k.notes

@@ -4,12 +4,13 @@ ghost use Rattle.kr_ast.specs.Arena.{AreNamesIn, names, parts};
 ghost use Rattle.kr_types_scopes.specs.Scoped.{nowhere};
 ghost use Rattle.kr_ast.specs.Arena.{AreBelow};
 ghost use Rattle.kr_types_expressions.specs.Notes.{AreNotesWithin};
-ghost use Rattle.kr_types.specs.Sites.{IsNoteOf, IsSite, scope_here, tree_there};
+ghost use Rattle.kr_types.specs.Sites.{IsBefore, IsNoteOf, IsSite, scope_here, tree_there};
 ghost use Rattle.kr_types.specs.Kinds.{IsAccess};
 
 use crate::site::{Site, part_note};
 use kr_ast::Node;
 use kr_base::{NoMemory, Place};
+use kr_classes_table::ClassId;
 use kr_classes_types::Types;
 use kr_types_expressions::{NoteList, field_note, method_call_note};
 use kr_types_judging::{Note, plain};
@@ -25,6 +26,7 @@ pub(crate) fn access_note(
     here: Within,
     at: u32,
     place: Place,
+    before: Option<ClassId>,
     node: Node,
 ) -> Result<Note, NoMemory>
     requires site { IsSite site.now types.now }
@@ -35,6 +37,7 @@ pub(crate) fn access_note(
     requires parts { AreBelow (length notes.now) (parts node) }
     requires names { AreNamesIn (tree_there site.now).text (names node) }
     requires kind { IsAccess node }
+    requires before { IsBefore site.now at node before }
     ensures { IfOk result (λ note. IsNoteOf site.now types.now notes.now (length notes.now) (scope_here site.now here) place node note) }
 {
     match node {
@@ -46,7 +49,7 @@ pub(crate) fn access_note(
             here,
             place,
             site.tree().name(name),
-            site.class_before(here, at, object),
+            before,
             part_note(types, notes, object),
         )),
         Node::MethodCall {
@@ -66,7 +69,7 @@ pub(crate) fn access_note(
                 here,
                 place,
                 site.tree().name(name),
-                site.class_before(here, at, object),
+                before,
                 x,
                 y,
             )

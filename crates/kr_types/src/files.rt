@@ -7,6 +7,7 @@ ghost use Rattle.kr_classes_names.specs.Shown.{AreHeads};
 ghost use Rattle.kr_ast.specs.Files.{file_at};
 ghost use Rattle.kr_classes_members.specs.Shown.{table_in};
 ghost use Rattle.kr_classes_members.specs.Kept.{AreMembers};
+ghost use Rattle.kr_classes_roster.specs.Rosters.{IsRoster};
 ghost use Rattle.kr_classes_types.specs.Types.{Extends};
 ghost use Rattle.kr_classes_types.specs.Numbers.{AreNodeTypes};
 ghost use Rattle.kr_classes_constants.specs.Kept.{AreValues};
@@ -16,7 +17,7 @@ ghost use Rattle.kr_types_expressions.specs.Constructors.{AreSingle};
 ghost use Rattle.kr_types.specs.Programs.{AreTypedFiles, IsProgram, IsTypedFile, all_entries};
 ghost use Rattle.kr_types.specs.Refusals.{IsRefusal, faults_in, root_faults};
 
-use crate::notes::notes_of;
+use crate::notes::{Noted, notes_of};
 use crate::site::Site;
 use crate::{Program, TypeRefusal, TypedFile};
 use kr_ast::{Tree, tree_of};
@@ -25,6 +26,7 @@ use kr_classes::ClassTable;
 use kr_classes_constants::Values;
 use kr_classes_members::Members;
 use kr_classes_names::Heads;
+use kr_classes_roster::Roster;
 use kr_classes_types::{NodeTypes, Types};
 use kr_types_judging::{Fault, earlier};
 use kr_types_scopes::Scopes;
@@ -36,6 +38,7 @@ fn typed_file(
     trees: &[Tree],
     heads: &Heads,
     members: &Members,
+    roster: &Roster,
     types: &mut Types,
     numbers: &NodeTypes,
     values: &Values,
@@ -43,6 +46,7 @@ fn typed_file(
 ) -> Result<TypedFile, NoMemory>
     requires heads { AreHeads trees.now heads.now }
     requires members { AreMembers trees.now members.now }
+    requires roster { IsRoster trees.now roster.now }
     requires numbers { AreNodeTypes trees.now types.old numbers.now }
     requires values { AreValues (values_of (table_in trees.now)) values.now }
     requires single { AreSingle (table_in trees.now) }
@@ -55,13 +59,18 @@ fn typed_file(
         trees,
         heads,
         members,
+        roster,
         numbers,
         values,
         scopes: &scopes,
         file,
     };
-    let notes = notes_of(alloc, &site, types)?;
-    Ok(TypedFile { scopes, notes })
+    let Noted { notes, meanings } = notes_of(alloc, &site, types)?;
+    Ok(TypedFile {
+        scopes,
+        notes,
+        meanings,
+    })
 }
 
 /// What is known of the nodes of all files.
@@ -70,6 +79,7 @@ fn typed_files(
     trees: &[Tree],
     heads: &Heads,
     members: &Members,
+    roster: &Roster,
     types: &mut Types,
     numbers: &NodeTypes,
     values: &Values,
@@ -77,6 +87,7 @@ fn typed_files(
     requires few { length trees.now < 65 }
     requires heads { AreHeads trees.now heads.now }
     requires members { AreMembers trees.now members.now }
+    requires roster { IsRoster trees.now roster.now }
     requires numbers { AreNodeTypes trees.now types.old numbers.now }
     requires values { AreValues (values_of (table_in trees.now)) values.now }
     requires single { AreSingle (table_in trees.now) }
@@ -86,10 +97,46 @@ fn typed_files(
     let mut files = Vec::new(alloc);
     let count = trees.len() as u32;
     for file in 0..count {
-        let typed = typed_file(alloc, trees, heads, members, types, numbers, values, file)?;
+        let typed = typed_file(
+            alloc, trees, heads, members, roster, types, numbers, values, file,
+        )?;
         files.push(typed)?;
     }
     Ok(files)
+}
+
+/// What is known of a program's files, and their fields and methods by number.
+#[derive(Drop)]
+struct Typed {
+    roster: Roster,
+    files: Vec<TypedFile>,
+}
+
+/// What is known of all files.
+fn typed_program(
+    alloc: Global,
+    trees: &[Tree],
+    heads: &Heads,
+    members: &Members,
+    types: &mut Types,
+    numbers: &NodeTypes,
+    values: &Values,
+) -> Result<Typed, NoMemory>
+    requires few { length trees.now < 65 }
+    requires heads { AreHeads trees.now heads.now }
+    requires members { AreMembers trees.now members.now }
+    requires numbers { AreNodeTypes trees.now types.old numbers.now }
+    requires values { AreValues (values_of (table_in trees.now)) values.now }
+    requires single { AreSingle (table_in trees.now) }
+    ensures extends { Extends types.old types.new }
+    ensures roster { IfOk result (λ typed. IsRoster trees.now typed.roster) }
+    ensures typed { IfOk result (λ typed. AreTypedFiles trees.now types.new (length trees.now) typed.files.items) }
+{
+    let roster = Roster::read(alloc, members)?;
+    let files = typed_files(
+        alloc, trees, heads, members, &roster, types, numbers, values,
+    )?;
+    Ok(Typed { roster, files })
 }
 
 /// The first broken node of a file.
@@ -133,7 +180,7 @@ pub fn check(alloc: Global, trees: Vec<Tree>, table: ClassTable) -> Result<Progr
         numbers,
         values,
     } = table;
-    let files = typed_files(
+    let Typed { roster, files } = typed_program(
         alloc, &trees, &heads, &members, &mut types, &numbers, &values,
     )?;
     match first_fault(&trees, &types, &files) {
@@ -150,6 +197,7 @@ pub fn check(alloc: Global, trees: Vec<Tree>, table: ClassTable) -> Result<Progr
                 numbers,
                 values,
             },
+            roster,
             files,
         }),
     }

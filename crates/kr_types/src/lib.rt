@@ -11,6 +11,7 @@ mod group;
 mod growing;
 mod leaves;
 mod lists;
+mod meanings;
 mod names;
 mod nodes;
 mod notes;

@@ -5,7 +5,7 @@ ghost use Rattle.kr_ast.specs.Arena.{AreBelow};
 ghost use Rattle.kr_types_scopes.specs.Scoped.{nowhere};
 ghost use Rattle.kr_classes_types.specs.Types.{Extends};
 ghost use Rattle.kr_types_expressions.specs.Notes.{AreNotesWithin};
-ghost use Rattle.kr_types.specs.Sites.{IsNoteOf, IsSite, scope_here, tree_there};
+ghost use Rattle.kr_types.specs.Sites.{IsBefore, IsNoteOf, IsSite, scope_here, tree_there};
 
 use crate::calls::call_group_note;
 use crate::classes::declaration_note;
@@ -25,6 +25,7 @@ use crate::types::type_note;
 use crate::writes::write_note;
 use kr_ast::Node;
 use kr_base::{NoMemory, Place};
+use kr_classes_table::ClassId;
 use kr_classes_types::Types;
 use kr_types_expressions::NoteList;
 use kr_types_judging::Note;
@@ -40,6 +41,7 @@ pub(crate) fn node_note(
     here: Within,
     at: u32,
     place: Place,
+    before: Option<ClassId>,
     node: Node,
 ) -> Result<Note, NoMemory>
     requires site { IsSite site.now types.old }
@@ -50,6 +52,7 @@ pub(crate) fn node_note(
     requires tree { tree_in (tree_there site.now) at ≡ tree_of (tree_there site.now).text (tree_in (tree_there site.now)) place node }
     requires parts { AreBelow (length notes.now) (parts node) }
     requires names { AreNamesIn (tree_there site.now).text (names node) }
+    requires before { IsBefore site.now at node before }
     ensures extends { Extends types.old types.new }
     ensures note { IfOk result (λ note. IsNoteOf site.now types.new notes.now (length notes.now) (scope_here site.now here) place node note) }
 {
@@ -60,7 +63,7 @@ pub(crate) fn node_note(
         Group::Name => Ok(name_note(site, types, notes, here, at, place, node)),
         Group::Growing => growing_note(site, types, notes, here, place, node),
         Group::Operation => Ok(operation_note(site, types, notes, here, place, node)),
-        Group::Access => access_note(alloc, site, types, notes, here, at, place, node),
+        Group::Access => { access_note(alloc, site, types, notes, here, at, place, before, node) },
         Group::Call => call_group_note(alloc, site, types, notes, here, place, node),
         Group::Write => Ok(write_note(site, types, notes, here, place, node)),
         Group::Contract => Ok(line_note(site, types, notes, here, place, node)),

@@ -4,29 +4,36 @@ ghost use Rattle.kr_ast.specs.Arena.{tree_in};
 ghost use Rattle.kr_ast.specs.declared.node.Entry.{Entry as NodeEntry};
 ghost use Rattle.kr_types_meaning.specs.Typing.{judged, type_in};
 ghost use Rattle.kr_ast.specs.Files.{file_at};
+ghost use Rattle.kr_classes_members.specs.Shown.{table_in};
 ghost use Rattle.kr_classes_types.specs.Types.{count, type_at};
+ghost use Rattle.kr_types_resolving.specs.Shown.{IsMeaningWithin, IsMeant};
 ghost use Rattle.kr_types.specs.Programs.{IsProgram, all_entries, scope_there};
 ghost use Rattle.kr_types.specs.declared.program.TypedFile.{TypedFile as Typed};
 
 use kr_ast::Tree;
 use kr_base::Place;
 use kr_classes::ClassTable;
+use kr_classes_roster::Roster;
 use kr_classes_table::TypeId;
 use kr_types_expressions::{NoteList, part_type};
+use kr_types_resolving::Meaning;
 use kr_types_scopes::Scopes;
 
-/// What is known of the nodes of a file: the scope of each, and its type.
+/// What is known of the nodes of a file: the scope of each, its type, and what it means.
 #[derive(Drop)]
 pub struct TypedFile {
     pub scopes: Scopes,
     pub notes: NoteList,
+    pub meanings: Vec<Meaning>,
 }
 
-/// The files of a program, their class table with all types by number, and what is known of the nodes of each file.
+/// The files of a program, their class table with all types by number, their fields and methods by number, and what is
+/// known of the nodes of each file.
 #[derive(Drop)]
 pub struct Program {
     pub trees: Vec<Tree>,
     pub table: ClassTable,
+    pub roster: Roster,
     pub files: Vec<TypedFile>,
 }
 
@@ -67,5 +74,16 @@ impl Program {
     {
         let notes = &self.files[file as usize].notes;
         part_type(notes.at(node).known)
+    }
+
+    /// What a node means.
+    pub fn meaning_of(&self, file: u32, node: u32) -> Meaning
+        requires program { IsProgram self.now }
+        requires file { file < length self.now.trees.items }
+        requires node { node < length (file_at self.now.trees.items file).entries }
+        ensures within { IsMeaningWithin (table_in self.now.trees.items) result }
+        ensures meant { (t : Typed) → slice_get self.now.files.items file ≡ Some t → IsMeant (table_in self.now.trees.items) (scope_there self.now.trees.items file t node) (tree_in (file_at self.now.trees.items file) node) result }
+    {
+        self.files[file as usize].meanings[node as usize]
     }
 }

@@ -1,25 +1,23 @@
 // What the notes of a file's nodes are made from.
 ghost use Rattle.std.specs.Prelude.{◌≡◌, ◌<◌, length, slice_index_or};
-ghost use Rattle.kr_ast.specs.Arena.{tree_in};
-ghost use Rattle.kr_types_meaning.specs.Scopes.{class_before};
 ghost use Rattle.kr_types_scopes.specs.Settings.{class_there};
 ghost use Rattle.kr_types_scopes.specs.Scoped.{AreScopes, nowhere};
 ghost use Rattle.kr_types_meaning.specs.Noting.{note_at};
 ghost use Rattle.kr_classes_names.specs.Shown.{AreHeads};
-ghost use Rattle.kr_classes_members.specs.Kept.{AreMembers};
 ghost use Rattle.kr_types_judging.specs.Shown.{IsNoteWithin, note_shown};
 ghost use Rattle.kr_types_expressions.specs.Links.{IsLinked};
 ghost use Rattle.kr_types_expressions.specs.Notes.{AreNotesWithin, IsRestBelow, shown_notes, typed_in};
 ghost use Rattle.kr_types.specs.Programs.{setting_in};
-ghost use Rattle.kr_types.specs.Sites.{scope_here, tree_there};
+ghost use Rattle.kr_types.specs.Sites.{tree_there};
 
 use kr_ast::{Tree, tree_of};
 use kr_classes_constants::Values;
 use kr_classes_members::Members;
 use kr_classes_names::Heads;
+use kr_classes_roster::Roster;
 use kr_classes_table::ClassId;
 use kr_classes_types::{NodeTypes, Types};
-use kr_types_expressions::{NoteList, class_before, class_of};
+use kr_types_expressions::{NoteList, class_of};
 use kr_types_judging::Note;
 use kr_types_scopes::{Scopes, Within};
 
@@ -29,6 +27,7 @@ pub(crate) struct Site<'a> {
     pub(crate) trees: &'a [Tree],
     pub(crate) heads: &'a Heads,
     pub(crate) members: &'a Members,
+    pub(crate) roster: &'a Roster,
     pub(crate) numbers: &'a NodeTypes,
     pub(crate) values: &'a Values,
     pub(crate) scopes: &'a Scopes,
@@ -69,29 +68,6 @@ impl<'a> Site<'a> {
                 }
             }
         }
-    }
-
-    /// The class that an expression before a dot means, where a node stands.
-    pub(crate) fn class_before(&self, here: Within, at: u32, object: u32) -> Option<ClassId>
-        requires heads { AreHeads self.now.trees.now self.now.heads.now }
-        requires members { AreMembers self.now.trees.now self.now.members.now }
-        requires file { self.now.file < length self.now.trees.now }
-        requires at { at < length (tree_there self.now).entries }
-        requires object { object < length (tree_there self.now).entries }
-        requires scopes { AreScopes (tree_there self.now) self.now.scopes.now.bindings.items self.now.scopes.now.within.items }
-        requires here { here ≡ slice_index_or self.now.scopes.now.within.items at nowhere }
-        ensures { result ≡ class_before (scope_here self.now here) (tree_in (tree_there self.now) object) }
-    {
-        class_before(
-            self.trees,
-            self.heads,
-            self.members,
-            self.scopes,
-            self.file,
-            at,
-            self.class(here),
-            object,
-        )
     }
 }
 

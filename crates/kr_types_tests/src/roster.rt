@@ -2,7 +2,7 @@
 
 use kr_base::NoMemory;
 use kr_classes_members::Members;
-use kr_code_members::Roster;
+use kr_classes_roster::Roster;
 use std::alloc::Global;
 
 fn numbers_fit(roster: &Roster, members: &Members) -> bool {

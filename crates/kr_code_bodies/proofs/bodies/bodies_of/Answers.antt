@@ -2,7 +2,7 @@ use Rattle.std.proofs.Common.{◌≡◌, subst, List, Some}
 use Rattle.std.specs.Prelude.{slice_get}
 use Rattle.kr_code_members.specs.declared.nodes.MethodNode.{MethodNode}
 use Rattle.kr_space_problem.specs.Posed.{table}
-use Rattle.kr_code_members.specs.Rosters.{method_numbered}
+use Rattle.kr_classes_roster.specs.Rosters.{method_numbered}
 use Rattle.kr_code_bodies.proofs.Assembled.{bodies_are, method_later}
 use Rattle.kr_code_bodies.proofs.bodies.bodies_of.Goals as goal
 

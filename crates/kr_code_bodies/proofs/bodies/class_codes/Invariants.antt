@@ -3,7 +3,7 @@ use Rattle.std.specs.Prelude.{slice_get}
 use Rattle.kr_classes_types.specs.Listed.{IsGrown}
 use Rattle.kr_space_problem.specs.Posed.{table}
 use Rattle.kr_code.specs.declared.code.ClassCode.{ClassCode}
-use Rattle.kr_code_members.specs.Rosters.{fields_of_class, first_of}
+use Rattle.kr_classes_roster.specs.Rosters.{fields_of_class, first_of}
 use Rattle.kr_code_bodies.specs.Made.{AddsInitialisers, IsClassMade}
 use Rattle.kr_code_bodies.proofs.bodies.class_codes.Given as goal
 

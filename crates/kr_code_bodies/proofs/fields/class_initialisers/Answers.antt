@@ -8,7 +8,7 @@ use Rattle.kr_space_problem.specs.Posed.{table}
 use Rattle.kr_code_members.specs.Nodes.{IsFieldNode}
 use Rattle.kr_code_members.proofs.Zipped.{zip_at, zip_length, zip_step}
 use Rattle.kr_code.specs.Resolved.{has_initial}
-use Rattle.kr_code_members.specs.Rosters.{field_numbered, no_field}
+use Rattle.kr_classes_roster.specs.Rosters.{field_numbered, no_field}
 use Rattle.kr_code_bodies.specs.Made.{IsInitial}
 use Rattle.kr_code_bodies.proofs.Assembled.{first_next, first_within}
 use Rattle.kr_code_bodies.proofs.Initial.{flat_flat, own_number}

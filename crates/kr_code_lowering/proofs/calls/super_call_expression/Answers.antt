@@ -1,9 +1,6 @@
-use Rattle.std.proofs.Common.{subst, ℕ, List}
-use Rattle.kr_mean.specs.Meaning.{super_method}
+use Rattle.std.proofs.Common.{subst}
 use Rattle.kr_code_lowering.specs.declared.site.Site.{Site}
-use Rattle.kr_code_lowering.specs.Sites.{scope_at}
 use Rattle.kr_code_lowering.specs.Lists.{AreLinked}
-use Rattle.kr_code_lowering.specs.Calls.{IsFound}
 use Rattle.kr_code_lowering.proofs.Called.{super_resolves}
 use Rattle.kr_code_lowering.proofs.calls.super_call_expression.Goals as goal
 
@@ -13,4 +10,4 @@ returns-clause-resolves c = λ arrays names.
     let s = c.args.site in
     let links = c.list_links.new.links in
     let linked = subst (λ (at : Site). AreLinked p at links c.in_ok-arguments.arguments) c.at.ensures c.in_ok-arguments.ensures.linked in
-    super_resolves p c.requires.program arrays s c.args.entry c.requires.here names links c.args.arguments c.in_ok-arguments.arguments linked c.args.name c.requires.node c.super_number-method.result (subst (λ (x : List ℕ). IsFound p c.super_number-method.result (super_method (scope_at p s) x)) c.text-text.ensures c.super_number-method.ensures)
+    super_resolves p c.requires.program arrays s c.args.entry c.requires.here names links c.args.arguments c.in_ok-arguments.arguments linked c.args.name c.requires.node c.super_number-method.result c.super_number-method.ensures

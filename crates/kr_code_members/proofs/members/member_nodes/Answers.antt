@@ -4,7 +4,7 @@ use Rattle.std.specs.List.{AllZip}
 use Rattle.std.proofs.lemmas.List.{take_all}
 use Rattle.kr_classes_table.specs.Table.{Constructor, Field, Method}
 use Rattle.std.specs.Prelude.{Option}
-use Rattle.kr_code_members.specs.Rosters.{methods_of_class, no_method}
+use Rattle.kr_classes_roster.specs.Rosters.{methods_of_class, no_method}
 use Rattle.kr_code_members.specs.Nodes.{IsClassNodes, IsFieldNode, IsMaybeConstructorNode, IsMethodNode, table}
 use Rattle.kr_code_members.specs.Walk.{HasHeading, heading_numbered, no_heading}
 use Rattle.kr_code_members.proofs.Zipped.{each_push, zip_at, zip_length, zip_number}

@@ -3,7 +3,7 @@ use Rattle.std.specs.Prelude.{IfOk}
 use Rattle.kr_mean.specs.Code.{Node}
 use Rattle.kr_mean.specs.Program.{method_scope}
 use Rattle.kr_space_problem.specs.Posed.{run_program, table}
-use Rattle.kr_code_members.specs.Rosters.{method_numbered}
+use Rattle.kr_classes_roster.specs.Rosters.{method_numbered}
 use Rattle.kr_code_lowering.specs.Origins.{numbering_of}
 use Rattle.kr_judge_contract.specs.Lines.{required}
 use Rattle.kr_judge_predicate.proofs.Conditions.{lines_are, lines_shape, lines_stand, method_node}

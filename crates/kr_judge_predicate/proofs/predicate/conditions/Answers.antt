@@ -2,7 +2,7 @@ use Rattle.std.proofs.Common.{sym, ap, ◌∙◌, subst, ℕ, Option, List, ◌+
 use Rattle.kr_mean.specs.Code.{Node}
 use Rattle.kr_mean.specs.Runs.{requires_of, tested_method}
 use Rattle.kr_space_problem.specs.Posed.{posed, table}
-use Rattle.kr_code_members.specs.Rosters.{method_numbered}
+use Rattle.kr_classes_roster.specs.Rosters.{method_numbered}
 use Rattle.kr_code_lowering.specs.Calls.{IsFound}
 use Rattle.kr_judge_predicate.proofs.Conditions.{call_alone, no_tested_conditions, tested_conditions}
 use Rattle.kr_judge_predicate.proofs.predicate.conditions.Goals as goal

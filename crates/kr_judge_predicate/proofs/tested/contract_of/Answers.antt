@@ -1,7 +1,7 @@
 use Rattle.std.proofs.Common.{refl}
 use Rattle.kr_mean.specs.Program.{method_scope}
 use Rattle.kr_space_problem.specs.Posed.{posed, table}
-use Rattle.kr_code_members.specs.Rosters.{method_numbered}
+use Rattle.kr_classes_roster.specs.Rosters.{method_numbered}
 use Rattle.kr_judge_predicate.proofs.Conditions.{contract_is, lines_shape, lines_stand, method_node}
 use Rattle.kr_judge_predicate.proofs.tested.contract_of.Goals as goal
 

@@ -5,7 +5,7 @@ use Rattle.kr_ast.specs.Arena.{Arena, name_in}
 use Rattle.kr_classes_table.specs.Table.{Method, method_named}
 use Rattle.kr_ast.specs.Files.{file_at}
 use Rattle.kr_classes_members.specs.Shown.{method_shown}
-use Rattle.kr_code_members.specs.Rosters.{method_numbered, all_methods, no_method}
+use Rattle.kr_classes_roster.specs.Rosters.{method_numbered, all_methods, no_method}
 use Rattle.kr_code_members.specs.Nodes.{IsMethodNode, table}
 use Rattle.kr_pure.proofs.members.method_node.Goals as goal
 

@@ -1,12 +1,14 @@
-use Rattle.std.proofs.Common.{refl, ap, ◌∙◌, length, ℕ, List}
+use Rattle.std.proofs.Common.{◌≡◌, refl, sym, ap, ◌∙◌, subst, length, ℕ, List}
 use Rattle.std.specs.Prelude.{Option}
 use Rattle.kr_ast.specs.Arena.{Arena, name_in, tree_in}
+use Rattle.kr_ast.specs.declared.node.Node.{Node}
 use Rattle.kr_types_meaning.specs.Scopes.{class_before}
 use Rattle.kr_types_meaning.specs.Noting as noting
+use Rattle.kr_types_scopes.specs.declared.within.Within.{Within}
 use Rattle.kr_types_judging.specs.Shown.{note_shown}
 use Rattle.kr_types_expressions.specs.Notes.{shown_notes, typed_in}
 use Rattle.kr_types.specs.Programs.{setting_in}
-use Rattle.kr_types.specs.Sites.{scope_here, tree_there}
+use Rattle.kr_types.specs.Sites.{IsBefore, scope_here, tree_there}
 use Rattle.kr_types.proofs.Making.{made_of, made_if}
 use Rattle.kr_types.proofs.dots.access_note.Goals as goal
 
@@ -21,10 +23,11 @@ returns-in-FieldAccess c =
     let n = name_in (tree_there s).text c.in-FieldAccess.name in
     let name_is = c.name.ensures ∙ ap (λ (a : Arena). name_in a.text c.in-FieldAccess.name) c.tree.ensures in
     let before = class_before here (tree_in (tree_there s) c.in-FieldAccess.object) in
+    let is : c.args.before ≡ before = subst (λ (k : Node). IsBefore s c.args.at k c.args.before) c.in-FieldAccess.is c.requires.before ∙ ap (λ (w : Within). class_before (scope_here s w) (tree_in (tree_there s) c.in-FieldAccess.object)) (sym c.requires.here) in
     made_of s l ns (length ns) here p _ _ _ c.in-FieldAccess.is c.field_note.ensures.within c.field_note.ensures.no_rest
     (c.field_note.ensures.shown (setting_in s.trees.now s.file) s.scopes.now.bindings.items look refl
-    ∙ ap (λ (m : List ℕ). noting.field_of here p m c.class_before.result (note_shown l look c.part_note.result)) name_is
-    ∙ ap (λ (o : Option ℕ). noting.field_of here p n o (note_shown l look c.part_note.result)) c.class_before.ensures
+    ∙ ap (λ (m : List ℕ). noting.field_of here p m c.args.before (note_shown l look c.part_note.result)) name_is
+    ∙ ap (λ (o : Option ℕ). noting.field_of here p n o (note_shown l look c.part_note.result)) is
     ∙ ap (λ (x : noting.Note). noting.field_of here p n before x) c.part_note.ensures.shown)
 
 pub returns-in-MethodCall : goal.returns-in-MethodCall
@@ -38,9 +41,10 @@ returns-in-MethodCall c =
     let n = name_in (tree_there s).text c.in-MethodCall.name in
     let name_is = c.name-in-MethodCall.ensures ∙ ap (λ (a : Arena). name_in a.text c.in-MethodCall.name) c.tree-in-MethodCall.ensures in
     let before = class_before here (tree_in (tree_there s) c.in-MethodCall.object) in
+    let is : c.args.before ≡ before = subst (λ (k : Node). IsBefore s c.args.at k c.args.before) c.in-MethodCall.is c.requires.before ∙ ap (λ (w : Within). class_before (scope_here s w) (tree_in (tree_there s) c.in-MethodCall.object)) (sym c.requires.here) in
     made_if c.method_call_note.result _ s l ns (length ns) here p _ _ c.in-MethodCall.is c.method_call_note.ensures.within c.method_call_note.ensures.no_rest c.method_call_note.ensures.shown
     (λ made h. h (setting_in s.trees.now s.file) s.scopes.now.bindings.items refl
-    ∙ ap (λ (m : List ℕ). noting.method_of here p m c.class_before-in-MethodCall.result (note_shown l look c.part_note-x.result) (note_shown l look c.part_note-y.result)) name_is
-    ∙ ap (λ (o : Option ℕ). noting.method_of here p n o (note_shown l look c.part_note-x.result) (note_shown l look c.part_note-y.result)) c.class_before-in-MethodCall.ensures
+    ∙ ap (λ (m : List ℕ). noting.method_of here p m c.args.before (note_shown l look c.part_note-x.result) (note_shown l look c.part_note-y.result)) name_is
+    ∙ ap (λ (o : Option ℕ). noting.method_of here p n o (note_shown l look c.part_note-x.result) (note_shown l look c.part_note-y.result)) is
     ∙ ap (λ (x : noting.Note). noting.method_of here p n before x (note_shown l look c.part_note-y.result)) c.part_note-x.ensures.shown
     ∙ ap (λ (x : noting.Note). noting.method_of here p n before (noting.note_at (shown_notes l ns) c.in-MethodCall.object) x) c.part_note-y.ensures.shown)

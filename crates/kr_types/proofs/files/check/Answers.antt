@@ -3,6 +3,7 @@ use Rattle.kr_ast.specs.Arena.{Arena}
 use Rattle.kr_classes_table.specs.Rules.{least}
 use Rattle.kr_classes_members.specs.Shown.{table_in}
 use Rattle.kr_classes_types.proofs.Growing.{number_kept}
+use Rattle.kr_classes_roster.specs.Rosters.{IsRoster}
 use Rattle.kr_types_judging.specs.Shown.{least_shown}
 use Rattle.kr_types_expressions.specs.Constructors.{AreSingle}
 use Rattle.kr_types.specs.Programs.{AreTypedFiles}
@@ -11,8 +12,8 @@ use Rattle.kr_types.proofs.Faults.{all_faults, well_typed}
 use Rattle.kr_types.proofs.Single.{single}
 use Rattle.kr_types.proofs.files.check.Goals as goal
 
-pub typed_files-requires-clause-single : goal.typed_files-requires-clause-single
-typed_files-requires-clause-single c = subst (λ (files : List Arena). AreSingle (table_in files)) (sym c.deref.ensures.value) (single _ c.requires.table.unbroken)
+pub typed_program-requires-clause-single : goal.typed_program-requires-clause-single
+typed_program-requires-clause-single c = subst (λ (files : List Arena). AreSingle (table_in files)) (sym c.deref.ensures.value) (single _ c.requires.table.unbroken)
 
 pub returns-in-Some-clause-refused : goal.returns-in-Some-clause-refused
 returns-in-Some-clause-refused c =
@@ -23,7 +24,7 @@ returns-in-Some-clause-refused c =
 pub returns-in-None-clause-typed : goal.returns-in-None-clause-typed
 returns-in-None-clause-typed c =
     let files = c.args.trees.items in
-    let typed = subst (λ (all : List Arena). AreTypedFiles all c.typed_files.new.types (length all) c.in_ok-files.files.items) c.deref.ensures.value c.in_ok-files.ensures.typed in
+    let typed = subst (λ (all : List Arena). AreTypedFiles all c.typed_program.new.types (length all) c.in_ok-roster.field-0.files.items) c.deref.ensures.value c.in_ok-roster.ensures.typed in
     record {
       few = c.requires.few;
       small = c.requires.small;
@@ -31,11 +32,12 @@ returns-in-None-clause-typed c =
         table = record {
           heads = c.requires.table.table.heads;
           members = c.requires.table.table.members;
-          numbers = λ f n. number_kept _ _ _ _ c.in_ok-files.ensures.extends (c.requires.table.table.numbers f n);
+          numbers = λ f n. number_kept _ _ _ _ c.in_ok-roster.ensures.extends (c.requires.table.table.numbers f n);
           values = c.requires.table.table.values;
         };
         unbroken = c.requires.table.unbroken;
       };
+      roster = subst (λ (all : List Arena). IsRoster all c.in_ok-roster.field-0.roster) c.deref.ensures.value c.in_ok-roster.ensures.roster;
       count = typed.count;
       files = typed.each;
       well_typed = well_typed files

@@ -1,0 +1,129 @@
+// What a node means, from what is kept of its parts.
+ghost use Rattle.std.specs.Prelude.{◌≡◌, ◌<◌, IfOk, IfSome, length, option_map};
+ghost use Rattle.kr_ast.specs.Arena.{ArePartsFrom, AreNamesIn, names, parts, tree_in, tree_of};
+ghost use Rattle.kr_types_meaning.specs.Scopes.{class_before, value};
+ghost use Rattle.kr_types_meaning.specs.Typing.{type_in};
+ghost use Rattle.kr_types_meaning.specs.Noting.{note_at};
+ghost use Rattle.kr_classes_types.specs.Types.{count, type_at};
+ghost use Rattle.kr_types_expressions.specs.Notes.{AreNotesWithin, shown_notes};
+ghost use Rattle.kr_types.specs.Sites.{AreKept, IsBefore, IsMeantBy, IsSite, scope_of, tree_there};
+
+use crate::notes::Noted;
+use crate::site::{Site, part_note};
+use kr_ast::Node;
+use kr_base::{NoMemory, Place};
+use kr_classes_table::{ClassId, TypeId};
+use kr_classes_types::Types;
+use kr_types_expressions::part_type;
+use kr_types_judging::type_of_node;
+use kr_types_resolving::{
+    Classes, Meaning, call_meaning, creation_meaning, field_behind, method_behind, super_meaning,
+    variable_meaning,
+};
+
+/// The class that a node before the dot of another means.
+fn class_of_object(
+    _site: &Site<'_>,
+    _types: &Types,
+    noted: &Noted,
+    _at: u32,
+    object: u32,
+) -> Option<ClassId>
+    requires kept { AreKept _site.now _types.now noted.now }
+    requires object { object < length noted.now.notes }
+    requires within { length noted.now.notes < length (tree_there _site.now).entries }
+    requires handed { scope_of _site.now object ≡ value (scope_of _site.now _at) }
+    ensures { result ≡ class_before (scope_of _site.now _at) (tree_in (tree_there _site.now) object) }
+{
+    noted.meanings[object as usize].class()
+}
+
+/// The class before the dot of a node, if it has one.
+pub(crate) fn class_before(
+    site: &Site<'_>,
+    types: &Types,
+    noted: &Noted,
+    at: u32,
+    _place: Place,
+    node: Node,
+) -> Option<ClassId>
+    requires site { IsSite site.now types.now }
+    requires kept { AreKept site.now types.now noted.now }
+    requires at { at ≡ length noted.now.notes }
+    requires within { at < length (tree_there site.now).entries }
+    requires tree { tree_in (tree_there site.now) at ≡ tree_of (tree_there site.now).text (tree_in (tree_there site.now)) _place node }
+    requires parts { ArePartsFrom (tree_there site.now).entries at 0 (parts node) }
+    ensures { IsBefore site.now at node result }
+{
+    match node {
+        Node::FieldAccess { object, .. } => class_of_object(site, types, noted, at, object),
+        Node::MethodCall { object, .. } => class_of_object(site, types, noted, at, object),
+        _ => None,
+    }
+}
+
+/// The type of the object before a dot.
+fn object_type(types: &Types, noted: &Noted, object: u32) -> Option<TypeId>
+    requires notes { AreNotesWithin types.now noted.now.notes }
+    requires object { object < length noted.now.notes }
+    ensures within { IfSome result (λ t. t < count types.now) }
+    ensures shown { option_map (type_at types.now) result ≡ type_in (note_at (shown_notes types.now noted.now.notes) object).typed }
+{
+    part_type(part_note(types, &noted.notes, object).known)
+}
+
+/// What a node means, behind what is kept of the nodes before it. The error says that there are 2^32 - 1 locals.
+pub(crate) fn node_meaning(
+    site: &Site<'_>,
+    types: &Types,
+    noted: &Noted,
+    at: u32,
+    place: Place,
+    before: Option<ClassId>,
+    node: Node,
+) -> Result<Meaning, NoMemory>
+    requires site { IsSite site.now types.now }
+    requires kept { AreKept site.now types.now noted.now }
+    requires at { at ≡ length noted.now.notes }
+    requires within { at < length (tree_there site.now).entries }
+    requires tree { tree_in (tree_there site.now) at ≡ tree_of (tree_there site.now).text (tree_in (tree_there site.now)) place node }
+    requires parts { ArePartsFrom (tree_there site.now).entries at 0 (parts node) }
+    requires names { AreNamesIn (tree_there site.now).text (names node) }
+    requires before { IsBefore site.now at node before }
+    ensures { IfOk result (λ m. IsMeantBy site.now (shown_notes types.now noted.now.notes) at node m) }
+{
+    let classes = Classes {
+        trees: site.trees,
+        heads: site.heads,
+        members: site.members,
+        roster: site.roster,
+    };
+    let class = site.class(site.here(at));
+    match node {
+        Node::Variable { name } => variable_meaning(
+            &classes,
+            site.scopes,
+            site.file,
+            at,
+            class,
+            site.tree().name(name),
+        ),
+        Node::FieldAccess { object, name } => {
+            let object = object_type(types, noted, object);
+            Ok(field_behind(&classes, types, before, object, site.tree().name(name)))
+        }
+        Node::Call { name, .. } => Ok(call_meaning(&classes, class, site.tree().name(name))),
+        Node::MethodCall { object, name, .. } => {
+            let object = object_type(types, noted, object);
+            Ok(method_behind(&classes, types, before, object, site.tree().name(name)))
+        }
+        Node::SuperCall { name, .. } => {
+            Ok(super_meaning(&classes, class, site.tree().name(name)))
+        }
+        Node::ObjectCreation { class, .. } => {
+            let created = type_of_node(site.trees, types, site.numbers, site.file, Some(class));
+            Ok(creation_meaning(types, created))
+        }
+        _ => Ok(Meaning::Nothing),
+    }
+}

@@ -1,0 +1,4 @@
+pub mod Before
+pub mod Chosen
+pub mod Inside
+pub mod Rostered

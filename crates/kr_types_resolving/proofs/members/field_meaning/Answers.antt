@@ -1,0 +1,29 @@
+use Rattle.std.proofs.Common.{sym, ap, ◌∙◌, subst, ℕ, ◌<◌, length, arith}
+use Rattle.std.specs.Prelude.{Option, IfSome, option_and_then, slice_get}
+use Rattle.kr_classes_members.specs.Shown.{table_in}
+use Rattle.kr_classes_roster.specs.Rosters.{all_fields}
+use Rattle.kr_types_resolving.specs.Meanings.{field_meaning}
+use Rattle.kr_types_resolving.proofs.Chosen.{constant_said, field_there, instance_said}
+use Rattle.kr_types_resolving.proofs.members.field_meaning.Goals as goal
+
+pub index-requires : goal.index-requires
+index-requires c =
+    let s = c.args.classes.now in
+    let files = s.trees.now in
+    omega (arith, field_there files s.roster.now c.requires.classes.roster c.in-Some.number (subst (λ (o : Option ℕ). IfSome o (λ k. k < length (all_fields (table_in files)))) c.in-Some.is c.requires.found), s.roster.now.fields.ok.0)
+
+pub returns-then-index-clause-shown : goal.returns-then-index-clause-shown
+returns-then-index-clause-shown c =
+    let s = c.args.classes.now in
+    let files = s.trees.now in
+    let within = subst (λ (o : Option ℕ). IfSome o (λ k. k < length (all_fields (table_in files)))) c.in-Some.is c.requires.found in
+    constant_said files s.roster.now c.requires.classes.roster c.in-Some.number c.index.result.now within c.index.ensures c.if-index.true
+    ∙ ap (λ (o : Option ℕ). field_meaning (option_and_then (slice_get (all_fields (table_in files))) o)) (sym c.in-Some.is)
+
+pub returns-else-index-clause-shown : goal.returns-else-index-clause-shown
+returns-else-index-clause-shown c =
+    let s = c.args.classes.now in
+    let files = s.trees.now in
+    let within = subst (λ (o : Option ℕ). IfSome o (λ k. k < length (all_fields (table_in files)))) c.in-Some.is c.requires.found in
+    instance_said files s.roster.now c.requires.classes.roster c.in-Some.number c.index.result.now within c.index.ensures c.if-index.false
+    ∙ ap (λ (o : Option ℕ). field_meaning (option_and_then (slice_get (all_fields (table_in files))) o)) (sym c.in-Some.is)
