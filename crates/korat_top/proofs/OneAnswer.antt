@@ -71,7 +71,7 @@ same_one true a b e = (a, [], [], followed_none a, sym e ∙ followed_none a)
 
 listings_one : (trace : Bool) (ask : Ask) (P : Problem) (a b : Answer) → ReportsAsk trace ask P a → ReportsAsk trace ask P b → AreOne trace a b
 listings_one false ask P a b h k = h ∙ sym k
-listings_one true ask P a b h k = (listing_of ask P, trace_text h.0, trace_text k.0, h.2, k.2)
+listings_one true ask P a b h k = (listing_of ask P, trace_text h.0, trace_text k.0, h.3, k.3)
 
 reports_one : (command : Command) (P : Problem) (a b : Answer) → Reports command P a → Reports command P b → AreOne (is_traced command) a b
 reports_one (commands.List ask) P a b h k = listings_one ask.trace ask P a b h k

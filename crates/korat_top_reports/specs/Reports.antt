@@ -1,5 +1,5 @@
 -- To be believed: what a command reports of the problem that its files pose.
-use Rattle.std.specs.Prelude.{◌≡◌, ℕ, List, [], ◌∷◌, ◌++◌, length, Bool, true, false, ◌&&◌, ◌==◌, not, Option}
+use Rattle.std.specs.Prelude.{◌≡◌, ◌≤◌, ℕ, List, [], ◌∷◌, ◌++◌, length, Bool, true, false, ◌&&◌, ◌==◌, not, Option}
 use Rattle.kr_base.specs.declared.span.Bound.TheVariants.{At, End}
 use Rattle.kr_base.specs.Entries.{entries_in}
 use Rattle.kr_args.specs.declared.forms.Ask.{Ask}
@@ -8,9 +8,10 @@ use Rattle.kr_args.specs.declared.forms.Command.TheVariants as commands
 use Rattle.kr_core.specs.declared.event.Event.{Event}
 use Rattle.kr_mean.specs.Problem.{Problem, slots}
 use Rattle.kr_mean.specs.Entries.{all_entries}
+use Rattle.kr_pool_desk.specs.Runs.{are_shared}
 use Rattle.kr_pool_desk.specs.Traces.{IsTrace}
 use Rattle.kr_report.specs.Endings.{EndsListing}
-use Rattle.kr_report.specs.Reports.{Answer, line_answer, listing_answer}
+use Rattle.kr_report.specs.Reports.{Answer, line_answer, listing_answer, rows_in}
 use Rattle.kr_report.specs.Texts.{checked_text}
 use Rattle.kr_report_listing.specs.Tallies.{tally_answer}
 use Rattle.kr_report_trace.specs.Traces.{trace_text}
@@ -67,11 +68,15 @@ report_of (commands.Demo n workers) problem = tally_of n problem
 report_of (commands.Shard ask) problem = shard_of ask problem
 report_of (commands.Merge files) problem = line_answer 0 []
 
+-- where no row is left out, the log has no stop
+abbrev pub StopsBeyond : Ask → Problem → List Event → Type 0
+StopsBeyond ask problem log = length (rows_in (entries_in (At ask.from) ask.to (all_entries problem))) ≤ ask.limit → are_shared ask.workers log ≡ true
+
 -- a listing; where a trace is asked for, after it some log of so many workers over the entries that are asked for
 abbrev pub ReportsAsk : Bool → Ask → Problem → Answer → Type 0
 ReportsAsk false ask problem answer = answer ≡ listing_of ask problem
 ReportsAsk true ask problem answer =
-    (log : List Event) × IsTrace (all_entries problem) (record { after = ask.from; upto = ask.to }) ask.workers log × (answer ≡ told_of log ask problem)
+    (log : List Event) × IsTrace (all_entries problem) (record { after = ask.from; upto = ask.to }) ask.workers log × StopsBeyond ask problem log × (answer ≡ told_of log ask problem)
 
 -- what is reported: of a listing or a test, with its trace where it is asked for
 abbrev pub Reports : Command → Problem → Answer → Type 0

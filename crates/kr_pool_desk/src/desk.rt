@@ -74,11 +74,12 @@ impl<R: Drop, N: Run<R>> Desk<R, N> {
         self.board.is_finished()
     }
 
-    /// The listing of the run's span behind the rows drained, and the run's log, where nothing is left to do, else the desk
-    /// again. It takes no memory.
+    /// The listing of the run's span behind the rows drained, and the run's log, which has no stop, where nothing is left to
+    /// do, else the desk again. It takes no memory.
     pub fn close(self) -> Result<Logged<R>, Desk<R, N>>
         ensures listing { IfOk result (λ logged. ListsFrom (drained self.0.log) (listed_in N.all N.span) logged.listing) }
         ensures log { IfOk result (λ logged. Finishes N.all (opening N.span N.cuts) N.workers logged.log.items) }
+        ensures unstopped { IfOk result (λ logged. are_shared N.workers logged.log.items ≡ true) }
         ensures unfinished { OnErr result (all_closed self.0.core ≡ false) }
         ensures back { IfErr result (λ desk. desk.0 ≡ self.0) }
     {
@@ -257,7 +258,7 @@ impl<R: Drop, N: Run<R>> Desk<R, N> {
     fn is_over_share(&self, rows: u64) -> bool {
         match self.board.window() {
             None => false,
-            Some(window) => rows > window / 64,
+            Some(window) => rows > window / 8,
         }
     }
 

@@ -5,6 +5,7 @@ ghost use Rattle.kr_core.specs.Openings.{opening};
 ghost use Rattle.kr_core.specs.Rows.{drained};
 ghost use Rattle.kr_board.specs.Closing.{all_closed};
 ghost use Rattle.kr_pool_desk.specs.Listings.{listed_in, ListsFrom};
+ghost use Rattle.kr_pool_desk.specs.Runs.{are_shared};
 ghost use Rattle.kr_pool_desk.specs.Traces.{Finishes};
 
 use kr_base::NoMemory;
@@ -82,10 +83,12 @@ impl<R: Drop, N: Run<R>> Alone<R, N> {
         }
     }
 
-    /// What is left of the listing, and the log, where nothing is left to do, else the same again. It takes no memory.
+    /// What is left of the listing, and the log, which has no stop, where nothing is left to do, else the same again. It takes
+    /// no memory.
     pub fn close(self) -> Result<Logged<R>, Alone<R, N>>
         ensures listing { IfOk result (λ logged. ListsFrom (drained self.log) (listed_in N.all N.span) logged.listing) }
         ensures log { IfOk result (λ logged. Finishes N.all (opening N.span N.cuts) N.workers logged.log.items) }
+        ensures unstopped { IfOk result (λ logged. are_shared N.workers logged.log.items ≡ true) }
         ensures back { IfErr result (λ alone. alone ≡ self) }
         ensures unfinished { OnErr result (all_closed self.core ≡ false) }
     {

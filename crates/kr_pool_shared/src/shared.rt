@@ -18,15 +18,26 @@ use kr_board::{Board, Lease, Refused, Reported, Taken};
 use kr_pool_desk::{Crew, Desk, Run};
 use kr_survey::{Part, Rows};
 use std::alloc::Global;
+use std::sync::atomic::{AtomicU64, Ordering};
 use std::sync::ledger::{Blank, Ledger, Share};
 use std::sync::{Condvar, Mutex, Wait};
+use std::thread;
 
-/// A board under its lock. Who waits is woken where a rest is laid out, a segment is done, a lease is given back, or a seat
-/// leaves.
+/// How often a seat with nothing at hand looks whether all have begun.
+const LOOKS: u32 = 1000;
+
+/// How often seats look in vain, before none looks any more.
+const MISSES: u64 = 4;
+
+/// A board under its lock, how often a seat began a round, how many seats there are, and how often one looked in vain whether all
+/// have begun. Who waits is woken where a rest is laid out, a segment is done, a lease is given back, or a seat leaves.
 #[derive(Drop)]
 pub struct Shared<R, N: Run<R>, D: Ledger> {
     table: Mutex<Table<R, N, D>>,
     freed: Condvar,
+    begun: AtomicU64,
+    seats: u64,
+    missed: AtomicU64,
 }
 
 // A seat for each worker, which share the ledger's parts.
@@ -90,6 +101,9 @@ impl<R: Drop, N: Run<R>, D: Ledger> Shared<R, N, D> {
             Shared {
                 table,
                 freed: Condvar::new(),
+                begun: AtomicU64::new(0),
+                seats: u64::from(workers),
+                missed: AtomicU64::new(0),
             },
             seats,
             whole,
@@ -102,7 +116,13 @@ impl<R: Drop, N: Run<R>, D: Ledger> Shared<R, N, D> {
         ensures drained { drained result.0.log ≡ tap.old.amount }
         ensures tap { (tap.new.amount ≡ tap.old.amount) × (tap.new.parts ≡ tap.old.parts) }
     {
-        let Shared { table, freed: _ } = self;
+        let Shared {
+            table,
+            freed: _,
+            begun: _,
+            seats: _,
+            missed: _,
+        } = self;
         table.into_inner().into_desk(tap)
     }
 
@@ -128,7 +148,24 @@ impl<R: Drop, N: Run<R>, D: Ledger> Shared<R, N, D> {
 
     /// A seat begins a round.
     pub fn enter<W: Wait>(&self, rt: &W) {
+        self.begun.fetch_add(1, Ordering::SeqCst);
         self.table.lock(rt).enter();
+    }
+
+    /// Waits until all seats have begun the round, but not for long: it may be that no thread was started for one. A seat that
+    /// found nothing free before the others have begun would leave the round.
+    pub fn await_others(&self) {
+        let seats = self.seats;
+        if seats == 0 || self.missed.load(Ordering::SeqCst) >= MISSES {
+            return;
+        }
+        for _ in 0..LOOKS {
+            if self.begun.load(Ordering::SeqCst) % seats == 0 {
+                return;
+            }
+            thread::yield_now();
+        }
+        self.missed.fetch_add(1, Ordering::SeqCst);
     }
 
     /// A seat leaves the round.

@@ -1,6 +1,6 @@
 -- The answer of a problem's lines is that of its entries.
-use Rattle.std.proofs.Common.{◌≡◌, ℕ, List, [], ◌∷◌, ◌++◌, length, map, refl, ap, ◌∙◌, subst}
-use Rattle.std.specs.Prelude.{Option, Some, Result, if◌then◌else◌}
+use Rattle.std.proofs.Common.{◌≡◌, ◌≤◌, ℕ, suc, List, [], ◌∷◌, ◌++◌, true, length, map, refl, ap, ◌∙◌, subst, arith}
+use Rattle.std.specs.Prelude.{Option, Some, Result, Ok, Err, IfOk, if◌then◌else◌}
 use Rattle.kr_base.specs.declared.span.Bound.{Bound}
 use Rattle.kr_base.specs.declared.span.Bound.TheVariants.{At}
 use Rattle.kr_base.specs.declared.span.Span.{Span}
@@ -13,12 +13,13 @@ use Rattle.kr_mean.specs.Entries.{all_entries}
 use Rattle.kr_mean.specs.Problem.{Problem}
 use Rattle.kr_mean.specs.declared.mode.Mode.{Mode}
 use Rattle.kr_mean.specs.declared.row.Row.{Row}
+use Rattle.kr_pool_desk.specs.Runs.{are_shared}
 use Rattle.kr_pool_desk.specs.Listings.{listed_in}
 use Rattle.kr_report.specs.Reports.{Answer, listing_answer, rows_in, rows_of_mark, spent_key, spent_key_of}
 use Rattle.kr_report.specs.Texts.{capped}
 use Rattle.kr_report_lines.specs.Lines.{LinesLaw, line_of, lines_answer}
 use Rattle.kr_report_lines.specs.declared.row_line.RowLine.{RowLine}
-use Rattle.kr_report_streaming.specs.Puts.{PutsAnswer, entries_answer}
+use Rattle.kr_report_streaming.specs.Puts.{PutsAnswer, StopsBeyond, entries_answer}
 use Rattle.kr_report_streaming.specs.declared.halt.Ended.{Ended}
 use Rattle.kr_report_streaming.specs.declared.halt.Halt.{Halt}
 use Rattle.kr_survey.specs.Scans.{row_of, rows_of}
@@ -74,3 +75,38 @@ pub put_of : {K : Type 0} (taken : K → Option (List ℕ)) (faults : K → ℕ)
 put_of taken faults P limit span low high a b r e f put =
     subst (λ (x : Bound). PutsAnswer taken faults (listing_answer P limit (entries_in (At low) x (all_entries P))) a b r) f
     (subst (λ (k : List ℕ). PutsAnswer taken faults (listing_answer P limit (entries_in (At k) span.upto (all_entries P))) a b r) e put)
+
+-- ---- no stop where all rows are listed
+
+rows_listed : (f : Row → RowLine) (all : List (Entry Row)) (span : Span) → MappedLaw Row RowLine → rows_of (listed_in (entries_by f all) span) ≡ map f (rows_in (entries_in (At span.after) span.upto all))
+rows_listed f all span law =
+    let es = entries_in (At span.after) span.upto all in
+    ap (λ (xs : List (Entry RowLine)). rows_of xs) ((law f all).span (At span.after) span.upto) ∙ ((law f es).rows ∙ ap (map f) (rows_same es))
+
+length_same : {A B : Type 0} (f : A → B) (xs : List A) → length (map f xs) ≡ length xs
+length_same f [] = refl
+length_same f (x ∷ xs) = ap suc (length_same f xs)
+
+unstopped_by : (P : Problem) (all : List (Entry Row)) (span : Span) (workers limit : ℕ) (r : Result Ended Halt) → MappedLaw Row RowLine → StopsBeyond workers limit (rows_of (listed_in (entries_by (line_of P) all) span)) r
+    → IfOk r (λ ended. length (rows_in (entries_in (At span.after) span.upto all)) ≤ limit → are_shared workers ended.log.items ≡ true)
+unstopped_by P all span workers limit (Ok ended) law beyond =
+    λ few.
+    let same = ap length (rows_listed (line_of P) all span law) ∙ length_same (line_of P) (rows_in (entries_in (At span.after) span.upto all)) in
+    beyond (omega (arith, same, few))
+unstopped_by P all span workers limit (Err halt) law beyond = tt
+
+pub unstopped_put : (P Q S : Problem) (span : Span) (workers limit : ℕ) (r : Result Ended Halt) → Q ≡ P → S ≡ P → MappedLaw Row RowLine → StopsBeyond workers limit (rows_of (listed_in (entries_by (line_of Q) (all_entries S)) span)) r
+    → IfOk r (λ ended. length (rows_in (entries_in (At span.after) span.upto (all_entries P))) ≤ limit → are_shared workers ended.log.items ≡ true)
+unstopped_put P Q S span workers limit r e f law beyond =
+    let here = subst (λ (X : Problem). StopsBeyond workers limit (rows_of (listed_in (entries_by (line_of X) (all_entries S)) span)) r) e beyond in
+    let both = subst (λ (X : Problem). StopsBeyond workers limit (rows_of (listed_in (entries_by (line_of P) (all_entries X)) span)) r) f here in
+    unstopped_by P (all_entries P) span workers limit r law both
+
+-- of a span that has these keys
+pub unstopped_of : (all : List (Entry Row)) (span : Span) (low : List ℕ) (high : Bound) (workers limit : ℕ) (r : Result Ended Halt) → span.after ≡ low → span.upto ≡ high
+    → IfOk r (λ ended. length (rows_in (entries_in (At span.after) span.upto all)) ≤ limit → are_shared workers ended.log.items ≡ true)
+    → IfOk r (λ ended. length (rows_in (entries_in (At low) high all)) ≤ limit → are_shared workers ended.log.items ≡ true)
+unstopped_of all span low high workers limit (Ok ended) e f is =
+    subst (λ (x : Bound). length (rows_in (entries_in (At low) x all)) ≤ limit → are_shared workers ended.log.items ≡ true) f
+    (subst (λ (k : List ℕ). length (rows_in (entries_in (At k) span.upto all)) ≤ limit → are_shared workers ended.log.items ≡ true) e is)
+unstopped_of all span low high workers limit (Err halt) e f is = tt

@@ -1,21 +1,26 @@
 -- To be believed: a listing, and after it the log of its workers.
-use Rattle.std.specs.Prelude.{ℕ, List, Option}
+use Rattle.std.specs.Prelude.{◌≡◌, ◌≤◌, ℕ, List, Option, true, length}
+use Rattle.kr_base.specs.Entries.{entries_in}
 use Rattle.kr_base.specs.declared.span.Bound.{Bound}
+use Rattle.kr_base.specs.declared.span.Bound.TheVariants.{At}
 use Rattle.kr_base.specs.declared.span.Span.{Span}
 use Rattle.kr_core.specs.declared.event.Event.{Event}
 use Rattle.kr_mean.specs.Entries.{all_entries}
 use Rattle.kr_mean.specs.Problem.{Problem}
+use Rattle.kr_pool_desk.specs.Runs.{are_shared}
 use Rattle.kr_pool_desk.specs.Traces.{IsTrace}
 use Rattle.kr_report.specs.Endings.{EndsListing}
-use Rattle.kr_report.specs.Reports.{Answer}
+use Rattle.kr_report.specs.Reports.{listing_answer, rows_in}
 use Rattle.kr_report_streaming.specs.Followed.{followed_by}
 use Rattle.kr_report_trace.specs.Traces.{trace_text}
 
 abbrev pub span_from : List ℕ → Bound → Span
 span_from after upto = record { after = after; upto = upto }
 
--- the answer, and after it some log of so many workers over a span of the problem's entries
-pub record EndsTraced {K : Type 0} (taken : K → Option (List ℕ)) (faults : K → ℕ) (problem : Problem) (span : Span) (workers : ℕ) (answer : Answer) (out out' : K) (status : ℕ) : Type 0 where
+-- The listing of a problem's entries in a span, at most so many rows, and after it some log of so many workers over the span. Where
+-- no row is left out, the log has no stop.
+pub record EndsTraced {K : Type 0} (taken : K → Option (List ℕ)) (faults : K → ℕ) (problem : Problem) (span : Span) (workers limit : ℕ) (out out' : K) (status : ℕ) : Type 0 where
   pub log : List Event
   pub traces : IsTrace (all_entries problem) span workers log
-  pub ends : EndsListing taken faults (followed_by (trace_text log) answer) out out' status
+  pub unstopped : length (rows_in (entries_in (At span.after) span.upto (all_entries problem))) ≤ limit → are_shared workers log ≡ true
+  pub ends : EndsListing taken faults (followed_by (trace_text log) (listing_answer problem limit (entries_in (At span.after) span.upto (all_entries problem)))) out out' status

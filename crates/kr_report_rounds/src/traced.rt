@@ -1,10 +1,6 @@
 // The listing of a problem's span, and how its workers did.
 ghost use Rattle.std.specs.Prelude.{◌≡◌, ◌<◌, ◌≤◌, IfOk, OnErr};
-ghost use Rattle.kr_base.specs.Entries.{entries_in};
-ghost use Rattle.kr_base.specs.declared.span.Bound.TheVariants.{At};
-ghost use Rattle.kr_mean.specs.Entries.{all_entries};
 ghost use Rattle.kr_space_problem.specs.Posed.{posed};
-ghost use Rattle.kr_report.specs.Reports.{listing_answer};
 ghost use Rattle.kr_report_rounds.specs.Traced.{EndsTraced, span_from};
 
 use crate::listed::{put_lines, span_of};
@@ -16,7 +12,8 @@ use std::alloc::Global;
 use std::sync::Wait;
 use std::thread::Threads;
 
-/// As `put_rounds`, and after the last line the log of the workers, a line an event. It may wait.
+/// As `put_rounds`, and after the last line the log of the workers, a line an event: without a stop where no row is left out. It
+/// may wait.
 pub fn put_rounds_traced<W: Threads + Wait + Sync, K: Sink, G: Gate + Sync>(
     rt: &W,
     alloc: Global,
@@ -31,7 +28,7 @@ pub fn put_rounds_traced<W: Threads + Wait + Sync, K: Sink, G: Gate + Sync>(
 ) -> Result<u8, NoMemory>
     requires workers { (0 < workers) × (workers ≤ 64) }
     requires window { (0 < window) × (window ≤ 65536) }
-    ensures ends { IfOk result (λ status. EndsTraced K.taken K.faults (posed prepared.now.problem) (span_from after.now upto.now) workers (listing_answer (posed prepared.now.problem) limit (entries_in (At after.now) upto.now (all_entries (posed prepared.now.problem)))) out.old out.new status) }
+    ensures ends { IfOk result (λ status. EndsTraced K.taken K.faults (posed prepared.now.problem) (span_from after.now upto.now) workers limit out.old out.new status) }
     ensures nothing { OnErr result (out.new ≡ out.old) }
 {
     match span_of(after, upto) {

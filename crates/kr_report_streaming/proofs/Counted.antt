@@ -1,6 +1,6 @@
 -- What is counted of lines after lines.
-use Rattle.std.proofs.Common.{◌≡◌, ℕ, zero, suc, ◌+◌, ◌-◌, ◌<◌, ◌≤◌, List, [], ◌∷◌, ◌++◌, Bool, true, false, length, take, drop, refl, sym, ap, ◌∙◌, subst, arith, length-append, append-nil}
-use Rattle.std.specs.Prelude.{◌||◌, nat_lt, min}
+use Rattle.std.proofs.Common.{◌≡◌, ℕ, zero, suc, ◌-◌, ◌<◌, List, [], ◌++◌, Bool, true, false, length, take, drop, refl, sym, ap, ◌∙◌, arith, length-append, append-nil}
+use Rattle.std.specs.Prelude.{◌||◌, nat_lt}
 use Rattle.std.proofs.lemmas.Bool.Decides.{nat_tests}
 use Rattle.std.proofs.lemmas.List.{take-append-drop}
 use Rattle.kr_report.specs.Reports.{lines}
@@ -60,7 +60,7 @@ text_more limit room v xs ys space e =
 
 -- ---- more than the limit allows
 
-over : (limit n : ℕ) → nat_lt limit n ≡ true → limit < n
+pub over : (limit n : ℕ) → nat_lt limit n ≡ true → limit < n
 over limit n h = grind (arith, nat_tests)
 
 over_too : (limit n : ℕ) → limit < n → true ≡ nat_lt limit n

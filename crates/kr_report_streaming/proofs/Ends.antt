@@ -1,5 +1,5 @@
 -- How a call ends, from what was put.
-use Rattle.std.proofs.Common.{◌≡◌, ◌⊎◌, ℕ, ◌<◌, List, ◌++◌, refl, sym, ap, ◌∙◌, inl, inr, subst, arith, append_assoc}
+use Rattle.std.proofs.Common.{◌≡◌, ℕ, List, ◌++◌, refl, sym, ◌∙◌, inl, inr, subst, arith, append_assoc}
 use Rattle.std.specs.Prelude.{Option, Result, Ok, Err, IfOk, is_ok, if◌then◌else◌}
 use Rattle.kr_base.specs.declared.memory.NoMemory.{NoMemory}
 use Rattle.kr_base.specs.Told.{Added, Stopped, Writes}

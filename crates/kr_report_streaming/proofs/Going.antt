@@ -1,12 +1,12 @@
 -- Lines that are put behind others.
-use Rattle.std.proofs.Common.{◌≡◌, ℕ, zero, suc, ◌+◌, ◌-◌, ◌≤◌, List, [], ◌∷◌, ◌++◌, length, take, drop, refl, sym, ap, ◌∙◌, subst, arith, append-nil}
+use Rattle.std.proofs.Common.{◌≡◌, ℕ, zero, suc, ◌+◌, ◌-◌, List, [], ◌∷◌, ◌++◌, length, take, drop, refl, sym, ap, ◌∙◌, subst, arith, append-nil}
 use Rattle.std.proofs.Common.{◌<◌, get_or, true, Vec, Global}
 use Rattle.std.specs.Prelude.{Option, Result, Ok, Err, ◌==◌}
 use Rattle.std.proofs.lemmas.Bool.Decides.{nat_tests}
 use Rattle.std.proofs.lemmas.List.{map-append, take-append-drop, take_all}
 use Rattle.kr_base.specs.declared.memory.NoMemory.{NoMemory}
 use Rattle.kr_base.specs.Told.{Added, Stopped}
-use Rattle.kr_base.specs.Writing.{added_none, added_then, stopped_then, stopped_early}
+use Rattle.kr_base.specs.Writing.{added_then, stopped_then, stopped_early}
 use Rattle.kr_report.specs.Reports.{lines}
 use Rattle.kr_report_lines.specs.Counting.{IsAfter}
 use Rattle.kr_report_lines.specs.Lines.{texts}

@@ -1,28 +1,30 @@
 -- The answer, once all its lines are put.
-use Rattle.std.proofs.Common.{◌≡◌, ℕ, ◌-◌, List, [], ◌++◌, Bool, true, false, length, take, drop, refl, sym, ap, ◌∙◌, subst, arith}
-use Rattle.std.specs.Prelude.{Option, Some, None, Result, Ok, Err, nat_lt}
+use Rattle.std.proofs.Common.{◌≡◌, ℕ, ◌-◌, ◌≤◌, List, [], ◌++◌, Bool, true, length, take, drop, refl, sym, ap, ◌∙◌, subst, arith}
+use Rattle.std.specs.Prelude.{Option, None, Result, Ok, Err, IfOk}
 use Rattle.std.proofs.lemmas.List.{take-append-drop}
 use Rattle.kr_base.specs.declared.memory.NoMemory.{NoMemory}
-use Rattle.kr_base.specs.Told.{Added, Stopped, Writes}
+use Rattle.kr_base.specs.Told.{Added, Stopped}
 use Rattle.kr_base.specs.Writing.{added_none, added_then, stopped_then, stopped_early}
+use Rattle.kr_core.specs.declared.event.Event.{Event}
+use Rattle.kr_pool_desk.specs.Runs.{are_shared}
 use Rattle.kr_mean.specs.declared.mode.Mode.{Mode}
 use Rattle.kr_report.specs.Endings.{front_of}
 use Rattle.kr_report.specs.Texts.{more_text}
 use Rattle.kr_report.specs.Reports.{Answer, bytes_of, lines}
 use Rattle.kr_report_lines.specs.Counting.{IsAfter, last_text, status_at, text_at, text_unless_more}
 use Rattle.kr_report_lines.specs.Ended.{IsListingStatus}
-use Rattle.kr_report_lines.specs.Lines.{failing_lines, last_of, lines_answer, status_by, texts}
+use Rattle.kr_report_lines.specs.Lines.{last_of, lines_answer, texts}
 use Rattle.kr_report_lines.specs.declared.row_line.RowLine.{RowLine}
 use Rattle.kr_report_lines.specs.declared.counts.Count.{Count}
 use Rattle.kr_report_lines.proofs.Ended.{answer, answer_at, answer_by}
 use Rattle.kr_report_streaming.specs.Counts.{AreCounted, Stands}
-use Rattle.kr_report_streaming.specs.Puts.{Goes, GoesOn, HasPut, PutsAnswer, PutsRest, PutsStatus}
+use Rattle.kr_report_streaming.specs.Puts.{Goes, GoesOn, HasPut, PutsAnswer, PutsRest, PutsStatus, StopsBeyond}
 use Rattle.kr_report_streaming.specs.declared.halt.Ended.{Ended}
 use Rattle.kr_report_streaming.specs.declared.halt.Halt.{Halt}
 use Rattle.kr_report_streaming.specs.declared.halt.Halt.TheVariants.{Sink, Memory}
 use Rattle.kr_report_streaming.specs.declared.progress.Progress.{Progress}
-use Rattle.kr_report_streaming.proofs.Counted.{counted_all, none_taken, text_all}
-use Rattle.kr_report_streaming.proofs.Going.{Lent, added_after, counts_after, lent_counts, refused_after, refused_within, stopped_after, stopped_within}
+use Rattle.kr_report_streaming.proofs.Counted.{counted_all, none_taken, over, text_all}
+use Rattle.kr_report_streaming.proofs.Going.{Lent, added_after, counts_after, lent_counts, refused_after, refused_within, stopped_after}
 
 -- by what was counted of all lines
 answer_of : (mode : Mode) (limit : ℕ) (all : List RowLine) (tried : ℕ) (spent : Option (List ℕ)) (v f : ℕ) (k : List ℕ) (m : Bool) → AreCounted limit all v f k m
@@ -161,3 +163,19 @@ pub begun_put : {K : Type 0} (taken : K → Option (List ℕ)) (faults : K → �
 begun_put {K} taken faults limit d all p start none s =
     let here : HasPut taken faults limit [] p start start = record { text = added_as taken faults start (lines (texts (take limit []))) (ap (λ (ls : List RowLine). lines (texts ls)) (none_taken limit [] refl)); stands = s } in
     subst (λ (n : ℕ). HasPut taken faults limit (take n all) p start start) (sym none) here
+
+-- ---- stops
+
+pub more_beyond : {A : Type 0} (limit d : ℕ) (all : List RowLine) (p : Progress) → p.more ≡ true → Stands limit (take d all) p → length all ≤ limit → A
+more_beyond {A} limit d all p more s few =
+    let now = counted_all limit d all p.valid p.failing p.last p.more more s.counts in
+    let long = over limit (length all) (sym now.more_is) in
+    absurd (omega (arith, long, few))
+
+pub logged_beyond : (workers limit : ℕ) (all : List RowLine) (events : List Event) (r : Result Ended Halt) → IfOk r (λ ended. ended.log.items ≡ events) → are_shared workers events ≡ true → StopsBeyond workers limit all r
+logged_beyond workers limit all events (Ok ended) is shared = λ few. ap (are_shared workers) is ∙ shared
+logged_beyond workers limit all events (Err halt) is shared = tt
+
+-- behind what was put, where as many were drained
+pub put_from : {K : Type 0} (taken : K → Option (List ℕ)) (faults : K → ℕ) (limit d e : ℕ) (all : List RowLine) (p : Progress) (start x : K) → d ≡ e → HasPut taken faults limit (take d all) p start x → HasPut taken faults limit (take e all) p start x
+put_from taken faults limit d e all p start x same h = subst (λ (n : ℕ). HasPut taken faults limit (take n all) p start x) same h

@@ -1,10 +1,11 @@
 -- Between crates: what is put of a listing, some lines at a time.
-use Rattle.std.specs.Prelude.{◌≡◌, ◌⊎◌, ℕ, List, length, take, Option, Result, Ok, Err}
+use Rattle.std.specs.Prelude.{◌≡◌, ◌≤◌, ℕ, true, List, length, take, Option, Result, Ok, Err}
 use Rattle.kr_base.specs.Told.{Added, Stopped}
 use Rattle.kr_base.specs.declared.entry.Entry.{Entry}
 use Rattle.kr_board.specs.Closing.{spent_in}
 use Rattle.kr_core.specs.States.{capped}
 use Rattle.kr_mean.specs.declared.mode.Mode.{Mode}
+use Rattle.kr_pool_desk.specs.Runs.{are_shared}
 use Rattle.kr_report.specs.Endings.{front_of}
 use Rattle.kr_report.specs.Reports.{Answer, bytes_of, lines}
 use Rattle.kr_report_lines.specs.Ended.{IsListingStatus}
@@ -41,6 +42,11 @@ abbrev pub PutsAnswer : {K : Type 0} → (K → Option (List ℕ)) → (K → �
 PutsAnswer taken faults answer start out (Ok ended) = Added taken faults start out (bytes_of answer) × (ended.status ≡ answer.status) × IsListingStatus ended.status
 PutsAnswer taken faults answer start out (Err Sink) = Stopped taken faults start out (bytes_of answer)
 PutsAnswer taken faults answer start out (Err (Memory why)) = (n : ℕ) × Added taken faults start out (front_of answer n)
+
+-- the log has a stop only where there are more lines than the limit allows
+abbrev pub StopsBeyond : ℕ → ℕ → List RowLine → Result Ended Halt → Type 0
+StopsBeyond workers limit all (Ok ended) = length all ≤ limit → are_shared workers ended.log.items ≡ true
+StopsBeyond workers limit all (Err halt) = Unit {0}
 
 -- the same of what says a status alone
 abbrev pub PutsStatus : {K E : Type 0} → (K → Option (List ℕ)) → (K → ℕ) → Answer → K → K → Result ℕ E → Type 0

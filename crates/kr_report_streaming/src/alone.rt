@@ -1,10 +1,10 @@
 // What workers left undone, done by the caller alone, an entry at a time.
-ghost use Rattle.std.specs.Prelude.{◌≡◌, IfOk};
+ghost use Rattle.std.specs.Prelude.{◌≡◌, take, IfOk};
 ghost use Rattle.kr_core.specs.Openings.{opening};
 ghost use Rattle.kr_core.specs.Rows.{drained};
 ghost use Rattle.kr_pool_desk.specs.Listings.{listed_in};
 ghost use Rattle.kr_pool_desk.specs.Traces.{Finishes};
-ghost use Rattle.kr_report_streaming.specs.Puts.{GoesOn, PutsRest, entries_answer};
+ghost use Rattle.kr_report_streaming.specs.Puts.{GoesOn, HasPut, PutsRest, StopsBeyond, entries_answer};
 ghost use Rattle.kr_survey.specs.Scans.{rows_of};
 
 use crate::ended::{put_logged, put_more};
@@ -52,6 +52,7 @@ fn put_entries<N: Run<RowLine> + Send + Sync, S: Survey<Row = RowLine>, W: Wait,
     requires made { S.made survey.now scratch.old }
     ensures ends { PutsRest K.taken K.faults (entries_answer mode.now (listed_in N.all N.span)) (rows_of (listed_in N.all N.span)) (drained alone.log) progress.old out.old out.new result }
     ensures log { IfOk result (λ ended. Finishes N.all (opening N.span N.cuts) N.workers ended.log.items) }
+    ensures beyond { (limit : _) (start : K) → HasPut K.taken K.faults limit (take (drained alone.log) (rows_of (listed_in N.all N.span))) progress.old start out.old → StopsBeyond N.workers limit (rows_of (listed_in N.all N.span)) result }
 {
     let mut here = alone;
     for _ in rt.forever() {
@@ -82,6 +83,7 @@ pub(crate) fn put_left<N: Run<RowLine> + Send + Sync, S: Survey<Row = RowLine>, 
     requires survey { S.all survey.now ≡ N.all }
     ensures ends { PutsRest K.taken K.faults (entries_answer mode.now (listed_in N.all N.span)) (rows_of (listed_in N.all N.span)) (drained alone.log) progress.old out.old out.new result }
     ensures log { IfOk result (λ ended. Finishes N.all (opening N.span N.cuts) N.workers ended.log.items) }
+    ensures beyond { (limit : _) (start : K) → HasPut K.taken K.faults limit (take (drained alone.log) (rows_of (listed_in N.all N.span))) progress.old start out.old → StopsBeyond N.workers limit (rows_of (listed_in N.all N.span)) result }
 {
     let here = match alone.close() {
         Ok(logged) => return put_logged(mode, logged, progress, out),

@@ -1,5 +1,5 @@
 // The last line.
-ghost use Rattle.std.specs.Prelude.{◌≡◌, ◌++◌, List, true, false, IfOk};
+ghost use Rattle.std.specs.Prelude.{◌≡◌, ◌++◌, List, true, false, take, IfOk};
 ghost use Rattle.kr_board.specs.Closing.{all_closed};
 ghost use Rattle.kr_core.specs.Openings.{opening};
 ghost use Rattle.kr_core.specs.Rows.{drained};
@@ -7,7 +7,7 @@ ghost use Rattle.kr_pool_desk.specs.Listings.{listed_in};
 ghost use Rattle.kr_pool_desk.specs.Traces.{Finishes};
 ghost use Rattle.kr_report_lines.specs.Lines.{lines_answer};
 ghost use Rattle.kr_report_lines.specs.declared.row_line.RowLine.{RowLine};
-ghost use Rattle.kr_report_streaming.specs.Puts.{HasPut, PutsAnswer, PutsRest, PutsStatus, entries_answer};
+ghost use Rattle.kr_report_streaming.specs.Puts.{HasPut, PutsAnswer, PutsRest, PutsStatus, StopsBeyond, entries_answer};
 ghost use Rattle.kr_survey.specs.Scans.{rows_of};
 
 use crate::halt::{Ended, Halt};
@@ -75,6 +75,7 @@ pub(crate) fn put_more<N: Run<RowLine> + Send + Sync, K: Sink>(
     requires more { progress.now.more ≡ true }
     ensures ends { PutsRest K.taken K.faults (entries_answer mode.now (listed_in N.all N.span)) (rows_of (listed_in N.all N.span)) (drained alone.log) progress.now out.old out.new result }
     ensures log { IfOk result (λ ended. Finishes N.all (opening N.span N.cuts) N.workers ended.log.items) }
+    ensures beyond { (limit : _) (start : K) → HasPut K.taken K.faults limit (take (drained alone.log) (rows_of (listed_in N.all N.span))) progress.now start out.old → StopsBeyond N.workers limit (rows_of (listed_in N.all N.span)) result }
 {
     match alone.stop() {
         Err(why) => Err(Halt::Memory(why)),

@@ -3,7 +3,8 @@ ghost use Rattle.std.specs.Prelude.{◌≡◌, ◌<◌, ◌≤◌, [], IfOk};
 ghost use Rattle.kr_core.specs.Openings.{AreInside, opening};
 ghost use Rattle.kr_pool_desk.specs.Listings.{listed_in};
 ghost use Rattle.kr_pool_desk.specs.Traces.{Finishes, IsTrace};
-ghost use Rattle.kr_report_streaming.specs.Puts.{PutsAnswer, entries_answer};
+ghost use Rattle.kr_report_streaming.specs.Puts.{PutsAnswer, StopsBeyond, entries_answer};
+ghost use Rattle.kr_survey.specs.Scans.{rows_of};
 
 use crate::alone::put_left;
 use crate::halt::{Ended, Halt};
@@ -44,6 +45,7 @@ fn put_begun<
     requires survey { S.all survey.now ≡ N.all }
     ensures ends { PutsAnswer K.taken K.faults (entries_answer mode.now (listed_in N.all N.span) limit) out.old out.new result }
     ensures log { IfOk result (λ ended. Finishes N.all (opening N.span N.cuts) N.workers ended.log.items) }
+    ensures beyond { StopsBeyond N.workers limit (rows_of (listed_in N.all N.span)) result }
 {
     let mut rounds = rounds;
     let mut progress = Progress::new(alloc, limit);
@@ -88,6 +90,7 @@ fn put_on<
     requires opening { N.opening ≡ [] }
     ensures ends { PutsAnswer K.taken K.faults (entries_answer mode.now (listed_in N.all N.span) limit) out.old out.new result }
     ensures log { IfOk result (λ ended. Finishes N.all (opening N.span N.cuts) N.workers ended.log.items) }
+    ensures beyond { StopsBeyond N.workers limit (rows_of (listed_in N.all N.span)) result }
 {
     match Rounds::<RowLine, N, D>::start(alloc, survey, span, cuts, workers, window, calls, tap) {
         Err(why) => Err(Halt::Memory(why)),
@@ -118,6 +121,7 @@ pub fn put_survey<
     requires window { (0 < window) × (window ≤ 65536) }
     ensures ends { PutsAnswer K.taken K.faults (entries_answer mode.now (listed_in (S.all survey.now) span) limit) out.old out.new result }
     ensures log { IfOk result (λ ended. IsTrace (S.all survey.now) span workers ended.log.items) }
+    ensures beyond { StopsBeyond workers limit (rows_of (listed_in (S.all survey.now) span)) result }
 {
     match cuts_for(alloc, &span, workers) {
         Err(why) => Err(Halt::Memory(why)),

@@ -39,10 +39,19 @@ impl<'p> Model for Scan<'p> {
 
 /// Where a scan stopped: the search, its candidate and all that is kept of its runs; or nothing yet. And what makes rows.
 /// It borrows the prepared problem, and nothing of its survey.
-#[derive(Drop)]
 pub struct Stopped<'p> {
     pub(crate) search: Option<Search<Runner<'p>>>,
     pub(crate) maker: RowMaker<'p>,
+}
+
+// Written out, and not derived, so that crates above don't check again how all that it holds is dropped.
+impl<'p> Drop for Stopped<'p> {
+    fn drop(self) {
+        let Stopped {
+            search: _,
+            maker: _,
+        } = self;
+    }
 }
 
 /// Whether a search looks above a cut.

@@ -1,4 +1,4 @@
-use Rattle.std.proofs.Common.{ap, subst, ℕ}
+use Rattle.std.proofs.Common.{ap, sym, subst, ℕ}
 use Rattle.std.specs.Prelude.{Ok, Err, length}
 use Rattle.kr_board.specs.Closing.{spent_in}
 use Rattle.kr_board.specs.Held.{Held}
@@ -11,7 +11,7 @@ use Rattle.kr_report_streaming.specs.Puts.{PutsRest}
 use Rattle.kr_survey.specs.Scans.{rows_of}
 use Rattle.kr_report_streaming.specs.declared.halt.Drained.{Drained}
 use Rattle.kr_report_streaming.proofs.Going.{on_then}
-use Rattle.kr_report_streaming.proofs.Whole.{closed_rest, on_rest, rest_halted}
+use Rattle.kr_report_streaming.proofs.Whole.{closed_rest, logged_beyond, on_rest, put_from, rest_halted}
 use Rattle.kr_report_streaming.proofs.alone.put_entries.Goals as goal
 
 pub returns-in-Err-clause-ends : goal.returns-in-Err-clause-ends
@@ -44,3 +44,16 @@ returns-then-progress-clause-ends g c =
     c.put_more.result
     (on_then {T = Unit {0}} {U = Unit {0}} (rows_of es) d (drained c.loop.here.log) (drained now.alone.log) c.args.progress.now c.loop.progress now.progress c.args.out.now c.loop.out now.out (tt {0}) (Ok (tt {0})) c.loop.invariant.3 c.in-Ok.ensures.on)
     (subst (λ (n : ℕ). PutsRest g.K.Sink.taken g.K.Sink.faults (λ limit. lines_answer c.args.mode.now limit (rows_of es) (capped (length es)) (spent_in es)) (rows_of es) n now.progress now.out c.put_more.new.out c.put_more.result) back c.put_more.ensures.ends)
+
+pub returns-in-Ok-close-clause-beyond : goal.returns-in-Ok-close-clause-beyond
+returns-in-Ok-close-clause-beyond g c = λ limit start h.
+    logged_beyond g.N.Crew.workers limit (rows_of (listed_in g.N.Run.all g.N.Run.span)) c.in-Ok-close.logged.log.items c.put_logged.result c.put_logged.ensures.log c.in-Ok-close.ensures.unstopped
+
+pub returns-then-progress-clause-beyond : goal.returns-then-progress-clause-beyond
+returns-then-progress-clause-beyond g c = λ limit start h.
+    let all = rows_of (listed_in g.N.Run.all g.N.Run.span) in
+    let now = c.put_entry.new in
+    let back = ap (λ (b : Held RowLine). drained b.log) c.in-Err-close.ensures.back in
+    let put = on_then {T = Unit {0}} {U = Unit {0}} all (drained c.args.alone.log) (drained c.loop.here.log) (drained now.alone.log) c.args.progress.now c.loop.progress now.progress c.args.out.now c.loop.out now.out (tt {0}) (Ok (tt {0}))
+    c.loop.invariant.3 c.in-Ok.ensures.on in
+    c.put_more.ensures.beyond limit start (put_from g.K.Sink.taken g.K.Sink.faults limit (drained now.alone.log) (drained c.in-Err-close.back.log) all now.progress start now.out (sym back) (put limit start h))

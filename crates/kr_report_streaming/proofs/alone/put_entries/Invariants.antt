@@ -3,7 +3,6 @@ use Rattle.kr_core.specs.Rows.{drained}
 use Rattle.kr_pool_desk.specs.Listings.{listed_in}
 use Rattle.kr_survey.specs.Scans.{rows_of}
 use Rattle.kr_report_streaming.specs.Puts.{GoesOn}
-use Rattle.kr_report_streaming.specs.declared.halt.Halt.{Halt}
 use Rattle.kr_report_streaming.proofs.alone.put_entries.Given as goal
 
 abbrev pub invariant-loop : goal.invariant-loop

@@ -1,6 +1,3 @@
-use Rattle.std.specs.Prelude.{Err}
-use Rattle.kr_report_lines.specs.Ended.{ends_faulted}
-use Rattle.kr_report_streaming.specs.Puts.{PutsAnswer}
 use Rattle.kr_report_streaming.proofs.Ends.{refused_at, stopped_at}
 use Rattle.kr_report_streaming.proofs.ending.tell.Goals as goal
 

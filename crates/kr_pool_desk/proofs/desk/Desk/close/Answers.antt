@@ -1,7 +1,9 @@
-use Rattle.std.proofs.Common.{subst, ℕ, ap, ◌∙◌}
+use Rattle.std.proofs.Common.{subst, ℕ, List, ap, ◌∙◌}
 use Rattle.kr_board.specs.Held.{Held}
+use Rattle.kr_core.specs.declared.event.Event.{Event}
 use Rattle.kr_core.specs.Rows.{drained}
 use Rattle.kr_pool_desk.specs.Listings.{listed_in, ListsFrom}
+use Rattle.kr_pool_desk.specs.Runs.{are_shared}
 use Rattle.kr_pool_desk.proofs.Whole.{whole_listing, finishes}
 use Rattle.kr_pool_desk.proofs.desk.Desk.close.Goals as goal
 
@@ -15,3 +17,6 @@ pub returns-in-Ok-clause-log : goal.returns-in-Ok-clause-log
 returns-in-Ok-clause-log g c =
     let n = g.N.Run in
     finishes n.all n.span n.cuts n.opening g.N.Crew.workers c.self.inside.calls.total c.self.inside.board c.in-Ok.logged.log.items c.self.invariant c.in-Ok.ensures.finished c.in-Ok.ensures.log
+
+pub returns-in-Ok-clause-unstopped : goal.returns-in-Ok-clause-unstopped
+returns-in-Ok-clause-unstopped g c = ap (λ (log : List Event). are_shared g.N.Crew.workers log) c.in-Ok.ensures.log ∙ c.self.invariant.grown.shared
