@@ -10,7 +10,7 @@ use Rattle.std.specs.Prelude.{Result, Ok, Err, OnOk}
 use Rattle.kr_survey.specs.Joins.{joined, lists}
 use Rattle.kr_deque_joining.specs.Spans.{is_ahead, Adjoins}
 use Rattle.kr_deque_joining.specs.Joined.{AllAhead}
-use Rattle.kr_deque.specs.Building.{EachAhead}
+use Rattle.kr_deque_hands.specs.Building.{EachAhead}
 use Rattle.kr_deque.specs.Cutting.{IsLaidOut}
 
 adjoin_more : (a b c : Bound) (xs ys : List Span) → Adjoins a xs b → Adjoins b ys c → Adjoins a (xs ++ ys) c

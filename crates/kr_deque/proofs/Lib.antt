@@ -1,11 +1,4 @@
 pub mod Cuts
-pub mod Halved
-pub mod Turns
-pub mod Carrying
-pub mod Rings
-pub mod Draining
-pub mod Made
-pub mod Scanned
 pub mod Listed
 pub mod Empty
 pub mod Worked

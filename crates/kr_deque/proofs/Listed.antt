@@ -10,9 +10,9 @@ use Rattle.kr_deque_joining.specs.declared.joining.JoinRefusal.TheVariants.{Gap,
 use Rattle.kr_deque_joining.specs.Breaks.{is_gap, is_double, NoBreak, Refuses}
 use Rattle.kr_deque_joining.specs.Listings.{IsPieceOf}
 use Rattle.kr_deque_joining.specs.Joined.{spans_of, AllAhead, ArePiecesOf}
-use Rattle.kr_deque.specs.Turns.{Splits, listed}
-use Rattle.kr_deque.specs.Gathering.{IsFound}
-use Rattle.kr_deque.proofs.Carrying.{ahead_append, covering_append, split_key, split_ahead}
+use Rattle.kr_deque_hands.specs.Turns.{Splits, listed}
+use Rattle.kr_deque.specs.Found.{IsFound}
+use Rattle.kr_deque_hands.proofs.Carrying.{ahead_append, covering_append, split_key, split_ahead}
 
 -- pieces were added that are the survey's, and what was in hand is in them, or in hand
 pub record GoesOn {R : Type 0} (all : List (Entry R)) (before : List (Piece R)) (held : List Span) (after : List (Piece R)) (holds : List Span) : Type 0 where

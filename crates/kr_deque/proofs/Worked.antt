@@ -8,12 +8,12 @@ use Rattle.kr_survey.specs.Joins.{joined, lists}
 use Rattle.kr_deque_joining.specs.declared.piece.Piece.{Piece}
 use Rattle.kr_deque_joining.specs.Spans.{covering}
 use Rattle.kr_deque_joining.specs.Joined.{spans_of, AllAhead, ArePiecesOf}
-use Rattle.kr_deque.specs.declared.hand.Hand.{Hand}
-use Rattle.kr_deque.specs.declared.work.Work.{Work}
-use Rattle.kr_deque.specs.Hands.{own, IsHandOf, AreHandsOf, IsSettled, AllSettled, IsSound, AllSound, given_at, Works, IsFresh, AllFresh}
-use Rattle.kr_deque.specs.Building.{givens, EachAhead}
-use Rattle.kr_deque.specs.Gathering.{AllWorked}
-use Rattle.kr_deque.proofs.Carrying.{covering_append, ahead_append}
+use Rattle.kr_deque_hands.specs.declared.hand.Hand.{Hand}
+use Rattle.kr_deque_hands.specs.declared.work.Work.{Work}
+use Rattle.kr_deque_hands.specs.Hands.{own, IsHandOf, AreHandsOf, IsSettled, AllSettled, IsSound, AllSound, given_at, Works, IsFresh, AllFresh}
+use Rattle.kr_deque_hands.specs.Building.{givens, EachAhead}
+use Rattle.kr_deque.specs.Found.{AllWorked}
+use Rattle.kr_deque_hands.proofs.Carrying.{covering_append, ahead_append}
 
 -- what was lent as a slice and comes back
 written : {A : Type 0} (xs ys : List A) → length ys ≡ length xs → take (length xs) (ys ++ drop (length ys) xs) ≡ ys

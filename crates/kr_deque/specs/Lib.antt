@@ -1,6 +1,2 @@
-pub mod Logs
-pub mod Turns
-pub mod Hands
-pub mod Building
 pub mod Cutting
-pub mod Gathering
+pub mod Found

@@ -4,11 +4,11 @@ ghost use Rattle.kr_base.specs.declared.span.Bound.TheVariants.{At};
 ghost use Rattle.kr_base.specs.Bounds.{less};
 ghost use Rattle.kr_survey.specs.Joins.{joined, lists};
 ghost use Rattle.kr_deque_joining.specs.Spans.{is_ahead, Adjoins};
-ghost use Rattle.kr_deque.specs.Building.{EachAhead};
+ghost use Rattle.kr_deque_hands.specs.Building.{EachAhead};
 ghost use Rattle.kr_deque.specs.Cutting.{IsLaidOut};
 
-use crate::scanning::copy;
 use kr_base::{Bound, Cut, NoMemory, Span};
+use kr_deque_hands::copy;
 use kr_deque_joining::is_before;
 use std::alloc::Global;
 use std::mem;

@@ -4,10 +4,10 @@ use Rattle.std.specs.Prelude.{slice_get, nat_lt, Result, Ok, Err, IfOk}
 use Rattle.std.proofs.lemmas.Bool.Decides.{nat_tests}
 use Rattle.kr_base.specs.declared.span.Span.{Span}
 use Rattle.kr_survey.specs.Joins.{lists}
-use Rattle.kr_deque.specs.Building.{givens}
-use Rattle.kr_deque.specs.declared.hand.Hand.{Hand}
-use Rattle.kr_deque.specs.declared.work.Work.{Work}
-use Rattle.kr_deque.specs.Hands.{IsHandOf, AreHandsOf}
+use Rattle.kr_deque_hands.specs.Building.{givens}
+use Rattle.kr_deque_hands.specs.declared.hand.Hand.{Hand}
+use Rattle.kr_deque_hands.specs.declared.work.Work.{Work}
+use Rattle.kr_deque_hands.specs.Hands.{IsHandOf, AreHandsOf}
 
 get_here : {A : Type 0} (xs ys : List A) (y : A) → slice_get (xs ++ y ∷ ys) (length xs) ≡ Some y
 get_here [] ys y = refl

@@ -26,10 +26,10 @@ pub(crate) fn gate_for(waits: u32) -> Meeting {
     }
 }
 
-// Whether a count comes to 1 within so many turns.
-fn begins(count: &AtomicU64) -> bool {
+/// Whether a count comes to a number within so many turns.
+pub(crate) fn comes_to(count: &AtomicU64, number: u64) -> bool {
     for _ in 0..TURNS {
-        if count.load(Ordering::SeqCst) > 0 {
+        if count.load(Ordering::SeqCst) >= number {
             return true;
         }
         yield_now();
@@ -45,7 +45,7 @@ impl Gate for Meeting {
         self.passed.fetch_add(1, Ordering::SeqCst);
         if worker != self.waits {
             self.begun.fetch_add(1, Ordering::SeqCst);
-        } else if !begins(&self.begun) {
+        } else if !comes_to(&self.begun, 1) {
             self.alone.fetch_add(1, Ordering::SeqCst);
         }
     }

@@ -109,6 +109,20 @@ fn two_at_once(rt: HostRuntime) -> Result<(), Fail> {
     Ok(())
 }
 
+// Whether two workers scan at once, and list four keys.
+fn scans_meet<W: Threads + Wait + Sync + Abort>(rt: &W, alloc: Global) -> Result<bool, NoMemory> {
+    let mut survey = keys(rt, alloc, 4, 9, 0)?;
+    survey.meets = true;
+    let listing = list(rt, alloc, &survey, 2, &OpenGate)?;
+    Ok(is_listing(&listing, 4, 4) && survey.apart.load(Ordering::SeqCst) == 0)
+}
+
+#[test]
+fn two_scans_at_once(rt: HostRuntime) -> Result<(), Fail> {
+    assert!(rt; scans_meet(&rt, rt.alloc())?);
+    Ok(())
+}
+
 // Whether so many workers list so many keys, of which one is spent, behind an unruly gate; and where none is spent, no key
 // was scanned twice.
 fn listed<W: Threads + Wait + Sync + Abort>(

@@ -2,6 +2,7 @@
 ghost use Rattle.std.specs.Prelude.{◌<◌, IfOk};
 ghost use Rattle.kr_survey.specs.Scans.{IsScan};
 
+use crate::gates::comes_to;
 use crate::spans::{cut_of, span_of};
 use kr_base::{Bound, Cut, NoMemory, Span, Steps};
 use kr_survey::{Entry, ListSurvey, Mark, Part, Survey};
@@ -10,13 +11,16 @@ use std::process::Abort;
 use std::sync::atomic::{AtomicU64, Ordering};
 use std::sync::ledger::Ledger;
 
-/// A list whose first scans are refused memory, and which counts the keys that were scanned.
+/// A list whose first scans are refused memory, and which counts the keys that were scanned. Where they are to meet, the first
+/// two scans go on only when the other has begun; those that waited in vain are counted.
 #[derive(Drop)]
 pub(crate) struct Watched {
     pub(crate) list: ListSurvey,
     pub(crate) refused: u64,
     pub(crate) begun: AtomicU64,
     pub(crate) scanned: AtomicU64,
+    pub(crate) meets: bool,
+    pub(crate) apart: AtomicU64,
 }
 
 impl Survey for Watched {
@@ -41,8 +45,12 @@ impl Survey for Watched {
         runs: &mut Steps<L>,
     ) -> Result<Part<Cut>, NoMemory> {
         let _ = scratch;
-        if self.begun.fetch_add(1, Ordering::SeqCst) < self.refused {
+        let number = self.begun.fetch_add(1, Ordering::SeqCst);
+        if number < self.refused {
             return Err(NoMemory::from(AllocError));
+        }
+        if self.meets && number < 2 && !comes_to(&self.begun, 2) {
+            self.apart.fetch_add(1, Ordering::SeqCst);
         }
         let part = self.list.scan(after, upto, most, runs)?;
         self.scanned.fetch_add(part.tried, Ordering::SeqCst);
@@ -110,6 +118,8 @@ pub(crate) fn keys(
         refused,
         begun: AtomicU64::new(0),
         scanned: AtomicU64::new(0),
+        meets: false,
+        apart: AtomicU64::new(0),
     })
 }
 

@@ -1,8 +1,8 @@
 // Spans that hands take of two deques, of which the first one holds two spans; and how many spans a hand may push.
 ghost use Rattle.std.specs.Prelude.{◌≡◌, ◌∷◌, [], true, length, nat_lt, IfOk};
 ghost use Rattle.kr_deque_joining.specs.Spans.{is_ahead};
-ghost use Rattle.kr_deque.specs.Building.{EachAhead};
-ghost use Rattle.kr_deque.specs.Hands.{IsHandOf, AreHandsOf};
+ghost use Rattle.kr_deque_hands.specs.Building.{EachAhead};
+ghost use Rattle.kr_deque_hands.specs.Hands.{IsHandOf, AreHandsOf};
 
 use crate::spans::{ahead_of, begins_at};
 use crate::surveys::{Watched, keys};
@@ -113,6 +113,42 @@ fn taken<W: Wait + Abort>(rt: &W, alloc: Global) -> Result<bool, NoMemory> {
 #[test]
 fn takes(rt: HostRuntime) -> Result<(), Fail> {
     assert!(rt; taken(&rt, rt.alloc())?);
+    Ok(())
+}
+
+// Whether so many spans, each pushed on an empty deque, are popped, and behind each there is none.
+fn pops_each(
+    rt: &impl Abort,
+    alloc: Global,
+    hand: &mut Hand<u32>,
+    count: u32,
+) -> Result<bool, NoMemory> {
+    for number in 0..count {
+        let span = ahead_of(rt, alloc, &[0, number], &[1])?;
+        let pushed = hand.push(span).is_ok();
+        if !pushed || !begins_at(&hand.pop(), &[0, number]) || hand.pop().is_some() {
+            return Ok(false);
+        }
+    }
+    Ok(true)
+}
+
+// The same of a hand to which nothing was given.
+fn popped(rt: &impl Abort, alloc: Global) -> Result<bool, NoMemory> {
+    let (_, mut hands) = two_hands::<u32>(rt, alloc)?;
+    match hands.pop() {
+        None => Ok(false),
+        Some(hand) => {
+            let mut hand = hand;
+            pops_each(rt, alloc, &mut hand, 3100)
+        }
+    }
+}
+
+// More often than the hand makes sure by a mark that nothing is left.
+#[test]
+fn pops(rt: HostRuntime) -> Result<(), Fail> {
+    assert!(rt; popped(&rt, rt.alloc())?);
     Ok(())
 }
 

@@ -1,6 +1,6 @@
 use Rattle.std.proofs.Common.{◌≡◌, ◌-◌, ◌≤◌, length}
 use Rattle.kr_survey.specs.Joins.{joined, lists}
-use Rattle.kr_deque.specs.Building.{EachAhead}
+use Rattle.kr_deque_hands.specs.Building.{EachAhead}
 use Rattle.kr_deque.proofs.cutting.pad.Given as goal
 
 abbrev pub invariant-loop-alloc : goal.invariant-loop-alloc

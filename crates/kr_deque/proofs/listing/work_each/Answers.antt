@@ -1,6 +1,6 @@
 use Rattle.std.proofs.Common.{subst, []}
-use Rattle.kr_deque.specs.declared.hand.Hand.{Hand}
-use Rattle.kr_deque.specs.Hands.{Works}
+use Rattle.kr_deque_hands.specs.declared.hand.Hand.{Hand}
+use Rattle.kr_deque_hands.specs.Hands.{Works}
 use Rattle.kr_deque.proofs.Worked.{worked_each}
 use Rattle.kr_deque.proofs.listing.work_each.Goals as goal
 

@@ -1,0 +1,5 @@
+pub mod Logs
+pub mod Turns
+pub mod Hands
+pub mod Building
+pub mod Gathering
