@@ -1,8 +1,9 @@
 #!/usr/bin/env bash
 # Makes each allocation of a call of the built program fail in turn, and says how many there were.
 #
-#     bench/allocations.sh [--workers N] [--window N] [FIN SOURCE..]     what is listed, the cell of examples/ where it isn't said
-#     bench/allocations.sh [--workers N] [--window N] --test METHOD FIN SOURCE..     what is tested
+#     bench/allocations.sh [--workers N] [--window N | --pool deque] [FIN SOURCE..]     what is listed, the cell of examples/
+#                                                                                        where it isn't said
+#     bench/allocations.sh [--workers N] [--window N | --pool deque] --test METHOD FIN SOURCE..     what is tested
 #
 # Each run has to end as the whole listing does; or with status 8 and rows of it, from the first one on or none, and then
 # `out of memory`; or, as long as it is the program's own words that are refused memory, with status 8 and no line. It stops
@@ -20,6 +21,11 @@ if [ "${1-}" = --window ]; then
     window=$2
     shift 2
 fi
+pool=
+if [ "${1-}" = --pool ]; then
+    pool=$2
+    shift 2
+fi
 method=
 if [ "${1-}" = --test ]; then
     method=$2
@@ -31,6 +37,7 @@ words=(list "${files[@]}")
 [ -z "$method" ] || words=(test "${files[0]}" "$method" "${files[@]:1}")
 [ -z "$workers" ] || words+=(--workers "$workers")
 [ -z "$window" ] || words+=(--window "$window")
+[ -z "$pool" ] || words+=(--pool "$pool")
 set --
 source "$top/bench/common.sh"
 source "$top/bench/refusing.sh"

@@ -1,27 +1,31 @@
 #!/usr/bin/env bash
 # Times listings by 1, 2, 4 and 8 workers, in turns, so that another load on the machine slows all alike. Of each listing it
 # prints for each number of workers the least wall time and the least processor time of some runs, and their ratios to one
-# worker's; and of a run with --trace: how many entries were scanned and taken in, how many batches were thrown away, how
-# many rests were laid out for others, how many events the log has, and whether the listing's bytes are one worker's. Then
+# worker's; and of a run with --trace: how many entries were scanned and taken in, how many rounds there were, how many looks,
+# how many rests were laid out for others, how many events the log has, and whether the listing's bytes are one worker's. Then
 # the same over deques (--pool deque), whose times stand beside those of the board with as many workers; and
 # the same times for the trees of the demo, and the peak memory. First it says how many processors the machine has, and how
 # many of them were free in the second before. It judges nothing and never fails.
 #
-# Entries scanned are the sum over the lines `report`; a batch that was thrown away is a line `look` more than one for each
-# worker, which looks once when nothing is left. A rest laid out is a line `steal`. An event is a hold of the lock, but that
-# a rest laid out is two more in its report's.
+# Entries scanned are the sum over the lines `report`, rounds the lines `drain`. A look is a take that found nothing left, or a
+# part that a full board gave back, which is reported again. A rest laid out is a line `steal`. An event is a hold of the lock,
+# but that a rest laid out is two more in its report's.
 #
 # It needs bash 5 and the program (run ./korat once, or KORAT names another one). Peak memory needs GNU time as /usr/bin/time;
 # where it isn't there, the script says so in place of the figure.
 #
 #     bench/pool.sh [RUNS [WORD..]]     how many runs each figure is the best of, 3 where it isn't said; and of the listings
-#                                       those whose names begin with one of these words: trees, red-black, heap, flat, deep,
-#                                       demo. All, where none is said
+#                                       those whose names begin with one of these words: trees, few, red-black, heap, flat,
+#                                       deep, demo. All, where none is said
+#
+# NODES says of how many nodes the trees are, 11 and 12 where it isn't said; POOL whether the board's times are taken alone
+# (board), or those over deques (deque).
 words=("${@:2}")
 set -- "${1:-3}"
 source "$(dirname "$(readlink -f "$0")")/common.sh"
 examples="$(dirname "$(readlink -f "$0")")/../examples"
 counts=(1 2 4 8)
+sizes=(${NODES-11 12})
 
 # Whether a listing is asked for.
 is_asked() {
@@ -74,40 +78,43 @@ say_times() {
         "${least_used[$1]}" "$(ratio "${least_used[$1]}" "${least_used[1]}")"
 }
 
-# What the log says of a run: `scanned`, `thrown`, `laid_out`, `events`.
+# What the log says of a run: entries scanned, rounds, looks, rests laid out, events.
 read_trace() {
-    awk -v workers="$1" '
-        /^take / || /^giveup / { events++ }
-        /^steal / { events++; steals++ }
-        /^report / { events++; tried += $6 }
-        /^look / { events++; looks++ }
-        END { printf "%d %d %d %d\n", tried, looks - workers, steals, events }' "$2"
+    awk '
+        /^(take|giveup|steal|report|look|drain|stop) / { events++ }
+        /^steal / { steals++ }
+        /^report / { tried += $6 }
+        /^look / { looks++ }
+        /^drain / { rounds++ }
+        END { printf "%d %d %d %d %d\n", tried, rounds, looks, steals, events }' "$1"
 }
 
 # A listing under a name.
 figures() {
-    local name=$1 count scanned thrown laid_out events same
+    local name=$1 count scanned rounds looks laid_out events same
     is_asked "$name" || return 0
     shift
-    take_times list "$@"
     "$program" list "$@" >"$work/one"
     echo "$name: $(tail -n 1 "$work/one"), the best of $runs"
-    for count in "${counts[@]}"; do
-        "$program" list --workers "$count" "$@" >"$work/many"
-        if cmp -s "$work/one" "$work/many"; then same="the same bytes"; else same="OTHER BYTES"; fi
-        "$program" list --workers "$count" --trace "$@" >"$work/traced"
-        read -r scanned thrown laid_out events < <(read_trace "$count" "$work/traced")
-        say_times "$count"
-        echo "; entries $scanned, batches thrown away $thrown, rests laid out $laid_out, events $events ($((events * 1000 / (least_wall[$count] + 1))) a second), $same"
-    done
-    deque_figures "$@"
+    if [ "${POOL-}" != deque ]; then
+        take_times list "$@"
+        for count in "${counts[@]}"; do
+            "$program" list --workers "$count" "$@" >"$work/many"
+            if cmp -s "$work/one" "$work/many"; then same="the same bytes"; else same="OTHER BYTES"; fi
+            "$program" list --workers "$count" --trace "$@" >"$work/traced"
+            read -r scanned rounds looks laid_out events < <(read_trace "$work/traced")
+            say_times "$count"
+            echo "; entries $scanned, rounds $rounds, looks $looks, rests laid out $laid_out, events $events ($((events * 1000 / (least_wall[$count] + 1))) a second), $same"
+        done
+    fi
+    [ "${POOL-}" = board ] || deque_figures "$@"
 }
 
 # The same listing over deques, where no lock is held.
 deque_figures() {
     local count same
     local -A board=()
-    for count in "${counts[@]}"; do board[$count]=${least_wall[$count]}; done
+    for count in "${counts[@]}"; do board[$count]=${least_wall[$count]-0}; done
     take_times list --pool deque "$@"
     echo "  over deques:"
     for count in "${counts[@]}"; do
@@ -158,10 +165,13 @@ deep() {
 
 free=$(free_processors)
 printf 'processors %s, free before %d.%02d\n' "$(nproc)" $((free / 100)) $((free % 100))
-for nodes in 11 12; do
+for nodes in "${sizes[@]}"; do
     sed "s/== 3/== $nodes/" "$examples/trees/Tree.java" >"$work/Tree.java"
     sed "s/Node = 3/Node = $nodes/" "$examples/trees/fin.toml" >"$work/trees.toml"
     figures "trees of $nodes nodes" "$work/trees.toml" "$work/Tree.java"
+    # The same search, of which few rows come: a chain to the right of three nodes at the top.
+    sed -i 's/\(return seen.size() == [0-9]*\);/\1 \&\& root.left == null \&\& root.right.left == null \&\& root.right.right.left == null;/' "$work/Tree.java"
+    figures "few of the trees of $nodes nodes" "$work/trees.toml" "$work/Tree.java"
 done
 sed "s/Entry = 4/Entry = 7/; s/to = 4/to = 7/g; s/fuel = .*/fuel = 100000/" "$examples/red-black-tree/fin.toml" >"$work/red.toml"
 figures "red-black trees of at most 7 nodes" "$work/red.toml" "$examples/red-black-tree/RedBlackTree.java"
@@ -170,6 +180,6 @@ figures "heaps of at most 7 elements" "$work/heap.toml" "$examples/heap-array/He
 flat 20000
 flat 65536
 deep
-for nodes in 11 12; do
+for nodes in "${sizes[@]}"; do
     demo_figures "$nodes"
 done

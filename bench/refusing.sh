@@ -4,6 +4,8 @@
 cat >"$work/refusing.c" <<'SOURCE'
 #include <stdio.h>
 #include <stdlib.h>
+#include <sys/syscall.h>
+#include <unistd.h>
 extern void *__libc_malloc(size_t size);
 extern void *__libc_realloc(void *old, size_t size);
 static long refused = -1, made = 0;
@@ -17,7 +19,7 @@ static int is_refused(void) {
 }
 void *malloc(size_t size) { return is_refused() ? NULL : __libc_malloc(size); }
 void *realloc(void *old, size_t size) { return is_refused() ? NULL : __libc_realloc(old, size); }
-__attribute__((destructor)) static void tell(void) {
+static void tell(void) {
     long all = made;
     const char *place = getenv("MADE");
     FILE *out = place ? fopen(place, "w") : NULL;
@@ -25,6 +27,12 @@ __attribute__((destructor)) static void tell(void) {
         fprintf(out, "%ld\n", all);
         fclose(out);
     }
+}
+/* A program that doesn't return from main ends by _exit, which runs no destructor. */
+__attribute__((destructor)) static void ends(void) { tell(); }
+void _exit(int status) {
+    tell();
+    for (;;) syscall(SYS_exit_group, status);
 }
 SOURCE
 cc -O1 -shared -fPIC -o "$work/refusing.so" "$work/refusing.c" || exit 1

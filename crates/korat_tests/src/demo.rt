@@ -1,45 +1,25 @@
 // What the demo answers, over files of which no read goes well: it reads none. And its texts.
 
-use crate::calls::{ends, files_of, sink_of};
-use kr_base::NoMemory;
+use korat_calls::{Call, ends};
 use kr_demo::{demo_finitization, demo_source};
-use std::alloc::Global;
-use std::sync::Wait;
 use std::test::Fail;
-use std::thread::Threads;
-
-/// Whether the demo of so many nodes ends so and writes this, into an output of so many bytes.
-fn demo_ends<W: Threads + Wait + Sync>(
-    rt: &W,
-    alloc: Global,
-    nodes: &str,
-    room: usize,
-    status: u8,
-    text: &str,
-) -> Result<bool, NoMemory> {
-    let mut out = sink_of(alloc, room, 4, &[])?;
-    let mut files = files_of(alloc, &[], &[1])?;
-    ends(
-        rt,
-        alloc,
-        &["demo", nodes],
-        &mut files,
-        &mut out,
-        status,
-        text.as_bytes(),
-    )
-}
 
 #[test]
 fn few_nodes(rt: HostRuntime) -> Result<(), Fail> {
-    for (nodes, room, status, text) in [
-        ("1", 1024, 0, "nodes 1 valid 1\n"),
-        ("2", 1024, 0, "nodes 2 valid 2\n"),
-        ("3", 1024, 0, "nodes 3 valid 5\n"),
-        ("1", 15, 7, "nodes 1 valid 1"),
+    for (words, room, status, text) in [
+        ("demo 1", 1024, 0, "nodes 1 valid 1\n"),
+        ("demo 2", 1024, 0, "nodes 2 valid 2\n"),
+        ("demo 3", 1024, 0, "nodes 3 valid 5\n"),
+        ("demo 1", 15, 7, "nodes 1 valid 1"),
     ] {
+        let call = Call {
+            room,
+            step: 4,
+            failing_reads: &[1],
+            ..Call::new(words, &[])
+        };
         assert!(rt;
-            demo_ends(&rt, rt.alloc(), nodes, room, status, text)?,
+            ends(&rt, rt.alloc(), &call, status, text.as_bytes())?,
             "{text}"
         );
     }

@@ -1,5 +1,4 @@
-//! Tests of the whole tool as one call, of its words and of the demo's texts. What the built program shows stands in
-//! tests/run and tests/cases.
+//! Tests of the whole tool as one call, and of the demo's texts. What the built program shows stands in tests/run and tests/cases.
 #![tactic(auto)]
 
 #[cfg(test)]
@@ -7,6 +6,10 @@ mod calls;
 #[cfg(test)]
 mod demo;
 #[cfg(test)]
-mod words;
+mod failing;
+#[cfg(test)]
+mod samples;
+#[cfg(test)]
+mod sharing;
 #[cfg(test)]
 mod workers;

@@ -1,7 +1,7 @@
 // A listing by two workers who meet behind their first leases: neither works alone, and the bytes are one worker's.
 
-use crate::calls::{CELL, FIN, LISTED, files_of, sink_of, words_of};
-use korat_top::run;
+use crate::samples::{CELL, FIN, LISTED};
+use korat_calls::{Call, Ended, Written, ended};
 use kr_base::NoMemory;
 use kr_io::Gate;
 use std::alloc::Global;
@@ -58,12 +58,15 @@ fn meets<W: Threads + Wait + Sync>(rt: &W, alloc: Global, waits: u32) -> Result<
         passed: AtomicU64::new(0),
         alone: AtomicU64::new(0),
     };
-    let words = words_of(alloc, &["list", "--workers", "2", "fin.toml", "Cell.java"])?;
-    let mut files = files_of(alloc, &[("fin.toml", FIN), ("Cell.java", CELL)], &[])?;
-    let mut out = sink_of(alloc, 1024, 1024, &[])?;
-    let ended = run(rt, alloc, &words, &mut files, &mut out, &gate);
+    let files = [("fin.toml", FIN), ("Cell.java", CELL)];
+    let call = Call::new("list --workers 2 fin.toml Cell.java", &files);
+    let ended = ended(rt, alloc, &call, &gate, LISTED.as_bytes())?;
     let met = gate.passed.load(Ordering::SeqCst) > 0 && gate.alone.load(Ordering::SeqCst) == 0;
-    Ok(ended == 0 && out.bytes() == LISTED.as_bytes() && met)
+    let wanted = Ended {
+        status: 0,
+        written: Written::Whole,
+    };
+    Ok(ended == wanted && met)
 }
 
 #[test]

@@ -2,6 +2,4 @@
 #![tactic(auto)]
 
 #[cfg(test)]
-mod problems;
-#[cfg(test)]
 mod rows;

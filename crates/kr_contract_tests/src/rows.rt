@@ -1,17 +1,13 @@
 // Verdicts on the cells of a field from 0 to 3, worked by hand.
 ghost use Rattle.std.specs.Prelude.{◌≡◌, IsSome, true};
 ghost use Rattle.kr_mean.specs.Runs.{tested_method};
-ghost use Rattle.kr_mean.specs.Space.{IsVector, space_of};
-ghost use Rattle.kr_space_layout.specs.Bounds.{bare};
 ghost use Rattle.kr_space_problem.specs.Posed.{posed};
 
-use crate::problems::prepared;
 use kr_base::NoMemory;
 use kr_contract::{Tester, verdict};
 use kr_judge_prepared::Prepared;
 use kr_mean::Verdict;
-use kr_sources::Unread;
-use kr_space_layout::Layout;
+use kr_samples::{Unread, is_vector, read_test};
 use kr_vector::{Slot, Vector};
 use std::alloc::Global;
 use std::process::Abort;
@@ -22,28 +18,6 @@ const FIN: &str =
 const INC: &str = "class Cell { int v; boolean repOk() { return true; }
 //@ ensures v == \\old(v) + 1;
 void inc() { if (v < 2) v = v + 1; } }";
-
-/// Whether a vector has an index of its domain in each slot.
-fn fits(layout: &Layout, vector: &Vector) -> bool
-    ensures { result ≡ true → IsVector (space_of (bare layout.now)) vector.now }
-{
-    if vector.len() != layout.slots() as usize {
-        return false;
-    }
-    'slots: for slot in 0..layout.slots() {
-        if vector.get(Slot(slot)) >= layout.size(slot) {
-            return false;
-        }
-    }
-    true
-}
-
-/// The same of a prepared problem.
-fn is_vector(prepared: &Prepared, vector: &Vector) -> bool
-    ensures { result ≡ true → IsVector (space_of (posed prepared.now.problem)) vector.now }
-{
-    fits(prepared.layout(), vector)
-}
 
 /// Whether a method is tested.
 fn is_tested(prepared: &Prepared) -> bool
@@ -118,9 +92,14 @@ fn judge_all(rt: &impl Abort, alloc: Global, prepared: &Prepared) -> Result<(), 
     judge_rows(rt, alloc, prepared, &mut tester, &mut vector)
 }
 
+/// The same of a problem that ends here.
+fn judge_once(rt: &impl Abort, alloc: Global, prepared: Prepared) -> Result<(), NoMemory> {
+    judge_all(rt, alloc, &prepared)
+}
+
 #[test]
 fn old_values(rt: HostRuntime) -> Result<(), Unread> {
-    let prepared = prepared(rt.alloc(), INC, FIN, "inc")?;
-    judge_all(&rt, rt.alloc(), &prepared)?;
+    let prepared = read_test(rt.alloc(), INC, FIN, "inc")?;
+    judge_once(&rt, rt.alloc(), prepared)?;
     Ok(())
 }
