@@ -52,7 +52,7 @@ fn limits_and_steps(rt: HostRuntime) -> Result<(), Fail> {
     let files = [("fin.toml", FIN), ("Cell.java", CELL)];
     let more = "0.1 Cell#0{v=1}\nmore 0.1\n";
     let traced =
-        "0.1 Cell#0{v=1}\n0.2 Cell#0{v=2}\nvalid 2 tried 3\ntake 0 0\nreport 0 0 end 2 3\ndrain 2\n";
+        "0.1 Cell#0{v=1}\n0.2 Cell#0{v=2}\nvalid 2 tried 3\ntake 0 0\nreport 0 0 end 2 3\nlook 0\ndrain 2\n";
     for (words, text) in [
         (
             "list --limit=1 --workers=2 --window=1 fin.toml Cell.java",

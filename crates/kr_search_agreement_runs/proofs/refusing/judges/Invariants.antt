@@ -1,4 +1,0 @@
-use Rattle.kr_search_agreement_runs.proofs.refusing.judges.Given as goal
-
-abbrev pub ghosts-are_judged_by_one : goal.ghosts-are_judged_by_one
-ghosts-are_judged_by_one a = record { name = a.blank.name; parts = a.blank.parts }
