@@ -31,7 +31,7 @@ use Rattle.kr_code_lowering.specs.Origins.{Final, node_scope, node_tree, numberi
 use Rattle.kr_code_lowering.specs.Sites.{Becomes, IsHere, Resolves, arena_at, scope_at}
 use Rattle.kr_code_lowering.specs.Lists.{AreLinked}
 use Rattle.kr_code_lowering.specs.Calls.{IsFound, IsOwnCallee, IsStaticCallee}
-use Rattle.std.proofs.Common.{Bool, cond}
+use Rattle.std.proofs.Common.{Bool, cond, map}
 use Rattle.kr_classes_table.specs.Table.{Table, type_named}
 use Rattle.kr_classes_table.specs.Types.{JavaType}
 use Rattle.kr_types_meaning.specs.Scopes.{written}
@@ -44,7 +44,7 @@ use Rattle.kr_code.specs.Tables.{class_at}
 use Rattle.kr_code.specs.Resolved.{is_uncreatable}
 use Rattle.kr_classes_roster.specs.Rosters.{method_numbered}
 use Rattle.kr_code_lowering.specs.Calls.{IsCalledOn, IsCreator}
-use Rattle.kr_code_lowering.proofs.Created.{class_there}
+use Rattle.kr_types.proofs.Named.{named_there}
 use Rattle.kr_code_lowering.proofs.Parts.{part_in, part_scope, tree_is}
 use Rattle.kr_code_lowering.proofs.Naming.{class_running, parts_are, resolves_at, scope_table}
 
@@ -151,7 +151,7 @@ module _ (p : Program) (program : IsProgram p) (arrays : List ℕ) (s : Site) (e
   creation_resolves callees.Unknown h = resolves_at p arrays s e made at is known linked (expressions.Call callees.Unknown ns)
       (λ final code b. resolved.no_creation e.place (node_tree p s.file t) (node_tree p s.file a) ns h (given final code b))
   creation_resolves (callees.New c) h =
-      let below : c < length (table p).classes = class_there p (node_tree p s.file t) c (ap (λ (w : Table). type_named w.headings (node_tree p s.file t)) (sym (scope_table p s.file s.node)) ∙ h) in
+      let below : c < length (table p).classes = named_there (map arenas.root p.trees.items) (node_tree p s.file t) c (ap (λ (w : Table). type_named w.headings (node_tree p s.file t)) (sym (scope_table p s.file s.node)) ∙ h) in
       resolves_at p arrays s e made at is known linked (expressions.Call (callees.New c) ns)
       (λ final code b. let k = class_code p known linked final code b c below in resolved.creation e.place (node_tree p s.file t) (node_tree p s.file a) c k.0 ns h k.1 (given final code b))
   creation_resolves callees.NewSet h = resolves_at p arrays s e made at is known linked (expressions.Call callees.NewSet ns)

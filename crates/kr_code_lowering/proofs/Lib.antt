@@ -5,7 +5,6 @@ pub mod Growth
 pub mod Meant
 pub mod Naming
 pub mod Read
-pub mod Created
 pub mod Called
 pub mod TypeNames
 pub mod Variables

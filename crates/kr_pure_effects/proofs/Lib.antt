@@ -3,5 +3,4 @@ pub mod Found
 pub mod Parts
 pub mod Read
 pub mod Scanning
-pub mod Numbered
 pub mod Overridden

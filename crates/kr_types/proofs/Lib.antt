@@ -5,3 +5,4 @@ pub mod Absent
 pub mod Single
 pub mod Faults
 pub mod Located
+pub mod Named

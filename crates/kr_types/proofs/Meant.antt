@@ -9,12 +9,12 @@ use Rattle.kr_ast.specs.declared.node.Name.{Name}
 use Rattle.kr_ast.specs.declared.node.Node.{Node}
 use Rattle.kr_ast.specs.declared.node.Node.TheVariants as nodes
 use Rattle.kr_ast.specs.declared.node.Entry.{Entry}
-use Rattle.kr_ast.specs.Arena.{AreBelow, ArePartsFrom, IsArena, IsForest, IsPart, parts, tree_in, tree_of}
+use Rattle.kr_ast.specs.Arena.{AreBelow, ArePartsFrom, IsArena, IsForest, IsPart, name_in, parts, tree_in, tree_of}
 use Rattle.kr_ast.proofs.Trees.{tree_stands}
 use Rattle.kr_classes_table.specs.Types.{JavaType}
 use Rattle.kr_classes_table.specs.Constants.{values_of}
 use Rattle.kr_classes_members.specs.Shown.{table_in}
-use Rattle.kr_types_meaning.specs.Scopes.{Scope, class_before, value}
+use Rattle.kr_types_meaning.specs.Scopes.{Scope, class_before, method_meant, super_class, value}
 use Rattle.kr_types_meaning.specs.Typing.{judged, type_in}
 use Rattle.kr_types_meaning.specs.Noting as noting
 use Rattle.kr_types_meaning.specs.Handing.{handed}
@@ -27,11 +27,12 @@ use Rattle.kr_types_resolving.specs.Shown.{IsMeaningWithin, IsMeant, meaning_at,
 use Rattle.kr_types_resolving.specs.declared.meaning.Meaning.{Meaning}
 use Rattle.kr_types_resolving.specs.declared.meaning.Meaning.TheVariants.{Nothing}
 use Rattle.kr_types_resolving.proofs.Before.{before_meant, before_value}
+use Rattle.kr_types_resolving.proofs.Inside.{method_law, super_law}
 use Rattle.kr_types_expressions.specs.Notes.{AreNotesWithin, shown_notes}
 use Rattle.kr_types_expressions.proofs.Notes.{notes_same, shown_before, within_none}
 use Rattle.kr_types.specs.declared.site.Site.{Site}
 use Rattle.kr_types.specs.declared.notes.Noted.{Noted}
-use Rattle.kr_types.specs.Sites.{AreKept, AreMeant, AreNoted, IsMeantBy, IsNoteOf, IsSite, object_noted, scope_here, scope_of, tree_there}
+use Rattle.kr_types.specs.Sites.{AreKept, AreMeant, AreNoted, IsInside, IsMeantBy, IsNoteOf, IsSite, object_noted, scope_here, scope_of, tree_there}
 use Rattle.kr_types.proofs.Passing.{noted_more, parts_below, some_entry}
 
 -- an item of a longer list
@@ -119,11 +120,12 @@ module _ (s : Site) (l : TypeList) (ns : List Note) (site : IsSite s l) (known :
       some_item (x ∷ xs) (suc k) l = some_item xs k (omega (arith, l))
 
 -- at first nothing is kept
-pub none_kept : (s : Site) (l : TypeList) (k : Noted) → k.notes ≡ [] → k.meanings.items ≡ [] → AreKept s l k
-none_kept s l k n m = record {
+pub none_kept : (s : Site) (l : TypeList) (k : Noted) → k.notes ≡ [] → k.meanings.items ≡ [] → IsInside s k.inside → AreKept s l k
+none_kept s l k n m i = record {
   noted = subst (λ (ns : List Note). AreNoted s l ns) (sym n) (record { within = within_none l; noted = λ i e lt is. absurd (omega (arith, lt)) });
   meant = λ i e x is got. let none = subst (λ (ms : List Meaning). slice_get ms i ≡ Some x) m got in absurd (cc (none));
   count = ap length m ∙ sym (ap length n);
+  inside = i;
 }
 
 -- ---- by the node's kind
@@ -177,8 +179,8 @@ module _ (s : Site) (b : TypeList) (ns : List Note) (at : ℕ) (entry e : Entry)
 
 pub kept_more : (s : Site) (a b : TypeList) (k j : Noted) (m : Note) (x : Meaning) (at : ℕ) (entry : Entry) (w : Within) → IsForest (tree_there s).text (tree_there s).entries → AreKept s a k → Extends a b → at ≡ length k.notes → at < length (tree_there s).entries
     → slice_get (tree_there s).entries at ≡ Some entry → w ≡ slice_index_or s.scopes.now.within.items at nowhere → IsNoteOf s b k.notes (length k.notes) (scope_here s w) entry.place entry.node m → IsMeantBy s (shown_notes a k.notes) at entry.node x
-    → j.notes ≡ k.notes ++ m ∷ [] → j.meanings.items ≡ k.meanings.items ++ x ∷ [] → AreKept s b j
-kept_more s a b k j m x at entry w forest kept grown count lt here is noted meant notes items = record {
+    → j.notes ≡ k.notes ++ m ∷ [] → j.meanings.items ≡ k.meanings.items ++ x ∷ [] → IsInside s j.inside → AreKept s b j
+kept_more s a b k j m x at entry w forest kept grown count lt here is noted meant notes items inside = record {
   noted = subst (λ (ns : List Note). AreNoted s b ns) (sym notes)
       (noted_more s a b k.notes k.notes m at forest kept.noted grown (sym count) refl lt (λ e z. note_said s b k.notes at entry e here z count w m is noted));
   meant = subst (λ (ns : List Note). AreMeant s b ns j.meanings.items) (sym notes)
@@ -186,4 +188,28 @@ kept_more s a b k j m x at entry w forest kept grown count lt here is noted mean
       (meant_more s a b k.notes m forest kept.noted.within grown k.meanings.items x kept.count kept.meant
       (λ e z. meaning_said s b k.notes at entry e here (ap (slice_get (tree_there s).entries) count ∙ z) count (shown_notes a k.notes) x meant)));
   count = omega (arith, ap length items, ap length notes, length-append k.meanings.items (x ∷ []), length-append k.notes (m ∷ []), kept.count);
+  inside = inside;
 }
+
+-- ---- the method that a call means, where its note is made
+
+module _ (s : Site) (ns : List noting.Note) (at : ℕ) (p : Place) (n : Node) (w : Within) (m : Meaning) (tree : tree_in (tree_there s) at ≡ tree_of (tree_there s).text (tree_in (tree_there s)) p n) (here : w ≡ slice_index_or s.scopes.now.within.items at nowhere)
+    (meant : IsMeantBy s ns at n m) where
+  said : (k : Node) → n ≡ k → meaning_shown (table_in s.trees.now) m ≡ meanings.meaning_by (scope_of s at) (tree_of (tree_there s).text (tree_in (tree_there s)) p k) (object_noted ns k)
+  said k e =
+      meant.shown
+      ∙ (ap (λ (u : Tree). meanings.meaning_by (scope_of s at) u (object_noted ns n)) tree
+      ∙ ap (λ (x : Node). meanings.meaning_by (scope_of s at) (tree_of (tree_there s).text (tree_in (tree_there s)) p x) (object_noted ns x)) e)
+
+  pub own_found : (x : Name) (a : ℕ) → n ≡ nodes.Call x a → meanings.method_in (meaning_shown (table_in s.trees.now) m) ≡ method_meant (scope_here s w) (name_in (tree_there s).text x)
+  own_found x a e =
+      ap meanings.method_in (said (nodes.Call x a) e)
+      ∙ (method_law (method_meant (scope_of s at) (name_in (tree_there s).text x))
+      ∙ ap (λ (v : Within). method_meant (scope_here s v) (name_in (tree_there s).text x)) (sym here))
+
+  pub super_found : (x : Name) (a : ℕ) → n ≡ nodes.SuperCall x a
+      → meanings.super_in (meaning_shown (table_in s.trees.now) m) ≡ meanings.method_of (table_in s.trees.now) (name_in (tree_there s).text x) (super_class (scope_here s w))
+  super_found x a e =
+      ap meanings.super_in (said (nodes.SuperCall x a) e)
+      ∙ (super_law (meanings.method_of (table_in s.trees.now) (name_in (tree_there s).text x) (super_class (scope_of s at)))
+      ∙ ap (λ (v : Within). meanings.method_of (table_in s.trees.now) (name_in (tree_there s).text x) (super_class (scope_here s v))) (sym here))

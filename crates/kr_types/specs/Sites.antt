@@ -10,7 +10,7 @@ use Rattle.kr_classes_table.specs.Types.{JavaType}
 use Rattle.kr_types_meaning.specs.Scopes.{Scope, class_before}
 use Rattle.kr_types_meaning.specs.Typing.{type_in}
 use Rattle.kr_types_scopes.specs.declared.within.Within.{Within}
-use Rattle.kr_types_scopes.specs.Settings.{scope_in}
+use Rattle.kr_types_scopes.specs.Settings.{class_there, scope_in}
 use Rattle.kr_types_scopes.specs.Scoped.{AreScopes, scope_at}
 use Rattle.kr_types_meaning.specs.Noting as noting
 use Rattle.kr_classes_names.specs.Shown.{AreHeads}
@@ -30,6 +30,7 @@ use Rattle.kr_types_expressions.specs.Constructors.{AreSingle}
 use Rattle.kr_types_expressions.specs.Links.{IsLinked}
 use Rattle.kr_types_expressions.specs.Notes.{AreNotesWithin, IsRestBelow, shown_notes, typed_in}
 use Rattle.kr_types.specs.Programs.{setting_in}
+use Rattle.kr_types.specs.declared.site.Inside.{Inside}
 use Rattle.kr_types.specs.declared.site.Site.{Site}
 use Rattle.kr_types.specs.declared.notes.Noted.{Noted}
 
@@ -92,8 +93,13 @@ pub record IsMeantBy (s : Site) (ns : List noting.Note) (i : ℕ) (n : Node) (m 
 abbrev pub AreMeant : Site → TypeList → List Note → List Meaning → Type 0
 AreMeant s l ns ms = (i : ℕ) (e : Entry) (m : Meaning) → slice_get (tree_there s).entries i ≡ Some e → slice_get ms i ≡ Some m → IsMeantBy s (shown_notes l ns) i e.node m
 
+-- the class whose code a scope is in that is inside of a node
+abbrev pub IsInside : Site → Inside → Type 0
+IsInside s i = class_there (setting_in s.trees.now s.file) i.declared ≡ i.class
+
 -- what is kept of the first nodes of the file
 pub record AreKept (s : Site) (l : TypeList) (k : Noted) : Type 0 where
   pub noted : AreNoted s l k.notes
   pub meant : AreMeant s l k.notes k.meanings.items
   pub count : length k.meanings.items ≡ length k.notes
+  pub inside : IsInside s k.inside

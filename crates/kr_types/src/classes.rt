@@ -1,5 +1,5 @@
 // Notes of classes and constructors.
-ghost use Rattle.std.specs.Prelude.{length};
+ghost use Rattle.std.specs.Prelude.{◌≡◌, length};
 ghost use Rattle.kr_ast.specs.Arena.{AreNamesIn, names, parts};
 ghost use Rattle.kr_ast.specs.Arena.{AreBelow};
 ghost use Rattle.kr_types_expressions.specs.Notes.{AreNotesWithin};
@@ -9,6 +9,7 @@ ghost use Rattle.kr_types.specs.Kinds.{IsDeclaration};
 use crate::site::{Site, part_note};
 use kr_ast::Node;
 use kr_base::Place;
+use kr_classes_table::ClassId;
 use kr_classes_types::Types;
 use kr_types_expressions::NoteList;
 use kr_types_judging::{Note, plain};
@@ -21,11 +22,13 @@ pub(crate) fn declaration_note(
     types: &Types,
     notes: &NoteList,
     here: Within,
+    class: ClassId,
     place: Place,
     node: Node,
 ) -> Note
     requires site { IsSite site.now types.now }
     requires notes { AreNotesWithin types.now notes.now }
+    requires class { (scope_here site.now here).class ≡ class }
     requires parts { AreBelow (length notes.now) (parts node) }
     requires names { AreNamesIn (tree_there site.now).text (names node) }
     requires kind { IsDeclaration node }
@@ -55,7 +58,7 @@ pub(crate) fn declaration_note(
                 types,
                 site.members,
                 site.numbers,
-                site.class(here),
+                class,
                 place,
                 x,
                 y,

@@ -65,7 +65,11 @@ fn typed_file(
         scopes: &scopes,
         file,
     };
-    let Noted { notes, meanings } = notes_of(alloc, &site, types)?;
+    let Noted {
+        notes,
+        meanings,
+        ..
+    } = notes_of(alloc, &site, types)?;
     Ok(TypedFile {
         scopes,
         notes,

@@ -78,6 +78,7 @@ pub(crate) fn node_meaning(
     types: &Types,
     noted: &Noted,
     at: u32,
+    class: ClassId,
     place: Place,
     before: Option<ClassId>,
     node: Node,
@@ -89,6 +90,7 @@ pub(crate) fn node_meaning(
     requires tree { tree_in (tree_there site.now) at ≡ tree_of (tree_there site.now).text (tree_in (tree_there site.now)) place node }
     requires parts { ArePartsFrom (tree_there site.now).entries at 0 (parts node) }
     requires names { AreNamesIn (tree_there site.now).text (names node) }
+    requires class { (scope_of site.now at).class ≡ class }
     requires before { IsBefore site.now at node before }
     ensures { IfOk result (λ m. IsMeantBy site.now (shown_notes types.now noted.now.notes) at node m) }
 {
@@ -98,7 +100,6 @@ pub(crate) fn node_meaning(
         members: site.members,
         roster: site.roster,
     };
-    let class = site.class(site.here(at));
     match node {
         Node::Variable { name } => variable_meaning(
             &classes,

@@ -10,6 +10,7 @@ ghost use Rattle.kr_types.specs.Kinds.{IsNamed};
 use crate::site::{Site, part_note};
 use kr_ast::Node;
 use kr_base::Place;
+use kr_classes_table::ClassId;
 use kr_classes_types::Types;
 use kr_types_expressions::{NoteList, variable_note};
 use kr_types_judging::{Note, plain};
@@ -22,6 +23,7 @@ pub(crate) fn name_note(
     types: &Types,
     notes: &NoteList,
     here: Within,
+    class: ClassId,
     at: u32,
     place: Place,
     node: Node,
@@ -30,6 +32,7 @@ pub(crate) fn name_note(
     requires notes { AreNotesWithin types.now notes.now }
     requires at { at < length (tree_there site.now).entries }
     requires here { here ≡ slice_index_or site.now.scopes.now.within.items at nowhere }
+    requires class { (scope_here site.now here).class ≡ class }
     requires parts { AreBelow (length notes.now) (parts node) }
     requires names { AreNamesIn (tree_there site.now).text (names node) }
     requires kind { IsNamed node }
@@ -45,7 +48,7 @@ pub(crate) fn name_note(
             site.file,
             at,
             place,
-            site.class(here),
+            class,
             site.tree().name(name),
         ),
         Node::Declarator { name, initial } => declarator_note(

@@ -6,12 +6,13 @@ ghost use Rattle.kr_types_meaning.specs.Noting.{kept, note_at};
 ghost use Rattle.kr_classes_types.specs.Types.{Extends};
 ghost use Rattle.kr_types_expressions.specs.Notes.{AreNotesWithin, shown_notes};
 ghost use Rattle.kr_classes_members.specs.Shown.{table_in};
+ghost use Rattle.kr_types_scopes.specs.Settings.{Setting, class_there};
 ghost use Rattle.kr_types_resolving.specs.Shown.{IsMeant, meaning_at};
 ghost use Rattle.kr_types.specs.Sites.{AreKept, IsSite, scope_of, tree_there};
 
 use crate::meanings::{class_before, node_meaning};
 use crate::nodes::node_note;
-use crate::site::Site;
+use crate::site::{Inside, Site};
 use kr_base::NoMemory;
 use kr_classes_types::Types;
 use kr_types_expressions::NoteList;
@@ -23,6 +24,8 @@ use std::alloc::Global;
 pub(crate) struct Noted {
     pub(crate) notes: NoteList,
     pub(crate) meanings: Vec<Meaning>,
+    /// the class of the last of them
+    pub(crate) inside: Inside,
 }
 
 impl Noted {
@@ -30,11 +33,16 @@ impl Noted {
     fn with_room(alloc: Global, nodes: usize) -> Result<Noted, NoMemory>
         ensures notes { IfOk result (λ k. k.notes ≡ []) }
         ensures meanings { IfOk result (λ k. k.meanings.items ≡ []) }
+        ensures inside { IfOk result (λ k. (g : Setting) → class_there g k.inside.declared ≡ k.inside.class) }
     {
         let notes = NoteList::with_room(alloc, nodes)?;
         Ok(Noted {
             notes,
             meanings: Vec::with_capacity(alloc, nodes)?,
+            inside: Inside {
+                declared: None,
+                class: 0,
+            },
         })
     }
 }
@@ -58,21 +66,35 @@ fn add_node(
 {
     let entry = site.tree().entry(at);
     let here = site.here(at);
+    let inside = site.inside(noted.inside, here);
+    let class = inside.class;
     let before = class_before(site, types, noted, at, entry.place, entry.node);
-    let meaning = node_meaning(site, types, noted, at, entry.place, before, entry.node)?;
+    let meaning = node_meaning(
+        site,
+        types,
+        noted,
+        at,
+        class,
+        entry.place,
+        before,
+        entry.node,
+    )?;
     let note = node_note(
         alloc,
         site,
         types,
         &noted.notes,
         here,
+        class,
         at,
         entry.place,
         before,
+        meaning,
         entry.node,
     )?;
     noted.notes.push(note)?;
     noted.meanings.push(meaning)?;
+    noted.inside = inside;
     Ok(())
 }
 

@@ -1,5 +1,7 @@
 // What the notes of a file's nodes are made from.
-ghost use Rattle.std.specs.Prelude.{◌≡◌, ◌<◌, length, slice_index_or};
+ghost use Rattle.std.specs.Prelude.{◌≡◌, ◌<◌, IfSome, IsTrue, length, option_map, slice_index_or};
+ghost use Rattle.kr_classes_members.specs.Shown.{IsMethod, method_shown, table_in};
+ghost use Rattle.kr_classes_roster.specs.Rosters.{IsRoster, all_methods, method_numbered};
 ghost use Rattle.kr_types_scopes.specs.Settings.{class_there};
 ghost use Rattle.kr_types_scopes.specs.Scoped.{AreScopes, nowhere};
 ghost use Rattle.kr_types_meaning.specs.Noting.{note_at};
@@ -8,18 +10,39 @@ ghost use Rattle.kr_types_judging.specs.Shown.{IsNoteWithin, note_shown};
 ghost use Rattle.kr_types_expressions.specs.Links.{IsLinked};
 ghost use Rattle.kr_types_expressions.specs.Notes.{AreNotesWithin, IsRestBelow, shown_notes, typed_in};
 ghost use Rattle.kr_types.specs.Programs.{setting_in};
-ghost use Rattle.kr_types.specs.Sites.{tree_there};
+ghost use Rattle.kr_types.specs.Sites.{IsInside, scope_here, tree_there};
 
 use kr_ast::{Tree, tree_of};
 use kr_classes_constants::Values;
-use kr_classes_members::Members;
+use kr_classes_members::{Members, Method};
 use kr_classes_names::Heads;
 use kr_classes_roster::Roster;
-use kr_classes_table::ClassId;
+use kr_classes_table::{ClassId, MethodId};
 use kr_classes_types::{NodeTypes, Types};
 use kr_types_expressions::{NoteList, class_of};
 use kr_types_judging::Note;
 use kr_types_scopes::{Scopes, Within};
+
+/// The class whose code a node is in, and the node that declares it.
+#[derive(Clone, Copy)]
+pub(crate) struct Inside {
+    pub(crate) declared: Option<u32>,
+    pub(crate) class: ClassId,
+}
+
+impl Inside {
+    /// Whether a scope is in the code of this class.
+    fn is_of(self, here: Within) -> bool
+        ensures { IsTrue result → here.class ≡ self.declared }
+    {
+        match (self.declared, here.class) {
+            (Some(a), Some(b)) => a == b,
+            (None, None) => true,
+            (None, Some(_)) => false,
+            (Some(_), None) => false,
+        }
+    }
+}
 
 /// A file of a program: the class table but for its types, which grow, and the scopes of the file's nodes.
 #[derive(Clone, Copy)]
@@ -67,6 +90,37 @@ impl<'a> Site<'a> {
                     0
                 }
             }
+        }
+    }
+
+    /// The class whose code a scope is in, looked up only where it isn't the one before.
+    pub(crate) fn inside(&self, before: Inside, here: Within) -> Inside
+        requires heads { AreHeads self.now.trees.now self.now.heads.now }
+        requires file { self.now.file < length self.now.trees.now }
+        requires before { IsInside self.now before }
+        ensures inside { IsInside self.now result }
+        ensures here { (scope_here self.now here).class ≡ result.class }
+    {
+        if before.is_of(here) {
+            before
+        } else {
+            Inside {
+                declared: here.class,
+                class: self.class(here),
+            }
+        }
+    }
+
+    /// A method by its number.
+    pub(crate) fn method_at(&self, found: Option<MethodId>) -> Option<Method>
+        requires roster { IsRoster self.now.trees.now self.now.roster.now }
+        requires found { IfSome found (λ k. k < length (all_methods (table_in self.now.trees.now))) }
+        ensures stands { IfSome result (IsMethod self.now.trees.now) }
+        ensures shown { option_map (method_shown self.now.trees.now) result ≡ option_map (method_numbered (table_in self.now.trees.now)) found }
+    {
+        match found {
+            None => None,
+            Some(number) => Some(self.roster.methods[number as usize]),
         }
     }
 }

@@ -8,7 +8,7 @@ use Rattle.kr_ast.specs.Tree.{Tree}
 use Rattle.kr_classes_table.specs.Table.{Field, headings_of, number_of}
 use Rattle.kr_classes_table.specs.Constants.{Known, field_meant}
 use Rattle.kr_types_meaning.specs.Rules.{Judgement, name_rule}
-use Rattle.kr_types_meaning.specs.Scopes.{Scope, FieldName, class_if_none, field_or_none, meant, meant_by}
+use Rattle.kr_types_meaning.specs.Scopes.{Scope, FieldName, field_or_none, meant, meant_by}
 use Rattle.kr_ast.specs.Files.{file_at}
 use Rattle.kr_types_scopes.specs.Settings.{setting, class_there, class_number}
 use Rattle.kr_classes_members.specs.Shown.{table_in}
@@ -23,7 +23,3 @@ class_is files known f k o p n e ms found i t h =
 pub field_said : (s : Scope) (f : Field) (n : List ℕ) (v : Judgement) (c : ℕ) → v ≡ name_rule s (FieldName f) → ((o : Option Field) → meant_by s.locals o n ≡ field_or_none o) → field_meant s.table c n ≡ Some f → s.class ≡ c → v ≡ name_rule s (meant s n)
 field_said s f n v c said none found k =
     said ∙ ap (name_rule s) (sym (none (field_meant s.table s.class n) ∙ ap field_or_none (ap (λ d. field_meant s.table d n) k ∙ found)))
-
--- a name that means no local and no field may mean a class
-pub class_said : (s : Scope) (n : List ℕ) (c : ℕ) (found : Option ℕ) → ((o : Option Field) → meant_by s.locals o n ≡ field_or_none o) → field_meant s.table c n ≡ None → s.class ≡ c → found ≡ number_of s.table.headings n → found ≡ class_if_none s n (meant s n)
-class_said s n c found none nothing k is = is ∙ sym (ap (class_if_none s n) (none (field_meant s.table s.class n) ∙ ap field_or_none (ap (λ d. field_meant s.table d n) k ∙ nothing)))

@@ -1,15 +1,9 @@
-// Fields and constants behind a dot: which class stands before it, if one does, and what is kept of a node.
-ghost use Rattle.std.specs.Prelude.{◌≡◌, ◌<◌, ℕ, List, IfSome, length, option_map};
-ghost use Rattle.kr_ast.specs.Arena.{tree_in};
-ghost use Rattle.kr_classes_table.specs.Constants.{Known};
+// Fields and constants behind a dot: what is kept of a node.
+ghost use Rattle.std.specs.Prelude.{◌≡◌, ◌<◌, ℕ, List, IfSome, option_map};
 ghost use Rattle.kr_types_meaning.specs.Rules as rules;
-ghost use Rattle.kr_types_meaning.specs.Scopes.{class_before, class_if_none, meant};
 ghost use Rattle.kr_types_meaning.specs.Noting as noting;
-ghost use Rattle.kr_types_scopes.specs.Settings.{Setting, setting, scope_in};
+ghost use Rattle.kr_types_scopes.specs.Settings.{Setting, scope_in};
 ghost use Rattle.kr_types_scopes.specs.declared.within.Binding.{Binding};
-ghost use Rattle.kr_types_scopes.specs.Scoped.{AreScopes, scope_at};
-ghost use Rattle.kr_classes_names.specs.Shown.{AreHeads};
-ghost use Rattle.kr_ast.specs.Files.{file_at};
 ghost use Rattle.kr_classes_members.specs.Shown.{table_in};
 ghost use Rattle.kr_classes_members.specs.Kept.{AreMembers};
 ghost use Rattle.kr_classes_types.specs.Types.{count, type_at};
@@ -18,77 +12,13 @@ ghost use Rattle.kr_types_judging.specs.Shown.{HasNoRest, IsNoteWithin, IsVerdic
 ghost use Rattle.kr_types_expressions.specs.Parts.{with_one};
 
 use crate::parts::part_type;
-use kr_ast::{Node, Tree, tree_of};
+use kr_ast::Tree;
 use kr_base::Place;
 use kr_classes_members::Members;
-use kr_classes_names::Heads;
 use kr_classes_table::{ClassId, TypeId};
 use kr_classes_types::{NodeTypes, Types};
 use kr_types_judging::{Judgement, Note, access_rule, conclude, constant_rule};
-use kr_types_scopes::{Scopes, Within};
-
-/// The class of a name that means no local, field or constant where a node stands.
-fn class_if_unmeant(
-    trees: &[Tree],
-    heads: &Heads,
-    members: &Members,
-    scopes: &Scopes,
-    file: u32,
-    node: u32,
-    class: ClassId,
-    name: &[u8],
-) -> Option<ClassId>
-    requires heads { AreHeads trees.now heads.now }
-    requires members { AreMembers trees.now members.now }
-    requires file { file < length trees.now }
-    requires node { node < length (file_at trees.now file).entries }
-    requires scopes { AreScopes (file_at trees.now file) scopes.now.bindings.items scopes.now.within.items }
-    ensures { (known : List Known) → let s = scope_at (setting (table_in trees.now) known (file_at trees.now file)) scopes.now.bindings.items scopes.now.within.items node in s.class ≡ class → result ≡ class_if_none s name.now (meant s name.now) }
-{
-    let tree = tree_of(trees, file);
-    match scopes.local(tree, node, name) {
-        Some(_) => None,
-        None => match members.field_meant(class, name) {
-            Some(_) => None,
-            None => heads.number_of(name),
-        },
-    }
-}
-
-/// The class that an expression before a dot means, where the node behind the dot stands.
-pub fn class_before(
-    trees: &[Tree],
-    heads: &Heads,
-    members: &Members,
-    scopes: &Scopes,
-    file: u32,
-    node: u32,
-    class: ClassId,
-    object: u32,
-) -> Option<ClassId>
-    requires heads { AreHeads trees.now heads.now }
-    requires members { AreMembers trees.now members.now }
-    requires file { file < length trees.now }
-    requires node { node < length (file_at trees.now file).entries }
-    requires object { object < length (file_at trees.now file).entries }
-    requires scopes { AreScopes (file_at trees.now file) scopes.now.bindings.items scopes.now.within.items }
-    ensures { (known : List Known) → let s = scope_at (setting (table_in trees.now) known (file_at trees.now file)) scopes.now.bindings.items scopes.now.within.items node in s.class ≡ class → result ≡ class_before s (tree_in (file_at trees.now file) object) }
-{
-    let tree = tree_of(trees, file);
-    match tree.entry(object).node {
-        Node::Variable { name } => class_if_unmeant(
-            trees,
-            heads,
-            members,
-            scopes,
-            file,
-            node,
-            class,
-            tree.name(name),
-        ),
-        _ => None,
-    }
-}
+use kr_types_scopes::Within;
 
 /// What T22 says of a field where the object has a type.
 fn access_verdict(

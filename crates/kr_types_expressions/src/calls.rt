@@ -1,10 +1,10 @@
 // Calls: what is kept of a node, from what is kept of its parts.
-ghost use Rattle.std.specs.Prelude.{◌≡◌, ◌<◌, ℕ, List, All, IfOk, IfSome, length, map, option_map};
+ghost use Rattle.std.specs.Prelude.{◌≡◌, ◌<◌, ℕ, List, All, IfOk, IfSome, length, map, option_and_then, option_map};
 ghost use Rattle.kr_classes_table.specs.Table.{method_named};
 ghost use Rattle.kr_types_meaning.specs.Rules as rules;
 ghost use Rattle.kr_types_meaning.specs.Scopes as scopes;
 ghost use Rattle.kr_types_meaning.specs.Noting as noting;
-ghost use Rattle.kr_types_scopes.specs.Settings.{Setting, class_there, scope_in};
+ghost use Rattle.kr_types_scopes.specs.Settings.{Setting, scope_in};
 ghost use Rattle.kr_types_scopes.specs.declared.within.Binding.{Binding};
 ghost use Rattle.kr_classes_members.specs.Shown.{IsMethod, method_shown, table_in};
 ghost use Rattle.kr_classes_members.specs.Kept.{AreMembers};
@@ -23,8 +23,7 @@ use kr_classes_members::{Members, Method};
 use kr_classes_table::{ClassId, TypeId};
 use kr_classes_types::{NodeTypes, Types};
 use kr_types_judging::{
-    Judgement, Note, call_rule, conclude, earlier, method_meant, object_call_rule, static_rule,
-    super_rule,
+    Judgement, Note, call_rule, conclude, earlier, object_call_rule, static_rule, super_rule,
 };
 use kr_types_scopes::Within;
 use std::alloc::Global;
@@ -52,7 +51,7 @@ fn call_verdict(
     }
 }
 
-/// A call without object: its arguments.
+/// A call without object of this method: its arguments.
 pub fn call_note(
     alloc: Global,
     trees: &[Tree],
@@ -62,21 +61,20 @@ pub fn call_note(
     notes: &NoteList,
     here: Within,
     place: Place,
-    class: ClassId,
-    name: &[u8],
+    found: Option<Method>,
     x: Note,
 ) -> Result<Note, NoMemory>
     requires members { AreMembers trees.now members.now }
     requires numbers { AreNodeTypes trees.now types.now node_types.now }
     requires notes { AreNotesWithin types.now notes.now }
+    requires found { IfSome found (IsMethod trees.now) }
     requires arguments { IsNoteWithin types.now x }
     requires below { IsRestBelow (length notes.now) x.known }
     ensures within { IfOk result (λ n. IsNoteWithin types.now n) }
     ensures no_rest { IfOk result (λ n. HasNoRest n.known) }
-    ensures shown { IfOk result (λ n. (g : Setting) (bs : List Binding) → g.table ≡ table_in trees.now → class_there g here.class ≡ class → let look = typed_in types.now notes.now in let s = scope_in g bs here in note_shown types.now look n ≡ noting.list place (rules.call_rule s (scopes.method_meant s name.now)) (note_shown types.now look x)) }
+    ensures shown { IfOk result (λ n. (g : Setting) (bs : List Binding) → g.table ≡ table_in trees.now → let look = typed_in types.now notes.now in let s = scope_in g bs here in note_shown types.now look n ≡ noting.list place (rules.call_rule s (option_map (method_shown trees.now) found)) (note_shown types.now look x)) }
 {
     let arguments = value_types(alloc, types, notes, x.known)?;
-    let found = method_meant(members, class, name);
     let verdict = call_verdict(trees, types, members, node_types, here, found, arguments);
     Ok(conclude(place, verdict, x.least))
 }
@@ -88,27 +86,25 @@ fn super_call_verdict(
     members: &Members,
     node_types: &NodeTypes,
     here: Within,
-    class: ClassId,
-    name: &[u8],
+    found: Option<Method>,
     arguments: Option<Vec<TypeId>>,
 ) -> Judgement
     requires members { AreMembers trees.now members.now }
     requires numbers { AreNodeTypes trees.now types.now node_types.now }
+    requires found { IfSome found (IsMethod trees.now) }
     requires arguments { IfSome arguments (λ ts. All (λ t. t < count types.now) ts.items) }
     ensures within { IsVerdictWithin types.now result }
-    ensures says { (g : Setting) (bs : List Binding) → g.table ≡ table_in trees.now → class_there g here.class ≡ class → verdict_shown types.now result ≡ with_list (rules.super_rule (scope_in g bs here) name.now) (option_map (λ ts. map (type_at types.now) ts.items) arguments) }
+    ensures says { (g : Setting) (bs : List Binding) (name : List ℕ) → g.table ≡ table_in trees.now → option_map (method_shown trees.now) found ≡ option_and_then (λ c. method_named g.table c name) (scopes.super_class (scope_in g bs here)) → verdict_shown types.now result ≡ with_list (rules.super_rule (scope_in g bs here) name) (option_map (λ ts. map (type_at types.now) ts.items) arguments) }
 {
     match arguments {
         None => Judgement::fine(),
         Some(arguments) => {
-            super_rule(
-                trees, types, members, node_types, here, class, name, &arguments,
-            )
+            super_rule(trees, types, members, node_types, here, found, &arguments)
         }
     }
 }
 
-/// A call of `super.m`: its arguments.
+/// A call of `super.m`, by the method that the superclass has: its arguments.
 pub fn super_call_note(
     alloc: Global,
     trees: &[Tree],
@@ -118,23 +114,21 @@ pub fn super_call_note(
     notes: &NoteList,
     here: Within,
     place: Place,
-    class: ClassId,
-    name: &[u8],
+    found: Option<Method>,
     x: Note,
 ) -> Result<Note, NoMemory>
     requires members { AreMembers trees.now members.now }
     requires numbers { AreNodeTypes trees.now types.now node_types.now }
     requires notes { AreNotesWithin types.now notes.now }
+    requires found { IfSome found (IsMethod trees.now) }
     requires arguments { IsNoteWithin types.now x }
     requires below { IsRestBelow (length notes.now) x.known }
     ensures within { IfOk result (λ n. IsNoteWithin types.now n) }
     ensures no_rest { IfOk result (λ n. HasNoRest n.known) }
-    ensures shown { IfOk result (λ n. (g : Setting) (bs : List Binding) → g.table ≡ table_in trees.now → class_there g here.class ≡ class → let look = typed_in types.now notes.now in note_shown types.now look n ≡ noting.list place (rules.super_rule (scope_in g bs here) name.now) (note_shown types.now look x)) }
+    ensures shown { IfOk result (λ n. (g : Setting) (bs : List Binding) (name : List ℕ) → g.table ≡ table_in trees.now → option_map (method_shown trees.now) found ≡ option_and_then (λ c. method_named g.table c name) (scopes.super_class (scope_in g bs here)) → let look = typed_in types.now notes.now in note_shown types.now look n ≡ noting.list place (rules.super_rule (scope_in g bs here) name) (note_shown types.now look x)) }
 {
     let arguments = value_types(alloc, types, notes, x.known)?;
-    let verdict = super_call_verdict(
-        trees, types, members, node_types, here, class, name, arguments,
-    );
+    let verdict = super_call_verdict(trees, types, members, node_types, here, found, arguments);
     Ok(conclude(place, verdict, x.least))
 }
 

@@ -16,7 +16,7 @@ mod note_list;
 mod operators;
 mod parts;
 
-pub use accesses::{class_before, field_note};
+pub use accesses::field_note;
 pub use calls::{call_note, method_call_note, super_call_note};
 pub use choices::{choice_note, condition_note};
 pub use constructors::{array_creation_note, constructor_call_note, creation_note};

@@ -26,7 +26,7 @@ pub use members::{
     access_rule, constant_rule, element_rule, field_name_rule, field_type, value_of, variable_of,
 };
 pub use notes::{Fault, Note, conclude, earlier, plain};
-pub use objects::{method_meant, object_call_rule, super_rule};
+pub use objects::{object_call_rule, super_rule};
 pub use operators::{
     cast_rule, choice_rule, diamond_rule, instance_rule, number_rule, operator_rule, type_rule,
     unary_rule,

@@ -1,10 +1,9 @@
-// Rules on calls of methods by their names, and on calls through objects: T5, T24, T25, T33.
-ghost use Rattle.std.specs.Prelude.{◌≡◌, ◌<◌, IfSome, List, map, All, option_and_then, option_map};
-ghost use Rattle.kr_ast.specs.Arena.{Arena};
-ghost use Rattle.kr_classes_table.specs.Table.{method_named, super_of};
+// Rules on calls of a method of the superclass, and on calls through objects: T5, T24, T25, T33.
+ghost use Rattle.std.specs.Prelude.{◌≡◌, ◌<◌, ℕ, IfSome, List, map, All, option_and_then, option_map};
+ghost use Rattle.kr_classes_table.specs.Table.{method_named};
 ghost use Rattle.kr_types_meaning.specs.Rules as rules;
 ghost use Rattle.kr_types_meaning.specs.Scopes as scopes;
-ghost use Rattle.kr_types_scopes.specs.Settings.{Setting, class_there, scope_in};
+ghost use Rattle.kr_types_scopes.specs.Settings.{Setting, scope_in};
 ghost use Rattle.kr_types_scopes.specs.declared.within.Binding.{Binding};
 ghost use Rattle.kr_classes_members.specs.Shown.{IsMethod, method_shown, table_in};
 ghost use Rattle.kr_classes_members.specs.Kept.{AreMembers};
@@ -18,54 +17,27 @@ use crate::known::Judgement;
 use crate::rules::TypingRule;
 use kr_ast::Tree;
 use kr_classes_members::{Members, Method};
-use kr_classes_table::{ClassId, TypeId};
+use kr_classes_table::TypeId;
 use kr_classes_types::{NodeTypes, TypeForm, Types};
 use kr_types_scopes::Within;
 
-/// The method that a call without object means in the code of a class: one of the class or an ancestor, else a static one of
-/// the outer class.
-pub fn method_meant(members: &Members, class: ClassId, name: &[u8]) -> Option<Method>
-    ensures stands { (files : List Arena) → AreMembers files members.now → IfSome result (IsMethod files) }
-    ensures shown { (files : List Arena) (s : scopes.Scope) → AreMembers files members.now → s.table ≡ table_in files → s.class ≡ class → option_map (method_shown files) result ≡ scopes.method_meant s name.now }
-{
-    match members.method_named(class, name) {
-        Some(method) => Some(method),
-        None => match members.outer_class(class) {
-            None => None,
-            Some(outer) => members.static_method_named(outer, name),
-        },
-    }
-}
-
-/// The method of a name that a class's superclass has.
-fn method_above(members: &Members, class: ClassId, name: &[u8]) -> Option<Method>
-    ensures stands { (files : List Arena) → AreMembers files members.now → IfSome result (IsMethod files) }
-    ensures shown { (files : List Arena) → AreMembers files members.now → option_map (method_shown files) result ≡ option_and_then (λ c. method_named (table_in files) c name.now) (super_of (table_in files) class) }
-{
-    match members.superclass(class) {
-        None => None,
-        Some(above) => members.method_named(above, name),
-    }
-}
-
-/// T5: not in static code; T33: `super.m` is an instance method of an ancestor; T24.
+/// T5: not in static code; T33: `super.m`, the method that the superclass has, is an instance method; T24.
 pub fn super_rule(
     trees: &[Tree],
     types: &Types,
     members: &Members,
     node_types: &NodeTypes,
     here: Within,
-    class: ClassId,
-    name: &[u8],
+    found: Option<Method>,
     arguments: &[TypeId],
 ) -> Judgement
     requires members { AreMembers trees.now members.now }
     requires numbers { AreNodeTypes trees.now types.now node_types.now }
+    requires found { IfSome found (IsMethod trees.now) }
     requires arguments { All (λ t. t < count types.now) arguments.now }
     ensures within { IsVerdictWithin types.now result }
-    ensures says { (g : Setting) (bs : List Binding) → g.table ≡ table_in trees.now → class_there g here.class ≡ class → verdict_shown types.now result ≡ rules.super_rule (scope_in g bs here) name.now (map (type_at types.now) arguments.now) }
+    ensures says { (g : Setting) (bs : List Binding) (name : List ℕ) → g.table ≡ table_in trees.now → option_map (method_shown trees.now) found ≡ option_and_then (λ c. method_named g.table c name) (scopes.super_class (scope_in g bs here)) → verdict_shown types.now result ≡ rules.super_rule (scope_in g bs here) name (map (type_at types.now) arguments.now) }
 {
-    let found = method_above(members, class, name);
     Judgement::ask(
         !here.is_static,
         TypingRule::StaticCode,

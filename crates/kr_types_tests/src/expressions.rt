@@ -108,10 +108,10 @@ fn broken_calls(
 {
     let here = Within::outside();
     let call = call_note(
-        alloc, trees, types, members, numbers, notes, here, PLACE, 0, b"m", x,
+        alloc, trees, types, members, numbers, notes, here, PLACE, None, x,
     )?;
     let above = super_call_note(
-        alloc, trees, types, members, numbers, notes, here, PLACE, 0, b"m", x,
+        alloc, trees, types, members, numbers, notes, here, PLACE, None, x,
     )?;
     Ok((broken(call), broken(above)))
 }

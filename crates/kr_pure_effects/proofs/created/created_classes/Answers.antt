@@ -6,14 +6,14 @@ use Rattle.kr_classes_table.specs.Types.{JavaType}
 use Rattle.kr_classes_table.specs.Table.{line_of}
 use Rattle.kr_classes_types.specs.Types.{type_of_form}
 use Rattle.kr_mean.specs.Code.{classes_of}
-use Rattle.kr_pure_effects.proofs.Numbered.{IsThere, line_there}
+use Rattle.kr_types.proofs.Named.{IsThere, line_there, named_there}
 use Rattle.kr_pure_effects.proofs.created.created_classes.Goals as goal
 
 pub returns-in-Class-clause-there : goal.returns-in-Class-clause-there
 returns-in-Class-clause-there c = λ files tree m e.
     let trees = map root files in
     let class = sym e ∙ c.form.ensures.shown ∙ ap (type_of_form c.args.types.now) c.in-Class.is in
-    IfOk-weaker c.line.result _ _ (λ classes h. subst (λ (ds : List ℕ). All (IsThere trees) ds) (sym h) (line_there trees tree c.in-Class.class class)) (c.line.ensures files m)
+    IfOk-weaker c.line.result _ _ (λ classes h. subst (λ (ds : List ℕ). All (IsThere trees) ds) (sym h) (line_there trees c.in-Class.class (named_there trees tree c.in-Class.class class))) (c.line.ensures files m)
 
 pub returns-in-Class-clause-shown : goal.returns-in-Class-clause-shown
 returns-in-Class-clause-shown c = λ files program m e.

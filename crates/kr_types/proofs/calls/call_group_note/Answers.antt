@@ -1,5 +1,8 @@
-use Rattle.std.proofs.Common.{refl, ap, ◌∙◌, length, ℕ, List}
-use Rattle.kr_ast.specs.Arena.{Arena, name_in}
+use Rattle.std.proofs.Common.{refl, ap, ◌∙◌, length}
+use Rattle.std.specs.Prelude.{Option}
+use Rattle.kr_ast.specs.Arena.{name_in}
+use Rattle.kr_classes_table.specs.Table.{Method}
+use Rattle.kr_classes_members.specs.Shown.{table_in}
 use Rattle.kr_types_meaning.specs.Rules as rules
 use Rattle.kr_types_meaning.specs.Scopes.{method_meant}
 use Rattle.kr_types_meaning.specs.Noting as noting
@@ -8,7 +11,14 @@ use Rattle.kr_types_expressions.specs.Notes.{shown_notes, typed_in}
 use Rattle.kr_types.specs.Programs.{setting_in}
 use Rattle.kr_types.specs.Sites.{scope_here, tree_there}
 use Rattle.kr_types.proofs.Making.{made_if}
+use Rattle.kr_types.proofs.Meant.{own_found, super_found}
 use Rattle.kr_types.proofs.calls.call_group_note.Goals as goal
+
+pub method_at-requires-clause-found : goal.method_at-requires-clause-found
+method_at-requires-clause-found c = c.method.ensures.within (table_in c.args.site.now.trees.now) c.requires.meant.within
+
+pub method_at-requires-in-SuperCall-clause-found : goal.method_at-requires-in-SuperCall-clause-found
+method_at-requires-in-SuperCall-clause-found c = c.super_method.ensures.within (table_in c.args.site.now.trees.now) c.requires.meant.within
 
 pub returns-in-Call : goal.returns-in-Call
 returns-in-Call c =
@@ -18,11 +28,12 @@ returns-in-Call c =
     let look = typed_in l ns in
     let here = scope_here s c.args.here in
     let p = c.args.place in
+    let t = table_in s.trees.now in
     let n = name_in (tree_there s).text c.in-Call.name in
-    let name_is = c.name.ensures ∙ ap (λ (a : Arena). name_in a.text c.in-Call.name) c.tree.ensures in
+    let found = c.method_at.ensures.shown ∙ (c.method.ensures.shown t ∙ own_found s (shown_notes l ns) c.args._at p c.args.node c.args.here c.args.meaning c.requires.tree c.requires.here c.requires.meant c.in-Call.name c.in-Call.arguments c.in-Call.is) in
     made_if c.call_note.result _ s l ns (length ns) here p _ _ c.in-Call.is c.call_note.ensures.within c.call_note.ensures.no_rest c.call_note.ensures.shown
-    (λ made h. h (setting_in s.trees.now s.file) s.scopes.now.bindings.items refl c.class.ensures
-    ∙ ap (λ (m : List ℕ). noting.list p (rules.call_rule here (method_meant here m)) (note_shown l look c.part_note.result)) name_is
+    (λ made h. h (setting_in s.trees.now s.file) s.scopes.now.bindings.items refl
+    ∙ ap (λ (m : Option Method). noting.list p (rules.call_rule here m) (note_shown l look c.part_note.result)) found
     ∙ ap (λ (x : noting.Note). noting.list p (rules.call_rule here (method_meant here n)) x) c.part_note.ensures.shown)
 
 pub returns-in-SuperCall : goal.returns-in-SuperCall
@@ -33,11 +44,11 @@ returns-in-SuperCall c =
     let look = typed_in l ns in
     let here = scope_here s c.args.here in
     let p = c.args.place in
+    let t = table_in s.trees.now in
     let n = name_in (tree_there s).text c.in-SuperCall.name in
-    let name_is = c.name-in-SuperCall.ensures ∙ ap (λ (a : Arena). name_in a.text c.in-SuperCall.name) c.tree-in-SuperCall.ensures in
+    let found = c.method_at-in-SuperCall.ensures.shown ∙ (c.super_method.ensures.shown t ∙ super_found s (shown_notes l ns) c.args._at p c.args.node c.args.here c.args.meaning c.requires.tree c.requires.here c.requires.meant c.in-SuperCall.name c.in-SuperCall.arguments c.in-SuperCall.is) in
     made_if c.super_call_note.result _ s l ns (length ns) here p _ _ c.in-SuperCall.is c.super_call_note.ensures.within c.super_call_note.ensures.no_rest c.super_call_note.ensures.shown
-    (λ made h. h (setting_in s.trees.now s.file) s.scopes.now.bindings.items refl c.class-in-SuperCall.ensures
-    ∙ ap (λ (m : List ℕ). noting.list p (rules.super_rule here m) (note_shown l look c.part_note-in-SuperCall.result)) name_is
+    (λ made h. h (setting_in s.trees.now s.file) s.scopes.now.bindings.items n refl found
     ∙ ap (λ (x : noting.Note). noting.list p (rules.super_rule here n) x) c.part_note-in-SuperCall.ensures.shown)
 
 pub returns-in-ConstructorCall : goal.returns-in-ConstructorCall
@@ -49,7 +60,7 @@ returns-in-ConstructorCall c =
     let here = scope_here s c.args.here in
     let p = c.args.place in
     made_if c.constructor_call_note.result _ s l ns (length ns) here p _ _ c.in-ConstructorCall.is c.constructor_call_note.ensures.within c.constructor_call_note.ensures.no_rest c.constructor_call_note.ensures.shown
-    (λ made h. h (setting_in s.trees.now s.file) s.scopes.now.bindings.items refl c.requires.site.single c.class-in-ConstructorCall.ensures
+    (λ made h. h (setting_in s.trees.now s.file) s.scopes.now.bindings.items refl c.requires.site.single c.requires.class
     ∙ ap (λ (x : noting.Note). noting.list p (rules.super_constructor_rule here) x) c.part_note-in-ConstructorCall.ensures.shown)
 
 pub returns-in-ObjectCreation : goal.returns-in-ObjectCreation

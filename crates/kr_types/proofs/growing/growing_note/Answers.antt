@@ -16,7 +16,7 @@ returns-in-This-clause-note c =
     let look = typed_in l ns in
     let here = scope_here s c.args.here in
     let p = c.args.place in
-    made_if c.this_note.result _ s l ns (length ns) here p _ _ c.in-This.is c.this_note.ensures.within c.this_note.ensures.no_rest c.this_note.ensures.shown (λ made h. h (setting_in s.trees.now s.file) s.scopes.now.bindings.items look c.class-class.ensures)
+    made_if c.this_note.result _ s l ns (length ns) here p _ _ c.in-This.is c.this_note.ensures.within c.this_note.ensures.no_rest c.this_note.ensures.shown (λ made h. h (setting_in s.trees.now s.file) s.scopes.now.bindings.items look c.requires.class)
 
 pub returns-in-ArrayCreation-clause-note : goal.returns-in-ArrayCreation-clause-note
 returns-in-ArrayCreation-clause-note c =

@@ -1,4 +1,4 @@
-use Rattle.std.proofs.Common.{◌≡◌, refl, sym, ap, ◌∙◌, subst, ℕ, List}
+use Rattle.std.proofs.Common.{refl, ap, ◌∙◌, subst, ℕ, List}
 use Rattle.std.specs.Prelude.{Option, option_map}
 use Rattle.kr_ast.specs.Arena.{Arena, name_in, tree_in}
 use Rattle.kr_ast.specs.declared.node.Node.{Node}
@@ -8,8 +8,6 @@ use Rattle.kr_classes_table.specs.Constants.{values_of}
 use Rattle.kr_classes_members.specs.Shown.{table_in}
 use Rattle.kr_classes_types.specs.Types.{type_at}
 use Rattle.kr_types_meaning.specs.Scopes.{class_before, meant, method_meant, super_class}
-use Rattle.kr_types_scopes.specs.declared.within.Within.{Within}
-use Rattle.kr_types_scopes.specs.Settings.{class_there}
 use Rattle.kr_types_resolving.specs.Meanings.{creation_meaning, field_behind, method_behind, method_meaning, method_of, name_meaning, object_class, super_meaning}
 use Rattle.kr_types_expressions.specs.Notes.{shown_notes}
 use Rattle.kr_types.specs.Programs.{setting_in}
@@ -25,12 +23,9 @@ returns-in-Variable c =
     let at = c.args.at in
     let here = scope_of s at in
     let t = table_in s.trees.now in
-    let g = setting_in s.trees.now s.file in
-    let class : here.class ≡ c.class-class.result = ap (λ (w : Within). class_there g w.class) (sym c.here.ensures) ∙ c.class-class.ensures in
-    let x = name_in (tree_there s).text c.in-Variable.name in
     let name_is = c.name.ensures ∙ ap (λ (a : Arena). name_in a.text c.in-Variable.name) c.tree.ensures in
     of_kind_if s ns at c.args.place c.args.node c.requires.tree c.variable_meaning.result _ (nodes.Variable c.in-Variable.name) c.in-Variable.is c.variable_meaning.ensures.within c.variable_meaning.ensures.shown
-    (λ m h. h (values_of t) class ∙ ap (λ (n : List ℕ). name_meaning t n (meant here n)) name_is)
+    (λ m h. h (values_of t) c.requires.class ∙ ap (λ (n : List ℕ). name_meaning t n (meant here n)) name_is)
 
 pub returns-in-FieldAccess : goal.returns-in-FieldAccess
 returns-in-FieldAccess c =
@@ -40,8 +35,6 @@ returns-in-FieldAccess c =
     let at = c.args.at in
     let here = scope_of s at in
     let t = table_in s.trees.now in
-    let g = setting_in s.trees.now s.file in
-    let class : here.class ≡ c.class-class.result = ap (λ (w : Within). class_there g w.class) (sym c.here.ensures) ∙ c.class-class.ensures in
     let x = name_in (tree_there s).text c.in-FieldAccess.name in
     let name_is = c.name-in-FieldAccess.ensures ∙ ap (λ (a : Arena). name_in a.text c.in-FieldAccess.name) c.tree-in-FieldAccess.ensures in
     let a = c.in-FieldAccess.object in
@@ -62,12 +55,9 @@ returns-in-Call c =
     let at = c.args.at in
     let here = scope_of s at in
     let t = table_in s.trees.now in
-    let g = setting_in s.trees.now s.file in
-    let class : here.class ≡ c.class-class.result = ap (λ (w : Within). class_there g w.class) (sym c.here.ensures) ∙ c.class-class.ensures in
-    let x = name_in (tree_there s).text c.in-Call.name in
     let name_is = c.name-in-Call.ensures ∙ ap (λ (a : Arena). name_in a.text c.in-Call.name) c.tree-in-Call.ensures in
     of_kind s ns at c.args.place c.args.node c.requires.tree (nodes.Call c.in-Call.name c.in-Call.arguments) c.call_meaning.result c.in-Call.is c.call_meaning.ensures.within
-    (c.call_meaning.ensures.shown here refl class ∙ ap (λ (n : List ℕ). method_meaning (method_meant here n)) name_is)
+    (c.call_meaning.ensures.shown here refl c.requires.class ∙ ap (λ (n : List ℕ). method_meaning (method_meant here n)) name_is)
 
 pub returns-in-MethodCall : goal.returns-in-MethodCall
 returns-in-MethodCall c =
@@ -77,8 +67,6 @@ returns-in-MethodCall c =
     let at = c.args.at in
     let here = scope_of s at in
     let t = table_in s.trees.now in
-    let g = setting_in s.trees.now s.file in
-    let class : here.class ≡ c.class-class.result = ap (λ (w : Within). class_there g w.class) (sym c.here.ensures) ∙ c.class-class.ensures in
     let x = name_in (tree_there s).text c.in-MethodCall.name in
     let name_is = c.name-in-MethodCall.ensures ∙ ap (λ (a : Arena). name_in a.text c.in-MethodCall.name) c.tree-in-MethodCall.ensures in
     let a = c.in-MethodCall.object in
@@ -99,12 +87,9 @@ returns-in-SuperCall c =
     let at = c.args.at in
     let here = scope_of s at in
     let t = table_in s.trees.now in
-    let g = setting_in s.trees.now s.file in
-    let class : here.class ≡ c.class-class.result = ap (λ (w : Within). class_there g w.class) (sym c.here.ensures) ∙ c.class-class.ensures in
-    let x = name_in (tree_there s).text c.in-SuperCall.name in
     let name_is = c.name-in-SuperCall.ensures ∙ ap (λ (a : Arena). name_in a.text c.in-SuperCall.name) c.tree-in-SuperCall.ensures in
     of_kind s ns at c.args.place c.args.node c.requires.tree (nodes.SuperCall c.in-SuperCall.name c.in-SuperCall.arguments) c.super_meaning.result c.in-SuperCall.is c.super_meaning.ensures.within
-    (c.super_meaning.ensures.shown here refl class ∙ ap (λ (n : List ℕ). super_meaning (method_of t n (super_class here))) name_is)
+    (c.super_meaning.ensures.shown here refl c.requires.class ∙ ap (λ (n : List ℕ). super_meaning (method_of t n (super_class here))) name_is)
 
 pub returns-in-ObjectCreation : goal.returns-in-ObjectCreation
 returns-in-ObjectCreation c =

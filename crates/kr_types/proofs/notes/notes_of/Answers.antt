@@ -1,6 +1,7 @@
 use Rattle.std.proofs.Common.{◌≡◌, ap, ◌∙◌, subst, length, arith}
 use Rattle.kr_ast.specs.Arena.{Arena, IsArena}
 use Rattle.kr_classes_types.proofs.Growing.{extends_itself, extends_on}
+use Rattle.kr_types.specs.Programs.{setting_in}
 use Rattle.kr_types.specs.Sites.{tree_there}
 use Rattle.kr_types.proofs.Passing.{judged_there, site_kept}
 use Rattle.kr_types.proofs.Meant.{meant_there, none_kept}
@@ -10,7 +11,7 @@ pub loop-at-init : goal.loop-at-init
 loop-at-init c = record {
   extends = extends_itself c.args.types.now;
   site = c.requires;
-  kept = none_kept c.args.site.now c.args.types.now c.in_ok-noted.noted c.in_ok-noted.ensures.notes c.in_ok-noted.ensures.meanings;
+  kept = none_kept c.args.site.now c.args.types.now c.in_ok-noted.noted c.in_ok-noted.ensures.notes c.in_ok-noted.ensures.meanings (c.in_ok-noted.ensures.inside (setting_in c.args.site.now.trees.now c.args.site.now.file));
   count = ap length c.in_ok-noted.ensures.notes;
 }
 

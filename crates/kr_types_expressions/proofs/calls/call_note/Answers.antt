@@ -1,13 +1,11 @@
-use Rattle.std.proofs.Common.{◌∙◌, ap, map}
-use Rattle.std.specs.Prelude.{Option, option_map}
-use Rattle.kr_classes_table.specs.Table.{Method}
+use Rattle.std.proofs.Common.{map}
+use Rattle.std.specs.Prelude.{option_map}
 use Rattle.kr_types_meaning.specs.Rules as rules
-use Rattle.kr_types_meaning.specs.Scopes as scopes
 use Rattle.kr_types_scopes.specs.Settings.{scope_in}
+use Rattle.kr_classes_members.specs.Shown.{method_shown}
 use Rattle.kr_classes_types.specs.Types.{type_at}
 use Rattle.kr_types_judging.specs.Shown.{note_shown, verdict_shown}
 use Rattle.kr_types_expressions.specs.Notes.{typed_in}
-use Rattle.kr_types_expressions.specs.Parts.{with_list}
 use Rattle.kr_types_expressions.proofs.Asking.{concludes_list}
 use Rattle.kr_types_expressions.proofs.calls.call_note.Goals as goal
 
@@ -15,11 +13,9 @@ pub returns-clause-within : goal.returns-clause-within
 returns-clause-within c = c.conclude.ensures.within c.args.types.now c.call_verdict-verdict.ensures.within
 
 pub returns-clause-shown : goal.returns-clause-shown
-returns-clause-shown c = λ g bs e k.
+returns-clause-shown c = λ g bs e.
     let l = c.args.types.now in
     let look = typed_in l c.args.notes.now in
-    let s = scope_in g bs c.args.here in
     let o = option_map (λ ts. map (type_at l) ts.items) c.in_ok-arguments.arguments in
-    concludes_list c.args.place (rules.call_rule s (scopes.method_meant s c.args.name.now)) (note_shown l look c.args.x) (note_shown l look c.conclude.result) (verdict_shown l c.call_verdict-verdict.result) o (c.conclude.ensures.shown l look)
-    (c.call_verdict-verdict.ensures.says g bs e ∙ ap (λ (m : Option Method). with_list (rules.call_rule s m) o) (c.method_meant-found.ensures.shown c.args.trees.now s c.requires.members e k))
-    c.in_ok-arguments.ensures.shown
+    concludes_list c.args.place (rules.call_rule (scope_in g bs c.args.here) (option_map (method_shown c.args.trees.now) c.args.found)) (note_shown l look c.args.x) (note_shown l look c.conclude.result) (verdict_shown l c.call_verdict-verdict.result) o (c.conclude.ensures.shown l look)
+    (c.call_verdict-verdict.ensures.says g bs e) c.in_ok-arguments.ensures.shown

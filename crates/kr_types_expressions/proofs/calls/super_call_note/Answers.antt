@@ -12,9 +12,9 @@ pub returns-clause-within : goal.returns-clause-within
 returns-clause-within c = c.conclude.ensures.within c.args.types.now c.super_call_verdict-verdict.ensures.within
 
 pub returns-clause-shown : goal.returns-clause-shown
-returns-clause-shown c = λ g bs e k.
+returns-clause-shown c = λ g bs n e k.
     let l = c.args.types.now in
     let look = typed_in l c.args.notes.now in
     let o = option_map (λ ts. map (type_at l) ts.items) c.in_ok-arguments.arguments in
-    concludes_list c.args.place (rules.super_rule (scope_in g bs c.args.here) c.args.name.now) (note_shown l look c.args.x) (note_shown l look c.conclude.result) (verdict_shown l c.super_call_verdict-verdict.result) o (c.conclude.ensures.shown l look)
-    (c.super_call_verdict-verdict.ensures.says g bs e k) c.in_ok-arguments.ensures.shown
+    concludes_list c.args.place (rules.super_rule (scope_in g bs c.args.here) n) (note_shown l look c.args.x) (note_shown l look c.conclude.result) (verdict_shown l c.super_call_verdict-verdict.result) o (c.conclude.ensures.shown l look)
+    (c.super_call_verdict-verdict.ensures.says g bs n e k) c.in_ok-arguments.ensures.shown

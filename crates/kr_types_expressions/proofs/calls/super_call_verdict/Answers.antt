@@ -10,9 +10,9 @@ pub returns-in-None-clause-within : goal.returns-in-None-clause-within
 returns-in-None-clause-within c = c.fine.ensures.within c.args.types.now
 
 pub returns-in-Some-clause-says : goal.returns-in-Some-clause-says
-returns-in-Some-clause-says c = λ g bs e k.
+returns-in-Some-clause-says c = λ g bs n e k.
     let l = c.args.types.now in
-    let f = rules.super_rule (scope_in g bs c.args.here) c.args.name.now in
-    c.super_rule.ensures.says g bs e k
+    let f = rules.super_rule (scope_in g bs c.args.here) n in
+    c.super_rule.ensures.says g bs n e k
     ∙ ap (λ (ts : List ℕ). f (map (type_at l) ts)) c.deref.ensures.value
     ∙ ap (λ (o : Option (Vec ℕ Global)). with_list f (option_map (λ ts. map (type_at l) ts.items) o)) (sym c.in-Some.is)

@@ -1,6 +1,6 @@
-use Rattle.std.proofs.Common.{◌∙◌, sym, ap, map}
-use Rattle.std.specs.Prelude.{not, option_and_then}
-use Rattle.kr_classes_table.specs.Table.{Table, method_named, super_of}
+use Rattle.std.proofs.Common.{◌∙◌, ap, map}
+use Rattle.std.specs.Prelude.{Option, not}
+use Rattle.kr_classes_table.specs.Table.{Method}
 use Rattle.kr_types_meaning.specs.Rules as rules
 use Rattle.kr_types_scopes.specs.Settings.{scope_in}
 use Rattle.kr_classes_types.specs.Types.{type_at}
@@ -10,12 +10,10 @@ pub returns-clause-within : goal.returns-clause-within
 returns-clause-within c = c.ask.ensures.within c.args.types.now c.above_rule.ensures.within
 
 pub returns-clause-says : goal.returns-clause-says
-returns-clause-says c = λ g bs e k.
+returns-clause-says c = λ g bs n e m.
     let l = c.args.types.now in
-    let files = c.args.trees.now in
     let s = scope_in g bs c.args.here in
     let ts = map (type_at l) c.args.arguments.now in
     c.ask.ensures.says l
     ∙ ap (λ (v : rules.Judgement). rules.ask (not c.args.here.is_static) 5 v) (c.above_rule.ensures.says g bs e)
-    ∙ ap (λ f. rules.ask (not c.args.here.is_static) 5 (rules.above_rule s f ts))
-    (c.method_above-found.ensures.shown files c.requires.members ∙ ap (λ (t : Table). option_and_then (λ d. method_named t d c.args.name.now) (super_of t c.args.class)) (sym e) ∙ ap (λ d. option_and_then (λ b. method_named g.table b c.args.name.now) (super_of g.table d)) (sym k))
+    ∙ ap (λ (f : Option Method). rules.ask (not c.args.here.is_static) 5 (rules.above_rule s f ts)) m

@@ -1,22 +1,15 @@
--- Classes that types name.
-use Rattle.std.proofs.Common.{◌≡◌, refl, ap, ℕ, suc, ◌+◌, ◌<◌, Bool, true, false, cond, List, [], ◌∷◌, length, arith, bytes_eq, codes, Option, Some, None}
-use Rattle.std.specs.Prelude.{option_and_then}
+-- Classes that types and superclasses name are there.
+use Rattle.std.proofs.Common.{◌≡◌, refl, ap, ℕ, zero, suc, ◌+◌, ◌<◌, Bool, true, false, cond, List, [], ◌∷◌, length, arith, bytes_eq, codes, Option, Some, None}
+use Rattle.std.specs.Prelude.{All, option_and_then}
+use Rattle.std.proofs.lemmas.List.Elements.{All-cons, All-nil}
+use Rattle.kr_base.specs.declared.place.Place.{Place}
 use Rattle.kr_ast.specs.Tree as trees
 use Rattle.kr_ast.specs.Tree.{Tree}
 use Rattle.kr_ast.specs.declared.node.Primitive.{Primitive}
 use Rattle.kr_ast.specs.declared.node.Primitive.TheVariants.{Int, Boolean, Void}
 use Rattle.kr_classes_table.specs.Types.{JavaType, IntType, BooleanType, NullType, VoidType, ClassType, ArrayType, SetType, ListType, InferredType, UnknownType, AppliedType}
-use Rattle.kr_classes_table.specs.Table.{Heading, applied, class_named, class_or, classes_from, is_number, number_from, number_of, outer_of, table_of, type_named}
-use Rattle.kr_types.specs.declared.program.Program.{Program}
-use Rattle.kr_space_problem.specs.Posed.{table}
-
-below_or : (b : Bool) (k n : ℕ) (o : Option ℕ) (j : ℕ) → ((i : ℕ) → o ≡ Some i → i < k + 1 + n) → cond b (Some k) o ≡ Some j → j < k + suc n
-below_or true k n o j h e = let i : k ≡ j = cc in omega (arith, i)
-below_or false k n o j h e = omega (arith, h j e)
-
-number_below : (k : ℕ) (hs : List Heading) (n : List ℕ) (c : ℕ) → number_from k hs n ≡ Some c → c < k + length hs
-number_below k [] n c e = absurd (cc (e))
-number_below k (h ∷ hs) n c e = below_or (bytes_eq h.name n) k (length hs) (number_from (k + 1) hs n) c (λ i f. number_below (k + 1) hs n i f) e
+use Rattle.kr_classes_table.specs.Table.{Heading, applied, class_at, class_named, class_or, classes_from, is_number, line_of, line_within, number_of, outer_of, super_of, table_of, type_named}
+use Rattle.kr_classes_names.proofs.ClassNumbers.{number_below}
 
 kept : (t : ℕ → Bool) (o : Option ℕ) (c : ℕ) → option_and_then (λ d. cond (t d) (Some d) None) o ≡ Some c → o ≡ Some c
 kept t None c e = absurd (cc (e))
@@ -27,8 +20,8 @@ kept t (Some d) c e = go (t d) e
     go false h = absurd (cc (h))
 
 class_below : (hs : List Heading) (t : Tree) (c : ℕ) → class_named hs t ≡ Some c → c < length hs
-class_below hs (trees.NamedType p n) c e = omega (arith, number_below 0 hs n c e)
-class_below hs (trees.QualifiedType p o n) c e = omega (arith, number_below 0 hs n c (kept (λ d. is_number (outer_of hs d) (number_of hs o)) (number_of hs n) c e))
+class_below hs (trees.NamedType p n) c e = let b = number_below 0 hs n c e in omega (arith, b)
+class_below hs (trees.QualifiedType p o n) c e = let b = number_below 0 hs n c (kept (λ d. is_number (outer_of hs d) (number_of hs o)) (number_of hs n) c e) in omega (arith, b)
 class_below hs _ c e = absurd (cc (e))
 
 not_applied : (h t : JavaType) (c : ℕ) → applied h t ≡ ClassType c → ⊥
@@ -54,7 +47,7 @@ or_class : (o : Option ℕ) (a b : List ℕ) (c : ℕ) → class_or o (UnknownTy
 or_class None a b c e = absurd (cc (e))
 or_class (Some d) a b c e = let f : d ≡ c = cc (e) in ap (λ i. Some i) f
 
-primitive_no_class : (hs : List Heading) (p : _) (k : Primitive) (c : ℕ) → type_named hs (trees.PrimitiveType p k) ≡ ClassType c → ⊥
+primitive_no_class : (hs : List Heading) (p : Place) (k : Primitive) (c : ℕ) → type_named hs (trees.PrimitiveType p k) ≡ ClassType c → ⊥
 primitive_no_class hs p Int c e = cc (e)
 primitive_no_class hs p Boolean c e = cc (e)
 primitive_no_class hs p Void c e = cc (e)
@@ -72,7 +65,30 @@ classes_count : (all : List Heading) (k : ℕ) (hs : List Heading) → length (c
 classes_count all k [] = refl
 classes_count all k (h ∷ hs) = ap suc (classes_count all (k + 1) hs)
 
--- a class that a type names is there
-pub class_there : (p : Program) (t : Tree) (c : ℕ) → type_named (table p).headings t ≡ ClassType c → c < length (table p).classes
-unfolding table_of
-class_there p t c e = omega (arith, type_below (table p).headings t c e, classes_count (table p).headings 0 (table p).headings)
+-- a superclass is there
+super_in : (all : List Heading) (k : ℕ) (hs : List Heading) (c d : ℕ) → option_and_then (λ x. x.super) (class_at (classes_from all k hs) c) ≡ Some d → d < length all
+super_in all k [] c d e = absurd (cc (e))
+super_in all k (h ∷ hs) zero d e = class_below all h.extended d e
+super_in all k (h ∷ hs) (suc c) d e = super_in all (k + 1) hs c d e
+
+module _ (files : List Tree) where
+  abbrev pub IsThere : ℕ → Type 0
+  IsThere c = c < length (table_of files).classes
+
+  -- a class that a type names is there
+  pub named_there : (t : Tree) (c : ℕ) → type_named (table_of files).headings t ≡ ClassType c → IsThere c
+  unfolding table_of
+  named_there t c e = let hs = (table_of files).headings in omega (arith, type_below hs t c e, classes_count hs 0 hs)
+
+  super_there : (c d : ℕ) → super_of (table_of files) c ≡ Some d → IsThere d
+  unfolding table_of
+  super_there c d e = let hs = (table_of files).headings in omega (arith, super_in hs 0 hs c d e, classes_count hs 0 hs)
+
+  within_there : (n : ℕ) (o : Option ℕ) → ((c : ℕ) → o ≡ Some c → IsThere c) → All IsThere (line_within n (table_of files) o)
+  within_there zero o h = All-nil IsThere
+  within_there (suc n) None h = All-nil IsThere
+  within_there (suc n) (Some c) h = All-cons IsThere c _ (h c refl) (within_there n (super_of (table_of files) c) (super_there c))
+
+  -- and its ancestors
+  pub line_there : (c : ℕ) → IsThere c → All IsThere (line_of (table_of files) c)
+  line_there c h = All-cons IsThere c _ h (within_there _ (super_of (table_of files) c) (super_there c))
