@@ -49,7 +49,7 @@ module _ (program : Program) (fixed : Fixed) where
   collect_by types this ls Lists t u n (Int z) vs i f = absurd (cc (i.0))
   collect_by types this ls Sets t u n (Truth b) vs i f = absurd (cc (i))
   collect_by types this ls Lists t u n (Truth b) vs i f = absurd (cc (i))
-  collect_by types this ls k t u n Null vs i f = record { by = λ s h. tt }
+  collect_by types this ls k t u n Null vs i f = record { by = λ s h. (types, ls, extends_self types, h, extends_self ls) }
   collect_by types this ls k t u n (Reference o) vs i f = record { by = λ s h. go s h (members_of types s o k t h.heap i) }
     where
       typed : (s : State) → type_at types o ≡ type_with k t → (object_in s.heap o).class ≡ class_with k → is_element t ≡ true → (ms : List Value) → AreAll program.table types t ms → IsObjectOf program types (type_at types o) (record { class = (object_in s.heap o).class; values = ms })
@@ -59,22 +59,22 @@ module _ (program : Program) (fixed : Fixed) where
           of Sets q = (q, m, a)
           of Lists q = (q, m, a)
 
-      ended : (s : State) → IsStateOf program fixed types this ls s → (c : Collected) → IsObjectOf program types (type_at types o) (record { class = (object_in s.heap o).class; values = c.members }) → IsGiven types u c.given → Fine program fixed types this (Gives program ls u) (collect_as (Some c) o s).said (collect_as (Some c) o s).after
+      ended : (s : State) → IsStateOf program fixed types this ls s → (c : Collected) → IsObjectOf program types (type_at types o) (record { class = (object_in s.heap o).class; values = c.members }) → IsGiven types u c.given → Fine program fixed types this ls (Gives program ls u) (collect_as (Some c) o s).said (collect_as (Some c) o s).after
       ended s h c x g = by_given c.given g
         where
           new : IsStateOf program fixed types this ls (record s { heap = with_members s.heap o c.members })
           new = with_heap program fixed types types this ls s (with_members s.heap o c.members) (extends_self types) h (object_set program types types s.heap o _ h.heap x) (set_long program fixed s.heap o _ types h.heap x)
 
-          by_given : (r : Result Value TrapKind) → IsGiven types u r → Fine program fixed types this (Gives program ls u) (collected_said r) (record s { heap = with_members s.heap o c.members })
-          by_given (Ok v) q = (types, ls, extends_self types, new, (refl, q))
-          by_given (Err kind) q = tt
+          by_given : (r : Result Value TrapKind) → IsGiven types u r → Fine program fixed types this ls (Gives program ls u) (collected_said r) (record s { heap = with_members s.heap o c.members })
+          by_given (Ok v) q = (types, ls, extends_self types, new, (refl, q), extends_self ls)
+          by_given (Err kind) q = (types, ls, extends_self types, new, extends_self ls)
 
       go : (s : State) → IsStateOf program fixed types this ls s → (type_at types o ≡ type_with k t) × ((object_in s.heap o).class ≡ class_with k) × (is_element t ≡ true) × AreAll program.table types t (object_in s.heap o).values
-          → Fine program fixed types this (Gives program ls u) (collect n (Reference o) vs s).said (collect n (Reference o) vs s).after
+          → Fine program fixed types this ls (Gives program ls u) (collect n (Reference o) vs s).said (collect n (Reference o) vs s).after
       go s h r =
           let c = f (object_in s.heap o).values r.3 in
-          subst (λ (y : Class). Fine program fixed types this (Gives program ls u) (collect_as (collected y n vs (object_in s.heap o).values) o s).said (collect_as (collected y n vs (object_in s.heap o).values) o s).after) (sym r.1)
-          (subst (λ (y : Option Collected). Fine program fixed types this (Gives program ls u) (collect_as y o s).said (collect_as y o s).after) (sym c.is) (ended s h c.collected_is (typed s r.0 r.1 r.2 c.collected_is.members c.members) c.given))
+          subst (λ (y : Class). Fine program fixed types this ls (Gives program ls u) (collect_as (collected y n vs (object_in s.heap o).values) o s).said (collect_as (collected y n vs (object_in s.heap o).values) o s).after) (sym r.1)
+          (subst (λ (y : Option Collected). Fine program fixed types this ls (Gives program ls u) (collect_as y o s).said (collect_as y o s).after) (sym c.is) (ended s h c.collected_is (typed s r.0 r.1 r.2 c.collected_is.members c.members) c.given))
 
   -- ---- calls
 

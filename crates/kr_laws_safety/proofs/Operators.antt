@@ -246,9 +246,9 @@ module _ (program : Program) (fixed : Fixed) where
   reference_known types t (Truth b) r i = absurd (cc (r, ap is_reference i))
 
   -- a result that is good is said
-  pub said : (types : List JavaType) (this : Option ℕ) (ls : List JavaType) (t : JavaType) (r : Result Value Stop) (s : State) → IsStateOf program fixed types this ls s → Good t r → Fine program fixed types this (Gives program ls t) r s
-  said types this ls t (Ok v) s h g = (types, ls, extends_self types, h, (refl, g program.table types))
-  said types this ls t (Err (Trapped k)) s h g = tt
+  pub said : (types : List JavaType) (this : Option ℕ) (ls : List JavaType) (t : JavaType) (r : Result Value Stop) (s : State) → IsStateOf program fixed types this ls s → Good t r → Fine program fixed types this ls (Gives program ls t) r s
+  said types this ls t (Ok v) s h g = (types, ls, extends_self types, h, (refl, g program.table types), extends_self ls)
+  said types this ls t (Err (Trapped k)) s h g = (types, ls, extends_self types, h, extends_self ls)
   said types this ls t (Err OutOfFuel) s h g = absurd g
   said types this ls t (Err Stuck) s h g = absurd g
 
@@ -329,7 +329,7 @@ module _ (program : Program) (fixed : Fixed) where
   safe_create_array types this ls t k v e d i = record { by = λ s h. go s h (int_known types s v h.heap i) }
     where
       Made : Run Value → State → Type 0
-      Made m s = Fine program fixed types this (Gives program ls (ArrayType t)) (m s).said (m s).after
+      Made m s = Fine program fixed types this ls (Gives program ls (ArrayType t)) (m s).said (m s).after
 
       made : (n : ℕ) → n ≤ 64 → Safe program fixed types this ls (make_array t n (Some k)) (Gives program ls (ArrayType t))
       made n small =
@@ -338,7 +338,7 @@ module _ (program : Program) (fixed : Fixed) where
           (λ more ms x h. (h.0, subst (λ (y : Value). IsOf program.table more (ArrayType t) y) (sym h.2) (h.3, ap (λ (u : JavaType). is_assignable program.table u (ArrayType t)) h.4 ∙ type_same t)))
 
       sized : (s : State) → IsStateOf program fixed types this ls s → (n : ℕ) (b : Bool) → nat_lt 64 n ≡ b → Made (if b then stop (Trapped ArrayTooLong) else make_array t n (array_number program.arrays (ArrayType t))) s
-      sized s h n true q = tt
+      sized s h n true q = (types, ls, extends_self types, h, extends_self ls)
       sized s h n false q = subst (λ (x : Option ℕ). Made (make_array t n x) s) (sym e) ((made n (ltb-false 64 n q)).by s h)
 
       go : (s : State) → IsStateOf program fixed types this ls s → (z : ℤ) × (v ≡ Int z) → Made (create_array program t v) s
@@ -346,4 +346,4 @@ module _ (program : Program) (fixed : Fixed) where
         where
           of : (z : ℤ) → Made (create_array program t (Int z)) s
           of (pos n) = sized s h n (nat_lt 64 n) refl
-          of (negsuc n) = tt
+          of (negsuc n) = (types, ls, extends_self types, h, extends_self ls)

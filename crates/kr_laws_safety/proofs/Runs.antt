@@ -46,11 +46,11 @@ pub record Unstuck (program : Program) (fixed : Fixed) (types : List JavaType) (
   pub by : (s : State) → IsStateOf program fixed types this ls s → (m s).said ≡ Err Stuck → ⊥
 
 module _ (program : Program) (fixed : Fixed) where
-  pub fine_said : (types : List JavaType) (this : Option ℕ) {A : Type 0} (Q : List JavaType → List JavaType → A → Type 0) (r : Result A Stop) (t : State) → Fine program fixed types this Q r t → r ≡ Err Stuck → ⊥
-  fine_said types this Q (Ok a) t h e = cc (e)
-  fine_said types this Q (Err (Trapped k)) t h e = cc (e)
-  fine_said types this Q (Err OutOfFuel) t h e = cc (e)
-  fine_said types this Q (Err Stuck) t h e = h
+  pub fine_said : (types : List JavaType) (this : Option ℕ) (ls : List JavaType) {A : Type 0} (Q : List JavaType → List JavaType → A → Type 0) (r : Result A Stop) (t : State) → Fine program fixed types this ls Q r t → r ≡ Err Stuck → ⊥
+  fine_said types this ls Q (Ok a) t h e = cc (e)
+  fine_said types this ls Q (Err (Trapped k)) t h e = cc (e)
+  fine_said types this ls Q (Err OutOfFuel) t h e = cc (e)
+  fine_said types this ls Q (Err Stuck) t h e = h
 
   -- one after another
   pub unstuck_then : (types : List JavaType) (this : Option ℕ) (ls : List JavaType) {A B : Type 0} (m : Run A) (f : A → Run B) (R : List JavaType → A → Type 0) → Safe program fixed types this ls m (λ more after a. (after ≡ ls) × R more a) → ((more : List JavaType) (a : A) → Extends types more → R more a → Unstuck program fixed more this ls (f a))
@@ -58,7 +58,7 @@ module _ (program : Program) (fixed : Fixed) where
   unfolding bind
   unstuck_then types this ls {A} {B} m f R p q = record { by = λ s h. go (m s).said (m s).after (m s).reads (p.by s h) }
     where
-      go : (r : Result A Stop) (t : State) (ps : List SlotPlace) → Fine program fixed types this (λ more after a. (after ≡ ls) × R more a) r t → (go_on r t ps f).said ≡ Err Stuck → ⊥
+      go : (r : Result A Stop) (t : State) (ps : List SlotPlace) → Fine program fixed types this ls (λ more after a. (after ≡ ls) × R more a) r t → (go_on r t ps f).said ≡ Err Stuck → ⊥
       go (Ok a) t ps h e = (q h.0 a h.2 h.4.1).by t (subst (λ (z : List JavaType). IsStateOf program fixed h.0 this z t) h.4.0 h.3) e
       go (Err (Trapped k)) t ps h e = cc (e)
       go (Err OutOfFuel) t ps h e = cc (e)

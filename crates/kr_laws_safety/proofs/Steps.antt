@@ -96,10 +96,10 @@ module _ (program : Program) (fixed : Fixed) where
   -- ---- how runs are put together
 
   pub safe_give : (types : List JavaType) (this : Option ℕ) (ls : List JavaType) {A : Type 0} (a : A) (Q : List JavaType → List JavaType → A → Type 0) → Q types ls a → Safe program fixed types this ls (give a) Q
-  safe_give types this ls a Q q = record { by = λ s h. (types, ls, extends_self types, h, q) }
+  safe_give types this ls a Q q = record { by = λ s h. (types, ls, extends_self types, h, q, extends_self ls) }
 
   pub safe_trap : (types : List JavaType) (this : Option ℕ) (ls : List JavaType) {A : Type 0} (k : Kind) (Q : List JavaType → List JavaType → A → Type 0) → Safe program fixed types this ls (stop {A = A} (Trapped k)) Q
-  safe_trap types this ls k Q = record { by = λ s h. tt }
+  safe_trap types this ls k Q = record { by = λ s h. (types, ls, extends_self types, h, extends_self ls) }
 
   pub safe_spent : (types : List JavaType) (this : Option ℕ) (ls : List JavaType) {A : Type 0} (Q : List JavaType → List JavaType → A → Type 0) → Safe program fixed types this ls (stop {A = A} OutOfFuel) Q
   safe_spent types this ls Q = record { by = λ s h. tt }
@@ -109,33 +109,33 @@ module _ (program : Program) (fixed : Fixed) where
   unfolding bind
   safe_then types this ls {A} {B} m f R Q p q = record { by = λ s h. go (m s).said (m s).after (m s).reads (p.by s h) }
     where
-      widen : (more : List JavaType) → Extends types more → (r : Result B Stop) (t : State) → Fine program fixed more this Q r t → Fine program fixed types this Q r t
-      widen more x (Ok b) t h = (h.0, h.1, extends_twice types more h.0 x h.2, h.3, h.4)
-      widen more x (Err (Trapped k)) t h = tt
-      widen more x (Err OutOfFuel) t h = tt
-      widen more x (Err Stuck) t h = h
+      widen : (more ms : List JavaType) → Extends types more → Extends ls ms → (r : Result B Stop) (t : State) → Fine program fixed more this ms Q r t → Fine program fixed types this ls Q r t
+      widen more ms x y (Ok b) t h = (h.0, h.1, extends_twice types more h.0 x h.2, h.3, h.4, extends_twice ls ms h.1 y h.5)
+      widen more ms x y (Err (Trapped k)) t h = (h.0, h.1, extends_twice types more h.0 x h.2, h.3, extends_twice ls ms h.1 y h.4)
+      widen more ms x y (Err OutOfFuel) t h = tt
+      widen more ms x y (Err Stuck) t h = h
 
-      go : (r : Result A Stop) (t : State) (ps : List SlotPlace) → Fine program fixed types this R r t → Fine program fixed types this Q (go_on r t ps f).said (go_on r t ps f).after
-      go (Ok a) t ps h = widen h.0 h.2 (f a t).said (f a t).after ((q h.0 h.1 a h.2 h.4).by t h.3)
-      go (Err (Trapped k)) t ps h = tt
+      go : (r : Result A Stop) (t : State) (ps : List SlotPlace) → Fine program fixed types this ls R r t → Fine program fixed types this ls Q (go_on r t ps f).said (go_on r t ps f).after
+      go (Ok a) t ps h = widen h.0 h.1 h.2 h.5 (f a t).said (f a t).after ((q h.0 h.1 a h.2 h.4).by t h.3)
+      go (Err (Trapped k)) t ps h = h
       go (Err OutOfFuel) t ps h = tt
       go (Err Stuck) t ps h = h
 
   pub safe_map : (types : List JavaType) (this : Option ℕ) (ls : List JavaType) {A : Type 0} (m : Run A) (R Q : List JavaType → List JavaType → A → Type 0) → Safe program fixed types this ls m R → ((more ms : List JavaType) (a : A) → R more ms a → Q more ms a) → Safe program fixed types this ls m Q
   safe_map types this ls {A} m R Q p q = record { by = λ s h. go (m s).said (m s).after (p.by s h) }
     where
-      go : (r : Result A Stop) (t : State) → Fine program fixed types this R r t → Fine program fixed types this Q r t
-      go (Ok a) t h = (h.0, h.1, h.2, h.3, q h.0 h.1 a h.4)
-      go (Err (Trapped k)) t h = tt
+      go : (r : Result A Stop) (t : State) → Fine program fixed types this ls R r t → Fine program fixed types this ls Q r t
+      go (Ok a) t h = (h.0, h.1, h.2, h.3, q h.0 h.1 a h.4, h.5)
+      go (Err (Trapped k)) t h = h
       go (Err OutOfFuel) t h = tt
       go (Err Stuck) t h = h
 
   pub safe_tick : (types : List JavaType) (this : Option ℕ) (ls : List JavaType) → Safe program fixed types this ls tick (Keeps ls)
   safe_tick types this ls = record { by = λ s h. go s s.fuel h }
     where
-      go : (s : State) (n : ℕ) → IsStateOf program fixed types this ls s → Fine program fixed types this (Keeps ls) (tick_at n s).said (tick_at n s).after
+      go : (s : State) (n : ℕ) → IsStateOf program fixed types this ls s → Fine program fixed types this ls (Keeps ls) (tick_at n s).said (tick_at n s).after
       go s zero h = tt
-      go s (suc n) h = (types, ls, extends_self types, record { heap = h.heap; this_is = h.this_is; locals_are = h.locals_are; result = h.result; olds = h.olds; candidates = h.candidates; enough = h.enough }, refl)
+      go s (suc n) h = (types, ls, extends_self types, record { heap = h.heap; this_is = h.this_is; locals_are = h.locals_are; result = h.result; olds = h.olds; candidates = h.candidates; enough = h.enough }, refl, extends_self ls)
 
   pub safe_choose : (types : List JavaType) (this : Option ℕ) (ls : List JavaType) {A : Type 0} (v : Value) (m n : Run A) (Q : List JavaType → List JavaType → A → Type 0) → IsOf program.table types BooleanType v → Safe program fixed types this ls m Q → Safe program fixed types this ls n Q → Safe program fixed types this ls (choose v m n) Q
   safe_choose types this ls (Truth true) m n Q i p q = p
@@ -157,7 +157,7 @@ module _ (program : Program) (fixed : Fixed) where
   -- ---- the frame
 
   pub safe_this : (types : List JavaType) (c : ℕ) (ls : List JavaType) → Safe program fixed types (Some c) ls get_this (λ more after v. (after ≡ ls) × IsThis program.table more (Some c) v)
-  safe_this types c ls = record { by = λ s h. (types, ls, extends_self types, h, (refl, h.this_is)) }
+  safe_this types c ls = record { by = λ s h. (types, ls, extends_self types, h, (refl, h.this_is), extends_self ls) }
 
   local_found : (types ts : List JavaType) (xs : List Local) (k : ℕ) (t : JavaType) → AreOf program.table types ts (values_in xs) → type_of_local ts k ≡ Some t → (l : Local) × (local_at xs k ≡ Some l) × IsOf program.table types t l.value
   local_found types [] xs k t h e = absurd (cc (e))
@@ -172,11 +172,11 @@ module _ (program : Program) (fixed : Fixed) where
   pub safe_local : (types : List JavaType) (this : Option ℕ) (ls : List JavaType) (k : ℕ) (t : JavaType) → type_of_local ls k ≡ Some t → Safe program fixed types this ls (read_local k) (Gives program ls t)
   safe_local types this ls k t e = record { by = λ s h. go s h (local_found types ls s.locals k t h.locals_are e) }
     where
-      go : (s : State) → IsStateOf program fixed types this ls s → (l : Local) × (local_at s.locals k ≡ Some l) × IsOf program.table types t l.value → Fine program fixed types this (Gives program ls t) (read_local k s).said (read_local k s).after
-      go s h r = subst (λ (x : Option Local). Fine program fixed types this (Gives program ls t) (local_given x s).said (local_given x s).after) (sym r.1) (types, ls, extends_self types, h, (refl, r.2))
+      go : (s : State) → IsStateOf program fixed types this ls s → (l : Local) × (local_at s.locals k ≡ Some l) × IsOf program.table types t l.value → Fine program fixed types this ls (Gives program ls t) (read_local k s).said (read_local k s).after
+      go s h r = subst (λ (x : Option Local). Fine program fixed types this ls (Gives program ls t) (local_given x s).said (local_given x s).after) (sym r.1) (types, ls, extends_self types, h, (refl, r.2), extends_self ls)
 
   pub safe_declare : (types : List JavaType) (this : Option ℕ) (ls : List JavaType) (t : JavaType) (v : Value) → IsOf program.table types t v → Safe program fixed types this ls (declare v) (λ more after u. after ≡ ls ++ t ∷ [])
-  safe_declare types this ls t v i = record { by = λ s h. (types, ls ++ t ∷ [], extends_self types, with_locals types this ls (ls ++ t ∷ []) s (s.locals ++ plain_local v ∷ []) h (declared s.locals ls h.locals_are), refl) }
+  safe_declare types this ls t v i = record { by = λ s h. (types, ls ++ t ∷ [], extends_self types, with_locals types this ls (ls ++ t ∷ []) s (s.locals ++ plain_local v ∷ []) h (declared s.locals ls h.locals_are), refl, one_more ls t) }
     where
       declared : (xs : List Local) (ts : List JavaType) → AreOf program.table types ts (values_in xs) → AreOf program.table types (ts ++ t ∷ []) (values_in (xs ++ plain_local v ∷ []))
       declared [] [] h = (i, tt)
@@ -194,10 +194,10 @@ module _ (program : Program) (fixed : Fixed) where
   pub safe_assign : (types : List JavaType) (this : Option ℕ) (ls : List JavaType) (k : ℕ) (t : JavaType) (v : Value) → type_of_local ls k ≡ Some t → IsOf program.table types t v → Safe program fixed types this ls (assign k v) (Keeps ls)
   safe_assign types this ls k t v e i = record { by = λ s h. go s h (assigned_local types ls s.locals k t v h.locals_are e i) }
     where
-      go : (s : State) → IsStateOf program fixed types this ls s → (k < length s.locals) × AreOf program.table types ls (values_in (slice_set s.locals k (plain_local v))) → Fine program fixed types this (Keeps ls) (assign k v s).said (assign k v s).after
+      go : (s : State) → IsStateOf program fixed types this ls s → (k < length s.locals) × AreOf program.table types ls (values_in (slice_set s.locals k (plain_local v))) → Fine program fixed types this ls (Keeps ls) (assign k v s).said (assign k v s).after
       go s h r =
           let q : nat_lt k (length s.locals) ≡ true = lt-ltb k (length s.locals) r.0 in
-          subst (λ (b : Bool). Fine program fixed types this (Keeps ls) (assign_if b k v s).said (assign_if b k v s).after) (sym q) (types, ls, extends_self types, with_locals types this ls ls s (slice_set s.locals k (plain_local v)) h r.1, refl)
+          subst (λ (b : Bool). Fine program fixed types this ls (Keeps ls) (assign_if b k v s).said (assign_if b k v s).after) (sym q) (types, ls, extends_self types, with_locals types this ls ls s (slice_set s.locals k (plain_local v)) h r.1, refl, extends_self ls)
 
   -- a body in a frame of its own: `this` and the locals are as they were
   pub safe_within : (types : List JavaType) (this inner : Option ℕ) (ls ps : List JavaType) {A : Type 0} (receiver : Value) (vs : List Value) (body : Run A) (Q : List JavaType → A → Type 0) → IsThis program.table types inner receiver → AreOf program.table types ps vs
@@ -208,35 +208,32 @@ module _ (program : Program) (fixed : Fixed) where
       plain_values [] = refl
       plain_values (v ∷ vs) = ap (λ (x : List Value). v ∷ x) (plain_values vs)
 
-      back : (s : State) → IsStateOf program fixed types this ls s → (o : Outcome A) → Fine program fixed types inner (λ more after a. Q more a) o.said o.after
-          → Fine program fixed types this (λ more after a. (after ≡ ls) × Q more a) o.said (record o.after { this_value = s.this_value; locals = s.locals })
+      back : (s : State) → IsStateOf program fixed types this ls s → (o : Outcome A) → Fine program fixed types inner ps (λ more after a. Q more a) o.said o.after
+          → Fine program fixed types this ls (λ more after a. (after ≡ ls) × Q more a) o.said (record o.after { this_value = s.this_value; locals = s.locals })
       back s h o f = by_said o.said f
         where
-          by_said : (r : Result A Stop) → Fine program fixed types inner (λ more after a. Q more a) r o.after → Fine program fixed types this (λ more after a. (after ≡ ls) × Q more a) r (record o.after { this_value = s.this_value; locals = s.locals })
-          by_said (Ok a) f = (
-            f.0,
-            ls,
-            f.2,
-            record {
-              heap = f.3.heap;
-              this_is = this_more types f.0 this s.this_value f.2 h.this_is;
-              locals_are = values_more program.table types f.0 ls (values_in s.locals) f.2 h.locals_are;
-              result = f.3.result;
-              olds = f.3.olds;
-              candidates = f.3.candidates;
-              enough = f.3.enough;
-            },
-            (refl, f.4),
-          )
-          by_said (Err (Trapped k)) f = tt
+          outside : (more ms : List JavaType) → Extends types more → IsStateOf program fixed more inner ms o.after → IsStateOf program fixed more this ls (record o.after { this_value = s.this_value; locals = s.locals })
+          outside more ms x k = record {
+            heap = k.heap;
+            this_is = this_more types more this s.this_value x h.this_is;
+            locals_are = values_more program.table types more ls (values_in s.locals) x h.locals_are;
+            result = k.result;
+            olds = k.olds;
+            candidates = k.candidates;
+            enough = k.enough;
+          }
+
+          by_said : (r : Result A Stop) → Fine program fixed types inner ps (λ more after a. Q more a) r o.after → Fine program fixed types this ls (λ more after a. (after ≡ ls) × Q more a) r (record o.after { this_value = s.this_value; locals = s.locals })
+          by_said (Ok a) f = (f.0, ls, f.2, outside f.0 f.1 f.2 f.3, (refl, f.4), extends_self ls)
+          by_said (Err (Trapped k)) f = (f.0, ls, f.2, outside f.0 f.1 f.2 f.3, extends_self ls)
           by_said (Err OutOfFuel) f = tt
           by_said (Err Stuck) f = f
 
-      go : (s : State) → IsStateOf program fixed types this ls s → nat_eq (length vs) (length ps) ≡ true → Fine program fixed types this (λ more after a. (after ≡ ls) × Q more a) (within receiver (length ps) vs body s).said (within receiver (length ps) vs body s).after
+      go : (s : State) → IsStateOf program fixed types this ls s → nat_eq (length vs) (length ps) ≡ true → Fine program fixed types this ls (λ more after a. (after ≡ ls) × Q more a) (within receiver (length ps) vs body s).said (within receiver (length ps) vs body s).after
       go s h e =
           let inside : State = record s { this_value = receiver; locals = map plain_local vs } in
           let state : IsStateOf program fixed types inner ps inside = record { heap = h.heap; this_is = i; locals_are = subst (λ (x : List Value). AreOf program.table types ps x) (sym (plain_values vs)) j; result = h.result; olds = h.olds; candidates = h.candidates; enough = h.enough } in
-          subst (λ (b : Bool). Fine program fixed types this (λ more after a. (after ≡ ls) × Q more a) (entered b receiver vs body s).said (entered b receiver vs body s).after) (sym e) (back s h (body inside) (p.by inside state))
+          subst (λ (b : Bool). Fine program fixed types this ls (λ more after a. (after ≡ ls) × Q more a) (entered b receiver vs body s).said (entered b receiver vs body s).after) (sym e) (back s h (body inside) (p.by inside state))
 
   -- what is declared inside ends with it
   pub safe_scoped : (types : List JavaType) (this : Option ℕ) (ls : List JavaType) {A : Type 0} (m : Run A) (Q : List JavaType → A → Type 0) → Safe program fixed types this ls m (λ more after a. Extends ls after × Q more a) → Safe program fixed types this ls (scoped m) (λ more after a. (after ≡ ls) × Q more a)
@@ -250,18 +247,16 @@ module _ (program : Program) (fixed : Fixed) where
           map_take (suc k) [] = refl
           map_take (suc k) (x ∷ xs) = ap (λ (y : List Value). x.value ∷ y) (map_take k xs)
 
-      go : (s : State) → IsStateOf program fixed types this ls s → (r : Result A Stop) (t : State) → Fine program fixed types this (λ more after a. Extends ls after × Q more a) r t
-          → Fine program fixed types this (λ more after a. (after ≡ ls) × Q more a) r (record t { locals = take (length s.locals) t.locals })
-      go s h (Ok a) t f =
+      outside : (s : State) → IsStateOf program fixed types this ls s → (t : State) (more ms : List JavaType) → Extends ls ms → IsStateOf program fixed more this ms t → IsStateOf program fixed more this ls (record t { locals = take (length s.locals) t.locals })
+      outside s h t more ms x k =
           let long : length ls ≡ length s.locals = sym (values_long program.table types ls (values_in s.locals) h.locals_are) ∙ length-map s.locals (λ (l : Local). l.value) in
-          let inside = subst (λ (x : List JavaType). AreOf program.table f.0 x (values_in t.locals)) f.4.0.1 f.3.locals_are in (
-            f.0,
-            ls,
-            f.2,
-            record { heap = f.3.heap; this_is = f.3.this_is; locals_are = taken f.0 f.4.0.0 (length s.locals) t.locals long inside; result = f.3.result; olds = f.3.olds; candidates = f.3.candidates; enough = f.3.enough },
-            (refl, f.4.1),
-          )
-      go s h (Err (Trapped k)) t f = tt
+          let inside = subst (λ (y : List JavaType). AreOf program.table more y (values_in t.locals)) x.1 k.locals_are in
+          record { heap = k.heap; this_is = k.this_is; locals_are = taken more x.0 (length s.locals) t.locals long inside; result = k.result; olds = k.olds; candidates = k.candidates; enough = k.enough }
+
+      go : (s : State) → IsStateOf program fixed types this ls s → (r : Result A Stop) (t : State) → Fine program fixed types this ls (λ more after a. Extends ls after × Q more a) r t
+          → Fine program fixed types this ls (λ more after a. (after ≡ ls) × Q more a) r (record t { locals = take (length s.locals) t.locals })
+      go s h (Ok a) t f = (f.0, ls, f.2, outside s h t f.0 f.1 f.5 f.3, (refl, f.4.1), extends_self ls)
+      go s h (Err (Trapped k)) t f = (f.0, ls, f.2, outside s h t f.0 f.1 f.4 f.3, extends_self ls)
       go s h (Err OutOfFuel) t f = tt
       go s h (Err Stuck) t f = f
 
@@ -278,8 +273,8 @@ module _ (program : Program) (fixed : Fixed) where
   pub safe_see : (types : List JavaType) (this : Option ℕ) (ls : List JavaType) (t : JavaType) (v : Value) → is_reference t ≡ true → IsOf program.table types t v → Safe program fixed types this ls (class_or_null v) (λ more after seen. (after ≡ ls) × (more ≡ types) × IsSeen program types v seen)
   safe_see types this ls t (Int z) r i = absurd (cc (r, ap is_reference i.0))
   safe_see types this ls t (Truth b) r i = absurd (cc (r, ap is_reference i))
-  safe_see types this ls t Null r i = record { by = λ s h. (types, ls, extends_self types, h, (refl, refl, refl)) }
-  safe_see types this ls t (Reference o) r i = record { by = λ s h. (types, ls, extends_self types, h, (refl, refl, ((object_in s.heap o).class, refl, class_is types t (type_at types o) (object_in s.heap o) r i.1 (object_found program types types s.heap o h.heap i.0)))) }
+  safe_see types this ls t Null r i = record { by = λ s h. (types, ls, extends_self types, h, (refl, refl, refl), extends_self ls) }
+  safe_see types this ls t (Reference o) r i = record { by = λ s h. (types, ls, extends_self types, h, (refl, refl, ((object_in s.heap o).class, refl, class_is types t (type_at types o) (object_in s.heap o) r i.1 (object_found program types types s.heap o h.heap i.0))), extends_self ls) }
 
   -- the type of an object is the one that is asked for, or below it
   pub type_known : (types : List JavaType) (s : State) (o : ℕ) (t : JavaType) → IsHeapOf program types s.heap → IsOf program.table types t (Reference o) → Assigned program.table (type_at types o) t
@@ -307,19 +302,19 @@ module _ (program : Program) (fixed : Fixed) where
   unfolding bind
   safe_load_field types this ls c n t (Int z) f i = absurd (cc (i.0))
   safe_load_field types this ls c n t (Truth b) f i = absurd (cc (i))
-  safe_load_field types this ls c n t Null f i = record { by = λ s h. tt }
+  safe_load_field types this ls c n t Null f i = record { by = λ s h. (types, ls, extends_self types, h, extends_self ls) }
   safe_load_field types this ls c n t (Reference o) f i = record { by = λ s h. go s h (class_known types s o c h.heap i) }
     where
-      go : (s : State) → IsStateOf program fixed types this ls s → (d : ℕ) × (type_at types o ≡ ClassType d) × (is_below program.table d c ≡ true) → Fine program fixed types this (Gives program ls t) (load_field program n (Reference o) s).said (load_field program n (Reference o) s).after
+      go : (s : State) → IsStateOf program fixed types this ls s → (d : ℕ) × (type_at types o ≡ ClassType d) × (is_below program.table d c ≡ true) → Fine program fixed types this ls (Gives program ls t) (load_field program n (Reference o) s).said (load_field program n (Reference o) s).after
       go s h r =
           let at = f.at r.0 r.2 in
           let x = object_of_class types s o c r.0 h.heap i.0 r.1 in
           let long : length (object_in s.heap o).values ≡ length (field_types program r.0) = values_long program.table types (field_types program r.0) (object_in s.heap o).values x.1 in
           let found : has_spot (object_in s.heap o) (FieldSpot at.0) ≡ true = ap (λ (k : Class). has_spot_of k (length (object_in s.heap o).values) (FieldSpot at.0)) x.0 ∙ lt-ltb at.0 (length (object_in s.heap o).values) (omega (arith, at.2, long)) in
           let value = subst (λ (u : JavaType). IsOf program.table types u (get_or (object_in s.heap o).values at.0 Null)) at.3 (value_found program.table types (field_types program r.0) (object_in s.heap o).values at.0 x.1 at.2) in
-          subst (λ (k : Class). Fine program fixed types this (Gives program ls t) (load_in program (Reference o) n k s).said (load_in program (Reference o) n k s).after) (sym x.0)
-          (subst (λ (y : Option ℕ). Fine program fixed types this (Gives program ls t) (load_at (Reference o) y s).said (load_at (Reference o) y s).after) (sym at.1)
-          (subst (λ (b : Bool). Fine program fixed types this (Gives program ls t) (load_if b o (FieldSpot at.0) s).said (load_if b o (FieldSpot at.0) s).after) (sym found) (types, ls, extends_self types, h, (refl, value))))
+          subst (λ (k : Class). Fine program fixed types this ls (Gives program ls t) (load_in program (Reference o) n k s).said (load_in program (Reference o) n k s).after) (sym x.0)
+          (subst (λ (y : Option ℕ). Fine program fixed types this ls (Gives program ls t) (load_at (Reference o) y s).said (load_at (Reference o) y s).after) (sym at.1)
+          (subst (λ (b : Bool). Fine program fixed types this ls (Gives program ls t) (load_if b o (FieldSpot at.0) s).said (load_if b o (FieldSpot at.0) s).after) (sym found) (types, ls, extends_self types, h, (refl, value), extends_self ls)))
 
   -- ---- arrays
 
@@ -355,18 +350,18 @@ module _ (program : Program) (fixed : Fixed) where
   pub safe_length : (types : List JavaType) (this : Option ℕ) (ls : List JavaType) (t : JavaType) (v : Value) → IsOf program.table types (ArrayType t) v → Safe program fixed types this ls (load v Length) (λ more after x. (after ≡ ls) × (n : ℕ) × (x ≡ Int (pos n)) × IsLength n)
   safe_length types this ls t (Int z) i = absurd (cc (i.0))
   safe_length types this ls t (Truth b) i = absurd (cc (i))
-  safe_length types this ls t Null i = record { by = λ s h. tt }
+  safe_length types this ls t Null i = record { by = λ s h. (types, ls, extends_self types, h, extends_self ls) }
   safe_length types this ls t (Reference o) i = record { by = λ s h. go s h (array_of_type types s o t h.heap i.0 (array_known types s o t h.heap i)) }
     where
-      go : (s : State) → IsStateOf program fixed types this ls s → IsObjectOf program types (ArrayType t) (object_in s.heap o) → Fine program fixed types this (λ more after x. (after ≡ ls) × (n : ℕ) × (x ≡ Int (pos n)) × IsLength n) (load (Reference o) Length s).said (load (Reference o) Length s).after
+      go : (s : State) → IsStateOf program fixed types this ls s → IsObjectOf program types (ArrayType t) (object_in s.heap o) → Fine program fixed types this ls (λ more after x. (after ≡ ls) × (n : ℕ) × (x ≡ Int (pos n)) × IsLength n) (load (Reference o) Length s).said (load (Reference o) Length s).after
       go s h x =
-          subst (λ (b : Bool). Fine program fixed types this (λ more after x. (after ≡ ls) × (n : ℕ) × (x ≡ Int (pos n)) × IsLength n) (load_if b o Length s).said (load_if b o Length s).after) (sym (has_length (object_in s.heap o) t x.0)) (types, ls, extends_self types, h, (refl, length (object_in s.heap o).values, refl, x.2))
+          subst (λ (b : Bool). Fine program fixed types this ls (λ more after x. (after ≡ ls) × (n : ℕ) × (x ≡ Int (pos n)) × IsLength n) (load_if b o Length s).said (load_if b o Length s).after) (sym (has_length (object_in s.heap o) t x.0)) (types, ls, extends_self types, h, (refl, length (object_in s.heap o).values, refl, x.2), extends_self ls)
 
   -- an element
   pub safe_element : (types : List JavaType) (this : Option ℕ) (ls : List JavaType) (t : JavaType) (v w : Value) → IsOf program.table types (ArrayType t) v → IsOf program.table types IntType w → Safe program fixed types this ls (element v w) (Gives program ls t)
   safe_element types this ls t (Int z) w i j = absurd (cc (i.0))
   safe_element types this ls t (Truth b) w i j = absurd (cc (i))
-  safe_element types this ls t Null (Int z) i j = record { by = λ s h. tt }
+  safe_element types this ls t Null (Int z) i j = record { by = λ s h. (types, ls, extends_self types, h, extends_self ls) }
   safe_element types this ls t Null (Truth b) i j = absurd (cc (j))
   safe_element types this ls t Null Null i j = absurd (cc (j))
   safe_element types this ls t Null (Reference p) i j = record { by = λ s h. absurd (no_int types s p h.heap j) }
@@ -375,13 +370,13 @@ module _ (program : Program) (fixed : Fixed) where
   safe_element types this ls t (Reference o) (Reference p) i j = record { by = λ s h. absurd (no_int types s p h.heap j) }
   safe_element types this ls t (Reference o) (Int z) i j = record { by = λ s h. go s h (array_of_type types s o t h.heap i.0 (array_known types s o t h.heap i)) }
     where
-      read : (s : State) → IsStateOf program fixed types this ls s → IsObjectOf program types (ArrayType t) (object_in s.heap o) → (k : Option ℕ) → index_within z (length (object_in s.heap o).values) ≡ k → Fine program fixed types this (Gives program ls t) (element_read k o s).said (element_read k o s).after
-      read s h x None e = tt
-      read s h x (Some k) e = (types, ls, extends_self types, h, (refl, all_found program.table types t (object_in s.heap o).values k x.1 (index_below z (length (object_in s.heap o).values) k e)))
+      read : (s : State) → IsStateOf program fixed types this ls s → IsObjectOf program types (ArrayType t) (object_in s.heap o) → (k : Option ℕ) → index_within z (length (object_in s.heap o).values) ≡ k → Fine program fixed types this ls (Gives program ls t) (element_read k o s).said (element_read k o s).after
+      read s h x None e = (types, ls, extends_self types, h, extends_self ls)
+      read s h x (Some k) e = (types, ls, extends_self types, h, (refl, all_found program.table types t (object_in s.heap o).values k x.1 (index_below z (length (object_in s.heap o).values) k e)), extends_self ls)
 
-      go : (s : State) → IsStateOf program fixed types this ls s → IsObjectOf program types (ArrayType t) (object_in s.heap o) → Fine program fixed types this (Gives program ls t) (element (Reference o) (Int z) s).said (element (Reference o) (Int z) s).after
+      go : (s : State) → IsStateOf program fixed types this ls s → IsObjectOf program types (ArrayType t) (object_in s.heap o) → Fine program fixed types this ls (Gives program ls t) (element (Reference o) (Int z) s).said (element (Reference o) (Int z) s).after
       go s h x =
-          subst (λ (b : Bool). Fine program fixed types this (Gives program ls t) (element_if b o z s).said (element_if b o z s).after) (sym (has_length (object_in s.heap o) t x.0))
+          subst (λ (b : Bool). Fine program fixed types this ls (Gives program ls t) (element_if b o z s).said (element_if b o z s).after) (sym (has_length (object_in s.heap o) t x.0))
           (read s h x (index_within z (length (object_in s.heap o).values)) refl)
 
   pub set_long : (heap : List HeapObject) (o : ℕ) (x : HeapObject) (types : List JavaType) → IsHeapOf program types heap → IsObjectOf program types (type_at types o) x → length heap ≤ length (slice_set heap o x)
@@ -391,7 +386,7 @@ module _ (program : Program) (fixed : Fixed) where
   pub safe_store_element : (types : List JavaType) (this : Option ℕ) (ls : List JavaType) (t : JavaType) (v w x : Value) → IsOf program.table types (ArrayType t) v → IsOf program.table types IntType w → IsOf program.table types t x → Safe program fixed types this ls (store_element program t v w x) (Keeps ls)
   safe_store_element types this ls t (Int z) w x i j y = absurd (cc (i.0))
   safe_store_element types this ls t (Truth b) w x i j y = absurd (cc (i))
-  safe_store_element types this ls t Null (Int z) x i j y = record { by = λ s h. tt }
+  safe_store_element types this ls t Null (Int z) x i j y = record { by = λ s h. (types, ls, extends_self types, h, extends_self ls) }
   safe_store_element types this ls t Null (Truth b) x i j y = absurd (cc (j))
   safe_store_element types this ls t Null Null x i j y = absurd (cc (j))
   safe_store_element types this ls t Null (Reference p) x i j y = record { by = λ s h. absurd (no_int types s p h.heap j) }
@@ -403,15 +398,15 @@ module _ (program : Program) (fixed : Fixed) where
       changed : (s : State) → IsObjectOf program types (ArrayType t) (object_in s.heap o) → (k : ℕ) → IsObjectOf program types (ArrayType t) (record { class = (object_in s.heap o).class; values = slice_set (object_in s.heap o).values k x })
       changed s a k = (a.0, all_set program.table types t (object_in s.heap o).values k x a.1 y, subst IsLength (sym (length-set (object_in s.heap o).values k x)) a.2)
 
-      stored : (s : State) → IsStateOf program fixed types this ls s → type_at types o ≡ ArrayType t → (k : Option ℕ) → Fine program fixed types this (Keeps ls) (store_index o k x s).said (store_index o k x s).after
-      stored s h e None = tt
+      stored : (s : State) → IsStateOf program fixed types this ls s → type_at types o ≡ ArrayType t → (k : Option ℕ) → Fine program fixed types this ls (Keeps ls) (store_index o k x s).said (store_index o k x s).after
+      stored s h e None = (types, ls, extends_self types, h, extends_self ls)
       stored s h e (Some k) =
           let new = subst (λ (u : JavaType). IsObjectOf program types u (record { class = (object_in s.heap o).class; values = slice_set (object_in s.heap o).values k x })) (sym e) (changed s (array_of_type types s o t h.heap i.0 e) k) in
-          (types, ls, extends_self types, with_heap types types this ls s (put s.heap o k x) (extends_self types) h (object_set program types types s.heap o _ h.heap new) (set_long s.heap o _ types h.heap new), refl)
+          (types, ls, extends_self types, with_heap types types this ls s (put s.heap o k x) (extends_self types) h (object_set program types types s.heap o _ h.heap new) (set_long s.heap o _ types h.heap new), refl, extends_self ls)
 
-      go : (s : State) → IsStateOf program fixed types this ls s → type_at types o ≡ ArrayType t → Fine program fixed types this (Keeps ls) (store_element program t (Reference o) (Int z) x s).said (store_element program t (Reference o) (Int z) x s).after
+      go : (s : State) → IsStateOf program fixed types this ls s → type_at types o ≡ ArrayType t → Fine program fixed types this ls (Keeps ls) (store_element program t (Reference o) (Int z) x s).said (store_element program t (Reference o) (Int z) x s).after
       go s h e =
-          subst (λ (b : Bool). Fine program fixed types this (Keeps ls) (store_element_if b o z x s).said (store_element_if b o z x s).after) (sym (array_of_type types s o t h.heap i.0 e).0)
+          subst (λ (b : Bool). Fine program fixed types this ls (Keeps ls) (store_element_if b o z x s).said (store_element_if b o z x s).after) (sym (array_of_type types s o t h.heap i.0 e).0)
           (stored s h e (index_within z (length (object_in s.heap o).values)))
 
   -- ---- fields
@@ -421,10 +416,10 @@ module _ (program : Program) (fixed : Fixed) where
       → ((d : ℕ) → is_below program.table d c ≡ true → is_below program.table d f.class ≡ true) → IsOf program.table types (ClassType c) v → IsOf program.table types f.type x → Safe program fixed types this ls (store program f v x) (Keeps ls)
   safe_store types this ls f c (Int z) x has b up i y = absurd (cc (i.0))
   safe_store types this ls f c (Truth z) x has b up i y = absurd (cc (i))
-  safe_store types this ls f c Null x has b up i y = record { by = λ s h. tt }
+  safe_store types this ls f c Null x has b up i y = record { by = λ s h. (types, ls, extends_self types, h, extends_self ls) }
   safe_store types this ls f c (Reference o) x has b up i y = record { by = λ s h. go s h (class_known types s o c h.heap i) }
     where
-      go : (s : State) → IsStateOf program fixed types this ls s → (d : ℕ) × (type_at types o ≡ ClassType d) × (is_below program.table d c ≡ true) → Fine program fixed types this (Keeps ls) (store program f (Reference o) x s).said (store program f (Reference o) x s).after
+      go : (s : State) → IsStateOf program fixed types this ls s → (d : ℕ) × (type_at types o ≡ ClassType d) × (is_below program.table d c ≡ true) → Fine program fixed types this ls (Keeps ls) (store program f (Reference o) x s).said (store program f (Reference o) x s).after
       go s h r =
           let at = has.at r.0 r.2 in
           let a = object_of_class types s o c r.0 h.heap i.0 r.1 in
@@ -432,8 +427,8 @@ module _ (program : Program) (fixed : Fixed) where
           let set = value_set program.table types (field_types program r.0) (object_in s.heap o).values at.0 x a.1 (subst (λ (u : JavaType). IsOf program.table types u x) (sym at.3) y) in
           let new : IsObjectOf program types (ClassType r.0) (record { class = (object_in s.heap o).class; values = slice_set (object_in s.heap o).values at.0 x }) = (a.0, set) in
           let new' = subst (λ (u : JavaType). IsObjectOf program types u (record { class = (object_in s.heap o).class; values = slice_set (object_in s.heap o).values at.0 x })) (sym r.1) new in
-          subst (λ (k : Option ℕ). Fine program fixed types this (Keeps ls) (store_at o k x s).said (store_at o k x s).after) (sym spot)
-          (types, ls, extends_self types, with_heap types types this ls s (put s.heap o at.0 x) (extends_self types) h (object_set program types types s.heap o _ h.heap new') (set_long s.heap o _ types h.heap new'), refl)
+          subst (λ (k : Option ℕ). Fine program fixed types this ls (Keeps ls) (store_at o k x s).said (store_at o k x s).after) (sym spot)
+          (types, ls, extends_self types, with_heap types types this ls s (put s.heap o at.0 x) (extends_self types) h (object_set program types types s.heap o _ h.heap new') (set_long s.heap o _ types h.heap new'), refl, extends_self ls)
 
   -- ---- new objects
 
@@ -442,7 +437,7 @@ module _ (program : Program) (fixed : Fixed) where
       → Safe program fixed types this ls (make class vs) (λ more after v. (after ≡ ls) × (o : ℕ) × (v ≡ Reference o) × (o < length more) × (type_at more o ≡ u) × (fixed.candidates ≤ o))
   safe_make types this ls u class vs k = record { by = λ s h. go s h }
     where
-      go : (s : State) → IsStateOf program fixed types this ls s → Fine program fixed types this (λ more after v. (after ≡ ls) × (o : ℕ) × (v ≡ Reference o) × (o < length more) × (type_at more o ≡ u) × (fixed.candidates ≤ o)) (make class vs s).said (make class vs s).after
+      go : (s : State) → IsStateOf program fixed types this ls s → Fine program fixed types this ls (λ more after v. (after ≡ ls) × (o : ℕ) × (v ≡ Reference o) × (o < length more) × (type_at more o ≡ u) × (fixed.candidates ≤ o)) (make class vs s).said (make class vs s).after
       go s h =
           let heap = s.heap ++ record { class = class; values = vs } ∷ [] in
           let long = heap_long program types types s.heap h.heap in
@@ -452,6 +447,7 @@ module _ (program : Program) (fixed : Fixed) where
             one_more types u,
             with_heap types (types ++ u ∷ []) this ls s heap (one_more types u) h (heap_append program types s.heap u (record { class = class; values = vs }) h.heap k) (omega (arith, length-append s.heap (record { class = class; values = vs } ∷ []))),
             (refl, length s.heap, refl, omega (arith, long, length-append types (u ∷ [])), e, h.enough),
+            extends_self ls,
           )
 
   -- writes a field of an object that the run has made
@@ -459,16 +455,16 @@ module _ (program : Program) (fixed : Fixed) where
       → ((d : ℕ) → is_below program.table d c ≡ true → is_below program.table d f.class ≡ true) → IsOf program.table types (ClassType c) (Reference o) → IsOf program.table types f.type x → Safe program fixed types this ls (store_new program f (Reference o) x) (Keeps ls)
   safe_store_new types this ls f c o x l has b up i y = record { by = λ s h. go s h (le-ltb o s.candidates (omega (arith, l, h.candidates))) }
     where
-      go : (s : State) → IsStateOf program fixed types this ls s → nat_lt o s.candidates ≡ false → Fine program fixed types this (Keeps ls) (store_new program f (Reference o) x s).said (store_new program f (Reference o) x s).after
-      go s h e = subst (λ (q : Bool). Fine program fixed types this (Keeps ls) (store_new_if q program f o x s).said (store_new_if q program f o x s).after) (sym e) ((safe_store types this ls f c (Reference o) x has b up i y).by s h)
+      go : (s : State) → IsStateOf program fixed types this ls s → nat_lt o s.candidates ≡ false → Fine program fixed types this ls (Keeps ls) (store_new program f (Reference o) x s).said (store_new program f (Reference o) x s).after
+      go s h e = subst (λ (q : Bool). Fine program fixed types this ls (Keeps ls) (store_new_if q program f o x s).said (store_new_if q program f o x s).after) (sym e) ((safe_store types this ls f c (Reference o) x has b up i y).by s h)
 
   -- ---- what a contract sees
 
   pub safe_result : (types : List JavaType) (this : Option ℕ) (ls : List JavaType) (t : JavaType) → fixed.result ≡ Some t → Safe program fixed types this ls get_result (Gives program ls t)
   safe_result types this ls t e = record { by = λ s h. go s h s.result (subst (λ (x : Option JavaType). IsResult program.table types x s.result) e h.result) }
     where
-      go : (s : State) → IsStateOf program fixed types this ls s → (r : Option Value) → IsResult program.table types (Some t) r → Fine program fixed types this (Gives program ls t) (given r s).said (given r s).after
-      go s h (Some v) i = (types, ls, extends_self types, h, (refl, i))
+      go : (s : State) → IsStateOf program fixed types this ls s → (r : Option Value) → IsResult program.table types (Some t) r → Fine program fixed types this ls (Gives program ls t) (given r s).said (given r s).after
+      go s h (Some v) i = (types, ls, extends_self types, h, (refl, i), extends_self ls)
       go s h None i = absurd i
 
   old_found : (types : List JavaType) (ps : List (Place × JavaType)) (os : List Old) (p : Place) (t : JavaType) → AreOlds program.table types ps os → type_of_old ps p ≡ Some t → (v : Value) × (old_at os p ≡ Some v) × IsOf program.table types t v
@@ -483,5 +479,5 @@ module _ (program : Program) (fixed : Fixed) where
   pub safe_old : (types : List JavaType) (this : Option ℕ) (ls : List JavaType) (p : Place) (t : JavaType) → type_of_old fixed.olds p ≡ Some t → Safe program fixed types this ls (get_old p) (Gives program ls t)
   safe_old types this ls p t e = record { by = λ s h. go s h (old_found types fixed.olds s.olds p t h.olds e) }
     where
-      go : (s : State) → IsStateOf program fixed types this ls s → (v : Value) × (old_at s.olds p ≡ Some v) × IsOf program.table types t v → Fine program fixed types this (Gives program ls t) (get_old p s).said (get_old p s).after
-      go s h r = subst (λ (x : Option Value). Fine program fixed types this (Gives program ls t) (given x s).said (given x s).after) (sym r.1) (types, ls, extends_self types, h, (refl, r.2))
+      go : (s : State) → IsStateOf program fixed types this ls s → (v : Value) × (old_at s.olds p ≡ Some v) × IsOf program.table types t v → Fine program fixed types this ls (Gives program ls t) (get_old p s).said (get_old p s).after
+      go s h r = subst (λ (x : Option Value). Fine program fixed types this ls (Gives program ls t) (given x s).said (given x s).after) (sym r.1) (types, ls, extends_self types, h, (refl, r.2), extends_self ls)

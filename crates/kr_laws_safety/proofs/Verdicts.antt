@@ -47,8 +47,8 @@ olds_keep program [] s = refl
 olds_keep program (o ∷ os) s = keeps_then (value program o.scope o.tree) _ (value_keeps program o.scope o.tree) (λ v. keeps_then (olds_valued program os) _ (olds_keep program os) (λ vs s. refl)) s
 
 -- what a run ended with, where it gave something
-fine_ok : (program : Program) (fixed : Fixed) (types : List JavaType) (this : Option ℕ) {A : Type 0} (Q : List JavaType → List JavaType → A → Type 0) (r : Result A Stop) (t : State) (a : A) → Fine program fixed types this Q r t → r ≡ Ok a → Fine program fixed types this Q (Ok a) t
-fine_ok program fixed types this Q r t a h e = subst (λ (x : Result _ Stop). Fine program fixed types this Q x t) e h
+fine_ok : (program : Program) (fixed : Fixed) (types : List JavaType) (this : Option ℕ) (ls : List JavaType) {A : Type 0} (Q : List JavaType → List JavaType → A → Type 0) (r : Result A Stop) (t : State) (a : A) → Fine program fixed types this ls Q r t → r ≡ Ok a → Fine program fixed types this ls Q (Ok a) t
+fine_ok program fixed types this ls Q r t a h e = subst (λ (x : Result _ Stop). Fine program fixed types this ls Q x t) e h
 
 olds_more : (program : Program) (types more : List JavaType) (ps : List (Place × JavaType)) (os : List Old) → Extends types more → AreOlds program.table types ps os → AreOlds program.table more ps os
 olds_more program types more [] os x h = tt
@@ -92,9 +92,9 @@ module _ (program : Program) (fixed : Fixed) (facts : IsTypedProgram program) wh
   checked this ls [] h types s k = tt
   checked this ls (n ∷ ns) h types s k =
       let f = (h.0 types).by s k in
-      (fine_said program fixed types this _ (value program n.scope n.tree s).said (value program n.scope n.tree s).after f, λ v e. next v (fine_ok program fixed types this _ (value program n.scope n.tree s).said (value program n.scope n.tree s).after v f e) (λ more t j. checked this ls ns h.1 more t j))
+      (fine_said program fixed types this ls _ (value program n.scope n.tree s).said (value program n.scope n.tree s).after f, λ v e. next v (fine_ok program fixed types this ls _ (value program n.scope n.tree s).said (value program n.scope n.tree s).after v f e) (λ more t j. checked this ls ns h.1 more t j))
     where
-      next : (v : Value) → Fine program fixed types this (Boolean program fixed facts ls) (Ok v) (value program n.scope n.tree s).after → ((more : List JavaType) (t : State) → IsStateOf program fixed more this ls t → AreNotStuck program ns t) → AreNotStuck program ns (value program n.scope n.tree s).after
+      next : (v : Value) → Fine program fixed types this ls (Boolean program fixed facts ls) (Ok v) (value program n.scope n.tree s).after → ((more : List JavaType) (t : State) → IsStateOf program fixed more this ls t → AreNotStuck program ns t) → AreNotStuck program ns (value program n.scope n.tree s).after
       next v f rest = rest f.0 (value program n.scope n.tree s).after (subst (λ (z : List JavaType). IsStateOf program fixed f.0 this z (value program n.scope n.tree s).after) f.4.0 f.3)
 
 -- ---- the nodes of a contract stand in its scope
@@ -255,17 +255,17 @@ module _ (problem : Problem) (facts : IsTypedProgram problem.program) (contracts
       (i.0, e ∙ i.1, value_more problem.program.table types more (ClassType root) (Reference i.0) x i.2)
 
   abbrev ValuedAs : List Old → Type 0
-  ValuedAs os = Fine problem.program before_body types own (λ more after vs. (after ≡ ls) × AreOlds problem.program.table more (old_types (olds_of problem.program m)) vs) (Ok os) valued_on.after
+  ValuedAs os = Fine problem.program before_body types own ls (λ more after vs. (after ≡ ls) × AreOlds problem.program.table more (old_types (olds_of problem.program m)) vs) (Ok os) valued_on.after
 
   valued_as : (os : List Old) → valued_on.said ≡ Ok os → ValuedAs os
-  valued_as os e = fine_ok problem.program before_body types own _ valued_on.said valued_on.after os (olds_run.by first started) e
+  valued_as os e = fine_ok problem.program before_body types own ls _ valued_on.said valued_on.after os (olds_run.by first started) e
 
   -- the state behind the `\old`s
   second : (os : List Old) (f : ValuedAs os) → IsStateOf problem.program before_body f.0 own ls valued_on.after
   second os f = subst (λ (z : List JavaType). IsStateOf problem.program before_body f.0 own z valued_on.after) f.4.0 f.3
 
   abbrev BodyFine : List JavaType → Result Value Stop → State → Type 0
-  BodyFine more r t = Fine problem.program before_body more own (GivesAs problem.program ls m.result) r t
+  BodyFine more r t = Fine problem.program before_body more own ls (GivesAs problem.program ls m.result) r t
 
   body_fine : (os : List Old) (f : ValuedAs os) → BodyFine f.0 body_then.said body_then.after
   unfolding body_of
@@ -280,7 +280,7 @@ module _ (problem : Problem) (facts : IsTypedProgram problem.program) (contracts
       record { heap = k.heap; this_is = root_this b.0 body_then.after.this_value (extends_twice types f.0 b.0 f.2 b.2) still_first; locals_are = k.locals_are; result = tt; olds = tt; candidates = k.candidates; enough = k.enough }
 
   abbrev PredicateFine : List JavaType → Result Value Stop → State → Type 0
-  PredicateFine more r t = Fine problem.program before_body more (Some root) (Boolean problem.program before_body facts ls) r t
+  PredicateFine more r t = Fine problem.program before_body more (Some root) ls (Boolean problem.program before_body facts ls) r t
 
   predicate_fine : (os : List Old) (f : ValuedAs os) (r : Value) (b : BodyFine f.0 (Ok r) body_then.after) → PredicateFine b.0 checked_then.said checked_then.after
   predicate_fine os f r b = (predicate_safe problem.program before_body facts b.0 root ls contracts.predicate).by body_then.after (third os f r b)
@@ -308,12 +308,12 @@ module _ (problem : Problem) (facts : IsTypedProgram problem.program) (contracts
 
   pub testable : IsTestable problem m (test_start problem vector fuel)
   testable = record {
-    olds = fine_said problem.program before_body types own _ valued_on.said valued_on.after (olds_run.by first started);
-    body = λ os e. let f = valued_as os e in fine_said problem.program before_body f.0 own _ body_then.said body_then.after (body_fine os f);
-    predicate = λ os r e g. let f = valued_as os e in let b = fine_ok problem.program before_body f.0 own _ body_then.said body_then.after r (body_fine os f) g in fine_said problem.program before_body b.0 (Some root) _ checked_then.said checked_then.after (predicate_fine os f r b);
+    olds = fine_said problem.program before_body types own ls _ valued_on.said valued_on.after (olds_run.by first started);
+    body = λ os e. let f = valued_as os e in fine_said problem.program before_body f.0 own ls _ body_then.said body_then.after (body_fine os f);
+    predicate = λ os r e g. let f = valued_as os e in let b = fine_ok problem.program before_body f.0 own ls _ body_then.said body_then.after r (body_fine os f) g in fine_said problem.program before_body b.0 (Some root) ls _ checked_then.said checked_then.after (predicate_fine os f r b);
     ensures = λ os r v e g h.
         let f = valued_as os e in
-        let b = fine_ok problem.program before_body f.0 own _ body_then.said body_then.after r (body_fine os f) g in
-        let c = fine_ok problem.program before_body b.0 (Some root) _ checked_then.said checked_then.after v (predicate_fine os f r b) h in
+        let b = fine_ok problem.program before_body f.0 own ls _ body_then.said body_then.after r (body_fine os f) g in
+        let c = fine_ok problem.program before_body b.0 (Some root) ls _ checked_then.said checked_then.after v (predicate_fine os f r b) h in
         checked problem.program (behind_body problem.program m) facts own ls (ensures_of problem.program m) (contract_boolean problem.program (behind_body problem.program m) facts m Ensuring method result_known (flat_map ensured_in m.contracts) (contracts.ensures m tested)) c.0 (record checked_then.after { result = Some r; olds = os }) (last os f r b v c);
   }

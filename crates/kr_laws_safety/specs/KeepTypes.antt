@@ -20,7 +20,7 @@ use Rattle.kr_laws_safety.specs.Fits.{IsOf, AreOf, IsLength, IsObjectOf, type_at
 use Rattle.kr_laws_safety.specs.Triples.{Fixed, IsThis, Extends, Safe, Gives, Keeps, type_of_local, type_of_old}
 use Rattle.kr_laws_safety.specs.Steps.{HasField, IsSeen, Collection, type_with, is_junction}
 
--- Each step of the meaning on values of its types, operators among them: it isn't stuck, and what it gives and leaves is of its types.
+-- Each step of the meaning on values of its types, operators among them: it isn't stuck, what it gives is of its type, and what it leaves of its types, also where it traps.
 pub record KeepTypes (program : Program) (fixed : Fixed) : Type 0 where
   -- the frame
   pub ticks : (types : List JavaType) (this : Option ℕ) (ls : List JavaType) → Safe program fixed types this ls tick (Keeps ls)

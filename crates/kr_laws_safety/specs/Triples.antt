@@ -50,16 +50,16 @@ pub record IsStateOf (program : Program) (fixed : Fixed) (types : List JavaType)
 abbrev pub Extends : List JavaType → List JavaType → Type 0
 Extends types more = (new : List JavaType) × (more ≡ types ++ new)
 
--- What a run ends with: what it gives is as said, of the types of the objects and of the locals after it. Traps and want of
--- fuel are fine.
-abbrev pub Fine : Program → Fixed → List JavaType → Option ℕ → {A : Type 0} → (List JavaType → List JavaType → A → Type 0) → Result A Stop → State → Type 0
-Fine program fixed types this Q (Ok a) s = (more : List JavaType) × (locals : List JavaType) × Extends types more × IsStateOf program fixed more this locals s × Q more locals a
-Fine program fixed types this Q (Err (Trapped kind)) s = Unit {0}
-Fine program fixed types this Q (Err OutOfFuel) s = Unit {0}
-Fine program fixed types this Q (Err Stuck) s = ⊥
+-- What a run ends with: what it gives is as said, of the types of the objects and of the locals after it. Where it traps, too, objects
+-- keep their types, `this` is as it was, and the locals that were there keep theirs: code may go on behind a trap. Want of fuel is fine.
+abbrev pub Fine : Program → Fixed → List JavaType → Option ℕ → List JavaType → {A : Type 0} → (List JavaType → List JavaType → A → Type 0) → Result A Stop → State → Type 0
+Fine program fixed types this before Q (Ok a) s = (more : List JavaType) × (locals : List JavaType) × Extends types more × IsStateOf program fixed more this locals s × Q more locals a × Extends before locals
+Fine program fixed types this before Q (Err (Trapped kind)) s = (more : List JavaType) × (locals : List JavaType) × Extends types more × IsStateOf program fixed more this locals s × Extends before locals
+Fine program fixed types this before Q (Err OutOfFuel) s = Unit {0}
+Fine program fixed types this before Q (Err Stuck) s = ⊥
 
 pub record Safe (program : Program) (fixed : Fixed) (types : List JavaType) (this : Option ℕ) (locals : List JavaType) {A : Type 0} (m : Run A) (Q : List JavaType → List JavaType → A → Type 0) : Type 0 where
-  pub by : (s : State) → IsStateOf program fixed types this locals s → Fine program fixed types this Q (m s).said (m s).after
+  pub by : (s : State) → IsStateOf program fixed types this locals s → Fine program fixed types this locals Q (m s).said (m s).after
 
 -- the locals are as they were, and what is given is of a type
 abbrev pub Gives : Program → List JavaType → JavaType → List JavaType → List JavaType → Value → Type 0

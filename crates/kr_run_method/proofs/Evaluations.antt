@@ -105,7 +105,7 @@ module _ (program : Program) (facts : IsTypedProgram program) (m : tables.Method
         → IsCondition program (type_of_old ts) (record { scope = in_contract part (method_scope program m); tree = t }) → Unstuck (record { scope = in_contract part (method_scope program m); tree = t })
     condition result ts part t known r o h =
         let safe = (contract_boolean program (fixed result ts) facts m part method known (t ∷ []) (h, tt)).0 call.types in
-        fine_said program (fixed result ts) call.types own _ (value program (in_contract part (method_scope program m)) t state).said (value program (in_contract part (method_scope program m)) t state).after (safe.by state (started result ts r o))
+        fine_said program (fixed result ts) call.types own (types_in m.parameters) _ (value program (in_contract part (method_scope program m)) t state).said (value program (in_contract part (method_scope program m)) t state).after (safe.by state (started result ts r o))
 
     -- A postcondition without `\result` is evaluated as in a method that gives none.
     alone : (t : Tree) → has_result t ≡ false → AreOlds program.table call.types (old_types olds) state.olds → IsCondition program (type_of_old (old_types olds)) (record { scope = ensuring; tree = t }) → Unstuck (record { scope = ensuring; tree = t })
@@ -116,7 +116,7 @@ module _ (program : Program) (facts : IsTypedProgram program) (m : tables.Method
         let typed = same program.arrays (type_of_old (old_types olds)) (Expression false) ensuring ensuring t h.code refl none in
         let k : IsScope program f there = (refl, refl, parameter_variables m.parameters method.parameters, refl, λ x y z. absurd (cc (z))) in
         let safe = value_safe program f facts there t k code (ap (λ (x : Judged). x.faults) typed ∙ h.unbroken) call.types BooleanType BooleanType (ap (λ (x : Judged). type_in x.typed) typed ∙ h.boolean) refl refl in
-        let fine = fine_said program f call.types own _ (value program there t state).said (value program there t state).after (safe.by state (placed None (old_types olds) tt o)) in
+        let fine = fine_said program f call.types own (types_of (method_scope program m).locals) _ (value program there t state).said (value program there t state).after (safe.by state (placed None (old_types olds) tt o)) in
         subst (λ (x : Outcome Value). x.said ≡ Err Stuck → ⊥) (runs_same program.arrays (type_of_old (old_types olds)) program ensuring t state h.code none) fine
 
     postcondition : (t : Tree) → IsSeen program m call.types env t true → IsCondition program (type_of_old (old_types olds)) (record { scope = ensuring; tree = t }) → Unstuck (record { scope = ensuring; tree = t })
@@ -142,7 +142,7 @@ module _ (program : Program) (facts : IsTypedProgram program) (m : tables.Method
             let x = typed_at program f facts s o.tree k (h.code (type_of_old [])) h.unbroken in
             let target = ap is_target (sym (ap type_or_none x.known)) ∙ h.target in
             let safe = value_safe program f facts s o.tree k (h.code (type_of_old [])) h.unbroken call.types x.type x.type x.known target (assignable_itself program.table x.type target) in
-            fine_said program f call.types own _ (value program s o.tree state).said (value program s o.tree state).after (safe.by state (placed None [] tt tt))
+            fine_said program f call.types own (types_of (method_scope program m).locals) _ (value program s o.tree state).said (value program s o.tree state).after (safe.by state (placed None [] tt tt))
 
     by_kind : (n : Node) (b : Bool) → IsExpression program m n b → IsSeen program m call.types env n.tree b → Unstuck n
     by_kind n b (required t h) s = condition None [] Requiring t (λ x. absurd (cc (x))) tt tt (h (type_of_old []))

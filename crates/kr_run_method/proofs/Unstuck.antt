@@ -30,7 +30,7 @@ plain = record { candidates = 0; result = None; olds = [] }
 
 module _ (program : Program) (facts : IsTypedProgram program) (m : tables.Method) (values : List Value) (heap : Heap) (fuel : ℕ) (call : IsCall program m values heap) where
   abbrev Ends : Result Value Stop → State → Type 0
-  Ends r t = Fine program plain call.types None (GivesAs program [] m.result) r t
+  Ends r t = Fine program plain call.types None [] (GivesAs program [] m.result) r t
 
   started : IsStateOf program plain call.types None [] (begun heap fuel)
   started = record { heap = call.objects; this_is = tt; locals_are = tt; result = tt; olds = tt; candidates = refl; enough = omega arith }
