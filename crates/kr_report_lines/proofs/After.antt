@@ -83,6 +83,10 @@ none_taken : (room : ℕ) → take room (let ls : List RowLine = [] in ls) ≡ [
 none_taken zero = refl
 none_taken (suc room) = refl
 
+-- of no line
+pub text_none : (room : ℕ) → lines (texts (take room [])) ≡ []
+text_none room = ap (λ (ls : List RowLine). lines (texts ls)) (none_taken room)
+
 pub after_none : (room : ℕ) (a : Count) → IsAfter room [] a a
 after_none room a =
     let none = none_taken room in record {

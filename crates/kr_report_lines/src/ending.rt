@@ -9,8 +9,8 @@ ghost use Rattle.kr_report_lines.specs.Counting.{last_text, status_at};
 ghost use Rattle.kr_report_lines.specs.Lines.{lines_answer, whole_text};
 
 use crate::counts::Count;
-use crate::putting::put_pieces;
 use crate::row_line::RowLine;
+use crate::together::put_together;
 use kr_base::{Cut, Failed, Sink, put_all};
 use kr_mean::Mode;
 use kr_report::{Summary, summary_text};
@@ -99,7 +99,7 @@ pub fn put_text<K: Sink>(
     ensures known { IfOk result IsListingStatus }
 {
     let none = Cut::empty(alloc);
-    match put_pieces(listing.rows.pieces(), limit, Count::new(&none), out) {
+    match put_together(alloc, listing.rows.pieces(), limit, Count::new(&none), out) {
         Ok(count) => match put_last(mode, count, listing.tried, &listing.spent, out) {
             Ok(()) => Ok(status_of(count, &listing.spent)),
             Err(failed) => Err(failed),

@@ -2,7 +2,6 @@
 ghost use Rattle.std.specs.Prelude.{◌≡◌, ◌≤◌, ◌-◌, ◌∷◌, [], IfOk, take};
 ghost use Rattle.kr_base.specs.Told.{Writes};
 ghost use Rattle.kr_report.specs.Reports.{lines};
-ghost use Rattle.kr_survey.specs.Joins.{joined, lists};
 ghost use Rattle.kr_report_lines.specs.Lines.{texts};
 ghost use Rattle.kr_report_lines.specs.Counting.{IsAfter};
 
@@ -41,7 +40,7 @@ fn put_line<'l, K: Sink>(
 }
 
 /// Puts lines, as many as the limit leaves room for.
-fn put_piece<'l, K: Sink>(
+pub(crate) fn put_piece<'l, K: Sink>(
     piece: &'l [RowLine],
     limit: u32,
     count: Count<'l>,
@@ -54,27 +53,6 @@ fn put_piece<'l, K: Sink>(
     let mut count = count;
     for line in piece {
         match put_line(line, limit, count, out) {
-            Ok(next) => count = next,
-            Err(failed) => return Err(failed),
-        }
-    }
-    Ok(count)
-}
-
-/// Puts lines in pieces, as many as the limit leaves room for.
-pub fn put_pieces<'l, K: Sink>(
-    pieces: &'l [Vec<RowLine>],
-    limit: u32,
-    count: Count<'l>,
-    out: &mut K,
-) -> Result<Count<'l>, Failed>
-    requires room { count.valid ≤ limit }
-    ensures text { Writes K.taken K.faults out.old out.new (lines (texts (take (limit - count.entry.valid) (joined (lists pieces.now))))) result }
-    ensures count { IfOk result (IsAfter (limit - count.entry.valid) (joined (lists pieces.now)) count.entry) }
-{
-    let mut count = count;
-    for piece in pieces {
-        match put_piece(piece.as_slice(), limit, count, out) {
             Ok(next) => count = next,
             Err(failed) => return Err(failed),
         }

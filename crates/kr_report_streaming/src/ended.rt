@@ -12,13 +12,12 @@ ghost use Rattle.kr_survey.specs.Scans.{rows_of};
 
 use crate::halt::{Ended, Halt};
 use crate::progress::Progress;
-use crate::together::put_together;
 use kr_base::{Failed, Sink};
 use kr_board::Logged;
 use kr_mean::Mode;
 use kr_pool_desk::Run;
 use kr_pool_rounds::Alone;
-use kr_report_lines::{RowLine, put_last, status_of};
+use kr_report_lines::{RowLine, put_last, put_together, status_of};
 use kr_survey::Listing;
 
 /// Puts what is left of a listing behind what was put, and the last line. Says the status.

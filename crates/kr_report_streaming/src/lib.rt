@@ -11,7 +11,6 @@ mod in_rounds;
 mod progress;
 mod putting;
 mod survey;
-mod together;
 
 pub use ending::{end, end_traced};
 pub use halt::{Ended, Halt};

@@ -6,9 +6,8 @@ ghost use Rattle.kr_report_streaming.specs.Puts.{HasPut, Goes};
 
 use crate::halt::{Drained, Halt};
 use crate::progress::Progress;
-use crate::together::put_together;
 use kr_base::{Failed, NoMemory, Sink};
-use kr_report_lines::{Count, RowLine};
+use kr_report_lines::{Count, RowLine, put_together};
 use std::alloc::Global;
 
 /// Whether there is no line.

@@ -1,7 +1,7 @@
 use Rattle.std.proofs.Common.{◌+◌, take, drop}
 use Rattle.kr_survey.specs.Joins.{joined, lists}
 use Rattle.kr_report_lines.proofs.Steps.{pieces_after, pieces_more, room_kept, step_added, step_after, step_stopped}
-use Rattle.kr_report_lines.proofs.putting.put_pieces.Goals as goal
+use Rattle.kr_report_lines.proofs.together.put_together.Goals as goal
 
 pub returns-in-Err-clause-text : goal.returns-in-Err-clause-text
 returns-in-Err-clause-text g c =

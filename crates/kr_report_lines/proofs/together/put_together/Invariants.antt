@@ -4,7 +4,7 @@ use Rattle.kr_report.specs.Reports.{lines}
 use Rattle.kr_survey.specs.Joins.{joined, lists}
 use Rattle.kr_report_lines.specs.Lines.{texts}
 use Rattle.kr_report_lines.specs.Counting.{IsAfter}
-use Rattle.kr_report_lines.proofs.putting.put_pieces.Given as goal
+use Rattle.kr_report_lines.proofs.together.put_together.Given as goal
 
 abbrev pub invariant-loop-piece : goal.invariant-loop-piece
 invariant-loop-piece g l = record {
