@@ -258,7 +258,7 @@ impl<R: Drop, N: Run<R>> Desk<R, N> {
     fn is_over_share(&self, rows: u64) -> bool {
         match self.board.window() {
             None => false,
-            Some(window) => rows > window / 8,
+            Some(window) => rows > window / 12,
         }
     }
 
@@ -303,11 +303,11 @@ impl<R: Drop, N: Run<R>> Desk<R, N> {
         }
     }
 
-    // Whether the rows kept fill half of the window.
-    fn is_half_full(&self) -> bool {
+    // Whether the rows kept fill nearly all of the window.
+    fn is_nearly_full(&self) -> bool {
         match self.board.window() {
             None => false,
-            Some(window) => self.board.rows_kept() >= window / 2,
+            Some(window) => self.board.rows_kept() >= window - window / 8,
         }
     }
 
@@ -315,12 +315,11 @@ impl<R: Drop, N: Run<R>> Desk<R, N> {
     fn is_rest_wanted(&self, lease: &Lease) -> bool {
         !self.has_takeable()
             && !self.is_at_window()
-            && (!self.is_half_full() || self.is_foremost(lease.segment))
+            && (!self.is_nearly_full() || self.is_foremost(lease.segment))
     }
 
-    /// A seat cuts what it has left, and lays the rest out for others, unless something can be taken already or the window is
-    /// full. Where it is half full the foremost alone is cut. The lease under which it goes on, and whether it cut.
-    pub fn lay_out(&mut self, seat: u32, lease: Lease, calls: &mut Share<N>) -> (Lease, bool)
+    // A seat cuts what it has left, and gives the rest up. The lease under which it goes on, and whether there was a cut.
+    fn cut_off(&mut self, seat: u32, lease: Lease, calls: &mut Share<N>) -> (Lease, bool)
         requires part { 0 < calls.old.parts }
         requires below { seat < N.workers }
         requires lease { IsLeaseOf seat lease }
@@ -328,9 +327,6 @@ impl<R: Drop, N: Run<R>> Desk<R, N> {
         ensures drained { drained self.new.0.log ≡ drained self.old.0.log }
         ensures parts { calls.new.parts ≡ calls.old.parts }
     {
-        if !self.is_rest_wanted(&lease) {
-            return (lease, false);
-        }
         match self.split(seat, &lease, calls) {
             Err(_) => (lease, false),
             Ok(None) => (lease, false),
@@ -347,6 +343,32 @@ impl<R: Drop, N: Run<R>> Desk<R, N> {
                 )
             }
         }
+    }
+
+    /// A seat cuts what it has left, and lays rests out for others, unless something can be taken already or the window is
+    /// nearly full: there the foremost alone is cut. The highest cuts come first, behind which there is often nothing, so it lays
+    /// out up to three at once. The lease under which it goes on, and whether it cut.
+    pub fn lay_out(&mut self, seat: u32, lease: Lease, calls: &mut Share<N>) -> (Lease, bool)
+        requires part { 0 < calls.old.parts }
+        requires below { seat < N.workers }
+        requires lease { IsLeaseOf seat lease }
+        ensures lease { IsLeaseOf seat result.0 }
+        ensures drained { drained self.new.0.log ≡ drained self.old.0.log }
+        ensures parts { calls.new.parts ≡ calls.old.parts }
+    {
+        if !self.is_rest_wanted(&lease) {
+            return (lease, false);
+        }
+        let (first, cut) = self.cut_off(seat, lease, calls);
+        if !cut {
+            return (first, false);
+        }
+        let (second, cut) = self.cut_off(seat, first, calls);
+        if !cut {
+            return (second, true);
+        }
+        let (third, _) = self.cut_off(seat, second, calls);
+        (third, true)
     }
 
     /// A seat gives a lease back.

@@ -24,9 +24,12 @@ use std::sync::{Condvar, Mutex, Wait};
 use std::thread;
 
 /// How often a seat with nothing at hand looks whether all have begun.
-const LOOKS: u32 = 1000;
+const LOOKS: u32 = 20000;
 
-/// How often seats look in vain, before none looks any more.
+/// How often a seat that waits looks whether there is news, before it sleeps.
+const PEEKS: u32 = 1000;
+
+/// How often seats look in vain, one after another, before none looks any more.
 const MISSES: u64 = 4;
 
 /// A board under its lock, how often a seat began a round, how many seats there are, and how often one looked in vain whether all
@@ -38,6 +41,7 @@ pub struct Shared<R, N: Run<R>, D: Ledger> {
     begun: AtomicU64,
     seats: u64,
     missed: AtomicU64,
+    changes: AtomicU64,
 }
 
 // A seat for each worker, which share the ledger's parts.
@@ -104,6 +108,7 @@ impl<R: Drop, N: Run<R>, D: Ledger> Shared<R, N, D> {
                 begun: AtomicU64::new(0),
                 seats: u64::from(workers),
                 missed: AtomicU64::new(0),
+                changes: AtomicU64::new(0),
             },
             seats,
             whole,
@@ -122,6 +127,7 @@ impl<R: Drop, N: Run<R>, D: Ledger> Shared<R, N, D> {
             begun: _,
             seats: _,
             missed: _,
+            changes: _,
         } = self;
         table.into_inner().into_desk(tap)
     }
@@ -159,8 +165,11 @@ impl<R: Drop, N: Run<R>, D: Ledger> Shared<R, N, D> {
         if seats == 0 || self.missed.load(Ordering::SeqCst) >= MISSES {
             return;
         }
-        for _ in 0..LOOKS {
+        for looks in 0..LOOKS {
             if self.begun.load(Ordering::SeqCst) % seats == 0 {
+                if looks > 0 {
+                    self.missed.store(0, Ordering::SeqCst);
+                }
                 return;
             }
             thread::yield_now();
@@ -171,7 +180,24 @@ impl<R: Drop, N: Run<R>, D: Ledger> Shared<R, N, D> {
     /// A seat leaves the round.
     pub fn leave<W: Wait>(&self, rt: &W) {
         self.table.lock(rt).leave();
+        self.tell();
+    }
+
+    // Those that wait look again.
+    fn tell(&self) {
+        self.changes.fetch_add(1, Ordering::SeqCst);
         self.freed.notify_all();
+    }
+
+    // Whether there was no news for a while: who sleeps is woken late, so a seat that waits looks first.
+    fn is_quiet(&self, seen: u64) -> bool {
+        for _ in 0..PEEKS {
+            if self.changes.load(Ordering::SeqCst) != seen {
+                return false;
+            }
+            thread::yield_now();
+        }
+        true
     }
 
     /// A lease for the seat; or none where nothing is left, where the window is full, or where all others of the round left
@@ -180,6 +206,7 @@ impl<R: Drop, N: Run<R>, D: Ledger> Shared<R, N, D> {
         ensures lease { IfOk result (λ taken. IfSome taken (IsLeaseOf seat.new.number)) }
         ensures number { seat.new.number ≡ seat.old.number }
     {
+        let mut quiet = false;
         let mut table = self.table.lock(rt);
         for _ in rt.forever() {
             if table.is_at_window() {
@@ -196,7 +223,15 @@ impl<R: Drop, N: Run<R>, D: Ledger> Shared<R, N, D> {
             if !table.begin_wait() {
                 return Ok(None);
             }
-            table = self.freed.wait(rt, table);
+            if quiet {
+                table = self.freed.wait(rt, table);
+                quiet = false;
+            } else {
+                let seen = self.changes.load(Ordering::SeqCst);
+                drop(table);
+                quiet = self.is_quiet(seen);
+                table = self.table.lock(rt);
+            }
             table.end_wait();
         }
         unreachable!()
@@ -220,7 +255,7 @@ impl<R: Drop, N: Run<R>, D: Ledger> Shared<R, N, D> {
         let mut table = self.table.lock(rt);
         let reported = table.report(lease, part, seat);
         if table.take_news() {
-            self.freed.notify_all();
+            self.tell();
         }
         reported
     }
@@ -231,7 +266,7 @@ impl<R: Drop, N: Run<R>, D: Ledger> Shared<R, N, D> {
         ensures number { seat.new.number ≡ seat.old.number }
     {
         self.table.lock(rt).give_up(lease, seat);
-        self.freed.notify_all();
+        self.tell();
     }
 }
 
