@@ -236,10 +236,8 @@ pub fn work_at<R: Drop, N: Run<R>, D: Ledger, S: Survey<Row = R>, G: Gate, W: Wa
     ensures number { hand.new.seat.number ≡ hand.old.seat.number }
 {
     shared.enter(rt);
+    shared.await_others(rt);
     if !hand.seat.gave_up() {
-        if hand.kept.is_none() {
-            shared.await_others();
-        }
         match work_on(rt, shared, survey, hand, gate, parts) {
             Course::Done => {}
             Course::Leave => {}

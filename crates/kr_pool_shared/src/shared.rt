@@ -22,22 +22,26 @@ use std::sync::atomic::{AtomicU64, Ordering};
 use std::sync::ledger::{Blank, Ledger, Share};
 use std::sync::{Condvar, Mutex, Wait};
 use std::thread;
+use std::time::Duration;
 
-/// How often a seat with nothing at hand looks whether all have begun.
-const LOOKS: u32 = 20000;
+/// How often a seat that began waits for the others to begin, and how many microseconds at most each time.
+const WAITS: u32 = 8;
+
+const WAIT: u64 = 2500;
 
 /// How often a seat that waits looks whether there is news, before it sleeps.
 const PEEKS: u32 = 1000;
 
-/// How often seats look in vain, one after another, before none looks any more.
+/// How often seats wait in vain for the others to begin, one after another, before none waits any more.
 const MISSES: u64 = 4;
 
-/// A board under its lock, how often a seat began a round, how many seats there are, and how often one looked in vain whether all
+/// A board under its lock, how often a seat began a round, how many seats there are, and how often one waited in vain until all
 /// have begun. Who waits is woken where a rest is laid out, a segment is done, a lease is given back, or a seat leaves.
 #[derive(Drop)]
 pub struct Shared<R, N: Run<R>, D: Ledger> {
     table: Mutex<Table<R, N, D>>,
     freed: Condvar,
+    started: Condvar,
     begun: AtomicU64,
     seats: u64,
     missed: AtomicU64,
@@ -105,6 +109,7 @@ impl<R: Drop, N: Run<R>, D: Ledger> Shared<R, N, D> {
             Shared {
                 table,
                 freed: Condvar::new(),
+                started: Condvar::new(),
                 begun: AtomicU64::new(0),
                 seats: u64::from(workers),
                 missed: AtomicU64::new(0),
@@ -124,6 +129,7 @@ impl<R: Drop, N: Run<R>, D: Ledger> Shared<R, N, D> {
         let Shared {
             table,
             freed: _,
+            started: _,
             begun: _,
             seats: _,
             missed: _,
@@ -152,27 +158,36 @@ impl<R: Drop, N: Run<R>, D: Ledger> Shared<R, N, D> {
         self.table.lock(rt).drain(seat, tap)
     }
 
-    /// A seat begins a round.
+    /// A seat begins a round. The last one to begin wakes those that wait for it.
     pub fn enter<W: Wait>(&self, rt: &W) {
         self.begun.fetch_add(1, Ordering::SeqCst);
         self.table.lock(rt).enter();
+        if self.have_all_begun() {
+            self.started.notify_all();
+        }
+    }
+
+    // Whether all seats have begun the round.
+    fn have_all_begun(&self) -> bool {
+        self.seats == 0 || self.begun.load(Ordering::SeqCst) % self.seats == 0
     }
 
     /// Waits until all seats have begun the round, but not for long: it may be that no thread was started for one. A seat that
-    /// found nothing free before the others have begun would leave the round.
-    pub fn await_others(&self) {
-        let seats = self.seats;
-        if seats == 0 || self.missed.load(Ordering::SeqCst) >= MISSES {
+    /// found nothing free before the others have begun would leave the round. And it sleeps: a thread begins on the processor of
+    /// who started it, and where that one goes on, it waits there for milliseconds beside processors that are idle.
+    pub fn await_others<W: Wait>(&self, rt: &W) {
+        if self.missed.load(Ordering::SeqCst) >= MISSES {
             return;
         }
-        for looks in 0..LOOKS {
-            if self.begun.load(Ordering::SeqCst) % seats == 0 {
-                if looks > 0 {
+        for waits in 0..WAITS {
+            let seen = self.started.notifications();
+            if self.have_all_begun() {
+                if waits > 0 {
                     self.missed.store(0, Ordering::SeqCst);
                 }
                 return;
             }
-            thread::yield_now();
+            self.started.sleep(rt, seen, Duration::from_micros(WAIT));
         }
         self.missed.fetch_add(1, Ordering::SeqCst);
     }

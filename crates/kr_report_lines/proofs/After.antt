@@ -30,9 +30,9 @@ pub failing_both : (xs ys : List RowLine) → failing_lines (xs ++ ys) ≡ faili
 failing_both [] ys = refl
 failing_both (l ∷ xs) ys = ap (λ (ls : List RowLine). if l.failing then l ∷ ls else ls) (failing_both xs ys) ∙ failing_one l.failing l (failing_lines xs) (failing_lines ys)
 
-pub last_both : (key : List ℕ) (xs ys : List RowLine) → last_of key (xs ++ ys) ≡ last_of (last_of key xs) ys
-last_both key [] ys = refl
-last_both key (l ∷ xs) ys = last_both l.key xs ys
+pub last_both : (text : List ℕ) (xs ys : List RowLine) → last_of text (xs ++ ys) ≡ last_of (last_of text xs) ys
+last_both text [] ys = refl
+last_both text (l ∷ xs) ys = last_both l.text xs ys
 
 pub length_take : {A : Type 0} (n : ℕ) (xs : List A) → length (take n xs) ≡ min n (length xs)
 length_take zero xs = omega arith
@@ -118,7 +118,7 @@ failing_number false l = refl
 fits : (room : ℕ) → 0 < room → false ≡ nat_lt room 1
 fits room some = grind (arith, nat_tests)
 
-pub line_put : (room : ℕ) (l : RowLine) (a b : Count) → 0 < room → b.valid ≡ a.valid + 1 → b.failing ≡ a.failing + (if l.failing then 1 else 0) → b.last.now ≡ l.key → b.more ≡ a.more → IsAfter room (l ∷ []) a b
+pub line_put : (room : ℕ) (l : RowLine) (a b : Count) → 0 < room → b.valid ≡ a.valid + 1 → b.failing ≡ a.failing + (if l.failing then 1 else 0) → b.last.now ≡ l.text → b.more ≡ a.more → IsAfter room (l ∷ []) a b
 line_put room l a b some valid failing last more =
     let one = line_taken room l some in record {
       valid = let n = ap length one in omega (arith, valid, n);

@@ -4,9 +4,8 @@ use Rattle.std.specs.Prelude.{Option, Some, None, ◌||◌, nat_lt, if◌then◌
 use Rattle.std.proofs.lemmas.Bool.Decides.{nat_tests}
 use Rattle.std.proofs.lemmas.List.{take_all}
 use Rattle.kr_mean.specs.declared.mode.Mode.{Mode}
-use Rattle.kr_report.specs.Texts.{more_text}
 use Rattle.kr_report.specs.Reports.{Answer, bytes_of, lines}
-use Rattle.kr_report_lines.specs.Lines.{cut_lines, failing_lines, last_of, lines_answer, texts, whole_lines}
+use Rattle.kr_report_lines.specs.Lines.{cut_lines, failing_lines, last_of, lines_answer, more_line, texts, whole_lines}
 use Rattle.kr_report_lines.specs.Counting.{IsAfter, last_text, status_at, status_unless_more, text_at, text_unless_more}
 use Rattle.kr_report_lines.specs.declared.row_line.RowLine.{RowLine}
 use Rattle.kr_report_lines.specs.declared.counts.Count.{Count}
@@ -25,7 +24,7 @@ whole_is mode ls tried (Some key) = refl
 
 abbrev pub answer_at : Mode → Bool → List RowLine → ℕ → Option (List ℕ) → Answer
 answer_at mode more ls tried spent =
-    answer (status_at more (length (failing_lines ls)) spent) (texts ls) (text_at more (more_text (last_of [] ls)) (text_unless_more mode (length ls) (length (failing_lines ls)) tried spent))
+    answer (status_at more (length (failing_lines ls)) spent) (texts ls) (text_at more (more_line (last_of [] ls)) (text_unless_more mode (length ls) (length (failing_lines ls)) tried spent))
 
 by_more : (mode : Mode) (limit : ℕ) (ls : List RowLine) (tried : ℕ) (spent : Option (List ℕ)) (t : Bool) → nat_lt limit (length ls) ≡ t
     → (let a : Answer = if t then cut_lines (take limit ls) else whole_lines mode ls tried spent in a) ≡ answer_at mode t (take limit ls) tried spent
@@ -47,9 +46,9 @@ answer_is mode limit ls tried spent a b v f l m is =
     let more : nat_lt limit (length ls) ≡ b.more = ap (λ (t : Bool). t || nat_lt limit (length ls)) (sym m) ∙ sym is.more in
     answer_by mode limit ls tried spent
     ∙ (ap (λ (t : Bool). answer_at mode t front tried spent) more
-    ∙ (ap (λ (n : ℕ). answer (status_at b.more n spent) (texts front) (text_at b.more (more_text (last_of [] front)) (text_unless_more mode (length front) n tried spent))) failing
-    ∙ (ap (λ (n : ℕ). answer (status_at b.more b.failing spent) (texts front) (text_at b.more (more_text (last_of [] front)) (text_unless_more mode n b.failing tried spent))) valid
-    ∙ ap (λ (k : List ℕ). answer (status_at b.more b.failing spent) (texts front) (text_at b.more (more_text k) (text_unless_more mode b.valid b.failing tried spent))) last)))
+    ∙ (ap (λ (n : ℕ). answer (status_at b.more n spent) (texts front) (text_at b.more (more_line (last_of [] front)) (text_unless_more mode (length front) n tried spent))) failing
+    ∙ (ap (λ (n : ℕ). answer (status_at b.more b.failing spent) (texts front) (text_at b.more (more_line (last_of [] front)) (text_unless_more mode n b.failing tried spent))) valid
+    ∙ ap (λ (k : List ℕ). answer (status_at b.more b.failing spent) (texts front) (text_at b.more (more_line k) (text_unless_more mode b.valid b.failing tried spent))) last)))
 
 after_at : (limit room : ℕ) (ls : List RowLine) (a b : Count) → room ≡ limit → IsAfter room ls a b → IsAfter limit ls a b
 after_at limit room ls a b e is = subst (λ (n : ℕ). IsAfter n ls a b) e is

@@ -1,14 +1,16 @@
 -- The listing of a problem's lines is the listing of its entries.
-use Rattle.std.proofs.Common.{◌≡◌, ℕ, zero, suc, List, [], ◌∷◌, Bool, true, false, length, take, map, refl, ap, ◌∙◌, arith}
+use Rattle.std.proofs.Common.{◌≡◌, ℕ, zero, suc, List, [], ◌∷◌, Bool, true, false, length, take, map, refl, ap, ◌∙◌, append_assoc, arith}
 use Rattle.std.specs.Prelude.{Option, Some, None, codes, decimal, ◌++◌, nat_lt, if◌then◌else◌}
 use Rattle.kr_base.specs.declared.entry.Entry.{Entry}
+use Rattle.kr_base.specs.Cuts.{cut_text}
 use Rattle.kr_mean.specs.Problem.{Problem}
 use Rattle.kr_mean.specs.declared.mode.Mode.{Mode}
 use Rattle.kr_mean.specs.declared.mode.Mode.TheVariants.{List as Listing, Method as Testing}
 use Rattle.kr_mean.specs.declared.row.Row.{Row}
-use Rattle.kr_report.specs.Texts.{capped, more_text, row_text, spent_text}
+use Rattle.kr_report.specs.Texts.{capped, more_text, row_text, spent_text, structure_text, verdict_text}
 use Rattle.kr_report.specs.Reports.{Answer, cut_report, failing_in, is_failing, last_key, listing_answer, rows_in, spent_key, summary_text, whole_report}
-use Rattle.kr_report_lines.specs.Lines.{LinesLaw, cut_lines, failing_lines, last_of, line_of, lines_answer, status_by, texts, whole_lines, whole_text}
+use Rattle.kr_report_lines.specs.Lines.{LinesLaw, cut_lines, failing_lines, key_text, last_of, line_of, lines_answer, more_line, status_by, texts, whole_lines, whole_text}
+use Rattle.kr_report_lines.proofs.Keys.{key_begins}
 use Rattle.kr_report_lines.specs.declared.row_line.RowLine.{RowLine}
 
 length_by : {A B : Type 0} (f : A → B) (xs : List A) → length (map f xs) ≡ length xs
@@ -33,13 +35,18 @@ failing_by : (P : Problem) (rows : List Row) → length (failing_lines (map (lin
 failing_by P [] = refl
 failing_by P (row ∷ rows) = one_by (is_failing row.verdict) (line_of P row) row (failing_lines (map (line_of P) rows)) (failing_in rows) (failing_by P rows)
 
-last_behind : (P : Problem) (key : List ℕ) (row : Row) (rows : List Row) → last_of key (map (line_of P) (row ∷ rows)) ≡ last_key (row ∷ rows)
-last_behind P key row [] = refl
-last_behind P key row (next ∷ rows) = last_behind P row.key next rows
+last_behind : (P : Problem) (text : List ℕ) (row : Row) (rows : List Row) → key_text (last_of text (map (line_of P) (row ∷ rows))) ≡ cut_text (last_key (row ∷ rows))
+last_behind P text row [] =
+    let end = structure_text P row.structure ++ codes "\n" in
+    let rest = verdict_text row.verdict ++ end in
+    let front = cut_text row.key ++ codes " " in
+    let grouped : row_text P row ≡ cut_text row.key ++ 32 ∷ rest = append_assoc (front ++ verdict_text row.verdict) (structure_text P row.structure) (codes "\n") ∙ (append_assoc front (verdict_text row.verdict) end ∙ append_assoc (cut_text row.key) (codes " ") rest) in
+    ap key_text grouped ∙ key_begins row.key rest
+last_behind P text row (next ∷ rows) = last_behind P (row_text P row) next rows
 
-last_by : (P : Problem) (rows : List Row) → last_of [] (map (line_of P) rows) ≡ last_key rows
+last_by : (P : Problem) (rows : List Row) → more_line (last_of [] (map (line_of P) rows)) ≡ more_text (last_key rows)
 last_by P [] = refl
-last_by P (row ∷ rows) = last_behind P [] row rows
+last_by P (row ∷ rows) = ap (λ (k : List ℕ). codes "more " ++ k ++ codes "\n") (last_behind P [] row rows)
 
 abbrev answer : ℕ → List (List ℕ) → List ℕ → Answer
 answer status rows last = record { status = status; rows = rows; last = last }
@@ -47,9 +54,9 @@ answer status rows last = record { status = status; rows = rows; last = last }
 cut_by : (P : Problem) (rows : List Row) → cut_lines (map (line_of P) rows) ≡ cut_report P rows
 cut_by P rows =
     let ls = map (line_of P) rows in
-    ap (λ (n : ℕ). answer (status_by n) (texts ls) (more_text (last_of [] ls))) (failing_by P rows)
-    ∙ (ap (λ (ts : List (List ℕ)). answer (status_by (length (failing_in rows))) ts (more_text (last_of [] ls))) (texts_by P rows)
-    ∙ ap (λ (k : List ℕ). answer (status_by (length (failing_in rows))) (map (row_text P) rows) (more_text k)) (last_by P rows))
+    ap (λ (n : ℕ). answer (status_by n) (texts ls) (more_line (last_of [] ls))) (failing_by P rows)
+    ∙ (ap (λ (ts : List (List ℕ)). answer (status_by (length (failing_in rows))) ts (more_line (last_of [] ls))) (texts_by P rows)
+    ∙ ap (λ (t : List ℕ). answer (status_by (length (failing_in rows))) (map (row_text P) rows) t) (last_by P rows))
 
 twice : (n : ℕ) → capped (capped n) ≡ capped n
 twice n = omega arith

@@ -1,4 +1,5 @@
 pub mod Law
 pub mod After
+pub mod Keys
 pub mod Steps
 pub mod Ended

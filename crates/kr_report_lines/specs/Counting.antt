@@ -1,8 +1,8 @@
 -- Between crates: what is counted while lines are put.
 use Rattle.std.specs.Prelude.{◌≡◌, ℕ, ◌+◌, List, Bool, true, false, ◌||◌, length, take, Option, Some, None, nat_lt}
 use Rattle.kr_mean.specs.declared.mode.Mode.{Mode}
-use Rattle.kr_report.specs.Texts.{more_text, spent_text}
-use Rattle.kr_report_lines.specs.Lines.{failing_lines, last_of, status_by, whole_text}
+use Rattle.kr_report.specs.Texts.{spent_text}
+use Rattle.kr_report_lines.specs.Lines.{failing_lines, last_of, more_line, status_by, whole_text}
 use Rattle.kr_report_lines.specs.declared.row_line.RowLine.{RowLine}
 use Rattle.kr_report_lines.specs.declared.counts.Count.{Count}
 
@@ -24,7 +24,7 @@ text_at true more whole = more
 text_at false more whole = whole
 
 abbrev pub last_text : Mode → Count → ℕ → Option (List ℕ) → List ℕ
-last_text mode count tried spent = text_at count.more (more_text count.last.now) (text_unless_more mode count.valid count.failing tried spent)
+last_text mode count tried spent = text_at count.more (more_line count.last.now) (text_unless_more mode count.valid count.failing tried spent)
 
 abbrev pub status_unless_more : ℕ → Option (List ℕ) → ℕ
 status_unless_more failing None = status_by failing

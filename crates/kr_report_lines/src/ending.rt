@@ -1,12 +1,12 @@
 // A listing of lines, to its last line.
-ghost use Rattle.std.specs.Prelude.{◌≡◌, ◌++◌, [], IfOk, codes, nat_lt, if◌then◌else◌};
-ghost use Rattle.kr_base.specs.Cuts.{cut_text};
+ghost use Rattle.std.specs.Prelude.{◌≡◌, IfOk, nat_lt, position, if◌then◌else◌};
 ghost use Rattle.kr_base.specs.Told.{Writes};
 ghost use Rattle.kr_report.specs.Endings.{EndsListing};
 ghost use Rattle.kr_report.specs.Reports.{bytes_of};
+ghost use Rattle.kr_report.specs.Texts.{spent_text};
 ghost use Rattle.kr_report_lines.specs.Ended.{IsListingStatus};
 ghost use Rattle.kr_report_lines.specs.Counting.{last_text, status_at};
-ghost use Rattle.kr_report_lines.specs.Lines.{lines_answer, whole_text};
+ghost use Rattle.kr_report_lines.specs.Lines.{is_space, key_text, lines_answer, more_line, whole_text};
 
 use crate::counts::Count;
 use crate::row_line::RowLine;
@@ -17,12 +17,38 @@ use kr_report::{Summary, summary_text};
 use kr_survey::Listing;
 use std::alloc::Global;
 
-/// Puts a word, a key, and the line's end.
-fn put_keyed<K: Sink>(word: &[u8], key: &Cut, out: &mut K) -> Result<(), Failed>
-    ensures { Writes K.taken K.faults out.old out.new (word.now ++ (cut_text key.now ++ codes "\n")) result }
+/// Puts that this key's candidate had no fuel left.
+fn put_spent<K: Sink>(key: &Cut, out: &mut K) -> Result<(), Failed>
+    ensures { Writes K.taken K.faults out.old out.new (spent_text key.now) result }
 {
-    put_all(out, word)?;
+    put_all(out, b"spent ")?;
     key.write(out)?;
+    put_all(out, b"\n")
+}
+
+// The place of the first space.
+fn first_space(line: &[u8]) -> Option<usize>
+    ensures { result ≡ position is_space line.now }
+{
+    line.iter().position(|byte| *byte == b' ')
+}
+
+/// The key that a line begins with.
+fn key_text(line: &[u8]) -> &[u8]
+    ensures { result.now ≡ key_text line.now }
+{
+    match first_space(line) {
+        Some(at) => &line[..at],
+        None => line,
+    }
+}
+
+/// Puts that there are more rows behind the one of this line.
+fn put_more<K: Sink>(line: &[u8], out: &mut K) -> Result<(), Failed>
+    ensures { Writes K.taken K.faults out.old out.new (more_line line.now) result }
+{
+    put_all(out, b"more ")?;
+    put_all(out, key_text(line))?;
     put_all(out, b"\n")
 }
 
@@ -78,10 +104,10 @@ pub fn put_last<K: Sink>(
     ensures { Writes K.taken K.faults out.old out.new (last_text mode.now count.entry tried spent.now) result }
 {
     if count.more {
-        return put_keyed(b"more ", count.last, out);
+        return put_more(count.last, out);
     }
     match spent {
-        Some(key) => put_keyed(b"spent ", key, out),
+        Some(key) => put_spent(key, out),
         None => put_summary(mode, count, tried, out),
     }
 }
@@ -98,8 +124,7 @@ pub fn put_text<K: Sink>(
     ensures status { IfOk result (λ status. status ≡ (lines_answer mode.now limit listing.now.rows listing.now.tried listing.now.spent).status) }
     ensures known { IfOk result IsListingStatus }
 {
-    let none = Cut::empty(alloc);
-    match put_together(alloc, listing.rows.pieces(), limit, Count::new(&none), out) {
+    match put_together(alloc, listing.rows.pieces(), limit, Count::new(), out) {
         Ok(count) => match put_last(mode, count, listing.tried, &listing.spent, out) {
             Ok(()) => Ok(status_of(count, &listing.spent)),
             Err(failed) => Err(failed),

@@ -1,4 +1,5 @@
-//! Rows as they are written, and a listing of them, put when all of it is at hand. Memory is taken only to join lines that go by one put; without it they go one by one.
+//! Rows as they are written, and a listing of them, put when all of it is at hand. Memory is taken only to join lines that go by one
+//! put; without it they go one by one.
 #![tactic(auto)]
 
 mod counts;

@@ -32,7 +32,7 @@ fn put_line<'l, K: Sink>(
         Ok(()) => Ok(Count {
             valid: count.valid + 1,
             failing: count.failing + u32::from(line.failing),
-            last: &line.key,
+            last: line.text.as_slice(),
             more: count.more,
         }),
         Err(failed) => Err(failed),

@@ -1,7 +1,6 @@
 // A row as it is written.
 ghost use Rattle.std.specs.Prelude.{◌≡◌};
 
-use kr_base::Cut;
 use std::marker::Model;
 
 /// A text. Contracts see its bytes.
@@ -33,10 +32,9 @@ impl Text {
     }
 }
 
-/// A row as it is written: its key, its line, and whether it is no pass.
+/// A row as it is written: its line, which begins with its key, and whether it is no pass.
 #[derive(Drop)]
 pub struct RowLine {
-    pub key: Cut,
     pub text: Text,
     pub failing: bool,
 }

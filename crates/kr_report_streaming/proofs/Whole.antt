@@ -9,11 +9,10 @@ use Rattle.kr_core.specs.declared.event.Event.{Event}
 use Rattle.kr_pool_desk.specs.Runs.{are_shared}
 use Rattle.kr_mean.specs.declared.mode.Mode.{Mode}
 use Rattle.kr_report.specs.Endings.{front_of}
-use Rattle.kr_report.specs.Texts.{more_text}
 use Rattle.kr_report.specs.Reports.{Answer, bytes_of, lines}
 use Rattle.kr_report_lines.specs.Counting.{IsAfter, last_text, status_at, text_at, text_unless_more}
 use Rattle.kr_report_lines.specs.Ended.{IsListingStatus}
-use Rattle.kr_report_lines.specs.Lines.{last_of, lines_answer, texts}
+use Rattle.kr_report_lines.specs.Lines.{last_of, lines_answer, more_line, texts}
 use Rattle.kr_report_lines.specs.declared.row_line.RowLine.{RowLine}
 use Rattle.kr_report_lines.specs.declared.counts.Count.{Count}
 use Rattle.kr_report_lines.proofs.Ended.{answer, answer_at, answer_by}
@@ -28,14 +27,14 @@ use Rattle.kr_report_streaming.proofs.Going.{Lent, added_after, counts_after, le
 
 -- by what was counted of all lines
 answer_of : (mode : Mode) (limit : ℕ) (all : List RowLine) (tried : ℕ) (spent : Option (List ℕ)) (v f : ℕ) (k : List ℕ) (m : Bool) → AreCounted limit all v f k m
-    → lines_answer mode limit all tried spent ≡ answer (status_at m f spent) (texts (take limit all)) (text_at m (more_text k) (text_unless_more mode v f tried spent))
+    → lines_answer mode limit all tried spent ≡ answer (status_at m f spent) (texts (take limit all)) (text_at m (more_line k) (text_unless_more mode v f tried spent))
 answer_of mode limit all tried spent v f k m c =
     let front = take limit all in
     answer_by mode limit all tried spent
     ∙ (ap (λ (t : Bool). answer_at mode t front tried spent) (sym c.more_is)
-    ∙ (ap (λ (n : ℕ). answer (status_at m n spent) (texts front) (text_at m (more_text (last_of [] front)) (text_unless_more mode (length front) n tried spent))) (sym c.failing_is)
-    ∙ (ap (λ (n : ℕ). answer (status_at m f spent) (texts front) (text_at m (more_text (last_of [] front)) (text_unless_more mode n f tried spent))) (sym c.valid_is)
-    ∙ ap (λ (key : List ℕ). answer (status_at m f spent) (texts front) (text_at m (more_text key) (text_unless_more mode v f tried spent))) (sym c.last_is))))
+    ∙ (ap (λ (n : ℕ). answer (status_at m n spent) (texts front) (text_at m (more_line (last_of [] front)) (text_unless_more mode (length front) n tried spent))) (sym c.failing_is)
+    ∙ (ap (λ (n : ℕ). answer (status_at m f spent) (texts front) (text_at m (more_line (last_of [] front)) (text_unless_more mode n f tried spent))) (sym c.valid_is)
+    ∙ ap (λ (text : List ℕ). answer (status_at m f spent) (texts front) (text_at m (more_line text) (text_unless_more mode v f tried spent))) (sym c.last_is))))
 
 bytes_are : (mode : Mode) (limit : ℕ) (all : List RowLine) (tried : ℕ) (spent : Option (List ℕ)) (b : Count) → AreCounted limit all b.valid b.failing b.last.now b.more
     → bytes_of (lines_answer mode limit all tried spent) ≡ lines (texts (take limit all)) ++ last_text mode b tried spent
@@ -95,7 +94,7 @@ more_answer mode limit d all tried spent p a more s l =
     let counts = lent_counts limit (take d all) p a s l in
     let now = counted_all limit d all a.valid a.failing a.last.now a.more over counts in
     answer_of mode limit all tried spent a.valid a.failing a.last.now true now
-    ∙ ap (λ (t : Bool). answer (status_at t a.failing None) (texts (take limit all)) (text_at t (more_text a.last.now) (text_unless_more mode a.valid a.failing 0 None))) (sym over)
+    ∙ ap (λ (t : Bool). answer (status_at t a.failing None) (texts (take limit all)) (text_at t (more_line a.last.now) (text_unless_more mode a.valid a.failing 0 None))) (sym over)
 
 all_text : (limit d : ℕ) (all : List RowLine) (p : Progress) → p.more ≡ true → Stands limit (take d all) p → lines (texts (take limit (take d all))) ≡ lines (texts (take limit all))
 all_text limit d all p more s = text_all limit d all p.valid p.failing p.last p.more more s.counts

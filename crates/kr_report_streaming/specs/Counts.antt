@@ -4,7 +4,7 @@ use Rattle.kr_report_lines.specs.Lines.{failing_lines, last_of}
 use Rattle.kr_report_lines.specs.declared.row_line.RowLine.{RowLine}
 use Rattle.kr_report_streaming.specs.declared.progress.Progress.{Progress}
 
--- of these lines: how many are put, how many of them are no passes, the key of the last one put, and whether there are more than
+-- of these lines: how many are put, how many of them are no passes, the line of the last one put, and whether there are more than
 -- the limit allows
 pub record AreCounted (limit : ℕ) (ls : List RowLine) (valid failing : ℕ) (last : List ℕ) (more : Bool) : Type 0 where
   pub valid_is : valid ≡ length (take limit ls)

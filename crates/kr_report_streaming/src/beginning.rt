@@ -3,12 +3,11 @@ ghost use Rattle.std.specs.Prelude.{◌≡◌, []};
 ghost use Rattle.kr_report_streaming.specs.Counts.{Stands};
 
 use crate::progress::Progress;
-use kr_base::Cut;
-use kr_report_lines::Count;
+use kr_report_lines::{Count, Text};
 use std::alloc::Global;
 
 impl Progress {
-    /// Nothing yet; the empty key stands for the last one.
+    /// Nothing yet; an empty line stands for the last one.
     pub(crate) fn new(alloc: Global, limit: u32) -> Progress
         ensures { Stands limit [] result }
     {
@@ -17,12 +16,12 @@ impl Progress {
             limit,
             valid: 0,
             failing: 0,
-            last: Cut::empty(alloc),
+            last: Text::new(Vec::new(alloc)),
             more: false,
         }
     }
 
-    /// The same, with the key lent.
+    /// The same, with the line lent.
     pub(crate) fn count(&self) -> Count<'_>
         ensures valid { result.valid ≡ self.now.valid }
         ensures failing { result.failing ≡ self.now.failing }
@@ -32,7 +31,7 @@ impl Progress {
         Count {
             valid: self.valid,
             failing: self.failing,
-            last: &self.last,
+            last: self.last.as_slice(),
             more: self.more,
         }
     }

@@ -7,7 +7,7 @@ ghost use Rattle.kr_report_streaming.specs.Puts.{HasPut, Goes};
 use crate::halt::{Drained, Halt};
 use crate::progress::Progress;
 use kr_base::{Failed, NoMemory, Sink};
-use kr_report_lines::{Count, RowLine, put_together};
+use kr_report_lines::{Count, RowLine, Text, put_together};
 use std::alloc::Global;
 
 /// Whether there is no line.
@@ -22,7 +22,7 @@ fn is_nothing(pieces: &[Vec<RowLine>]) -> bool
     true
 }
 
-/// What is counted, kept: the last key is copied.
+/// What is counted, kept: the last line is copied.
 fn kept(alloc: Global, limit: u32, count: Count<'_>) -> Result<Progress, NoMemory>
     requires { count.valid ≤ limit }
     ensures limit { IfOk result (λ progress. progress.limit ≡ limit) }
@@ -31,14 +31,14 @@ fn kept(alloc: Global, limit: u32, count: Count<'_>) -> Result<Progress, NoMemor
     ensures last { IfOk result (λ progress. progress.last ≡ count.entry.last.now) }
     ensures more { IfOk result (λ progress. progress.more ≡ count.entry.more) }
 {
-    match count.last.try_clone() {
-        Err(why) => Err(why),
+    match count.last.to_vec(alloc) {
+        Err(why) => Err(why.into()),
         Ok(last) => Ok(Progress {
             alloc,
             limit,
             valid: count.valid,
             failing: count.failing,
-            last,
+            last: Text::new(last),
             more: count.more,
         }),
     }

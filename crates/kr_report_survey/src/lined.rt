@@ -90,7 +90,6 @@ impl<'p> Making<Row> for ToLines<'p> {
     fn make(&self, room: &mut Line, row: Row) -> Result<RowLine, NoMemory> {
         match self.text(&row, room) {
             Ok(text) => Ok(RowLine {
-                key: row.key,
                 text,
                 failing: is_failure(row.verdict),
             }),

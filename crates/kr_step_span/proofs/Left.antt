@@ -50,6 +50,14 @@ none_past k b (e ∷ es) h = past_one (is_before k e.key) e (above k es) b (late
 pub left_past : {M : Type 0} (k : List ℕ) (b : Bound) (es : List (Entry M)) → less b (At k) ≡ true → within (At k) b es ≡ []
 left_past k b es h = within_above k b es ∙ none_past k b es h
 
+-- what stands before a bound isn't behind it
+pub not_behind : (a b : Bound) → less a b ≡ true → less b a ≡ false
+not_behind a b h =
+    elim (less b a) as (λ t. less b a ≡ t → t ≡ false) [
+      | true ↦ λ e. sym (transitive a b a h e) ∙ irreflexive a
+      | false ↦ λ e. refl
+    ] refl
+
 -- a span that ends at its cut, or before it, has nothing
 ended_one : (a b x : Bound) → less a b ≡ false → (less a x && not (less b x)) ≡ false
 ended_one a b x h =

@@ -13,19 +13,26 @@ use std::alloc::Global;
 use std::marker::Model;
 use std::sync::ledger::Ledger;
 
-/// The entries of candidates that a span still has: those above the cut of the search, up to its end.
+/// The entries of candidates that a span still has: those above the cut of the search, up to its end. It keeps whether the cut stands
+/// before the end, so that a key is compared with the end once.
 #[derive(Drop)]
 pub struct SpanSearch<C: Candidates> {
     search: Search<C>,
     upto: Bound,
+    is_within: bool,
 }
 
 impl<C: Candidates> Model for SpanSearch<C> {
+    ghost use Rattle.std.specs.Prelude.{◌≡◌};
+    ghost use Rattle.kr_base.specs.Bounds.{less};
+    ghost use Rattle.kr_base.specs.declared.span.Bound.TheVariants.{At};
     ghost use Rattle.kr_step_span.specs.Scans.{Shown};
 
     ghost Value = { Shown C };
 
     ghost view = { λ s. record { candidates = s.search.candidates; cut = s.search.cut; upto = s.upto } };
+
+    ghost invariant = { λ s. s.is_within ≡ less (At s.search.cut) s.upto };
 }
 
 impl<C: Candidates + Drop> SpanSearch<C> {
@@ -46,7 +53,7 @@ impl<C: Candidates + Drop> SpanSearch<C> {
         ensures runs { runs.new ≤ runs.old + length after.now + 1 }
     {
         let search = Search::seek(alloc, candidates, after, runs)?;
-        Ok(SpanSearch { search, upto })
+        Ok(SpanSearch::of(search, upto))
     }
 
     /// What a search finds up to there.
@@ -55,7 +62,12 @@ impl<C: Candidates + Drop> SpanSearch<C> {
         ensures cut { result.cut ≡ search.cut }
         ensures upto { result.upto ≡ upto }
     {
-        SpanSearch { search, upto }
+        let is_within = is_before(search.cut(), &upto);
+        SpanSearch {
+            search,
+            upto,
+            is_within,
+        }
     }
 
     /// The search.
@@ -79,16 +91,24 @@ impl<C: Candidates + Drop> SpanSearch<C> {
     {
         plain_law();
         first_law::<Row>();
-        if !is_before(self.search.cut(), &self.upto) {
+        if !self.is_within {
             return Ok(Next::End);
         }
         match self.search.next(runs)? {
-            Next::End => return Ok(Next::End),
+            Next::End => {
+                self.is_within = is_before(self.search.cut(), &self.upto);
+                return Ok(Next::End);
+            }
             Next::Found(ending) => {
+                let is_within = is_before(self.search.cut(), &self.upto);
+                self.is_within = is_within;
+                if is_within {
+                    return Ok(Next::Found(ending));
+                }
                 if is_behind(self.search.cut(), &self.upto) {
                     return Ok(Next::End);
                 }
-                return Ok(Next::Found(ending));
+                Ok(Next::Found(ending))
             }
         }
     }
