@@ -1,19 +1,10 @@
 -- Lists of a tree's nodes, walked item by item.
-use Rattle.std.proofs.Common.{◌≡◌, refl, sym, ap, ◌∙◌, ℕ, ◌+◌, ◌<◌, List, [], ◌∷◌, ◌++◌, length, map, take, get_or, append_assoc, append-nil, length-append, zero-add, arith}
-use Rattle.std.specs.Prelude.{None, flat_map}
+use Rattle.std.proofs.Common.{◌≡◌, refl, sym, ap, ◌∙◌, ℕ, ◌+◌, ◌<◌, List, [], ◌∷◌, ◌++◌, length, map, take, get_or, append-nil, zero-add}
+use Rattle.std.specs.Prelude.{None}
 use Rattle.std.proofs.lemmas.List.{map-append, take_more}
-use Rattle.std.proofs.lemmas.Grind.{flat_map-append}
 use Rattle.kr_ast.specs.Tree.{Tree}
 use Rattle.kr_classes_table.specs.Table.{Heading, headings_from, heading_of, with_nested}
-
--- headings of more items stand behind those before them
-pub headings_append : (k : ℕ) (ts us : List Tree) → headings_from k (ts ++ us) ≡ headings_from k ts ++ headings_from (k + length (headings_from k ts)) us
-headings_append k [] us = ap (λ n. headings_from n us) (omega arith)
-headings_append k (t ∷ ts) us =
-    let own = with_nested k (heading_of None t) in
-    let rest = headings_from (k + length own) ts in
-    let e : k + length own + length rest ≡ k + length (own ++ rest) = omega (arith, length-append own rest) in
-    ap (λ hs. own ++ hs) (headings_append (k + length own) ts us ∙ ap (λ n. rest ++ headings_from n us) e) ∙ sym (append_assoc own rest (headings_from (k + length (own ++ rest)) us))
+use Rattle.kr_classes_table.proofs.Predefined.{headings_append}
 
 pub headings_step : {A : Type 0} (v : A → Tree) (all more : List Heading) (k : ℕ) (xs : List A) (i : ℕ) (d : A) → i < length xs → all ≡ headings_from 0 (map v (take i xs)) → k ≡ length all → more ≡ with_nested k (heading_of None (v (get_or xs i d))) → all ++ more ≡ headings_from 0 (map v (take (i + 1) xs))
 headings_step v all more k xs i d l a e m =

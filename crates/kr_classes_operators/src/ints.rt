@@ -1,24 +1,24 @@
-// The operators that give an int: they wrap in 32 bits.
+// The operators that give an int: they wrap in its width.
 ghost use Rattle.std.specs.Prelude.{◌≡◌, ◌≢◌, ◌*◌, ◌/◌, ◌%◌, ◌^◌, ◌+ℤ◌, ◌-ℤ◌, ◌*ℤ◌, neg_ℤ, pos, int_div, int_rem, bit_and, bit_or, bit_xor};
-ghost use Rattle.kr_classes_table.specs.Constants.{bits, complement, distance, int_of, shifted_right, wrap};
+ghost use Rattle.kr_classes_table.specs.Numbers.{Bits32, bits, complement, distance, shifted_right, span, whole_of, wrap};
 
 #[inline(always)]
 pub(crate) fn negated(a: i32) -> i32
-    ensures { result ≡ wrap (neg_ℤ a) }
+    ensures { result ≡ wrap Bits32 (neg_ℤ a) }
 {
     a.wrapping_neg()
 }
 
 #[inline(always)]
 pub(crate) fn complemented(a: i32) -> i32
-    ensures { result ≡ wrap (complement a) }
+    ensures { result ≡ wrap Bits32 (complement a) }
 {
     !a
 }
 
 #[inline(always)]
 pub(crate) fn product(a: i32, b: i32) -> i32
-    ensures { result ≡ wrap (a *ℤ b) }
+    ensures { result ≡ wrap Bits32 (a *ℤ b) }
 {
     a.wrapping_mul(b)
 }
@@ -27,7 +27,7 @@ pub(crate) fn product(a: i32, b: i32) -> i32
 #[inline(always)]
 pub(crate) fn quotient(a: i32, b: i32) -> i32
     requires { b ≢ pos 0 }
-    ensures { result ≡ wrap (int_div a b) }
+    ensures { result ≡ wrap Bits32 (int_div a b) }
 {
     a.wrapping_div(b)
 }
@@ -36,28 +36,28 @@ pub(crate) fn quotient(a: i32, b: i32) -> i32
 #[inline(always)]
 pub(crate) fn remainder(a: i32, b: i32) -> i32
     requires { b ≢ pos 0 }
-    ensures { result ≡ wrap (int_rem a b) }
+    ensures { result ≡ wrap Bits32 (int_rem a b) }
 {
     a.wrapping_rem(b)
 }
 
 #[inline(always)]
 pub(crate) fn sum(a: i32, b: i32) -> i32
-    ensures { result ≡ wrap (a +ℤ b) }
+    ensures { result ≡ wrap Bits32 (a +ℤ b) }
 {
     a.wrapping_add(b)
 }
 
 #[inline(always)]
 pub(crate) fn difference(a: i32, b: i32) -> i32
-    ensures { result ≡ wrap (a -ℤ b) }
+    ensures { result ≡ wrap Bits32 (a -ℤ b) }
 {
     a.wrapping_sub(b)
 }
 
 #[inline(always)]
 pub(crate) fn left_shift(a: i32, b: i32) -> i32
-    ensures { result ≡ int_of (bits a * 2 ^ distance b % 4294967296) }
+    ensures { result ≡ whole_of Bits32 (bits Bits32 a * 2 ^ distance Bits32 b % span Bits32) }
 {
     a.wrapping_shl(b.cast_unsigned())
 }
@@ -65,7 +65,7 @@ pub(crate) fn left_shift(a: i32, b: i32) -> i32
 /// It keeps the sign.
 #[inline(always)]
 pub(crate) fn right_shift(a: i32, b: i32) -> i32
-    ensures { result ≡ wrap (shifted_right a (distance b)) }
+    ensures { result ≡ wrap Bits32 (shifted_right a (distance Bits32 b)) }
 {
     a.wrapping_shr(b.cast_unsigned())
 }
@@ -73,7 +73,7 @@ pub(crate) fn right_shift(a: i32, b: i32) -> i32
 /// It fills with zeros.
 #[inline(always)]
 pub(crate) fn unsigned_right_shift(a: i32, b: i32) -> i32
-    ensures { result ≡ int_of (bits a / 2 ^ distance b) }
+    ensures { result ≡ whole_of Bits32 (bits Bits32 a / 2 ^ distance Bits32 b) }
 {
     let shifted = a.cast_unsigned().wrapping_shr(b.cast_unsigned());
     shifted.cast_signed()
@@ -81,21 +81,21 @@ pub(crate) fn unsigned_right_shift(a: i32, b: i32) -> i32
 
 #[inline(always)]
 pub(crate) fn both_bits(a: i32, b: i32) -> i32
-    ensures { result ≡ int_of (bit_and (bits a) (bits b)) }
+    ensures { result ≡ whole_of Bits32 (bit_and (bits Bits32 a) (bits Bits32 b)) }
 {
     a & b
 }
 
 #[inline(always)]
 pub(crate) fn different_bits(a: i32, b: i32) -> i32
-    ensures { result ≡ int_of (bit_xor (bits a) (bits b)) }
+    ensures { result ≡ whole_of Bits32 (bit_xor (bits Bits32 a) (bits Bits32 b)) }
 {
     a ^ b
 }
 
 #[inline(always)]
 pub(crate) fn either_bits(a: i32, b: i32) -> i32
-    ensures { result ≡ int_of (bit_or (bits a) (bits b)) }
+    ensures { result ≡ whole_of Bits32 (bit_or (bits Bits32 a) (bits Bits32 b)) }
 {
     a | b
 }

@@ -1,6 +1,7 @@
 // The operators, on the operands for which they are defined.
 ghost use Rattle.std.specs.Prelude.{◌≡◌, Some};
-ghost use Rattle.kr_classes_table.specs.Constants.{binary_value, of_booleans as of_truths, of_ints as of_wholes, of_nulls as of_absent, of_values, unary_value};
+ghost use Rattle.kr_classes_table.specs.Constants.{of_booleans as of_truths, of_nulls as of_absent, of_values, of_wholes, unary_value};
+ghost use Rattle.kr_classes_table.specs.Numbers.{Bits32};
 ghost use Rattle.kr_classes_operators.specs.Shown.{constant_shown, shown};
 
 use crate::constant::Constant;
@@ -13,7 +14,7 @@ use kr_ast::{BinaryOperator, UnaryOperator};
 /// An operator on two ints. None where it divides by zero, or isn't one on ints.
 #[inline(always)]
 pub fn of_ints(operator: BinaryOperator, a: i32, b: i32) -> Option<Constant>
-    ensures { shown result ≡ of_wholes operator a b }
+    ensures { shown result ≡ of_wholes Bits32 operator a b }
 {
     match operator {
         BinaryOperator::Multiply => Some(Constant::Int(product(a, b))),

@@ -1,5 +1,5 @@
 -- To be believed: the values of constants (Java Language Specification 15.28), evaluated in file and source order.
-use Rattle.std.specs.Prelude.{ℕ, ◌-◌, ◌*◌, ◌/◌, ◌%◌, ◌^◌, Bool, true, false, ◌&&◌, ◌||◌, not, List, [], ◌∷◌, ◌++◌, flat_map, fold, nat_eq, nat_lt, ℤ, pos, negsuc, ◌+ℤ◌, ◌-ℤ◌, ◌*ℤ◌, neg_ℤ, int_lt, int_le, int_div, int_rem, bit_and, bit_or, bit_xor, if◌then◌else◌, Option, Some, None, option_and_then, option_to_list, is_some, is_none}
+use Rattle.std.specs.Prelude.{ℕ, ◌*◌, ◌/◌, ◌%◌, ◌^◌, Bool, true, false, ◌&&◌, ◌||◌, not, List, [], ◌∷◌, ◌++◌, flat_map, fold, nat_eq, ℤ, pos, ◌+ℤ◌, ◌-ℤ◌, ◌*ℤ◌, neg_ℤ, int_lt, int_le, int_div, int_rem, bit_and, bit_or, bit_xor, if◌then◌else◌, Option, Some, None, option_and_then, option_to_list, is_some, is_none}
 use Rattle.kr_base.specs.declared.place.Place.{Place}
 use Rattle.kr_ast.specs.declared.node.UnaryOperator.{UnaryOperator}
 use Rattle.kr_ast.specs.declared.node.UnaryOperator.TheVariants.{Plus, Minus, Complement, Not}
@@ -9,33 +9,7 @@ use Rattle.kr_ast.specs.Tree as trees
 use Rattle.kr_ast.specs.Tree.{Tree}
 use Rattle.kr_classes_table.specs.Table.{Table, Class, Field, class_at, field_named, number_of}
 use Rattle.kr_classes_table.specs.Rules.{is_earlier}
-
--- ---- ints: 32 bits that wrap
-
--- the bits of an int as a number below 2 ^ 32
-abbrev pub bits : ℤ → ℕ
-bits (pos n) = n % 4294967296
-bits (negsuc n) = 4294967295 - n % 4294967296
-
--- the int of these bits
-abbrev pub int_of : ℕ → ℤ
-int_of n = if nat_lt n 2147483648 then pos n else negsuc (4294967295 - n)
-
-abbrev pub wrap : ℤ → ℤ
-wrap z = int_of (bits z)
-
-abbrev pub complement : ℤ → ℤ
-complement (pos n) = negsuc n
-complement (negsuc n) = pos n
-
--- the shift keeps the sign
-abbrev pub shifted_right : ℤ → ℕ → ℤ
-shifted_right (pos n) d = pos (n / 2 ^ d)
-shifted_right (negsuc n) d = negsuc (n / 2 ^ d)
-
--- the low five bits of a distance
-abbrev pub distance : ℤ → ℕ
-distance z = bits z % 32
+use Rattle.kr_classes_table.specs.Numbers.{Width, Bits32, span, bits, whole_of, wrap, complement, shifted_right, distance}
 
 -- ---- values
 
@@ -45,8 +19,11 @@ pub data ConstantValue : Type 0 where
   -- null, which may be compared
   Absent : ConstantValue
 
-abbrev pub whole : ℤ → Option ConstantValue
-whole z = Some (Whole (wrap z))
+abbrev pub whole : Width → ℤ → Option ConstantValue
+whole w z = Some (Whole (wrap w z))
+
+abbrev pub of_bits : Width → ℕ → Option ConstantValue
+of_bits w n = Some (Whole (whole_of w n))
 
 abbrev pub truth : Bool → Option ConstantValue
 truth b = Some (Truth b)
@@ -63,31 +40,32 @@ agree true b = b
 agree false b = not b
 
 abbrev pub unary_value : UnaryOperator → ConstantValue → Option ConstantValue
-unary_value Plus (Whole a) = whole a
-unary_value Minus (Whole a) = whole (neg_ℤ a)
-unary_value Complement (Whole a) = whole (complement a)
+unary_value Plus (Whole a) = whole Bits32 a
+unary_value Minus (Whole a) = whole Bits32 (neg_ℤ a)
+unary_value Complement (Whole a) = whole Bits32 (complement a)
 unary_value Not (Truth a) = truth (not a)
 unary_value o a = None
 
-abbrev pub of_ints : BinaryOperator → ℤ → ℤ → Option ConstantValue
-of_ints Multiply a b = whole (a *ℤ b)
-of_ints Divide a b = if is_zero b then None else whole (int_div a b)
-of_ints Remainder a b = if is_zero b then None else whole (int_rem a b)
-of_ints Add a b = whole (a +ℤ b)
-of_ints Subtract a b = whole (a -ℤ b)
-of_ints ShiftLeft a b = Some (Whole (int_of (bits a * 2 ^ distance b % 4294967296)))
-of_ints ShiftRight a b = whole (shifted_right a (distance b))
-of_ints ShiftRightUnsigned a b = Some (Whole (int_of (bits a / 2 ^ distance b)))
-of_ints Less a b = truth (int_lt a b)
-of_ints Greater a b = truth (int_lt b a)
-of_ints LessOrEqual a b = truth (int_le a b)
-of_ints GreaterOrEqual a b = truth (int_le b a)
-of_ints Equal a b = truth (is_equal a b)
-of_ints NotEqual a b = truth (not (is_equal a b))
-of_ints BitAnd a b = Some (Whole (int_of (bit_and (bits a) (bits b))))
-of_ints BitXor a b = Some (Whole (int_of (bit_xor (bits a) (bits b))))
-of_ints BitOr a b = Some (Whole (int_of (bit_or (bits a) (bits b))))
-of_ints o a b = None
+-- both operands of one width; each operator's result is of it, but a comparison's
+abbrev pub of_wholes : Width → BinaryOperator → ℤ → ℤ → Option ConstantValue
+of_wholes w Multiply a b = whole w (a *ℤ b)
+of_wholes w Divide a b = if is_zero b then None else whole w (int_div a b)
+of_wholes w Remainder a b = if is_zero b then None else whole w (int_rem a b)
+of_wholes w Add a b = whole w (a +ℤ b)
+of_wholes w Subtract a b = whole w (a -ℤ b)
+of_wholes w ShiftLeft a b = of_bits w (bits w a * 2 ^ distance w b % span w)
+of_wholes w ShiftRight a b = whole w (shifted_right a (distance w b))
+of_wholes w ShiftRightUnsigned a b = of_bits w (bits w a / 2 ^ distance w b)
+of_wholes w Less a b = truth (int_lt a b)
+of_wholes w Greater a b = truth (int_lt b a)
+of_wholes w LessOrEqual a b = truth (int_le a b)
+of_wholes w GreaterOrEqual a b = truth (int_le b a)
+of_wholes w Equal a b = truth (is_equal a b)
+of_wholes w NotEqual a b = truth (not (is_equal a b))
+of_wholes w BitAnd a b = of_bits w (bit_and (bits w a) (bits w b))
+of_wholes w BitXor a b = of_bits w (bit_xor (bits w a) (bits w b))
+of_wholes w BitOr a b = of_bits w (bit_or (bits w a) (bits w b))
+of_wholes w o a b = None
 
 abbrev pub of_booleans : BinaryOperator → Bool → Bool → Option ConstantValue
 of_booleans Equal a b = truth (agree a b)
@@ -105,7 +83,7 @@ of_nulls NotEqual = truth false
 of_nulls o = None
 
 abbrev pub of_values : BinaryOperator → ConstantValue → ConstantValue → Option ConstantValue
-of_values o (Whole a) (Whole b) = of_ints o a b
+of_values o (Whole a) (Whole b) = of_wholes Bits32 o a b
 of_values o (Truth a) (Truth b) = of_booleans o a b
 of_values o Absent Absent = of_nulls o
 of_values o a b = None
@@ -185,7 +163,7 @@ is_constant t known c _ = false
 
 -- its value; none where a zero divisor is met
 unfoldable pub evaluated : Table → List Known → ℕ → Tree → Option ConstantValue
-evaluated t known c (trees.Number p n) = whole (pos n)
+evaluated t known c (trees.Number p n) = whole Bits32 (pos n)
 evaluated t known c (trees.Truth p b) = truth b
 evaluated t known c (trees.Null p) = Some Absent
 evaluated t known c (trees.Variable p n) = known_value known (field_meant t c n)

@@ -3,6 +3,7 @@ pub mod Types
 pub mod Table
 pub mod Arrays
 pub mod Rules
+pub mod Numbers
 pub mod Constants
 pub mod Laws
 pub mod Ancestors

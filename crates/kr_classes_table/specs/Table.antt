@@ -35,8 +35,17 @@ abbrev pub headings_from : ℕ → List Tree → List Heading
 headings_from k [] = []
 headings_from k (t ∷ ts) = let own = with_nested k (heading_of None t) in own ++ headings_from (k + length own) ts
 
+-- classes that no file declares, as a file would: none
+abbrev pub predefined : List Tree
+predefined = []
+
+-- they stand behind the classes of the files, which so keep their numbers
+abbrev pub with_predefined : List Tree → List Tree → List Tree
+with_predefined own [] = own
+with_predefined own (t ∷ ts) = own ++ t ∷ ts
+
 abbrev pub headings_of : List Tree → List Heading
-headings_of files = headings_from 0 (flat_map items files)
+headings_of files = headings_from 0 (with_predefined (flat_map items files) predefined)
 
 -- the number of the class of a name, counted from k
 abbrev pub number_from : ℕ → List Heading → List ℕ → Option ℕ
@@ -256,14 +265,22 @@ method_named t c n = method_on t (line_of t c) n
 abbrev pub constructor_parameters : Table → ℕ → List Parameter
 constructor_parameters t c = flat_map (λ k. k.parameters) (flat_map (λ d. d.constructors) (option_to_list (class_at t.classes c)))
 
--- ---- assignability
+-- ---- subtypes, and numbers that go into wider ones
+
+-- each value of the one type is of the other (Java Language Specification 4.10)
+abbrev pub is_subtype : Table → JavaType → JavaType → Bool
+is_subtype t NullType u = is_reference u
+is_subtype t (ClassType c) (ClassType d) = is_below t c d
+is_subtype t (SetType InferredType) (SetType u) = true
+is_subtype t (ListType InferredType) (ListType u) = true
+is_subtype t s u = is_same s u
+
+-- a number of the one type goes into the other by another number's form (5.1.2): there is one type of numbers
+abbrev pub is_widened : JavaType → JavaType → Bool
+is_widened s u = false
 
 abbrev pub is_assignable : Table → JavaType → JavaType → Bool
-is_assignable t NullType u = is_reference u
-is_assignable t (ClassType c) (ClassType d) = is_below t c d
-is_assignable t (SetType InferredType) (SetType u) = true
-is_assignable t (ListType InferredType) (ListType u) = true
-is_assignable t s u = is_same s u
+is_assignable t s u = is_widened s u || is_subtype t s u
 
 abbrev pub are_related : Table → JavaType → JavaType → Bool
 are_related t s u = is_assignable t s u || is_assignable t u s

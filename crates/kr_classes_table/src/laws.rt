@@ -1,5 +1,5 @@
 // What holds of the class table and the class rules.
-ghost use Rattle.kr_classes_table.specs.Laws.{LeastLaw};
+ghost use Rattle.kr_classes_table.specs.Laws.{LeastLaw, PredefinedLaw};
 ghost use Rattle.kr_classes_table.specs.Ancestors.{AncestorsLaw, TableLaw};
 
 /// The first of several broken rules is one of them, and none is before it.
@@ -18,4 +18,10 @@ pub fn ancestors_law()
 #[tactic(auto, using(crate::proofs::Tables::table_law))]
 pub fn table_law()
     ensures { TableLaw }
+{}
+
+/// Classes that no file declares stand behind those of the files, whose numbers stay.
+#[tactic(auto, using(crate::proofs::Predefined::predefined_law))]
+pub fn predefined_law()
+    ensures { PredefinedLaw }
 {}

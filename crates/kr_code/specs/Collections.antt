@@ -2,7 +2,8 @@
 use Rattle.std.specs.Prelude.{ℕ, List, [], ◌∷◌, codes, bytes_eq, if◌then◌else◌}
 use Rattle.kr_value.specs.declared.value.Value.{Value}
 use Rattle.kr_value.specs.declared.object.Class.{Class}
-use Rattle.kr_mean.specs.Steps.{Stuck, Run, stop, make}
+use Rattle.kr_mean.specs.declared.kind.Stop.TheVariants.{Stuck}
+use Rattle.kr_mean.specs.Steps.{Run, stop, make}
 use Rattle.kr_code.specs.declared.collections.CollectionCall.{CollectionCall}
 use Rattle.kr_code.specs.declared.collections.CollectionCall.TheVariants as calls
 

@@ -5,9 +5,12 @@ use Rattle.kr_value.specs.declared.value.Value.{Value}
 use Rattle.kr_value.specs.declared.value.Value.TheVariants.{Int, Bool as Truth, Null}
 use Rattle.kr_value.specs.declared.object.Class.TheVariants.{Object, Array, Set, List as ListClass}
 use Rattle.kr_mean.specs.declared.kind.Kind.TheVariants.{NegativeArraySizeException, ArrayTooLong}
-use Rattle.kr_mean.specs.Steps.{Trapped, Stuck, State, Run, say, give, stop, ◌>>=◌, ◌>>◌, tick, get_this, read_local, declare, assign, get_result, get_old, within, scoped, element, class_or_null, class_of, make, collect}
+use Rattle.kr_mean.specs.declared.kind.Stop.TheVariants.{Trapped, Stuck}
+use Rattle.kr_mean.specs.Steps.{State, Run, say, give, stop, ◌>>=◌, ◌>>◌, tick, get_this, read_local, declare, assign, get_result, get_old, within, scoped, element, class_or_null, class_of, make, collect}
 use Rattle.kr_mean.specs.Operators.{operated, operated_alone}
-use Rattle.kr_mean.specs.Meaning.{Flow, Next, Broke, Continued, Left, Gave, then_on, then_round, then_update, returned, completed, choose, Change, change_to, stepped}
+use Rattle.kr_mean.specs.declared.flow.Flow.{Flow}
+use Rattle.kr_mean.specs.declared.flow.Flow.TheVariants.{Next, Broke, Continued, Left, Gave}
+use Rattle.kr_mean.specs.Meaning.{then_on, then_round, then_update, returned, completed, choose, Change, change_to, stepped}
 use Rattle.kr_code.specs.declared.code.Code.{Code}
 use Rattle.kr_code.specs.declared.code.MethodCode.{MethodCode}
 use Rattle.kr_code.specs.declared.code.ClassCode.{ClassCode}

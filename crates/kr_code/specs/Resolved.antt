@@ -15,7 +15,8 @@ use Rattle.kr_classes_table.specs.Types.{JavaType, ClassType, ArrayType, SetType
 use Rattle.kr_classes_table.specs.Table as tables
 use Rattle.kr_classes_table.specs.Table.{Field, Method, items, fields_of, line_of, method_named}
 use Rattle.kr_classes_table.specs.Arrays.{array_number}
-use Rattle.kr_classes_table.specs.Constants.{constant_of, wrap, known_value as constant_value}
+use Rattle.kr_classes_table.specs.Constants.{constant_of, known_value as constant_value}
+use Rattle.kr_classes_table.specs.Numbers.{Bits32, wrap}
 use Rattle.kr_types_meaning.specs.Scopes.{Scope, LocalName, FieldName, NoName, written, bind_local, after, meant, class_before, static_only, method_meant}
 use Rattle.kr_mean.specs.Program.{Program, default_of, is_of_type, overriding, class_scope, method_scope, constructor_scope, constructor_of, declared_fields, field_position, spot_of_field}
 use Rattle.kr_mean.specs.Operators.{value_of_constant}
@@ -123,7 +124,7 @@ pub record IsMethod (code : Code) (n : Numbering) (m : Method) (k : ℕ) : Type 
 
 -- the resolved form of an expression
 pub data IsExpression (program : Program) (code : Code) (n : Numbering) (s : Scope) : Tree → Expression → Type 0 where
-  number : (p : Place) (k : ℕ) → IsExpression program code n s (trees.Number p k) (expressions.Literal (Int (wrap (pos k))))
+  number : (p : Place) (k : ℕ) → IsExpression program code n s (trees.Number p k) (expressions.Literal (Int (wrap Bits32 (pos k))))
   truth : (p : Place) (b : Bool) → IsExpression program code n s (trees.Truth p b) (expressions.Literal (Truth b))
   null : (p : Place) → IsExpression program code n s (trees.Null p) (expressions.Literal Null)
   this : (p : Place) → IsExpression program code n s (trees.This p) expressions.This

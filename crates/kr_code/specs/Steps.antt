@@ -7,7 +7,8 @@ use Rattle.kr_value.specs.declared.object.Class.TheVariants.{Object, Array}
 use Rattle.kr_value.specs.declared.object.Spot.TheVariants.{Length}
 use Rattle.kr_value.specs.Heaps.{object_in}
 use Rattle.kr_mean.specs.declared.kind.Kind.TheVariants.{NullPointerException, ClassCastException}
-use Rattle.kr_mean.specs.Steps.{Trapped, Stuck, Run, give, stop, ◌>>=◌, class_of, load, load_at, store_at, store_element_if}
+use Rattle.kr_mean.specs.declared.kind.Stop.TheVariants.{Trapped, Stuck}
+use Rattle.kr_mean.specs.Steps.{Run, give, stop, ◌>>=◌, class_of, load, load_at, store_at, store_element_if}
 use Rattle.kr_code.specs.declared.code.Code.{Code}
 use Rattle.kr_code.specs.Tables.{position_in, spot_in, is_instance}
 

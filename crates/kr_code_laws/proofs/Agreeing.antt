@@ -3,9 +3,12 @@ use Rattle.std.proofs.Common.{◌≡◌, ℕ, zero, suc, Bool, true, false, List
 use Rattle.std.specs.Prelude.{length, take, map, nat_eq}
 use Rattle.kr_value.specs.declared.value.Value.{Value}
 use Rattle.kr_value.specs.declared.value.Value.TheVariants.{Int, Bool as Truth, Null, Ref as Reference}
+use Rattle.kr_mean.specs.declared.kind.Stop.{Stop}
 use Rattle.kr_mean.specs.Places.{SlotPlace}
-use Rattle.kr_mean.specs.Steps.{Stop, State, Outcome, Run, give, go_on, bind, after_reads, back_to, plain_local, ◌>>=◌, tick, entered, within, scoped}
-use Rattle.kr_mean.specs.Meaning.{Flow, Next, Broke, Continued, Left, Gave, choose, then_on, then_round, then_update, rounds, loop}
+use Rattle.kr_mean.specs.Steps.{State, Outcome, Run, give, go_on, bind, after_reads, back_to, plain_local, ◌>>=◌, tick, entered, within, scoped}
+use Rattle.kr_mean.specs.declared.flow.Flow.{Flow}
+use Rattle.kr_mean.specs.declared.flow.Flow.TheVariants.{Next, Broke, Continued, Left, Gave}
+use Rattle.kr_mean.specs.Meaning.{choose, then_on, then_round, then_update, rounds, loop}
 
 abbrev pub Agree : {A : Type 0} → Run A → Run A → Type 0
 Agree m m' = (s : State) → m s ≡ m' s

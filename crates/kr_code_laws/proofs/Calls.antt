@@ -15,7 +15,8 @@ use Rattle.kr_mean.specs.Program.{Program, default_of, overriding, class_scope, 
 use Rattle.kr_mean.specs.Steps.{Run, ◌>>=◌, ◌>>◌, tick, within, make, store_new}
 use Rattle.kr_mean.specs.Code as meaning
 use Rattle.kr_mean.specs.Meaning as means
-use Rattle.kr_mean.specs.Meaning.{Flow, Parts, then_on, returned, completed, values_of, all, updates, run_body, super_arguments, value, execute, unbounded}
+use Rattle.kr_mean.specs.declared.flow.Flow.{Flow}
+use Rattle.kr_mean.specs.Meaning.{Parts, then_on, returned, completed, values_of, all, updates, run_body, super_arguments, value, execute, unbounded}
 use Rattle.kr_code.specs.declared.code.Code.{Code}
 use Rattle.kr_code.specs.declared.code.MethodCode.{MethodCode}
 use Rattle.kr_code.specs.declared.code.ClassCode.{ClassCode}

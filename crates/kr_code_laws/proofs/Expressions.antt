@@ -13,8 +13,9 @@ use Rattle.kr_classes_table.specs.Arrays.{array_number}
 use Rattle.kr_classes_table.specs.Constants.{constant_of}
 use Rattle.kr_types_meaning.specs.Scopes.{Scope, Meant, LocalName, FieldName, NoName, written, meant, class_before}
 use Rattle.kr_mean.specs.declared.kind.Kind.TheVariants.{ArrayTooLong}
+use Rattle.kr_mean.specs.declared.kind.Stop.TheVariants.{Trapped, Stuck}
 use Rattle.kr_mean.specs.Program.{Program, default_of, overriding}
-use Rattle.kr_mean.specs.Steps.{Trapped, Stuck, Run, say, give, stop, given, ◌>>=◌, ◌>>◌, get_this, read_local, element, class_or_null, class_of, load_field, store, store_element}
+use Rattle.kr_mean.specs.Steps.{Run, say, give, stop, given, ◌>>=◌, ◌>>◌, get_this, read_local, element, class_or_null, class_of, load_field, store, store_element}
 use Rattle.kr_mean.specs.Operators.{operated}
 use Rattle.kr_mean.specs.Meaning as means
 use Rattle.kr_mean.specs.Meaning.{Parts, Target, LocalTarget, OwnField, FieldOf, ElementOf, NoTarget, Change, choose, values_of, constant, read_name, typed_method, run_chosen, own_call, called, method_call, super_method, create, create_array, is_primitive, binary, cast, instance, target_of, assigned, changed, compound, stepped, value_of, value, execute, unbounded}

@@ -9,8 +9,9 @@ use Rattle.kr_value.specs.declared.object.Spot.TheVariants.{Length}
 use Rattle.kr_value.specs.Heaps.{object_in}
 use Rattle.kr_classes_table.specs.Types.{JavaType, ArrayType}
 use Rattle.kr_mean.specs.declared.kind.Kind.TheVariants.{ClassCastException}
+use Rattle.kr_mean.specs.declared.kind.Stop.TheVariants.{Trapped, Stuck}
 use Rattle.kr_mean.specs.Program.{Program, is_of_type, is_array_of}
-use Rattle.kr_mean.specs.Steps.{Trapped, Stuck, give, stop, class_of, load, load_at, load_in, load_field, store_at, store, store_new_if, store_new, store_element_if, store_element}
+use Rattle.kr_mean.specs.Steps.{give, stop, class_of, load, load_at, load_in, load_field, store_at, store, store_new_if, store_new, store_element_if, store_element}
 use Rattle.kr_mean.specs.Meaning.{cast, instance}
 use Rattle.kr_code.specs.declared.code.Code.{Code}
 use Rattle.kr_code.specs.Tables.{is_instance}

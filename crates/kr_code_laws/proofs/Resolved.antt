@@ -2,9 +2,12 @@
 use Rattle.std.proofs.Common.{ℕ, ◌≤◌, true, List, [], ◌∷◌, Option, Some, None, Result, Ok, Err, refl, sym, ◌∙◌, arith}
 use Rattle.kr_value.specs.declared.value.Value.{Value}
 use Rattle.kr_value.specs.declared.value.Value.TheVariants.{Bool as Truth}
+use Rattle.kr_mean.specs.declared.kind.Stop.{Stop}
 use Rattle.kr_mean.specs.Program.{Program}
-use Rattle.kr_mean.specs.Steps.{Stop, State, Run, go_on, bind, give, ◌>>=◌, tick}
-use Rattle.kr_mean.specs.Meaning.{Flow, Next, Broke, Continued, Left, Gave, then_update}
+use Rattle.kr_mean.specs.Steps.{State, Run, go_on, bind, give, ◌>>=◌, tick}
+use Rattle.kr_mean.specs.declared.flow.Flow.{Flow}
+use Rattle.kr_mean.specs.declared.flow.Flow.TheVariants.{Next, Broke, Continued, Left, Gave}
+use Rattle.kr_mean.specs.Meaning.{then_update}
 use Rattle.kr_laws_runs.specs.Laws.{Spends}
 use Rattle.kr_laws_runs.proofs.Bounds.{value_is, execute_is, loop_is, value_spends, execute_spends}
 use Rattle.kr_code.specs.declared.code.Code.{Code}

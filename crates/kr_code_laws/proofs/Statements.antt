@@ -5,9 +5,11 @@ use Rattle.kr_ast.specs.Tree.{Tree}
 use Rattle.kr_value.specs.declared.value.Value.{Value}
 use Rattle.kr_classes_table.specs.Table.{items}
 use Rattle.kr_types_meaning.specs.Scopes.{Scope, after, bind_local as with_local}
+use Rattle.kr_mean.specs.declared.kind.Stop.TheVariants.{Stuck}
 use Rattle.kr_mean.specs.Program.{Program, default_of}
-use Rattle.kr_mean.specs.Steps.{Stuck, Run, stop, ◌>>◌, tick, declare}
-use Rattle.kr_mean.specs.Meaning.{Flow, Parts, all, condition, flow_of, initial_value, declared, all_declared, declaring_locals, statement, unbounded}
+use Rattle.kr_mean.specs.Steps.{Run, stop, ◌>>◌, tick, declare}
+use Rattle.kr_mean.specs.declared.flow.Flow.{Flow}
+use Rattle.kr_mean.specs.Meaning.{Parts, all, condition, flow_of, initial_value, declared, all_declared, declaring_locals, statement, unbounded}
 use Rattle.kr_code.specs.declared.code.Code.{Code}
 use Rattle.kr_code.specs.declared.statement.Statement.{Statement}
 use Rattle.kr_code.specs.declared.statement.Statement.TheVariants as statements

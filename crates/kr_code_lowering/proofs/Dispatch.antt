@@ -7,7 +7,7 @@ use Rattle.kr_ast.specs.declared.node.Entry.{Entry}
 use Rattle.kr_ast.specs.declared.node.Node.{Node}
 use Rattle.kr_ast.specs.declared.node.Node.TheVariants as nodes
 use Rattle.kr_value.specs.declared.value.Value.TheVariants.{Int}
-use Rattle.kr_classes_table.specs.Constants.{wrap}
+use Rattle.kr_classes_table.specs.Numbers.{Bits32, wrap}
 use Rattle.kr_types_meaning.specs.Scopes.{Scope}
 use Rattle.kr_types_meaning.specs.Typing.{operand}
 use Rattle.kr_types_meaning.specs.Running.{running}
@@ -65,8 +65,8 @@ module _ (p : Program) (program : IsProgram p) (arrays : List ℕ) (s : Site) (e
   pub no_expression_resolves : is_no_expression (tree_of (arena_at p s).text (tree_in (arena_at p s)) e.place e.node) ≡ true → Resolves p arrays s known linked expressions.Stuck
   no_expression_resolves h = resolves_at p arrays s e e.node at refl known linked expressions.Stuck (λ final code b. resolved.other _ h)
 
-  pub number_resolves : (v : ℕ) → e.node ≡ nodes.Number v → Resolves p arrays s known linked (expressions.Literal (Int (wrap (pos v))))
-  number_resolves v is = resolves_at p arrays s e (nodes.Number v) at is known linked (expressions.Literal (Int (wrap (pos v)))) (λ final code b. resolved.number e.place v)
+  pub number_resolves : (v : ℕ) → e.node ≡ nodes.Number v → Resolves p arrays s known linked (expressions.Literal (Int (wrap Bits32 (pos v))))
+  number_resolves v is = resolves_at p arrays s e (nodes.Number v) at is known linked (expressions.Literal (Int (wrap Bits32 (pos v)))) (λ final code b. resolved.number e.place v)
 
   pub old_resolves : (a : ℕ) → e.node ≡ nodes.Old a → Resolves p arrays s known linked (expressions.Old e.place)
   old_resolves a is = resolves_at p arrays s e (nodes.Old a) at is known linked (expressions.Old e.place) (λ final code b. resolved.old e.place (node_tree p s.file a))

@@ -3,7 +3,7 @@ ghost use Rattle.std.specs.Prelude.{◌≡◌, ◌<◌, ◌^◌, pos, List, ℕ,
 ghost use Rattle.kr_base.specs.declared.place.Place.{Place};
 ghost use Rattle.kr_ast.specs.Tree.{Tree};
 ghost use Rattle.kr_ast.specs.Arena.{tree_of};
-ghost use Rattle.kr_classes_table.specs.Constants.{wrap};
+ghost use Rattle.kr_classes_table.specs.Numbers.{Bits32, wrap};
 ghost use Rattle.kr_code.specs.Resolved.{is_no_expression};
 ghost use Rattle.kr_code_lowering.specs.Kinds.{is_operator};
 ghost use Rattle.kr_value.specs.declared.value.Value.TheVariants.{Int};
@@ -32,7 +32,7 @@ use std::alloc::Global;
 
 /// The value of an int's literal, which wraps (2147483648 stands under a unary minus alone).
 fn int_literal(value: u32) -> Expression
-    ensures { result ≡ Literal (Int (wrap (pos value))) }
+    ensures { result ≡ Literal (Int (wrap Bits32 (pos value))) }
 {
     Expression::Literal(Value::Int(value.cast_signed()))
 }

@@ -8,13 +8,13 @@ use Rattle.kr_value.specs.declared.value.Value.{Value}
 use Rattle.kr_mean.specs.declared.kind.Kind.{Kind}
 use Rattle.kr_mean.specs.declared.kind.Verdict.{Verdict}
 use Rattle.kr_mean.specs.declared.kind.Verdict.TheVariants.{CheckTrap, Ensures, RepOk}
-use Rattle.kr_mean.specs.Steps.{Stop, Old, State, Outcome, give}
+use Rattle.kr_mean.specs.declared.kind.Stop.{Stop}
+use Rattle.kr_mean.specs.Steps.{Old, State, Outcome, give}
 use Rattle.kr_mean.specs.Verdicts.{judged_as, then_judged, where_holds}
 use Rattle.kr_code.specs.declared.code.Code.{Code}
 use Rattle.kr_code.specs.Doing.{Doing, IsMeaning}
 use Rattle.kr_judge_prepared.specs.declared.contract.OldCode.{OldCode}
 use Rattle.kr_run_state.specs.declared.world.World.{World}
-use Rattle.kr_run_state.specs.declared.world.End.{End}
 use Rattle.kr_run_state.specs.declared.world.Halt.{Halt}
 use Rattle.kr_run_state.specs.declared.world.Halt.TheVariants.{Ended}
 use Rattle.kr_run_state.specs.Shown.{local_of, old_of}
@@ -37,7 +37,7 @@ module _ (code : Code) (before w : World) (o : Doing → Others → Outcome Valu
       let h = a None tt in
       (stays h.0, λ d m next. ap (λ (x : Outcome Value). judged_as trap x.said x.after next) (h.1 d m))
 
-  pub ended : (h : Halt) (e : End) (verdict : Verdict) → h ≡ Ended e → verdict ≡ ended_as trap e → Answers code (Err h) w before o → Decides {A = Value} code (Err verdict) w (λ d. then_judged trap (o d None))
+  pub ended : (h : Halt) (e : Stop) (verdict : Verdict) → h ≡ Ended e → verdict ≡ ended_as trap e → Answers code (Err h) w before o → Decides {A = Value} code (Err verdict) w (λ d. then_judged trap (o d None))
   ended h e verdict is same a =
       let k = subst (λ (g : Halt). Answers code (Err g) w before o) is a None tt in
       λ d m next. ap (λ (r : Result Value Stop). judged_as trap r (o d None).after next) (k.1 d m).said ∙ (judged_end trap e (o d None).after next ∙ sym same)

@@ -2,11 +2,10 @@
 use Rattle.std.proofs.Common.{◌≡◌, Result, Ok, Err, refl, ap}
 use Rattle.kr_mean.specs.declared.kind.Kind.{Kind}
 use Rattle.kr_mean.specs.declared.kind.Verdict.{Verdict}
-use Rattle.kr_mean.specs.Steps.{Stop, Trapped, OutOfFuel, Stuck, State, Outcome, Run, bind, go_on}
+use Rattle.kr_mean.specs.declared.kind.Stop.{Stop}
+use Rattle.kr_mean.specs.declared.kind.Stop.TheVariants.{Trapped, OutOfFuel, Stuck}
+use Rattle.kr_mean.specs.Steps.{State, Outcome, Run, bind, go_on}
 use Rattle.kr_mean.specs.Verdicts.{judged_as, then_judged}
-use Rattle.kr_run_state.specs.declared.world.End.{End}
-use Rattle.kr_run_state.specs.declared.world.End.TheVariants as ends
-use Rattle.kr_run_state.specs.Shown.{stop_of}
 use Rattle.kr_contract.specs.Tests.{ended_as}
 
 -- what follows may be said in another way
@@ -31,7 +30,7 @@ judged_then {A} {B} trap m f s next = go (m s).said
     go (Err Stuck) = refl
 
 -- the end of a run
-pub judged_end : {A : Type 0} (trap : Kind → Verdict) (e : End) (s : State) (next : A → State → Verdict) → judged_as trap (Err (stop_of e)) s next ≡ ended_as trap e
-judged_end trap (ends.Trapped kind) s next = refl
-judged_end trap ends.OutOfFuel s next = refl
-judged_end trap ends.Stuck s next = refl
+pub judged_end : {A : Type 0} (trap : Kind → Verdict) (e : Stop) (s : State) (next : A → State → Verdict) → judged_as trap (Err e) s next ≡ ended_as trap e
+judged_end trap (Trapped kind) s next = refl
+judged_end trap OutOfFuel s next = refl
+judged_end trap Stuck s next = refl

@@ -5,6 +5,8 @@ use Rattle.kr_value.specs.declared.value.Value.{Value}
 use Rattle.kr_mean.specs.declared.kind.Kind.{Kind}
 use Rattle.kr_mean.specs.declared.kind.Verdict.{Verdict}
 use Rattle.kr_mean.specs.declared.kind.Verdict.TheVariants.{Pass, Ensures, RepOk, Trap, CheckTrap, Spent}
+use Rattle.kr_mean.specs.declared.kind.Stop.{Stop}
+use Rattle.kr_mean.specs.declared.kind.Stop.TheVariants as ends
 use Rattle.kr_mean.specs.Steps.{Old, State, Run, give, ◌>>=◌}
 use Rattle.kr_mean.specs.Verdicts.{then_judged, where_holds}
 use Rattle.kr_code.specs.declared.code.Code.{Code}
@@ -12,8 +14,6 @@ use Rattle.kr_code.specs.Doing.{Doing, IsMeaning, run_method}
 use Rattle.kr_code.specs.Tables.{method_at}
 use Rattle.kr_judge_prepared.specs.declared.contract.OldCode.{OldCode}
 use Rattle.kr_judge_prepared.specs.declared.contract.Contract.{Contract}
-use Rattle.kr_run_state.specs.declared.world.End.{End}
-use Rattle.kr_run_state.specs.declared.world.End.TheVariants as ends
 use Rattle.kr_run_state.specs.declared.world.World.{World}
 use Rattle.kr_run_state.specs.Worlds.{state_of}
 
@@ -58,7 +58,7 @@ pub record IsPlain (w : World) : Type 0 where
   pub none : w.candidates ≡ []
 
 -- the verdict on a part that has ended so
-abbrev pub ended_as : (Kind → Verdict) → End → Verdict
+abbrev pub ended_as : (Kind → Verdict) → Stop → Verdict
 ended_as trap (ends.Trapped kind) = trap kind
 ended_as trap ends.OutOfFuel = Spent
 ended_as trap ends.Stuck = Spent

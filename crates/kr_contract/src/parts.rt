@@ -11,32 +11,32 @@ use kr_base::NoMemory;
 use kr_classes_table::MethodId;
 use kr_code::Code;
 use kr_judge_prepared::OldCode;
-use kr_mean::Verdict;
+use kr_mean::{Stop, Verdict};
 use kr_run_frames::Stack;
 use kr_run_method::{call, value_of};
-use kr_run_state::{End, Halt, Local, Old, World};
+use kr_run_state::{Halt, Local, Old, World};
 use kr_value::Value;
 use std::alloc::Global;
 
 /// The verdict where an `\old`, `repOk` or a postcondition ends so.
-fn check_ended(end: End) -> Verdict
+fn check_ended(end: Stop) -> Verdict
     ensures { result ≡ ended_as CheckTrap end }
 {
     match end {
-        End::Trapped(kind) => Verdict::CheckTrap(kind),
-        End::OutOfFuel => Verdict::Spent,
-        End::Stuck => Verdict::Spent,
+        Stop::Trapped(kind) => Verdict::CheckTrap(kind),
+        Stop::OutOfFuel => Verdict::Spent,
+        Stop::Stuck => Verdict::Spent,
     }
 }
 
 /// The verdict where the method ends so.
-fn body_ended(end: End) -> Verdict
+fn body_ended(end: Stop) -> Verdict
     ensures { result ≡ ended_as Trap end }
 {
     match end {
-        End::Trapped(kind) => Verdict::Trap(kind),
-        End::OutOfFuel => Verdict::Spent,
-        End::Stuck => Verdict::Spent,
+        Stop::Trapped(kind) => Verdict::Trap(kind),
+        Stop::OutOfFuel => Verdict::Spent,
+        Stop::Stuck => Verdict::Spent,
     }
 }
 

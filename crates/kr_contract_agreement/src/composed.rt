@@ -12,9 +12,8 @@ use kr_code::Code;
 use kr_heap::Heap;
 use kr_judge::Predicate;
 use kr_judge_prepared::{Contract, OldCode};
-use kr_mean::Verdict;
+use kr_mean::{Stop, Verdict};
 use kr_run_method::{Env, Executed, Method, evaluate, execute};
-use kr_run_state::End;
 use kr_space_layout::Layout;
 use kr_value::Value;
 use kr_vector::{Slot, Vector};
@@ -28,7 +27,7 @@ struct World {
 }
 
 /// Takes what a call has left; what it gives.
-fn take(world: &mut World, run: Executed) -> Result<Option<Value>, End> {
+fn take(world: &mut World, run: Executed) -> Result<Option<Value>, Stop> {
     let Executed { end, heap, left } = run;
     world.heap = heap;
     world.left = left;
@@ -36,17 +35,17 @@ fn take(world: &mut World, run: Executed) -> Result<Option<Value>, End> {
 }
 
 /// The verdict where a call ends early.
-fn ended(end: End, is_body: bool) -> Verdict {
+fn ended(end: Stop, is_body: bool) -> Verdict {
     match end {
-        End::Trapped(kind) => {
+        Stop::Trapped(kind) => {
             if is_body {
                 Verdict::Trap(kind)
             } else {
                 Verdict::CheckTrap(kind)
             }
         }
-        End::OutOfFuel => Verdict::Spent,
-        End::Stuck => Verdict::Spent,
+        Stop::OutOfFuel => Verdict::Spent,
+        Stop::Stuck => Verdict::Spent,
     }
 }
 

@@ -1,6 +1,8 @@
 -- What a run says, from what its conditions say.
 use Rattle.std.proofs.Common.{◌≡◌, ℕ, Bool, true, false, List, [], ◌∷◌, ◌++◌, Result, Ok, Err, refl, sym, ap, subst, ◌∙◌}
 use Rattle.std.specs.Prelude.{flat_map, if◌then◌else◌}
+use Rattle.kr_mean.specs.declared.kind.Stop.{Stop}
+use Rattle.kr_mean.specs.declared.kind.Stop.TheVariants.{Trapped, OutOfFuel, Stuck}
 use Rattle.kr_mean.specs.Heaps.{walk}
 use Rattle.kr_mean.specs.Places.{SlotPlace, This}
 use Rattle.kr_mean.specs.Program.{Program}
@@ -8,9 +10,6 @@ use Rattle.kr_mean.specs.Runs.{End, accepted_walk, end_of, end_on, is_accepted, 
 use Rattle.kr_mean.specs.Steps.{Outcome}
 use Rattle.kr_run_state.specs.Noting.{noted_once}
 use Rattle.kr_run_state.specs.Ends.{IsEnd}
-use Rattle.kr_run_state.specs.Shown.{stop_of}
-use Rattle.kr_run_state.specs.declared.world.End.{End as Early}
-use Rattle.kr_run_state.specs.declared.world.End.TheVariants as ends
 use Rattle.kr_run_state.specs.declared.world.Halt.{Halt}
 use Rattle.kr_run_state.specs.declared.world.Halt.TheVariants.{Ended}
 use Rattle.kr_run_state.specs.declared.world.World.{World}
@@ -25,12 +24,12 @@ truth_said : (b : Bool) → end_said (Ok b) ≡ end_of (Ok b)
 truth_said true = refl
 truth_said false = refl
 
-early_said : (e : Early) → end_said (Err e) ≡ end_of (Err (stop_of e))
-early_said (ends.Trapped kind) = refl
-early_said ends.OutOfFuel = refl
-early_said ends.Stuck = refl
+early_said : (e : Stop) → end_said (Err e) ≡ end_of (Err e)
+early_said (Trapped kind) = refl
+early_said OutOfFuel = refl
+early_said Stuck = refl
 
-pub ran : (answer : Result Bool Halt) (j : Result Bool Early) (w : World) (o : Outcome Bool) → IsEnd answer (Ok j) → MeansAs answer w (This ∷ []) o → (end_said j ≡ end_of o.said) × (w.reads ≡ noted_once (This ∷ []) o.reads)
+pub ran : (answer : Result Bool Halt) (j : Result Bool Stop) (w : World) (o : Outcome Bool) → IsEnd answer (Ok j) → MeansAs answer w (This ∷ []) o → (end_said j ≡ end_of o.said) × (w.reads ≡ noted_once (This ∷ []) o.reads)
 ran answer (Ok b) w o i m =
     let is = subst (λ (a : Result Bool Halt). MeansAs a w (This ∷ []) o) i m in
     (truth_said b ∙ ap end_of (sym (ap (λ (x : Outcome Bool). x.said) is)), sym (ap (λ (x : Outcome Bool). x.reads) is))
@@ -41,7 +40,7 @@ ran answer (Err e) w o i m =
 -- ---- the order
 
 -- the slots of the places that were read, and then of what is reachable, each once, are the order
-pub order_is : (program : Program) (b : Bounds) (v : List ℕ) (j : Result Bool Early) (reads : List SlotPlace) (read all : List ℕ) → end_said j ≡ end_on (problem_with program b) v → reads ≡ noted_once [] (outcome_of (problem_with program b) v).reads
+pub order_is : (program : Program) (b : Bounds) (v : List ℕ) (j : Result Bool Stop) (reads : List SlotPlace) (read all : List ℕ) → end_said j ≡ end_on (problem_with program b) v → reads ≡ noted_once [] (outcome_of (problem_with program b) v).reads
     → read ≡ with_slots [] (flat_map (slots_for (bare b)) reads) → all ≡ with_slots read (if is_accepted (end_said j) then walk (bare b) v else []) → all ≡ order_of (problem_with program b) v
 unfolding order_of read_slots
 order_is program b v j reads read all e r f g =

@@ -3,8 +3,10 @@ use Rattle.std.proofs.Common.{◌≡◌, ℕ, Bool, List, [], ◌∷◌, ◌++�
 use Rattle.std.specs.Prelude.{map}
 use Rattle.std.proofs.lemmas.List.{append-nil}
 use Rattle.kr_value.specs.declared.value.Value.{Value}
+use Rattle.kr_mean.specs.declared.kind.Stop.{Stop}
+use Rattle.kr_mean.specs.declared.kind.Stop.TheVariants.{Stuck}
 use Rattle.kr_mean.specs.Places.{SlotPlace}
-use Rattle.kr_mean.specs.Steps.{Stop, State, Outcome, Run, go_on, bind, stop, Stuck}
+use Rattle.kr_mean.specs.Steps.{State, Outcome, Run, go_on, bind, stop}
 use Rattle.kr_mean.specs.Program.{Program}
 use Rattle.kr_mean.specs.Meaning.{value}
 use Rattle.kr_mean.specs.Runs.{hold_all, where_true}
@@ -14,12 +16,9 @@ use Rattle.kr_code.specs.Resolved.{Numbering, IsCodeOf}
 use Rattle.kr_code_laws.specs.Laws.{doing_of}
 use Rattle.kr_code_laws.proofs.Resolved.{is_run_by}
 use Rattle.kr_run_state.specs.declared.world.World.{World}
-use Rattle.kr_run_state.specs.declared.world.End.{End}
 use Rattle.kr_run_state.specs.declared.world.Halt.{Halt}
-use Rattle.kr_run_state.specs.declared.world.End.TheVariants as ends
 use Rattle.kr_run_state.specs.Worlds.{state_at, state_of}
 use Rattle.kr_run_state.specs.Noting.{noting, noted_once}
-use Rattle.kr_run_state.specs.Shown.{stop_of}
 use Rattle.kr_run_frames.specs.Frames.{continued}
 use Rattle.kr_run_frames.specs.Leads.{HasEnded}
 use Rattle.kr_run_frames.proofs.Outcomes.{noted_behind, outcome_is}
@@ -40,10 +39,10 @@ followed {B} m f seen new s t v h =
     mk ps = record { said = (f v t).said; after = (f v t).after; reads = ps }
 
 -- what follows the end of a run
-pub ended : (m : Run Value) (f : Value → Run Bool) (seen : List SlotPlace) (s : State) (e : End) (w : World) → HasEnded e w None (noting seen (m s)) → IsEnded e w (noting seen (bind m f s))
+pub ended : (m : Run Value) (f : Value → Run Bool) (seen : List SlotPlace) (s : State) (e : Stop) (w : World) → HasEnded e w None (noting seen (m s)) → IsEnded e w (noting seen (bind m f s))
 unfolding bind
 ended m f seen s e w x =
-    let is : continued (m s) f ≡ record { said = Err (stop_of e); after = (m s).after; reads = (m s).reads } = ap (λ (r : Result Value Stop). go_on r (m s).after (m s).reads f) x.said in
+    let is : continued (m s) f ≡ record { said = Err e; after = (m s).after; reads = (m s).reads } = ap (λ (r : Result Value Stop). go_on r (m s).after (m s).reads f) x.said in
     record {
       said = ap (λ (o : Outcome Bool). o.said) is;
       heap = ap (λ (o : Outcome Bool). o.after.heap) is ∙ x.heap;
@@ -61,7 +60,7 @@ means code r w seen is s h program n c =
     subst (λ (m : Run Bool). MeansAs r w seen (m s)) (conditions_are program n is) (h (doing_of program n) (is_run_by program code n c).meaning)
 
 -- a value that is no truth value has no meaning as a condition
-pub stuck : (m : Run Value) (rest : Run Bool) (seen : List SlotPlace) (s : State) (v : Value) (w : World) → noting seen (m s) ≡ record { said = Ok v; after = state_of w; reads = w.reads } → where_true v rest (state_of w) ≡ stop Stuck (state_of w) → IsEnded ends.Stuck w (noting seen (bind m (λ u. where_true u rest) s))
+pub stuck : (m : Run Value) (rest : Run Bool) (seen : List SlotPlace) (s : State) (v : Value) (w : World) → noting seen (m s) ≡ record { said = Ok v; after = state_of w; reads = w.reads } → where_true v rest (state_of w) ≡ stop Stuck (state_of w) → IsEnded Stuck w (noting seen (bind m (λ u. where_true u rest) s))
 stuck m rest seen s v w h is =
     let e = followed m (λ u. where_true u rest) seen w.reads s (state_of w) v h ∙ ap (λ (o : Outcome Bool). noting w.reads o) is in
     record {

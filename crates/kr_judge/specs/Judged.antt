@@ -1,16 +1,15 @@
 -- Between crates: what is answered of conditions.
 use Rattle.std.specs.Prelude.{◌≡◌, ℕ, Bool, true, List, [], ◌∷◌, ◌++◌, Result, Ok, Err}
+use Rattle.kr_mean.specs.declared.kind.Stop.{Stop}
 use Rattle.kr_mean.specs.Places.{SlotPlace}
 use Rattle.kr_mean.specs.Steps.{Outcome, Run, give, ◌>>=◌}
 use Rattle.kr_mean.specs.Runs.{where_true}
 use Rattle.kr_code.specs.declared.code.Code.{Code}
 use Rattle.kr_code.specs.Doing.{Doing, IsMeaning}
 use Rattle.kr_run_state.specs.declared.world.World.{World}
-use Rattle.kr_run_state.specs.declared.world.End.{End}
 use Rattle.kr_run_state.specs.declared.world.Halt.{Halt}
 use Rattle.kr_run_state.specs.declared.world.Halt.TheVariants.{Ended, Memory}
 use Rattle.kr_run_state.specs.Noting.{noting}
-use Rattle.kr_run_state.specs.Shown.{stop_of}
 use Rattle.kr_run_state.specs.Worlds.{state_of}
 
 -- whether the conditions at some nodes hold, each looked at only where those before it do
@@ -19,8 +18,8 @@ hold_at d [] = give true
 hold_at d (i ∷ is) = d.value i >>= (λ v. where_true v (hold_at d is))
 
 -- a run of conditions has ended so, with the world's heap and fuel, and its reads
-pub record IsEnded (e : End) (w : World) (o : Outcome Bool) : Type 0 where
-  pub said : o.said ≡ Err (stop_of e)
+pub record IsEnded (e : Stop) (w : World) (o : Outcome Bool) : Type 0 where
+  pub said : o.said ≡ Err e
   pub heap : o.after.heap ≡ w.candidates ++ w.made
   pub fuel : o.after.fuel ≡ w.fuel
   pub reads : o.reads ≡ w.reads

@@ -1,15 +1,15 @@
 -- Between crates: what is said of a run.
 use Rattle.std.specs.Prelude.{◌≡◌, ℕ, Bool, true, false, List, [], Result, Ok, Err}
+use Rattle.kr_mean.specs.declared.kind.Stop.{Stop}
+use Rattle.kr_mean.specs.declared.kind.Stop.TheVariants.{Trapped, OutOfFuel, Stuck}
 use Rattle.kr_mean.specs.Problem.{Problem}
 use Rattle.kr_mean.specs.Runs as runs
 use Rattle.kr_mean.specs.Runs.{end_on, outcome_of}
 use Rattle.kr_run_state.specs.Noting.{noted_once}
-use Rattle.kr_run_state.specs.declared.world.End.{End}
-use Rattle.kr_run_state.specs.declared.world.End.TheVariants.{Trapped, OutOfFuel, Stuck}
 use Rattle.kr_judge.specs.declared.run.Ran.{Ran}
 
 -- the end that is said so: of a run that is stuck what doesn't accept
-abbrev pub end_said : Result Bool End → runs.End
+abbrev pub end_said : Result Bool Stop → runs.End
 end_said (Ok true) = runs.True
 end_said (Ok false) = runs.False
 end_said (Err (Trapped kind)) = runs.Trap kind

@@ -16,7 +16,8 @@ use crate::order::Order;
 use crate::places::slot_of;
 use kr_base::NoMemory;
 use kr_build::Walk;
-use kr_run_state::{End, Reads};
+use kr_mean::Stop;
+use kr_run_state::Reads;
 use kr_space_layout::Layout;
 use kr_value::{SlotPlace, Spot};
 use kr_vector::Vector;
@@ -179,7 +180,7 @@ fn add_slots(order: &mut Order, slots: &[u32]) -> Result<(), NoMemory>
 
 /// Where a run accepts, the slots that are reachable come.
 fn add_reachable(
-    end: Result<bool, End>,
+    end: Result<bool, Stop>,
     order: &mut Order,
     reachable: &mut Walk,
     layout: &Layout,
@@ -196,9 +197,9 @@ fn add_reachable(
             add_slots(order, reachable.slots())
         }
         Ok(false) => Ok(()),
-        Err(End::Trapped(_)) => Ok(()),
-        Err(End::OutOfFuel) => Ok(()),
-        Err(End::Stuck) => Ok(()),
+        Err(Stop::Trapped(_)) => Ok(()),
+        Err(Stop::OutOfFuel) => Ok(()),
+        Err(Stop::Stuck) => Ok(()),
     }
 }
 
@@ -242,7 +243,7 @@ impl Accesses {
         &mut self,
         layout: &Layout,
         vector: &Vector,
-        end: Result<bool, End>,
+        end: Result<bool, Stop>,
         reads: &Reads,
         shared: usize,
     ) -> Result<(), NoMemory>
@@ -273,7 +274,7 @@ impl Accesses {
         &mut self,
         layout: &Layout,
         vector: &Vector,
-        end: Result<bool, End>,
+        end: Result<bool, Stop>,
         reads: &Reads,
         shared: usize,
     ) -> Result<(), NoMemory>

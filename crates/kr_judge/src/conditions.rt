@@ -8,8 +8,9 @@ ghost use Rattle.kr_mean.specs.Runs.{hold_all as hold_all_step};
 ghost use Rattle.kr_run_state.specs.Worlds.{state_of};
 
 use kr_code::Code;
+use kr_mean::Stop;
 use kr_run::evaluate;
-use kr_run_state::{End, Halt, World};
+use kr_run_state::{Halt, World};
 use kr_value::Value;
 use std::alloc::Global;
 
@@ -21,9 +22,9 @@ fn holds(alloc: Global, code: &Code, world: &mut World, condition: u32) -> Resul
         Err(halt) => return Err(halt),
         Ok(value) => match value {
             Value::Bool(truth) => return Ok(truth),
-            Value::Int(_) => return Err(Halt::Ended(End::Stuck)),
-            Value::Null => return Err(Halt::Ended(End::Stuck)),
-            Value::Ref(_) => return Err(Halt::Ended(End::Stuck)),
+            Value::Int(_) => return Err(Halt::Ended(Stop::Stuck)),
+            Value::Null => return Err(Halt::Ended(Stop::Stuck)),
+            Value::Ref(_) => return Err(Halt::Ended(Stop::Stuck)),
         },
     }
 }

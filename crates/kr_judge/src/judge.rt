@@ -16,7 +16,8 @@ use crate::accesses::Accesses;
 use crate::predicate::Predicate;
 use crate::run::run_predicate;
 use kr_base::{NoMemory, Steps};
-use kr_run_state::{End, Reads};
+use kr_mean::Stop;
+use kr_run_state::Reads;
 use kr_space_layout::Layout;
 use kr_vector::Vector;
 use std::alloc::Global;
@@ -54,7 +55,7 @@ impl Judge {
         &mut self,
         layout: &Layout,
         vector: &Vector,
-        end: Result<bool, End>,
+        end: Result<bool, Stop>,
         reads: &Reads,
     ) -> Result<(), NoMemory>
         requires well { IsWellFormed (bare layout.now) }
@@ -74,7 +75,7 @@ impl Judge {
         predicate: &Predicate,
         vector: &Vector,
         runs: &mut Steps<L>,
-    ) -> Result<Result<bool, End>, NoMemory>
+    ) -> Result<Result<bool, Stop>, NoMemory>
         requires well { IsWellFormed (bare layout.now) }
         requires vector { IsVector (space_of (bare layout.now)) vector.now }
         requires small { length (slots (bare layout.now)) < 2 ^ 31 }

@@ -13,7 +13,8 @@ use crate::conditions::hold_all;
 use crate::predicate::Predicate;
 use crate::start::world_of;
 use kr_base::{NoMemory, Steps};
-use kr_run_state::{End, Reads, ended};
+use kr_mean::Stop;
+use kr_run_state::{Reads, ended};
 use kr_space_layout::Layout;
 use kr_vector::Vector;
 use std::alloc::Global;
@@ -23,7 +24,7 @@ use std::sync::ledger::Ledger;
 /// that is looked at; or the run has trapped, is spent, or stuck, and is not accepted.
 #[derive(Drop)]
 pub struct Ran {
-    pub end: Result<bool, End>,
+    pub end: Result<bool, Stop>,
     pub reads: Reads,
 }
 

@@ -1,6 +1,7 @@
 -- Runs of a problem's candidates, where its slots are laid out and its predicate is code.
 use Rattle.std.proofs.Common.{◌≡◌, ℕ, suc, ◌-◌, ◌<◌, Bool, List, length, Result, refl, sym, ap, ◌∙◌, subst, arith}
 use Rattle.std.proofs.lemmas.List.{length-map}
+use Rattle.kr_mean.specs.declared.kind.Stop.{Stop}
 use Rattle.kr_mean.specs.Code.{Node}
 use Rattle.std.proofs.Math.Logic.{∥∥₁_elim}
 use Rattle.std.proofs.Props.{props}
@@ -12,7 +13,6 @@ use Rattle.kr_space_layout.specs.Bounds.{Bounds, problem_with}
 use Rattle.kr_judge.specs.Predicates.{IsPredicateOf}
 use Rattle.kr_judge.specs.Runs.{end_said}
 use Rattle.kr_judge.specs.declared.predicate.Predicate.{Predicate}
-use Rattle.kr_run_state.specs.declared.world.End.{End}
 use Rattle.kr_step_span.specs.Scans.{ending_of}
 use Rattle.kr_step.specs.declared.candidates.Ending.{Ending}
 use Rattle.kr_step.specs.declared.candidates.Ending.TheVariants.{Valid, Invalid, Spent}
@@ -58,7 +58,7 @@ module _ (problem : Problem) (b : Bounds) (v : List ℕ) (predicate : Predicate)
   by_laid : (n : Numbering) → IsPredicateOf problem predicate n → IsPredicateOf (problem_with problem.program b) predicate n
   by_laid n p = subst (λ (q : Problem). IsPredicateOf q predicate n) laid p
 
-  pub ends_as : (j : Result Bool End) → ((program : Program) (n : Numbering) → IsPredicateOf (problem_with program b) predicate n → end_said j ≡ end_on (problem_with program b) v) → ending_of (end_said j) ≡ ending_of (end_on problem v)
+  pub ends_as : (j : Result Bool Stop) → ((program : Program) (n : Numbering) → IsPredicateOf (problem_with program b) predicate n → end_said j ≡ end_on (problem_with program b) v) → ending_of (end_said j) ≡ ending_of (end_on problem v)
   ends_as j h =
       by_number (ending_of (end_said j)) (ending_of (end_on problem v)) (∥∥₁_elim is (Prim.hlevel props)
       (λ p. ap (λ e. number_of (ending_of e)) (h problem.program p.0 (by_laid p.0 p.1) ∙ ap (λ (q : Problem). end_on q v) (sym laid))))

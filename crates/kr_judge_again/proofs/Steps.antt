@@ -10,20 +10,20 @@ use Rattle.std.proofs.lemmas.List.Elements.{All-append, All-take}
 use Rattle.kr_value.specs.declared.value.Value.{Value}
 use Rattle.kr_value.specs.declared.value.Value.TheVariants.{Bool as Truth}
 use Rattle.kr_value.specs.Heaps.{Heap}
+use Rattle.kr_mean.specs.declared.kind.Stop.{Stop}
+use Rattle.kr_mean.specs.declared.kind.Stop.TheVariants.{Stuck}
 use Rattle.kr_mean.specs.Heaps.{heap_of, value_at}
 use Rattle.kr_mean.specs.Places.{SlotPlace, This}
 use Rattle.kr_mean.specs.Problem.{Problem, choices_at}
 use Rattle.kr_mean.specs.Runs.{parameter_values, parameters_from, slots_for, start, where_true}
 use Rattle.kr_mean.specs.Space.{IsVector, no_choice, space_of}
-use Rattle.kr_mean.specs.Steps.{Stop, State, Outcome, Run, go_on, bind, stop, Stuck, Local, Old}
+use Rattle.kr_mean.specs.Steps.{State, Outcome, Run, go_on, bind, stop, Local, Old}
 use Rattle.kr_mean.specs.WellFormed.{IsWellFormed}
 use Rattle.kr_code.specs.declared.code.Code.{Code}
 use Rattle.kr_code.specs.Doing.{Doing, IsMeaning}
 use Rattle.kr_space_layout.specs.Bounds.{Bounds, bare}
 use Rattle.kr_run_state.specs.declared.action.Action.{Action}
 use Rattle.kr_run_state.specs.declared.world.World.{World}
-use Rattle.kr_run_state.specs.declared.world.End.{End}
-use Rattle.kr_run_state.specs.declared.world.End.TheVariants as ends
 use Rattle.kr_run_state.specs.declared.world.Halt.TheVariants.{Ended, Memory}
 use Rattle.kr_run_state.specs.declared.world.Halt.{Halt}
 use Rattle.kr_run_state.specs.Noting.{is_read, noting, noted_once, with_read}
@@ -80,7 +80,7 @@ rest_gives : (seen new : List SlotPlace) (o : Outcome Value) (v : Value) (t : St
 unfolding by_noted noted_by
 rest_gives seen new o v t f h = noting_continued seen o f ∙ ap (λ (q : Outcome Value). by_noted q f) h
 
-rest_ends : (seen : List SlotPlace) (o : Outcome Value) (f : Value → Run Bool) (e : End) (w : World) → HasEnded e w None (noting seen o) → IsEnded e w (noting seen (continued o f))
+rest_ends : (seen : List SlotPlace) (o : Outcome Value) (f : Value → Run Bool) (e : Stop) (w : World) → HasEnded e w None (noting seen o) → IsEnded e w (noting seen (continued o f))
 unfolding noted_by
 rest_ends seen o f e w x =
     let is = noting_continued seen o f ∙ ap (λ (r : Result Value Stop). noted_by r o.after (noted_once seen o.reads) f) x.said in
@@ -91,7 +91,7 @@ rest_ends seen o f e w x =
       reads = ap (λ (q : Outcome Bool). q.reads) is ∙ x.reads;
     }
 
-ended_by : (e : End) (w : World) (o o' : Outcome Bool) → o ≡ o' → IsEnded e w o' → IsEnded e w o
+ended_by : (e : Stop) (w : World) (o o' : Outcome Bool) → o ≡ o' → IsEnded e w o' → IsEnded e w o
 ended_by e w o o' is x = subst (λ (q : Outcome Bool). IsEnded e w q) (sym is) x
 
 -- ---- what is allowed
@@ -177,7 +177,7 @@ module _ (b : Bounds) (p : Predicate) (v : List ℕ) where
         ∙ rest_gives w.reads w'.reads (resumed p.code d fs task (state_at w (heap_in b x))) given (state_at w' (heap_in b x)) (λ y. where_true y (hold_at d (behind p condition))) (r.1 d m);
   }
 
-  pub ends_on : (condition : ℕ) (fs : List Frame) (task : Task) (e : End) (w w' : World) → GoesOn b p v condition fs task w → EndsSo p.code e w' w (λ d x. resumed p.code d fs task (state_at w x))
+  pub ends_on : (condition : ℕ) (fs : List Frame) (task : Task) (e : Stop) (w w' : World) → GoesOn b p v condition fs task w → EndsSo p.code e w' w (λ d x. resumed p.code d fs task (state_at w x))
       → (d : Doing) → IsMeaning p.code d → IsEnded e w' (noting (This ∷ []) (hold_at d p.conditions.items (start (bare b) v)))
   ends_on condition fs task e w w' g l d m =
       ended_by e w' _ _ (g.is None tt tt d m)
@@ -211,7 +211,7 @@ module _ (b : Bounds) (p : Predicate) (v : List ℕ) where
   one_false condition w g = λ d m. g.is None tt tt d m
 
   -- one is no truth value
-  pub one_stuck : (condition : ℕ) (given : Value) (w : World) → Gave b p v condition given w → ((m : Run Bool) (s : State) → where_true given m s ≡ stop Stuck s) → HoldsAs p.code (Err (Ended ends.Stuck)) w (This ∷ []) (λ d. hold_at d p.conditions.items (start (bare b) v))
+  pub one_stuck : (condition : ℕ) (given : Value) (w : World) → Gave b p v condition given w → ((m : Run Bool) (s : State) → where_true given m s ≡ stop Stuck s) → HoldsAs p.code (Err (Ended Stuck)) w (This ∷ []) (λ d. hold_at d p.conditions.items (start (bare b) v))
   one_stuck condition given w g h = λ d m.
       let is = g.is None tt tt d m ∙ ap (λ (o : Outcome Bool). noting w.reads o) (h (hold_at d (behind p condition)) (state_of w)) in
       record {
@@ -416,12 +416,12 @@ module _ (b : Bounds) (p : Predicate) (v : List ℕ) where
   stays_halted (Ended e) w s = s
   stays_halted (Memory why) w s = tt
 
-  pub stays_same : (answer : Result Bool Halt) (end : Result Bool End) (w : World) → IsEnd answer (Ok end) → Stays b v answer w → w.is_frozen ≡ true → w.candidates ≡ heap_of (bare b) v
+  pub stays_same : (answer : Result Bool Halt) (end : Result Bool Stop) (w : World) → IsEnd answer (Ok end) → Stays b v answer w → w.is_frozen ≡ true → w.candidates ≡ heap_of (bare b) v
   stays_same answer (Ok t) w q s = subst (λ (r : Result Bool Halt). Stays b v r w) q s
   stays_same answer (Err e) w q s = subst (λ (r : Result Bool Halt). Stays b v r w) q s
 
   -- what has been read is what the run reads
-  pub reads_of : (answer : Result Bool Halt) (end : Result Bool End) (w : World) → IsEnd answer (Ok end) → HoldsAs p.code answer w (This ∷ []) (λ d. hold_at d p.conditions.items (start (bare b) v)) → AreReads b p v w.reads
+  pub reads_of : (answer : Result Bool Halt) (end : Result Bool Stop) (w : World) → IsEnd answer (Ok end) → HoldsAs p.code answer w (This ∷ []) (λ d. hold_at d p.conditions.items (start (bare b) v)) → AreReads b p v w.reads
   reads_of answer end w q h = λ d m. (ran answer end w (hold_at d p.conditions.items (start (bare b) v)) q (h d m)).1
 
   truth_is : (condition : ℕ) (given : Value) (truth t : Bool) (w : World) → given ≡ Truth truth → truth ≡ t → Gave b p v condition given w → Gave b p v condition (Truth t) w
@@ -442,5 +442,5 @@ module _ (b : Bounds) (p : Predicate) (v : List ℕ) where
   pub false_so : (condition : ℕ) (given : Value) (truth : Bool) (w : World) → given ≡ Truth truth → truth ≡ false → Gave b p v condition given w → HoldsAs p.code (Ok false) w (This ∷ []) (λ d. hold_at d p.conditions.items (start (bare b) v))
   false_so condition given truth w e is g = one_false b p v condition w (truth_is condition given truth false w e is g)
 
-  pub stuck_so : (condition : ℕ) (given other : Value) (w : World) → given ≡ other → ((m : Run Bool) (s : State) → where_true other m s ≡ stop Stuck s) → Gave b p v condition given w → HoldsAs p.code (Err (Ended ends.Stuck)) w (This ∷ []) (λ d. hold_at d p.conditions.items (start (bare b) v))
+  pub stuck_so : (condition : ℕ) (given other : Value) (w : World) → given ≡ other → ((m : Run Bool) (s : State) → where_true other m s ≡ stop Stuck s) → Gave b p v condition given w → HoldsAs p.code (Err (Ended Stuck)) w (This ∷ []) (λ d. hold_at d p.conditions.items (start (bare b) v))
   stuck_so condition given other w e h g = one_stuck b p v condition other w (subst (λ (x : Value). Gave b p v condition x w) e g) h

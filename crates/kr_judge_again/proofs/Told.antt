@@ -6,19 +6,19 @@ use Rattle.std.proofs.lemmas.List.{take-append-le, take-take}
 use Rattle.kr_value.specs.declared.value.Value.{Value}
 use Rattle.kr_value.specs.declared.value.Value.TheVariants.{Bool as Truth}
 use Rattle.kr_value.specs.Heaps.{Heap}
+use Rattle.kr_mean.specs.declared.kind.Stop.{Stop}
 use Rattle.kr_mean.specs.Code.{Node}
 use Rattle.kr_mean.specs.Heaps.{heap_of}
 use Rattle.kr_mean.specs.Places.{SlotPlace, This}
 use Rattle.kr_mean.specs.Program.{Program}
 use Rattle.kr_mean.specs.Runs.{conditions, end_of, end_on, hold_all, start, where_true}
 use Rattle.kr_mean.specs.Space.{IsVector, space_of}
-use Rattle.kr_mean.specs.Steps.{Stop, State, Outcome, Run, give}
+use Rattle.kr_mean.specs.Steps.{State, Outcome, Run, give}
 use Rattle.kr_code.specs.Doing.{Doing, IsMeaning}
 use Rattle.kr_code.specs.Resolved.{Numbering}
 use Rattle.kr_code_laws.specs.Laws.{doing_of}
 use Rattle.kr_code_laws.proofs.Resolved.{is_run_by}
 use Rattle.kr_space_layout.specs.Bounds.{Bounds, bare, problem_with}
-use Rattle.kr_run_state.specs.declared.world.End.{End}
 use Rattle.kr_run_state.specs.declared.world.World.{World}
 use Rattle.kr_run_state.specs.Noting.{noting, noted_once}
 use Rattle.kr_run_state.specs.Worlds.{state_of}
@@ -74,13 +74,13 @@ module _ (b : Bounds) (p : Predicate) (v : List ℕ) where
       ∙ (ap (λ (ps : List SlotPlace). noted_by (Ok value) o.after ps f) told.reads_are
       ∙ ap (λ (q : Outcome Bool). record { said = q.said; after = q.after; reads = noted_once new q.reads }) (is o.after)))
 
-  ends_so : (whole : Outcome Bool) (end : Result Bool End) (truth : Bool) (s : State) (reads : List SlotPlace) → whole ≡ record { said = Ok truth; after = s; reads = reads } → end_said end ≡ end_of (Ok truth) → (end_said end ≡ end_of whole.said) × (reads ≡ whole.reads)
+  ends_so : (whole : Outcome Bool) (end : Result Bool Stop) (truth : Bool) (s : State) (reads : List SlotPlace) → whole ≡ record { said = Ok truth; after = s; reads = reads } → end_said end ≡ end_of (Ok truth) → (end_said end ≡ end_of whole.said) × (reads ≡ whole.reads)
   ends_so whole end truth s reads e ends = (
     ends ∙ ap (λ (q : Outcome Bool). end_of q.said) (sym e),
     ap (λ (q : Outcome Bool). q.reads) (sym e),
   )
 
-  ends_from : (c : Check) (before after : World) (value : Value) (end : Result Bool End) → IsVector (space_of (bare b)) v → before.candidates ≡ heap_of (bare b) v → Kept b p v c → Shares b p v before.reads c → Gives p.code c before after value → Decides p c.condition value end → EndsAs b p v end after.reads
+  ends_from : (c : Check) (before after : World) (value : Value) (end : Result Bool Stop) → IsVector (space_of (bare b)) v → before.candidates ≡ heap_of (bare b) v → Kept b p v c → Shares b p v before.reads c → Gives p.code c before after value → Decides p c.condition value end → EndsAs b p v end after.reads
   ends_from c before after value end i same kept shared gives decides = λ d m.
       let own = heap_of (bare b) v in
       let seen = take c.count (reads_on b p v d) in
@@ -113,7 +113,7 @@ module _ (b : Bounds) (p : Predicate) (v : List ℕ) where
   }
 
   -- with every program that the predicate is of
-  pub is_run_to : (end : Result Bool End) (reads : List SlotPlace) → EndsAs b p v end reads → (program : Program) (n : Numbering) → IsPredicateOf (problem_with program b) p n → IsRunTo (problem_with program b) v end reads
+  pub is_run_to : (end : Result Bool Stop) (reads : List SlotPlace) → EndsAs b p v end reads → (program : Program) (n : Numbering) → IsPredicateOf (problem_with program b) p n → IsRunTo (problem_with program b) v end reads
   unfolding end_on
   is_run_to end reads ends program n q =
       let is = p.conditions.items in
@@ -136,7 +136,7 @@ decides_true p condition following found value truth e holds next at none =
       is = λ d s. ap (λ (u : Value). where_true u (hold_at d (behind p condition)) s) (e ∙ ap (λ (t : Bool). Truth t) holds) ∙ ap (λ (is : List ℕ). hold_at d is s) past;
     }
 
-pub foretold : (p : Predicate) (checks : List Check) (before after : World) (f : Foreseen) (end : Result Bool End) → (c : Check) × IsLastOf c checks × IsForeseen p.code c before after f → Decides p f.condition f.value end → IsForetold p checks before after (record { end = end; shared = f.count })
+pub foretold : (p : Predicate) (checks : List Check) (before after : World) (f : Foreseen) (end : Result Bool Stop) → (c : Check) × IsLastOf c checks × IsForeseen p.code c before after f → Decides p f.condition f.value end → IsForetold p checks before after (record { end = end; shared = f.count })
 foretold p checks before after f end (c, last, is) decides = record {
   check = c;
   last = last;

@@ -2,13 +2,13 @@
 use Rattle.std.specs.Prelude.{◌≡◌, ◌⊎◌, ℕ, Bool, List, [], Result, Ok, take}
 use Rattle.std.specs.List.{All}
 use Rattle.kr_value.specs.declared.value.Value.{Value}
+use Rattle.kr_mean.specs.declared.kind.Stop.{Stop}
 use Rattle.kr_mean.specs.Places.{SlotPlace}
 use Rattle.kr_mean.specs.Runs.{end_of, where_true}
 use Rattle.kr_mean.specs.Steps.{State, give}
 use Rattle.kr_code.specs.declared.code.Code.{Code}
 use Rattle.kr_code.specs.Doing.{Doing, IsMeaning}
 use Rattle.kr_space_layout.specs.Bounds.{Bounds}
-use Rattle.kr_run_state.specs.declared.world.End.{End}
 use Rattle.kr_run_state.specs.declared.world.World.{World}
 use Rattle.kr_run_state.specs.Noting.{noting}
 use Rattle.kr_run_state.specs.Worlds.{state_of}
@@ -46,7 +46,7 @@ abbrev pub ReadOn : List Check → List SlotPlace → List SlotPlace → Type 0
 ReadOn checks before after = (checks ≡ []) ⊎ ReadFrom checks before after
 
 -- Where a condition gives a value that alone says how the run ends.
-pub record Decides (p : Predicate) (condition : ℕ) (v : Value) (end : Result Bool End) : Type 0 where
+pub record Decides (p : Predicate) (condition : ℕ) (v : Value) (end : Result Bool Stop) : Type 0 where
   pub truth : Bool
   pub ends : end_said end ≡ end_of (Ok truth)
   pub is : (d : Doing) (s : State) → where_true v (hold_at d (behind p condition)) s ≡ give truth s
@@ -61,5 +61,5 @@ pub record IsForetold (p : Predicate) (checks : List Check) (before after : Worl
   pub decides : Decides p check.condition value went.end
 
 -- the run on a candidate ends so, and these are the places that it reads
-abbrev pub EndsAs : Bounds → Predicate → List ℕ → Result Bool End → List SlotPlace → Type 0
+abbrev pub EndsAs : Bounds → Predicate → List ℕ → Result Bool Stop → List SlotPlace → Type 0
 EndsAs b p v end reads = (d : Doing) → IsMeaning p.code d → (end_said end ≡ end_of (whole b p v v d).said) × (reads ≡ (whole b p v v d).reads)

@@ -4,6 +4,7 @@ use Rattle.std.specs.List.{All}
 use Rattle.std.proofs.Common.{get_or}
 use Rattle.kr_value.specs.declared.value.Value.{Value}
 use Rattle.kr_value.specs.Heaps.{Heap}
+use Rattle.kr_mean.specs.declared.kind.Stop.{Stop}
 use Rattle.kr_mean.specs.Heaps.{heap_of}
 use Rattle.kr_mean.specs.Space.{IsVector, space_of}
 use Rattle.kr_mean.specs.Places.{SlotPlace, This}
@@ -12,7 +13,6 @@ use Rattle.kr_mean.specs.Runs.{contains_number, end_on, outcome_of, start}
 use Rattle.kr_space_layout.specs.Bounds.{Bounds, bare}
 use Rattle.kr_run_state.specs.declared.action.Action.{Action}
 use Rattle.kr_run_state.specs.declared.world.World.{World}
-use Rattle.kr_run_state.specs.declared.world.End.{End}
 use Rattle.kr_run_state.specs.declared.world.Halt.{Halt}
 use Rattle.kr_run_state.specs.declared.world.Halt.TheVariants.{Ended, Memory}
 use Rattle.kr_run_state.specs.Noting.{noted_once}
@@ -72,7 +72,7 @@ pub record Wakes (checks : List Check) (start : Start) (reads : List SlotPlace) 
   pub reads_are : w.reads ≡ take check.count reads
 
 -- the run's end, and the places that it has read, each where it is read first
-abbrev pub IsRunTo : Problem → List ℕ → Result Bool End → List SlotPlace → Type 0
+abbrev pub IsRunTo : Problem → List ℕ → Result Bool Stop → List SlotPlace → Type 0
 IsRunTo problem vector end reads = (end_said end ≡ end_on problem vector) × (reads ≡ noted_once [] (outcome_of problem vector).reads)
 
 -- where the run has come to an end the candidates are the vector's, unless it has written one

@@ -23,9 +23,10 @@ use crate::fresh::{refresh, restore};
 use crate::pauses::pause_of;
 use kr_base::{NoMemory, Steps};
 use kr_judge::{Accesses, Predicate, begin};
+use kr_mean::Stop;
 use kr_run::{Step, advance};
 use kr_run_frames::{Stack, Task};
-use kr_run_state::{End, Halt, World, ended};
+use kr_run_state::{Halt, World, ended};
 use kr_space_layout::Layout;
 use kr_value::Value;
 use kr_vector::Vector;
@@ -159,9 +160,9 @@ fn go_on(
                         }
                     }
                 }
-                Value::Int(_) => return Err(Halt::Ended(End::Stuck)),
-                Value::Null => return Err(Halt::Ended(End::Stuck)),
-                Value::Ref(_) => return Err(Halt::Ended(End::Stuck)),
+                Value::Int(_) => return Err(Halt::Ended(Stop::Stuck)),
+                Value::Null => return Err(Halt::Ended(Stop::Stuck)),
+                Value::Ref(_) => return Err(Halt::Ended(Stop::Stuck)),
             },
         }
     }
@@ -221,13 +222,13 @@ fn stand(
 /// How a run has ended, and how many of the places that it has read were read from the start by the run before, too.
 #[derive(Clone, Copy)]
 pub(crate) struct Went {
-    pub end: Result<bool, End>,
+    pub end: Result<bool, Stop>,
     pub shared: usize,
 }
 
 /// How a run ends whose condition gives a value, where that says it.
 #[inline(always)]
-fn decided(predicate: &Predicate, condition: usize, value: Value) -> Option<Result<bool, End>>
+fn decided(predicate: &Predicate, condition: usize, value: Value) -> Option<Result<bool, Stop>>
     ensures { IfSome result (λ end. Decides predicate.now condition value end) }
 {
     match value {

@@ -21,8 +21,9 @@ use kr_base::{NoMemory, Steps};
 use kr_iso::{Object, Slots};
 use kr_judge::{Accesses, Predicate};
 use kr_judge_prepared::Prepared;
+use kr_mean::Stop;
 use kr_run_frames::Stack;
-use kr_run_state::{End, World};
+use kr_run_state::World;
 use kr_space_layout::Layout;
 use kr_step::{Candidates, Ending};
 use kr_vector::{Slot, Vector};
@@ -109,15 +110,15 @@ fn behind(layout: &Layout, high: u32, slot: u32) -> u32
 }
 
 /// How a run ends, as the search asks: one that traps is invalid.
-fn ending_for(end: Result<bool, End>) -> Ending
+fn ending_for(end: Result<bool, Stop>) -> Ending
     ensures { result ≡ ending_of (end_said end) }
 {
     match end {
         Ok(true) => Ending::Valid,
         Ok(false) => Ending::Invalid,
-        Err(End::Trapped(_)) => Ending::Invalid,
-        Err(End::OutOfFuel) => Ending::Spent,
-        Err(End::Stuck) => Ending::Invalid,
+        Err(Stop::Trapped(_)) => Ending::Invalid,
+        Err(Stop::OutOfFuel) => Ending::Spent,
+        Err(Stop::Stuck) => Ending::Invalid,
     }
 }
 
@@ -151,7 +152,7 @@ impl<'s> Runner<'s> {
     }
 
     /// Runs the predicate on the candidate, once: how the run ends, and the order of the slots that decide it.
-    fn judge<L: Ledger>(&mut self, runs: &mut Steps<L>) -> Result<Result<bool, End>, NoMemory>
+    fn judge<L: Ledger>(&mut self, runs: &mut Steps<L>) -> Result<Result<bool, Stop>, NoMemory>
         requires well { IsWellFormed (bare self.old.bounds) }
         requires vector { IsVector (space_of (bare self.old.bounds)) self.old.vector }
         requires small { length (slots (bare self.old.bounds)) < 2 ^ 31 }

@@ -14,12 +14,16 @@ use Rattle.kr_classes_table.specs.Types.{JavaType, ArrayType, is_void}
 use Rattle.kr_classes_table.specs.Table.{Field, Method}
 use Rattle.kr_classes_table.specs.Arrays.{array_number}
 use Rattle.kr_types_meaning.specs.Scopes.{Scope, after}
+use Rattle.kr_mean.specs.declared.kind.Stop.{Stop}
+use Rattle.kr_mean.specs.declared.kind.Stop.TheVariants.{OutOfFuel, Stuck, Trapped}
 use Rattle.kr_mean.specs.Program.{Program, spot_of_field, is_array_of, method_scope}
 use Rattle.kr_mean.specs.Places.{SlotPlace}
 use Rattle.kr_mean.specs.Collections.{Collected, collected}
-use Rattle.kr_mean.specs.Steps.{Stop, OutOfFuel, Stuck, Local, Old, State, Outcome, Run, say, give, stop, go_on, bind, given, ◌>>=◌, ◌>>◌, tick, tick_at, get_this, local_at, local_given, read_local, declare, assign_if, assign, get_result, old_at, get_old, entered, within, scoped, back_to, plain_local, load_if, load, index_within, element_read, element_if, element, class_or_null, store_at, store, store_new_if, store_new, store_index, store_element_if, store_element, make, collect_as, collect, Trapped}
+use Rattle.kr_mean.specs.Steps.{Local, Old, State, Outcome, Run, say, give, stop, go_on, bind, given, ◌>>=◌, ◌>>◌, tick, tick_at, get_this, local_at, local_given, read_local, declare, assign_if, assign, get_result, old_at, get_old, entered, within, scoped, back_to, plain_local, load_if, load, index_within, element_read, element_if, element, class_or_null, store_at, store, store_new_if, store_new, store_index, store_element_if, store_element, make, collect_as, collect}
 use Rattle.kr_mean.specs.Operators.{operated, operated_alone}
-use Rattle.kr_mean.specs.Meaning.{Flow, Next, Broke, Continued, Left, Gave, Target, LocalTarget, OwnField, FieldOf, ElementOf, NoTarget, choose, run_method, make_array, create_array, exec, execute, eval, value, unbounded, then_on, returned, all, run_body}
+use Rattle.kr_mean.specs.declared.flow.Flow.{Flow}
+use Rattle.kr_mean.specs.declared.flow.Flow.TheVariants.{Next, Broke, Continued, Left, Gave}
+use Rattle.kr_mean.specs.Meaning.{Target, LocalTarget, OwnField, FieldOf, ElementOf, NoTarget, choose, run_method, make_array, create_array, exec, execute, eval, value, unbounded, then_on, returned, all, run_body}
 use Rattle.kr_mean.specs.Code.{code, code_run}
 use Rattle.kr_mean.specs.Purity.{written_by}
 use Rattle.kr_laws_runs.proofs.Bounds.{AnyField, AnyType, AnyNode, OneOutcome, Under, under_logic, body_is, enough_for_statements, enough_for_values}
@@ -204,7 +208,7 @@ module _ (more : ℕ) where
       made None = (refl, refl)
       made (Some k) = (refl, refl)
 
-      go : (b : Bool) → Moved ((if b then stop (Rattle.kr_mean.specs.Steps.Trapped Rattle.kr_mean.specs.declared.kind.Kind.TheVariants.ArrayTooLong) else make_array t n (array_number program.arrays (ArrayType t))) s) ((if b then stop (Rattle.kr_mean.specs.Steps.Trapped Rattle.kr_mean.specs.declared.kind.Kind.TheVariants.ArrayTooLong) else make_array t n (array_number program.arrays (ArrayType t))) (longer s))
+      go : (b : Bool) → Moved ((if b then stop (Rattle.kr_mean.specs.declared.kind.Stop.TheVariants.Trapped Rattle.kr_mean.specs.declared.kind.Kind.TheVariants.ArrayTooLong) else make_array t n (array_number program.arrays (ArrayType t))) s) ((if b then stop (Rattle.kr_mean.specs.declared.kind.Stop.TheVariants.Trapped Rattle.kr_mean.specs.declared.kind.Kind.TheVariants.ArrayTooLong) else make_array t n (array_number program.arrays (ArrayType t))) (longer s))
       go true = (refl, refl)
       go false = made (array_number program.arrays (ArrayType t))
   array_moves program t (Int (negsuc n)) s = (refl, refl)

@@ -2,8 +2,9 @@
 use Rattle.std.specs.Prelude.{◌≡◌, ℕ, ◌+◌, ◌<◌, ◌≤◌, List, Err}
 use Rattle.kr_value.specs.declared.value.Value.{Value}
 use Rattle.kr_classes_table.specs.Table.{Method}
+use Rattle.kr_mean.specs.declared.kind.Stop.TheVariants.{OutOfFuel}
 use Rattle.kr_mean.specs.Program.{Program}
-use Rattle.kr_mean.specs.Steps.{OutOfFuel, State, Outcome}
+use Rattle.kr_mean.specs.Steps.{State, Outcome}
 use Rattle.kr_ast.specs.Tree.{Tree}
 use Rattle.kr_types_meaning.specs.Scopes.{Scope}
 use Rattle.kr_mean.specs.Meaning.{value, body_of}

@@ -9,7 +9,7 @@ use Rattle.kr_ast.specs.declared.node.BinaryOperator.TheVariants as operators
 use Rattle.kr_ast.specs.Tree as trees
 use Rattle.kr_ast.specs.Tree.{Tree}
 use Rattle.kr_classes_table.specs.Types.{JavaType, IntType, BooleanType, NullType, ClassType, ArrayType, SetType, ListType, InferredType, is_known, is_element, is_void, is_collection, is_reference}
-use Rattle.kr_classes_table.specs.Table.{Field, Method, field_named, method_named, is_assignable, are_related}
+use Rattle.kr_classes_table.specs.Table.{Field, Method, field_named, method_named, is_subtype, are_related}
 use Rattle.kr_classes_table.specs.Rules.{Fault}
 use Rattle.kr_types_meaning.specs.Scopes.{Scope, Meant, LocalName, FieldName, NoName, value, in_old, meant, method_meant, class_before, super_class}
 use Rattle.kr_types_meaning.specs.Rules.{Typed, Value, Variable, Values, Untyped, Judgement, Fits, Breaks, ask, gives, variable_of, number_rule, this_rule, name_rule, unary_rule, operator_rule, choice_rule, cast_rule, instance_rule, written_rule, assignment_rule, compound_rule, step_rule, field_rule, access_rule, constant_rule, element_rule, result_rule, arguments_rule, call_rule, static_rule, above_rule, super_rule, collection_rule, method_rule, object_call_rule, creation_rule, array_creation_rule, result_value_rule, old_rule, is_code, is_statement, is_ensuring, is_under_minus, is_int, is_boolean, both_int, both_boolean, related_references, arguments_fit, is_variable, is_broken, creation_fits}
@@ -170,7 +170,7 @@ binary s operators.And a b = boolean_asked (both_boolean a b) 12
 binary s operators.Or a b = boolean_asked (both_boolean a b) 12
 
 choice : (s : Scope) (c a b : JavaType) → is_open a ≡ false → is_open b ≡ false → Gives (choice_rule s c a b)
-choice s c a b h k = asked (is_boolean c && are_related s.table a b) 15 (Fits (Value (if is_assignable s.table a b then b else a))) (λ e. go (is_assignable s.table a b))
+choice s c a b h k = asked (is_boolean c && are_related s.table a b) 15 (Fits (Value (if is_subtype s.table a b then b else a))) (λ e. go (is_subtype s.table a b))
   where
     go : (x : Bool) → is_open (if x then b else a) ≡ false
     go true = k
@@ -205,7 +205,7 @@ unwritten : (s : Scope) (x : Typed) (t : JavaType) → is_code s.part ≡ false 
 unwritten s x t c = asked (is_variable x) 19 (ask (is_code s.part) 39 (Fits (Value t))) (λ e. uncoded (is_code s.part) 39 t c)
 
 assigned : (s : Scope) (x : Typed) (to from : JavaType) → is_code s.part ≡ false → Gives (assignment_rule s x to from)
-assigned s x to from c = asked (is_assignable s.table from to) 16 (written_rule s x to) (λ e. unwritten s x to c)
+assigned s x to from c = asked (is_subtype s.table from to) 16 (written_rule s x to) (λ e. unwritten s x to c)
 
 compounded : (s : Scope) (o : BinaryOperator) (x : Typed) (to from : JavaType) → is_code s.part ≡ false → Gives (compound_rule s o x to from)
 compounded s o x to from c = asked (not (is_broken (operator_rule s o to from))) 17 (written_rule s x to) (λ e. unwritten s x to c)
@@ -269,7 +269,7 @@ of_collection s is_list t n [] =
     (asked (bytes_eq n (codes "removeFirst") && is_list && is_element t) 25 (Fits (Value t)) (λ e. element_closed t (last_true (bytes_eq n (codes "removeFirst")) is_list (is_element t) e))))
 of_collection s is_list t n (x ∷ []) =
     let fits = (bytes_eq n (codes "contains") || bytes_eq n (codes "remove")) && is_reference x && not (is_collection x) in
-    either (bytes_eq n (codes "add")) (ask (is_assignable s.table x t) 25 (Fits (Value BooleanType))) (ask fits 25 (Fits (Value BooleanType))) (boolean_asked (is_assignable s.table x t) 25) (boolean_asked fits 25)
+    either (bytes_eq n (codes "add")) (ask (is_subtype s.table x t) 25 (Fits (Value BooleanType))) (ask fits 25 (Fits (Value BooleanType))) (boolean_asked (is_subtype s.table x t) 25) (boolean_asked fits 25)
 of_collection s is_list t n (x ∷ y ∷ ts) = tt
 
 of_method : (s : Scope) (m : Option Method) (ts : List JavaType) → Gives (method_rule s m ts)

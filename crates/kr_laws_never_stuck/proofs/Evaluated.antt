@@ -10,9 +10,10 @@ use Rattle.kr_ast.specs.Tree as trees
 use Rattle.kr_ast.specs.Tree.{Tree}
 use Rattle.kr_value.specs.declared.value.Value.TheVariants.{Int, Bool as Truth}
 use Rattle.kr_classes_table.specs.Types.{JavaType, IntType, BooleanType, NullType, is_reference, is_collection}
-use Rattle.kr_classes_table.specs.Table.{Table, Field, field_named, number_of, is_assignable, are_related}
+use Rattle.kr_classes_table.specs.Table.{Table, Field, field_named, number_of, is_subtype, are_related}
 use Rattle.kr_classes_table.specs.Constants as constants
-use Rattle.kr_classes_table.specs.Constants.{ConstantValue, Whole, Absent, Known, whole, truth, unary_value, of_ints, of_booleans, of_nulls, of_values, binary_value, chosen, constant_only, constant_of, class_meant, field_meant, is_at_place, value_at, known_value, is_constant, evaluated, known_as, with_constant}
+use Rattle.kr_classes_table.specs.Constants.{ConstantValue, Whole, Absent, Known, whole, truth, unary_value, of_wholes, of_booleans, of_nulls, of_values, binary_value, chosen, constant_only, constant_of, class_meant, field_meant, is_at_place, value_at, known_value, is_constant, evaluated, known_as, with_constant}
+use Rattle.kr_classes_table.specs.Numbers.{Bits32}
 use Rattle.kr_types_meaning.specs.Scopes.{Scope, Meant, FieldName, NoName, value, under_minus, meant, meant_by, field_or_none, class_before}
 use Rattle.kr_types_meaning.specs.Rules as rules
 use Rattle.kr_types_meaning.specs.Rules.{Typed, Judgement, Fits, Breaks, ask, gives, both_int, both_boolean, related_references, name_rule, unary_rule, operator_rule, choice_rule, cast_rule, constant_rule}
@@ -20,7 +21,7 @@ use Rattle.kr_types_meaning.specs.Typing.{Judged, judge, on_one, on_two, field_o
 use Rattle.kr_mean.specs.Operators.{value_of_constant, is_division, constant_result, operated}
 use Rattle.kr_laws_safety.specs.Fits.{IsOf}
 use Rattle.kr_laws_safety.specs.Steps.{is_junction}
-use Rattle.kr_laws_safety.proofs.Operators.{is_int_of, Use, ints, booleans, references, used as used_by, Good, OnInts, OnBooleans, on_ints, on_booleans, ints_good, booleans_good}
+use Rattle.kr_laws_safety.proofs.Operators.{whole_within, Use, ints, booleans, references, used as used_by, Good, OnInts, OnBooleans, on_ints, on_booleans, ints_good, booleans_good}
 use Rattle.kr_laws_safety.proofs.Targets.{IsOnward, and_true, or_true, not_true, widened}
 use Rattle.kr_laws_safety.proofs.Glue.{Ruled, ruled, ruled_as, ruled_ask, ruled_value, ruled_gives, ruled_plainly, int_is, boolean_is}
 use Rattle.kr_laws_safety.proofs.Values.{ruled_part}
@@ -74,21 +75,21 @@ module _ (table : Table) (onward : IsOnward table) where
       let h = ruled_ask (rules.is_int a) 14 (Fits (rules.Value IntType)) t r in
       let z = int_known x (subst (λ (u : JavaType). Of u x) (int_is a h.0) i) in
       let w = some_is _ v (sym (ap (unary_value unaries.Plus) z.1) ∙ e) in
-      subst (λ (u : JavaType). Of u v) (ruled_value IntType t h.1) (subst (λ (c : ConstantValue). Of IntType c) w (refl, is_int_of _))
+      subst (λ (u : JavaType). Of u v) (ruled_value IntType t h.1) (subst (λ (c : ConstantValue). Of IntType c) w (refl, whole_within Bits32 _))
   unary_kept unaries.Minus a t x v r i e =
       let h = ruled_ask (rules.is_int a) 14 (Fits (rules.Value IntType)) t r in
       let z = int_known x (subst (λ (u : JavaType). Of u x) (int_is a h.0) i) in
       let w = some_is _ v (sym (ap (unary_value unaries.Minus) z.1) ∙ e) in
-      subst (λ (u : JavaType). Of u v) (ruled_value IntType t h.1) (subst (λ (c : ConstantValue). Of IntType c) w (refl, is_int_of _))
+      subst (λ (u : JavaType). Of u v) (ruled_value IntType t h.1) (subst (λ (c : ConstantValue). Of IntType c) w (refl, whole_within Bits32 _))
   unary_kept unaries.Complement a t x v r i e =
       let h = ruled_ask (rules.is_int a) 14 (Fits (rules.Value IntType)) t r in
       let z = int_known x (subst (λ (u : JavaType). Of u x) (int_is a h.0) i) in
       let w = some_is _ v (sym (ap (unary_value unaries.Complement) z.1) ∙ e) in
-      subst (λ (u : JavaType). Of u v) (ruled_value IntType t h.1) (subst (λ (c : ConstantValue). Of IntType c) w (refl, is_int_of _))
+      subst (λ (u : JavaType). Of u v) (ruled_value IntType t h.1) (subst (λ (c : ConstantValue). Of IntType c) w (refl, whole_within Bits32 _))
 
   -- what the operators give on runs' values they give on constants
-  ints_kept : (o : BinaryOperator) (x y : _) (t : JavaType) (v : ConstantValue) → on_ints o ≡ Some t → of_ints o x y ≡ Some v → Of t v
-  ints_kept o x y t v k e = go (of_ints o x y) e (subst (λ (u : Option JavaType). OnInts u (operated o (Int x) (Int y))) k (ints_good o x y))
+  ints_kept : (o : BinaryOperator) (x y : _) (t : JavaType) (v : ConstantValue) → on_ints o ≡ Some t → of_wholes Bits32 o x y ≡ Some v → Of t v
+  ints_kept o x y t v k e = go (of_wholes Bits32 o x y) e (subst (λ (u : Option JavaType). OnInts u (operated o (Int x) (Int y))) k (ints_good o x y))
     where
       go : (r : Option ConstantValue) → r ≡ Some v → Good t (constant_result (is_division o) r) → Of t v
       go (Some w) e g = subst (λ (c : ConstantValue). Of t c) (some_is w v e) (g table [])
@@ -207,16 +208,16 @@ module _ (table : Table) (onward : IsOnward table) where
 
   choice_kept : (s : Scope) (c a b t : JavaType) (x y z : Option ConstantValue) (v : ConstantValue) → s.table ≡ table → Ruled (choice_rule s c a b) t → OfOption a y → OfOption b z → chosen x y z ≡ Some v → Of t v
   choice_kept s c a b t x y z v ts r i k e =
-      let h = ruled_ask (rules.is_boolean c && are_related s.table a b) 15 (Fits (rules.Value (if is_assignable s.table a b then b else a))) t r in
+      let h = ruled_ask (rules.is_boolean c && are_related s.table a b) 15 (Fits (rules.Value (if is_subtype s.table a b then b else a))) t r in
       let related = ap (λ (n : Table). are_related n a b) (sym ts) ∙ (and_true (rules.is_boolean c) (are_related s.table a b) h.0).1 in
-      let is = ap (λ (n : Table). if is_assignable n a b then b else a) (sym ts) ∙ ruled_value (if is_assignable s.table a b then b else a) t h.1 in
-      go x e (is_assignable table a b) refl is related
+      let is = ap (λ (n : Table). if is_subtype n a b then b else a) (sym ts) ∙ ruled_value (if is_subtype s.table a b then b else a) t h.1 in
+      go x e (is_subtype table a b) refl is related
     where
-      fits : (n : Bool) → is_assignable table a b ≡ n → (if n then b else a) ≡ t → (n || is_assignable table b a) ≡ true → ((w : ConstantValue) → Of a w → Of t w) × ((w : ConstantValue) → Of b w → Of t w)
+      fits : (n : Bool) → is_subtype table a b ≡ n → (if n then b else a) ≡ t → (n || is_subtype table b a) ≡ true → ((w : ConstantValue) → Of a w → Of t w) × ((w : ConstantValue) → Of b w → Of t w)
       fits true q l m = (λ w j. subst (λ (u : JavaType). Of u w) l (widened table onward [] a b (value_of_constant w) q j), λ w j. subst (λ (u : JavaType). Of u w) l j)
       fits false q l m = (λ w j. subst (λ (u : JavaType). Of u w) l j, λ w j. subst (λ (u : JavaType). Of u w) l (widened table onward [] b a (value_of_constant w) m j))
 
-      go : (x : Option ConstantValue) → chosen x y z ≡ Some v → (n : Bool) → is_assignable table a b ≡ n → (if n then b else a) ≡ t → (n || is_assignable table b a) ≡ true → Of t v
+      go : (x : Option ConstantValue) → chosen x y z ≡ Some v → (n : Bool) → is_subtype table a b ≡ n → (if n then b else a) ≡ t → (n || is_subtype table b a) ≡ true → Of t v
       go (Some (constants.Truth true)) e n q l m = (fits n q l m).0 v (i v e)
       go (Some (constants.Truth false)) e n q l m = (fits n q l m).1 v (k v e)
       go (Some (Whole w)) e n q l m = absurd (cc (e))
@@ -296,7 +297,7 @@ module _ (table : Table) (onward : IsOnward table) where
   unfolding judged evaluated
   evaluated_kept known c s (trees.Number p n) t v k i r e =
       let h = ruled_ask _ 6 (Fits (rules.Value IntType)) t (ruled_node p (rules.number_rule s n) [] t r) in
-      subst (λ (u : JavaType). Of u v) (ruled_value IntType t h.1) (subst (λ (c : ConstantValue). Of IntType c) (some_is _ v e) (refl, is_int_of _))
+      subst (λ (u : JavaType). Of u v) (ruled_value IntType t h.1) (subst (λ (c : ConstantValue). Of IntType c) (some_is _ v e) (refl, whole_within Bits32 _))
   evaluated_kept known c s (trees.Truth p b) t v k i r e = subst (λ (u : JavaType). Of u v) (Rattle.kr_laws_safety.proofs.Glue.some_inside BooleanType t r) (subst (λ (c : ConstantValue). Of BooleanType c) (some_is (constants.Truth b) v e) refl)
   evaluated_kept known c s (trees.Null p) t v k i r e = subst (λ (u : JavaType). Of u v) (Rattle.kr_laws_safety.proofs.Glue.some_inside NullType t r) (subst (λ (c : ConstantValue). Of NullType c) (some_is Absent v e) refl)
   evaluated_kept known c s (trees.Variable p n) t v k i r e = named known c s n t v k i (ruled_node p (name_rule s (meant s n)) [] t r) e

@@ -8,9 +8,10 @@ use Rattle.std.proofs.lemmas.Bool.{leb-true, and_parts}
 use Rattle.std.proofs.lemmas.Bool.Decides.{nat_tests}
 use Rattle.kr_space_layout.specs.Items.{integers_from, magnitude, width_between, integers}
 use Rattle.kr_fin.specs.Shapes.{have, counts, ints as int_limits}
-use Rattle.kr_laws_safety.specs.Fits.{IsInt}
+use Rattle.kr_classes_table.specs.Numbers.{Bits32}
+use Rattle.kr_laws_safety.specs.Fits.{IsWithin}
 
-pub is_int : (z : ℤ) → have int_limits z ≡ true → IsInt z
+pub is_int : (z : ℤ) → have int_limits z ≡ true → IsWithin Bits32 z
 is_int (pos n) e = let h = leb-true n 2147483647 (and_parts (le_z int_limits.low (pos n)) (le_z (pos n) int_limits.high) e).1 in omega (arith, h)
 is_int (negsuc n) e = let h = leb-true n 2147483647 (and_parts (le_z int_limits.low (negsuc n)) (le_z (negsuc n) int_limits.high) e).0 in omega (arith, h)
 
@@ -25,23 +26,23 @@ first_negative = omega (arith, ints)
 next_negative : (n : ℕ) → negsuc (suc n) +ℤ pos 1 ≡ negsuc n
 next_negative n = omega (arith, ints)
 
-ints_from : (z : ℤ) (n : ℕ) → HasRoom z n → AllByRecursion IsInt (integers_from z n)
+ints_from : (z : ℤ) (n : ℕ) → HasRoom z n → AllByRecursion (IsWithin Bits32) (integers_from z n)
 ints_from z zero h = tt
 ints_from (pos a) (suc n) h = (omega (arith, h), ints_from (pos (a + 1)) n (omega (arith, h)))
-ints_from (negsuc zero) (suc n) h = (h.0, subst (λ (w : ℤ). AllByRecursion IsInt (integers_from w n)) (sym first_negative) (ints_from (pos zero) n (omega (arith, h.1))))
-ints_from (negsuc (suc a)) (suc n) h = (h.0, subst (λ (w : ℤ). AllByRecursion IsInt (integers_from w n)) (sym (next_negative a)) (ints_from (negsuc a) n (omega (arith, h.0), omega (arith, h.1))))
+ints_from (negsuc zero) (suc n) h = (h.0, subst (λ (w : ℤ). AllByRecursion (IsWithin Bits32) (integers_from w n)) (sym first_negative) (ints_from (pos zero) n (omega (arith, h.1))))
+ints_from (negsuc (suc a)) (suc n) h = (h.0, subst (λ (w : ℤ). AllByRecursion (IsWithin Bits32) (integers_from w n)) (sym (next_negative a)) (ints_from (negsuc a) n (omega (arith, h.0), omega (arith, h.1))))
 
-none_room : (z : ℤ) → IsInt z → HasRoom z 0
+none_room : (z : ℤ) → IsWithin Bits32 z → HasRoom z 0
 none_room (pos a) h = omega (arith, h)
 none_room (negsuc a) h = (h, omega arith)
 
-some_room : (from to : ℤ) (m : ℕ) → IsInt from → IsInt to → (to -ℤ from) +ℤ pos 1 ≡ pos m → HasRoom from m
+some_room : (from to : ℤ) (m : ℕ) → IsWithin Bits32 from → IsWithin Bits32 to → (to -ℤ from) +ℤ pos 1 ≡ pos m → HasRoom from m
 some_room (pos a) (pos b) m h k e = omega (arith, ints, e, k)
 some_room (pos a) (negsuc b) m h k e = omega (arith, ints, e, h)
 some_room (negsuc a) (pos b) m h k e = (h, omega (arith, ints, e, k))
 some_room (negsuc a) (negsuc b) m h k e = (h, omega (arith, ints, e))
 
-pub range_ints : (from to : ℤ) → IsInt from → IsInt to → AllByRecursion IsInt (integers from to)
+pub range_ints : (from to : ℤ) → IsWithin Bits32 from → IsWithin Bits32 to → AllByRecursion (IsWithin Bits32) (integers from to)
 range_ints from to h k = ints_from from (width_between from to) (go ((to -ℤ from) +ℤ pos 1) refl)
   where
     go : (x : ℤ) → (to -ℤ from) +ℤ pos 1 ≡ x → HasRoom from (magnitude x)

@@ -5,7 +5,7 @@ use Rattle.std.proofs.lemmas.List.{append-nil}
 use Rattle.kr_ast.specs.Tree as trees
 use Rattle.kr_ast.specs.Tree.{Tree}
 use Rattle.kr_classes_table.specs.Types.{JavaType}
-use Rattle.kr_classes_table.specs.Table.{Heading, Table, Class, Field, Parameter, Method, Constructor, items, fields_in, methods_in, constructors_in, class_of, headings_of, table_of, class_at, super_of, line_of, own_fields, own_methods, is_instance, fields_of, field_named, method_named, constructor_parameters, is_below, is_assignable}
+use Rattle.kr_classes_table.specs.Table.{Heading, Table, Class, Field, Parameter, Method, Constructor, items, fields_in, methods_in, constructors_in, class_of, headings_of, table_of, class_at, super_of, line_of, own_fields, own_methods, is_instance, fields_of, field_named, method_named, constructor_parameters, is_below, is_subtype}
 use Rattle.kr_classes_table.specs.Rules.{class_fault, break_if, repeated}
 use Rattle.kr_types_meaning.specs.Scopes.{Scope, scope_of, super_parameters}
 use Rattle.kr_types_meaning.specs.Typing.{judge, judged, type_in, class_rule, has_constructor, IsWellTyped}

@@ -5,7 +5,7 @@ use Rattle.std.specs.Int.Signed.{le_z}
 use Rattle.std.specs.List.{AllByRecursion, list_any}
 use Rattle.std.proofs.lemmas.Slice.Eq.{bytes_eq-Decides}
 use Rattle.kr_classes_table.specs.Types.{JavaType, IntType, BooleanType, ClassType, is_same}
-use Rattle.kr_classes_table.specs.Table.{Heading, Table, is_assignable, number_from, number_of}
+use Rattle.kr_classes_table.specs.Table.{Heading, Table, is_subtype, number_from, number_of}
 use Rattle.kr_value.specs.declared.value.Value.TheVariants.{Int, Bool as Truth, Null}
 use Rattle.kr_mean.specs.Problem.{Problem, DomainItem, Domain, Plain, Objects, domain_at}
 use Rattle.kr_space_layout.specs.Items.{integers}
@@ -19,7 +19,8 @@ use Rattle.kr_space_meaning.specs.Bounds.{Setting, given, array_domain, meant_va
 use Rattle.kr_space_meaning.specs.Faults.{meant_fits, fits, is_unfit}
 use Rattle.kr_space_meaning.specs.Limits.{IsSmall, AreLengths}
 use Rattle.kr_space_meaning.proofs.Each.{each_of_both}
-use Rattle.kr_laws_safety.specs.Fits.{IsInt}
+use Rattle.kr_classes_table.specs.Numbers.{Bits32}
+use Rattle.kr_laws_safety.specs.Fits.{IsWithin}
 use Rattle.kr_laws_safety.specs.Domains.{class_type, IsDomainOf}
 use Rattle.kr_laws_safety.proofs.Heaps.{same_type}
 use Rattle.kr_laws_never_stuck.proofs.Integers.{is_int, range_ints, none_between, IsShort, is_short, range_short}
@@ -126,14 +127,14 @@ module _ (problem : Problem) (setting : Setting) (has : HasDomains problem setti
   both t [] ys h k = k
   both t (x ∷ xs) ys h k = (h.0, both t xs ys h.1 k)
 
-  integers_of : (t : JavaType) (zs : List ℤ) → t ≡ IntType → AllByRecursion IsInt zs → IsDomainOf problem t (map (λ z. Plain (Int z)) zs)
+  integers_of : (t : JavaType) (zs : List ℤ) → t ≡ IntType → AllByRecursion (IsWithin Bits32) zs → IsDomainOf problem t (map (λ z. Plain (Int z)) zs)
   integers_of t [] e h = tt
   integers_of t (z ∷ zs) e h = ((e, h.0), integers_of t zs e h.1)
 
-  objects_of : (t u : JavaType) (d : ℕ) → d < length problem.domains → class_type problem.program (domain_at problem d).class ≡ u → is_assignable setting.table u t ≡ true → IsDomainOf problem t (Objects d ∷ [])
-  objects_of t u d l c a = ((l, ap (λ (x : Table). is_assignable x (class_type problem.program (domain_at problem d).class) t) has.table ∙ (ap (λ (x : JavaType). is_assignable setting.table x t) c ∙ a)), tt)
+  objects_of : (t u : JavaType) (d : ℕ) → d < length problem.domains → class_type problem.program (domain_at problem d).class ≡ u → is_subtype setting.table u t ≡ true → IsDomainOf problem t (Objects d ∷ [])
+  objects_of t u d l c a = ((l, ap (λ (x : Table). is_subtype x (class_type problem.program (domain_at problem d).class) t) has.table ∙ (ap (λ (x : JavaType). is_subtype setting.table x t) c ∙ a)), tt)
 
-  arrays_of : (t u : JavaType) (d : ℕ) (bounds : List (JavaType × ArrayBound)) → AreArrays problem d bounds → is_assignable setting.table u t ≡ true → IsDomainOf problem t (array_domain d bounds u)
+  arrays_of : (t u : JavaType) (d : ℕ) (bounds : List (JavaType × ArrayBound)) → AreArrays problem d bounds → is_subtype setting.table u t ≡ true → IsDomainOf problem t (array_domain d bounds u)
   arrays_of t u d [] h a = tt
   arrays_of t u d (x ∷ bounds) h a = go (is_same x.0 u) refl (arrays_of t u (d + 1) bounds h.1 a)
     where

@@ -5,7 +5,8 @@ use Rattle.std.specs.Ordering.{int_eq}
 use Rattle.kr_ast.specs.declared.node.BinaryOperator.{BinaryOperator}
 use Rattle.kr_ast.specs.declared.node.BinaryOperator.TheVariants.{Less, LessOrEqual, Greater, GreaterOrEqual, Equal, NotEqual}
 use Rattle.kr_value.specs.declared.value.Value.TheVariants.{Int}
-use Rattle.kr_classes_table.specs.Constants.{Truth as TruthConstant, of_ints, is_equal, wrap}
+use Rattle.kr_classes_table.specs.Constants.{Truth as TruthConstant, of_wholes, is_equal}
+use Rattle.kr_classes_table.specs.Numbers.{Bits32, wrap}
 use Rattle.kr_mean.specs.Operators.{is_comparison, holds_of}
 use Rattle.std.proofs.Math.Dec.{leb}
 use Rattle.std.proofs.Math.Nat.{mod-eq_of_lt}
@@ -48,13 +49,13 @@ eq_is a b = go (is_equal a b) refl (int_eq a b) refl
     go true p false q = let same : a ≡ b = not_both a b p in let k = (Decides-int_eq a b).1 same in absurd (cc (q, k))
     go false p true q = let same : a ≡ b = (Decides-int_eq a b).0 q in let k : is_equal a b ≡ true = subst (λ (x : ℤ). is_equal a x ≡ true) same (self_equal a) in absurd (cc (p, k))
 
-pub small_is : (n : ℕ) → n ≤ 2147483647 → wrap (pos n) ≡ pos n
+pub small_is : (n : ℕ) → n ≤ 2147483647 → wrap Bits32 (pos n) ≡ pos n
 small_is n h =
     let m : n % 4294967296 ≡ n = mod-eq_of_lt (omega (arith, h)) in
     let l : nat_lt n 2147483648 ≡ true = lt-ltb n 2147483648 (omega (arith, h)) in
     rw (m, l) refl
 
-pub compared : (test : BinaryOperator) (a b : ℤ) → is_comparison test ≡ true → of_ints test a b ≡ Some (TruthConstant (holds_of test (Int a) (Int b)))
+pub compared : (test : BinaryOperator) (a b : ℤ) → is_comparison test ≡ true → of_wholes Bits32 test a b ≡ Some (TruthConstant (holds_of test (Int a) (Int b)))
 compared Less a b e = refl
 compared Greater a b e = refl
 compared LessOrEqual a b e = ap (λ x. Some (TruthConstant x)) (le_is a b)

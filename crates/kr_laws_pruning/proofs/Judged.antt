@@ -18,13 +18,15 @@ use Rattle.kr_classes_table.specs.Types.{JavaType}
 use Rattle.kr_classes_table.specs.Table.{Field as FieldOf, Method, line_of, own_methods, method_named, is_below}
 use Rattle.kr_types_meaning.specs.Scopes.{Scope}
 use Rattle.kr_types_meaning.specs.Typing.{judged}
+use Rattle.kr_mean.specs.declared.kind.Stop.{Stop}
+use Rattle.kr_mean.specs.declared.kind.Stop.TheVariants.{OutOfFuel}
 use Rattle.kr_mean.specs.Program.{Program, field_position, spot_of_field, is_array_of, overriding, class_scope}
 use Rattle.kr_mean.specs.Problem.{Problem, ClassDomain, Choice, Objects, domain_at, all_objects, heap_number, object_choice, item_choices, choices_in, no_objects}
 use Rattle.kr_mean.specs.Places.{SlotPlace, This, Parameter, At}
 use Rattle.kr_mean.specs.Collections.{is_collection}
 use Rattle.kr_mean.specs.Space.{space_of, IsVector, IsRenaming, no_choice}
 use Rattle.kr_mean.specs.Heaps.{length_in, heap_of, value_at, choice_at}
-use Rattle.kr_mean.specs.Steps.{Stop, OutOfFuel, Local, State, Outcome, Run, stop, bind, class_of}
+use Rattle.kr_mean.specs.Steps.{Local, State, Outcome, Run, stop, bind, class_of}
 use Rattle.kr_mean.specs.Meaning.{Target, LocalTarget, OwnField, FieldOf as FieldTarget, ElementOf, NoTarget, parts_within, called, run_chosen, run_method, eval, value}
 use Rattle.kr_mean.specs.Code.{Node, code, code_of_method, code_run}
 use Rattle.kr_mean.specs.Purity.{IsOneOf, written_by, writes_to, may_touch, rep_ok_method, tested, contract_of, roots, IsPredicateCode, root, run, IsCounted, IsFinitized, IsPure}

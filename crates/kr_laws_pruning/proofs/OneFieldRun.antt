@@ -4,6 +4,8 @@ use Rattle.std.specs.Prelude.{List, ◌++◌, Result, Ok, Err, if◌then◌else�
 use Rattle.std.specs.Str.{bytes_eq}
 use Rattle.std.proofs.lemmas.Slice.Eq.{bytes_eq-Decides}
 use Rattle.kr_base.specs.declared.entry.Mark.TheVariants.{Valid, Invalid}
+use Rattle.kr_mean.specs.declared.kind.Stop.{Stop}
+use Rattle.kr_mean.specs.declared.kind.Stop.TheVariants.{Stuck}
 use Rattle.kr_mean.specs.Heaps.{distinct, value_at, heap_of, walk}
 use Rattle.kr_ast.specs.declared.node.BinaryOperator.{BinaryOperator}
 use Rattle.kr_ast.specs.declared.node.BinaryOperator.TheVariants.{Less, LessOrEqual, Greater, GreaterOrEqual, Equal, NotEqual}
@@ -13,7 +15,7 @@ use Rattle.kr_classes_table.specs.Constants.{values_of}
 use Rattle.kr_types_meaning.specs.Typing.{judged}
 use Rattle.kr_mean.specs.Meaning.{binary, eval, exec, value}
 use Rattle.kr_laws_pruning.proofs.Comparisons.{small_is, compared}
-use Rattle.kr_mean.specs.Steps.{Stop, Stuck, State, Outcome, Run, say, give, after_reads, go_on, ◌>>=◌, bind}
+use Rattle.kr_mean.specs.Steps.{State, Outcome, Run, say, give, after_reads, go_on, ◌>>=◌, bind}
 use Rattle.kr_mean.specs.Runs.{End, True, False, IsStuck, rep_ok, where_true, start, end_of, outcome_of, end_on, slots_for, read_slots, order_of, is_same_number, is_accepted}
 use Rattle.kr_mean.specs.Program.{class_scope}
 use Rattle.kr_mean.specs.Places.{This, At}

@@ -15,11 +15,13 @@ use Rattle.kr_types_meaning.specs.Scopes.{Scope}
 use Rattle.kr_mean.specs.declared.kind.Kind.{Kind}
 use Rattle.kr_mean.specs.declared.kind.Verdict.{Verdict}
 use Rattle.kr_mean.specs.declared.kind.Verdict.TheVariants.{Ensures, RepOk, Trap, CheckTrap}
+use Rattle.kr_mean.specs.declared.kind.Stop.{Stop}
+use Rattle.kr_mean.specs.declared.kind.Stop.TheVariants.{Trapped, OutOfFuel, Stuck}
 use Rattle.kr_mean.specs.Places.{SlotPlace}
 use Rattle.kr_mean.specs.Problem.{Problem, all_objects, heap_number, choices_at}
 use Rattle.kr_mean.specs.Space.{no_choice}
 use Rattle.kr_mean.specs.Heaps.{heap_of, value_at, walk, values_there}
-use Rattle.kr_mean.specs.Steps.{Stop, Trapped, OutOfFuel, Stuck, Local, Old, State, Outcome, Run}
+use Rattle.kr_mean.specs.Steps.{Local, Old, State, Outcome, Run}
 use Rattle.kr_mean.specs.Meaning.{Target, LocalTarget, OwnField, FieldOf, ElementOf, NoTarget, parts_within, run_method, value, body_of}
 use Rattle.kr_mean.specs.Code.{Node, code, code_of_method, code_run}
 use Rattle.kr_mean.specs.Purity.{written_by}

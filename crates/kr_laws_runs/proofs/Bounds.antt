@@ -15,12 +15,16 @@ use Rattle.kr_classes_table.specs.Types.{JavaType, ArrayType}
 use Rattle.kr_classes_table.specs.Table.{Field, Method, items}
 use Rattle.kr_classes_table.specs.Arrays.{array_number}
 use Rattle.kr_types_meaning.specs.Scopes.{Scope, after}
+use Rattle.kr_mean.specs.declared.kind.Stop.{Stop}
+use Rattle.kr_mean.specs.declared.kind.Stop.TheVariants.{OutOfFuel, Stuck}
 use Rattle.kr_mean.specs.Program.{Program, default_of, spot_of_field, is_array_of}
 use Rattle.kr_mean.specs.Places.{SlotPlace}
 use Rattle.kr_mean.specs.Collections.{Collected, collected}
-use Rattle.kr_mean.specs.Steps.{Stop, OutOfFuel, Stuck, Local, Old, State, Outcome, Run, say, give, stop, go_on, bind, given, ◌>>=◌, ◌>>◌, tick, tick_at, get_this, local_at, local_given, read_local, declare, assign_if, assign, get_result, old_at, get_old, entered, within, scoped, load_if, load, index_within, element_read, element_if, element, class_or_null, store_at, store, store_new_if, store_new, store_index, store_element_if, store_element, make, collect_as, collect}
+use Rattle.kr_mean.specs.Steps.{Local, Old, State, Outcome, Run, say, give, stop, go_on, bind, given, ◌>>=◌, ◌>>◌, tick, tick_at, get_this, local_at, local_given, read_local, declare, assign_if, assign, get_result, old_at, get_old, entered, within, scoped, load_if, load, index_within, element_read, element_if, element, class_or_null, store_at, store, store_new_if, store_new, store_index, store_element_if, store_element, make, collect_as, collect}
 use Rattle.kr_mean.specs.Operators.{operated, operated_alone}
-use Rattle.kr_mean.specs.Meaning.{Flow, Next, Broke, Continued, Left, Gave, Parts, Target, LocalTarget, OwnField, FieldOf, ElementOf, NoTarget, choose, rounds, run_method, make_array, create_array, value_of, declared, all_declared, declaring_locals, statement, spent, parts_within, eval, exec, value, execute, loop, unbounded, body_of}
+use Rattle.kr_mean.specs.declared.flow.Flow.{Flow}
+use Rattle.kr_mean.specs.declared.flow.Flow.TheVariants.{Next, Broke, Continued, Left, Gave}
+use Rattle.kr_mean.specs.Meaning.{Parts, Target, LocalTarget, OwnField, FieldOf, ElementOf, NoTarget, choose, rounds, run_method, make_array, create_array, value_of, declared, all_declared, declaring_locals, statement, spent, parts_within, eval, exec, value, execute, loop, unbounded, body_of}
 use Rattle.kr_mean.specs.Code.{Node, code, code_of_method, code_run}
 use Rattle.kr_mean.specs.Purity.{written_by}
 use Rattle.kr_laws_runs.specs.Laws.{Spends, round, HasEquations}
@@ -190,7 +194,7 @@ array_spends program t (Int (pos n)) s = go (nat_lt 64 n)
     made None = omega arith
     made (Some k) = omega arith
 
-    go : (b : Bool) → ((if b then stop (Rattle.kr_mean.specs.Steps.Trapped Rattle.kr_mean.specs.declared.kind.Kind.TheVariants.ArrayTooLong) else make_array t n (array_number program.arrays (ArrayType t))) s).after.fuel ≤ s.fuel
+    go : (b : Bool) → ((if b then stop (Rattle.kr_mean.specs.declared.kind.Stop.TheVariants.Trapped Rattle.kr_mean.specs.declared.kind.Kind.TheVariants.ArrayTooLong) else make_array t n (array_number program.arrays (ArrayType t))) s).after.fuel ≤ s.fuel
     go true = omega arith
     go false = made (array_number program.arrays (ArrayType t))
 array_spends program t (Int (negsuc n)) s = omega arith

@@ -6,7 +6,9 @@ use Rattle.kr_classes_table.specs.Table.{Method}
 use Rattle.kr_types_meaning.specs.Scopes.{Scope}
 use Rattle.kr_mean.specs.Program.{Program}
 use Rattle.kr_mean.specs.Steps.{State, Run, give, ◌>>=◌, ◌>>◌, tick}
-use Rattle.kr_mean.specs.Meaning.{Flow, Next, choose, then_round, rounds, run_method, value_of, statement, eval, exec, value, execute, loop, unbounded, body_of}
+use Rattle.kr_mean.specs.declared.flow.Flow.{Flow}
+use Rattle.kr_mean.specs.declared.flow.Flow.TheVariants.{Next}
+use Rattle.kr_mean.specs.Meaning.{choose, then_round, rounds, run_method, value_of, statement, eval, exec, value, execute, loop, unbounded, body_of}
 
 -- fuel is spent and never given back
 abbrev pub Spends : {A : Type 0} → Run A → Type 0

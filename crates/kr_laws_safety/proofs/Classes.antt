@@ -7,10 +7,11 @@ use Rattle.kr_value.specs.declared.object.Class.{Class}
 use Rattle.kr_value.specs.declared.object.Class.TheVariants.{Object, Array, Set, List as ListClass}
 use Rattle.kr_value.specs.declared.object.Spot.TheVariants.{Length}
 use Rattle.kr_classes_table.specs.Types.{JavaType, IntType, BooleanType, VoidType, ClassType, ArrayType, SetType, ListType, InferredType, is_same, is_reference}
-use Rattle.kr_classes_table.specs.Table.{is_below, is_assignable}
+use Rattle.kr_classes_table.specs.Table.{is_below, is_subtype}
 use Rattle.kr_mean.specs.declared.kind.Kind.TheVariants.{NullPointerException, ClassCastException}
+use Rattle.kr_mean.specs.declared.kind.Stop.TheVariants.{Trapped, Stuck}
 use Rattle.kr_mean.specs.Program.{Program, is_array_of, is_of_type}
-use Rattle.kr_mean.specs.Steps.{Trapped, Stuck, give, stop, ◌>>=◌, class_or_null, not_null, class_of, load, load_in, load_field}
+use Rattle.kr_mean.specs.Steps.{give, stop, ◌>>=◌, class_or_null, not_null, class_of, load, load_in, load_field}
 use Rattle.kr_mean.specs.Meaning.{cast, instance}
 use Rattle.kr_laws_safety.specs.Fits.{IsOf, type_at}
 use Rattle.kr_laws_safety.specs.Triples.{Fixed, Safe, Extends, Gives}
@@ -24,10 +25,10 @@ use Rattle.kr_laws_safety.proofs.Glue.{safe_next}
 
 -- an object of the class that is seen
 abbrev pub IsSeenAs : Program → List JavaType → JavaType → Value → Class → Type 0
-IsSeenAs program types t v class = (o : ℕ) × (v ≡ Reference o) × (o < length types) × (is_assignable program.table (type_at types o) t ≡ true) × IsClassOf program (type_at types o) class
+IsSeenAs program types t v class = (o : ℕ) × (v ≡ Reference o) × (o < length types) × (is_subtype program.table (type_at types o) t ≡ true) × IsClassOf program (type_at types o) class
 
 -- of a class or one below it
-pub class_below : (program : Program) (u : JavaType) (class : Class) (c : ℕ) → IsClassOf program u class → is_assignable program.table u (ClassType c) ≡ true → (d : ℕ) × (class ≡ Object d) × (u ≡ ClassType d) × (is_below program.table d c ≡ true)
+pub class_below : (program : Program) (u : JavaType) (class : Class) (c : ℕ) → IsClassOf program u class → is_subtype program.table u (ClassType c) ≡ true → (d : ℕ) × (class ≡ Object d) × (u ≡ ClassType d) × (is_below program.table d c ≡ true)
 class_below program (ClassType d) class c h e = (d, h, refl, e)
 class_below program (ArrayType t) class c h e = absurd (cc (e))
 class_below program (SetType InferredType) class c h e = absurd (cc (e))
@@ -36,7 +37,7 @@ class_below program (ListType InferredType) class c h e = absurd (cc (e))
 class_below program (ListType t) class c h e = absurd (cc (e))
 class_below program _ class c h e = absurd h
 
-pub array_class : (program : Program) (u : JavaType) (class : Class) (t : JavaType) → IsClassOf program u class → is_assignable program.table u (ArrayType t) ≡ true → is_array_of program t class ≡ true
+pub array_class : (program : Program) (u : JavaType) (class : Class) (t : JavaType) → IsClassOf program u class → is_subtype program.table u (ArrayType t) ≡ true → is_array_of program t class ≡ true
 array_class program (ClassType d) class t h e = absurd (cc (e))
 array_class program (ArrayType a) class t h e = subst (λ (x : JavaType). OfArray x) (same_type (ArrayType a) (ArrayType t) e) h
   where
@@ -50,7 +51,7 @@ array_class program (ListType a) class t h e = absurd (cc (e))
 array_class program _ class t h e = absurd h
 
 -- a cast that the object's class passes
-pub type_passed : (program : Program) (u : JavaType) (class : Class) (to : JavaType) → IsClassOf program u class → is_of_type program to class ≡ true → is_assignable program.table u to ≡ true
+pub type_passed : (program : Program) (u : JavaType) (class : Class) (to : JavaType) → IsClassOf program u class → is_of_type program to class ≡ true → is_subtype program.table u to ≡ true
 type_passed program (ClassType c) class (ClassType d) h e = subst (λ (k : Class). is_of_type program (ClassType d) k ≡ true) h e
 type_passed program (ClassType c) class (ArrayType a) h e = absurd (cc (subst (λ (k : Class). is_array_of program a k ≡ true) h e))
 type_passed program (ArrayType a) (Array k) (ArrayType b) h e = go (same_type (get_or program.arrays k VoidType) (ArrayType a) h) (same_type (get_or program.arrays k VoidType) (ArrayType b) e)

@@ -9,14 +9,16 @@ use Rattle.kr_value.specs.declared.value.Value.{Value}
 use Rattle.kr_value.specs.declared.value.Value.TheVariants.{Ref as Reference}
 use Rattle.kr_value.specs.declared.object.Class.TheVariants.{Object}
 use Rattle.kr_classes_table.specs.Types.{JavaType, VoidType, ClassType}
-use Rattle.kr_classes_table.specs.Table.{Table, Field, Parameter, Constructor, items, super_of, line_of, ancestors, is_among, fields_of, constructor_parameters, is_below, is_assignable}
+use Rattle.kr_classes_table.specs.Table.{Table, Field, Parameter, Constructor, items, super_of, line_of, ancestors, is_among, fields_of, constructor_parameters, is_below, is_subtype}
 use Rattle.kr_types_meaning.specs.Scopes.{Scope, after, super_parameters}
 use Rattle.kr_types_meaning.specs.Rules as rules
 use Rattle.kr_types_meaning.specs.Rules.{Typed, Values, Untyped, Judgement, Fits, ask, arguments_fit, super_constructor_rule}
 use Rattle.kr_types_meaning.specs.Typing.{judge, on_list, judged, type_in}
 use Rattle.kr_mean.specs.Program.{Program, default_of, class_scope, constructor_scope, constructor_of, declared_fields}
 use Rattle.kr_mean.specs.Steps.{Run, give, ◌>>=◌, ◌>>◌, tick, within, make, store_new}
-use Rattle.kr_mean.specs.Meaning.{Flow, Next, Broke, Continued, Left, Gave, Parts, completed, values_of, all, super_arguments, initialised, all_initialised, constructed_by, constructed, create}
+use Rattle.kr_mean.specs.declared.flow.Flow.{Flow}
+use Rattle.kr_mean.specs.declared.flow.Flow.TheVariants.{Next, Broke, Continued, Left, Gave}
+use Rattle.kr_mean.specs.Meaning.{Parts, completed, values_of, all, super_arguments, initialised, all_initialised, constructed_by, constructed, create}
 use Rattle.kr_laws_safety.specs.Fits.{IsOf, AreOf, type_at}
 use Rattle.kr_laws_safety.specs.Triples.{Fixed, IsThis, Safe, Extends, Gives, Keeps, type_of_old}
 use Rattle.kr_laws_safety.proofs.Heaps.{values_more}
@@ -125,7 +127,7 @@ module _ (program : Program) (fixed : Fixed) (facts : IsTypedProgram program) (p
       front (x ∷ xs) ys (suc o) lt = front xs ys o (omega (arith, lt))
 
   new_of : (types : List JavaType) (o c d : ℕ) → IsNew types o c → is_below program.table c d ≡ true → IsOf program.table types (ClassType d) (Reference o)
-  new_of types o c d n b = (n.there, ap (λ (t : JavaType). is_assignable program.table t (ClassType d)) n.type ∙ b)
+  new_of types o c d n b = (n.there, ap (λ (t : JavaType). is_subtype program.table t (ClassType d)) n.type ∙ b)
 
   new_this : (types : List JavaType) (o c d : ℕ) → IsNew types o c → is_below program.table c d ≡ true → IsThis program.table types (Some d) (Reference o)
   new_this types o c d n b = (o, refl, new_of types o c d n b)

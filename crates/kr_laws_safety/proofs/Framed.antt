@@ -13,10 +13,12 @@ use Rattle.kr_classes_table.specs.Types.{JavaType, ArrayType}
 use Rattle.kr_classes_table.specs.Table.{Field}
 use Rattle.kr_classes_table.specs.Arrays.{array_number}
 use Rattle.kr_types_meaning.specs.Scopes.{Scope}
+use Rattle.kr_mean.specs.declared.kind.Stop.{Stop}
+use Rattle.kr_mean.specs.declared.kind.Stop.TheVariants.{OutOfFuel, Stuck}
 use Rattle.kr_mean.specs.Program.{Program, spot_of_field, is_array_of}
 use Rattle.kr_mean.specs.Places.{SlotPlace}
 use Rattle.kr_mean.specs.Collections.{Collected, collected}
-use Rattle.kr_mean.specs.Steps.{Stop, OutOfFuel, Stuck, Local, Old, State, Outcome, Run, say, give, stop, go_on, bind, given, ◌>>=◌, ◌>>◌, tick, tick_at, get_this, local_at, local_given, read_local, plain_local, declare, assign_if, assign, get_result, old_at, get_old, entered, within, scoped, load_if, load, index_within, element_read, element_if, element, class_or_null, store_at, store, store_new_if, store_new, store_index, store_element_if, store_element, make, collect_as, collect}
+use Rattle.kr_mean.specs.Steps.{Local, Old, State, Outcome, Run, say, give, stop, go_on, bind, given, ◌>>=◌, ◌>>◌, tick, tick_at, get_this, local_at, local_given, read_local, plain_local, declare, assign_if, assign, get_result, old_at, get_old, entered, within, scoped, load_if, load, index_within, element_read, element_if, element, class_or_null, store_at, store, store_new_if, store_new, store_index, store_element_if, store_element, make, collect_as, collect}
 use Rattle.kr_mean.specs.Operators.{operated, operated_alone}
 use Rattle.kr_mean.specs.Meaning.{Target, LocalTarget, OwnField, FieldOf, ElementOf, NoTarget, choose, make_array, create_array, value}
 use Rattle.kr_mean.specs.Code.{code}
@@ -183,7 +185,7 @@ array_keeps program t (Int (pos n)) s = go (nat_lt 64 n)
     made None = refl
     made (Some k) = refl
 
-    go : (b : Bool) → ((if b then stop (Rattle.kr_mean.specs.Steps.Trapped Rattle.kr_mean.specs.declared.kind.Kind.TheVariants.ArrayTooLong) else make_array t n (array_number program.arrays (ArrayType t))) s).after.this_value ≡ s.this_value
+    go : (b : Bool) → ((if b then stop (Rattle.kr_mean.specs.declared.kind.Stop.TheVariants.Trapped Rattle.kr_mean.specs.declared.kind.Kind.TheVariants.ArrayTooLong) else make_array t n (array_number program.arrays (ArrayType t))) s).after.this_value ≡ s.this_value
     go true = refl
     go false = made (array_number program.arrays (ArrayType t))
 array_keeps program t (Int (negsuc n)) s = refl

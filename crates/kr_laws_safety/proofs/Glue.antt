@@ -6,7 +6,7 @@ use Rattle.kr_ast.specs.Tree.{Tree}
 use Rattle.kr_value.specs.declared.value.Value.{Value}
 use Rattle.kr_classes_table.specs.Types.{JavaType, IntType, BooleanType, VoidType, is_same, is_void}
 use Rattle.kr_classes_table.specs.Rules.{Fault}
-use Rattle.kr_classes_table.specs.Table.{Table, is_assignable}
+use Rattle.kr_classes_table.specs.Table.{Table, is_subtype}
 use Rattle.kr_types_meaning.specs.Scopes.{Scope}
 use Rattle.kr_types_meaning.specs.Rules as rules
 use Rattle.kr_types_meaning.specs.Rules.{Typed, Values, Untyped, Judgement, Fits, Breaks, ask, is_int, is_boolean, is_statement}
@@ -150,11 +150,11 @@ module _ (program : Program) (fixed : Fixed) where
   safe_keep types this ls m f Q p q = safe_then program fixed types this ls m f _ Q p (λ more ms a x r. subst (λ (z : List JavaType). Safe program fixed more this z (f a) Q) (sym r) (q more a x))
 
   -- a value of a type is given as one to which it may be assigned
-  pub safe_as : (onward : IsOnward program.table) (types : List JavaType) (this : Option ℕ) (ls : List JavaType) (m : Run Value) (t u : JavaType) → is_assignable program.table t u ≡ true → Safe program fixed types this ls m (Gives program ls t) → Safe program fixed types this ls m (GivesAs program ls u)
+  pub safe_as : (onward : IsOnward program.table) (types : List JavaType) (this : Option ℕ) (ls : List JavaType) (m : Run Value) (t u : JavaType) → is_subtype program.table t u ≡ true → Safe program fixed types this ls m (Gives program ls t) → Safe program fixed types this ls m (GivesAs program ls u)
   safe_as onward types this ls m t u e p = safe_map program fixed types this ls m _ _ p (λ more ms v r. (r.0, λ g. widened program.table onward more t u v e r.1))
 
   -- so is one that may have none
-  pub safe_as_result : (onward : IsOnward program.table) (types : List JavaType) (this : Option ℕ) (ls : List JavaType) (m : Run Value) (t u : JavaType) → is_assignable program.table t u ≡ true → Safe program fixed types this ls m (GivesAs program ls t) → Safe program fixed types this ls m (GivesAs program ls u)
+  pub safe_as_result : (onward : IsOnward program.table) (types : List JavaType) (this : Option ℕ) (ls : List JavaType) (m : Run Value) (t u : JavaType) → is_subtype program.table t u ≡ true → Safe program fixed types this ls m (GivesAs program ls t) → Safe program fixed types this ls m (GivesAs program ls u)
   safe_as_result onward types this ls m t u e p = safe_map program fixed types this ls m _ _ p (λ more ms v r. (r.0, λ g. widened program.table onward more t u v e (r.1 (void_kept program.table onward t u e g))))
 
   -- ---- scopes

@@ -12,8 +12,9 @@ use Rattle.kr_ast.specs.Tree.{Tree}
 use Rattle.kr_value.specs.declared.value.Value.{Value}
 use Rattle.kr_value.specs.declared.value.Value.TheVariants.{Int, Bool as Truth, Null}
 use Rattle.kr_classes_table.specs.Types.{JavaType, IntType, BooleanType, NullType, ClassType, ArrayType, SetType, ListType, UnknownType, AppliedType, is_void, is_known, is_reference}
-use Rattle.kr_classes_table.specs.Table.{Field, class_or, class_named, applied, field_named, is_assignable}
-use Rattle.kr_classes_table.specs.Constants.{ConstantValue, wrap, constant_only, constant_of, field_meant, known_value as constant_value}
+use Rattle.kr_classes_table.specs.Table.{Field, class_or, class_named, applied, field_named, is_subtype}
+use Rattle.kr_classes_table.specs.Constants.{ConstantValue, constant_only, constant_of, field_meant, known_value as constant_value}
+use Rattle.kr_classes_table.specs.Numbers.{Bits32, wrap}
 use Rattle.kr_types_meaning.specs.Scopes.{Scope, Meant, LocalName, FieldName, NoName, value, under_minus, in_old, written, meant, class_before}
 use Rattle.kr_types_meaning.specs.Rules as rules
 use Rattle.kr_types_meaning.specs.Rules.{Typed, Untyped, Judgement, Fits, Breaks, ask, gives, both_int, both_boolean, related_references, number_rule, this_rule, name_rule, unary_rule, operator_rule, choice_rule, cast_rule, instance_rule, field_rule, access_rule, constant_rule, element_rule, result_value_rule, old_rule}
@@ -28,7 +29,7 @@ use Rattle.kr_laws_safety.specs.Triples.{Fixed, Safe, Gives}
 use Rattle.kr_laws_safety.specs.Steps.{is_junction, HasField}
 use Rattle.kr_laws_safety.proofs.Heaps.{value_more}
 use Rattle.kr_laws_safety.proofs.Steps.{safe_give, safe_map, safe_choose, safe_this, safe_local, safe_load_field, safe_element}
-use Rattle.kr_laws_safety.proofs.Operators.{is_int_of, Use, ints, booleans, references, used as used_by, reference_known, said, references_good, safe_operated, safe_operated_alone}
+use Rattle.kr_laws_safety.proofs.Operators.{whole_within, Use, ints, booleans, references, used as used_by, reference_known, said, references_good, safe_operated, safe_operated_alone}
 use Rattle.kr_laws_types.specs.Types.{is_value_type, HasVariables}
 use Rattle.kr_laws_types.specs.Shapes.{Expression}
 use Rattle.kr_laws_shapes.specs.Expressions.{IsWritten}
@@ -107,7 +108,7 @@ written_is s t u h e = go (is_known (written s t)) (ap type_in (sym (types_law s
 module _ (program : Program) (fixed : Fixed) (facts : IsTypedProgram program) (p : Parts) (q : PartsSafe program fixed p) where
   -- an expression used as a type
   abbrev pub Goal : Scope → Tree → Type 0
-  Goal s e = (types : List JavaType) (t u : JavaType) → type_in (judged s e).typed ≡ Some t → is_target u ≡ true → is_assignable program.table t u ≡ true → Safe program fixed types (this_of s) (types_of s.locals) (value_of program p (plain s) e) (GivesAs program (types_of s.locals) u)
+  Goal s e = (types : List JavaType) (t u : JavaType) → type_in (judged s e).typed ≡ Some t → is_target u ≡ true → is_subtype program.table t u ≡ true → Safe program fixed types (this_of s) (types_of s.locals) (value_of program p (plain s) e) (GivesAs program (types_of s.locals) u)
 
   -- ---- parts
 
@@ -127,7 +128,7 @@ module _ (program : Program) (fixed : Fixed) (facts : IsTypedProgram program) (p
   unfolding judged
   number s pl n f types t u r g a =
       let is = ruled_value IntType t (ruled_ask _ 6 (Fits (rules.Value IntType)) t (ruled pl (number_rule s n) [] t f r)).1 in
-      safe_as program fixed facts.below types (this_of s) (types_of s.locals) _ t u a (safe_give program fixed types (this_of s) (types_of s.locals) (Int (wrap (pos n))) _ (refl, (sym is, is_int_of _)))
+      safe_as program fixed facts.below types (this_of s) (types_of s.locals) _ t u a (safe_give program fixed types (this_of s) (types_of s.locals) (Int (wrap Bits32 (pos n))) _ (refl, (sym is, whole_within Bits32 _)))
 
   pub truth : (s : Scope) (pl : Place) (b : Bool) → Goal s (trees.Truth pl b)
   unfolding judged
@@ -147,7 +148,7 @@ module _ (program : Program) (fixed : Fixed) (facts : IsTypedProgram program) (p
   unfolding judged
   this_object s pl f types t u r g a =
       let h = ruled_ask (not s.is_static) 5 (Fits (rules.Value (ClassType s.class))) t (ruled pl (this_rule s) [] t f r) in
-      safe_as program fixed facts.below types (this_of s) (types_of s.locals) _ (ClassType s.class) u (subst (λ (x : JavaType). is_assignable program.table x u ≡ true) (sym (ruled_value (ClassType s.class) t h.1)) a) (safe_here s types (not_true s.is_static h.0))
+      safe_as program fixed facts.below types (this_of s) (types_of s.locals) _ (ClassType s.class) u (subst (λ (x : JavaType). is_subtype program.table x u ≡ true) (sym (ruled_value (ClassType s.class) t h.1)) a) (safe_here s types (not_true s.is_static h.0))
 
   -- ---- names
 
@@ -238,7 +239,7 @@ module _ (program : Program) (fixed : Fixed) (facts : IsTypedProgram program) (p
           let x = constant_ruled c n t (ruled pl (constant_rule (field_named program.table c n)) [] t f r) in
           let only : constant_of program.table (Some c) n ≡ Some x.0 = ap (λ (y : Option Field). option_and_then constant_only y) x.1 ∙ ap (λ (b : Bool). if b then Some x.0 else None) x.2 in
           subst (λ (y : Option Field). Safe program fixed types (this_of s) (types_of s.locals) (constant (plain (settled program fixed s)) y) (GivesAs program (types_of s.locals) u)) (sym only)
-          (safe_as program fixed facts.below types (this_of s) (types_of s.locals) _ x.0.type u (subst (λ (y : JavaType). is_assignable program.table y u ≡ true) (sym x.3) a) (safe_constant (settled program fixed s) types c n x.0 refl (facts.fields c n x.0 x.1) x.2))
+          (safe_as program fixed facts.below types (this_of s) (types_of s.locals) _ x.0.type u (subst (λ (y : JavaType). is_subtype program.table y u ≡ true) (sym x.3) a) (safe_constant (settled program fixed s) types c n x.0 refl (facts.fields c n x.0 x.1) x.2))
       go None f r =
           let below = below_none pl (on_one (access_rule (settled program fixed s) n) (judged (value (settled program fixed s)) e).typed) (judged (value (settled program fixed s)) e).faults f in
           let x = typed_at program fixed facts (value (settled program fixed s)) e k h below in
@@ -271,7 +272,7 @@ module _ (program : Program) (fixed : Fixed) (facts : IsTypedProgram program) (p
   -- ---- operators
 
   unary_in : (w : Scope) (pl : Place) (o : UnaryOperator) (e : Tree) → IsScope program fixed w → Coded program fixed (Expression false) w e → (judge pl (on_one (unary_rule o) (judged w e).typed) (judged w e).faults).faults ≡ [] → (types : List JavaType) (t u : JavaType)
-      → type_in (judge pl (on_one (unary_rule o) (judged w e).typed) (judged w e).faults).typed ≡ Some t → is_assignable program.table t u ≡ true
+      → type_in (judge pl (on_one (unary_rule o) (judged w e).typed) (judged w e).faults).typed ≡ Some t → is_subtype program.table t u ≡ true
       → Safe program fixed types (this_of w) (types_of w.locals) (p.value (plain w) e >>= (λ v. say (operated_alone o v))) (GivesAs program (types_of w.locals) u)
   unary_in w pl o e k h f types t u r a =
       let below = below_none pl (on_one (unary_rule o) (judged w e).typed) (judged w e).faults f in

@@ -12,18 +12,21 @@ use Rattle.kr_value.specs.declared.value.Value.TheVariants.{Int, Bool as Truth, 
 use Rattle.kr_value.specs.declared.object.Class.TheVariants.{Array}
 use Rattle.kr_value.specs.Heaps.{object_in}
 use Rattle.kr_classes_table.specs.Types.{JavaType, IntType, BooleanType, VoidType, ArrayType, is_same, is_reference}
-use Rattle.kr_classes_table.specs.Table.{Table, is_assignable}
-use Rattle.kr_classes_table.specs.Constants.{Whole, int_of, is_zero}
+use Rattle.kr_classes_table.specs.Table.{Table, is_subtype}
+use Rattle.kr_classes_table.specs.Constants.{Whole, is_zero}
+use Rattle.kr_classes_table.specs.Numbers.{Width, Bits32, whole_of}
 use Rattle.kr_classes_table.specs.Arrays.{array_number_from, array_number}
 use Rattle.kr_types_meaning.specs.Scopes.{Scope}
 use Rattle.kr_types_meaning.specs.Rules as rules
 use Rattle.kr_types_meaning.specs.Rules.{Typed, Judgement, Fits, Breaks, ask, is_int, is_boolean, both_int, both_boolean, related_references, operator_rule, unary_rule}
+use Rattle.kr_mean.specs.declared.kind.Stop.{Stop}
+use Rattle.kr_mean.specs.declared.kind.Stop.TheVariants.{Trapped, OutOfFuel, Stuck}
 use Rattle.kr_mean.specs.Program.{Program, default_of, is_array_of}
-use Rattle.kr_mean.specs.Steps.{Stop, Trapped, OutOfFuel, Stuck, State, Run, say, stop}
+use Rattle.kr_mean.specs.Steps.{State, Run, say, stop}
 use Rattle.kr_mean.specs.Operators.{is_division, operated, operated_alone}
 use Rattle.kr_mean.specs.Meaning.{make_array, create_array}
 use Rattle.kr_mean.specs.declared.kind.Kind.TheVariants.{ArrayTooLong}
-use Rattle.kr_laws_safety.specs.Fits.{IsInt, IsOf, IsHeapOf, type_at}
+use Rattle.kr_laws_safety.specs.Fits.{IsWithin, IsOf, IsHeapOf, type_at}
 use Rattle.kr_laws_safety.specs.Triples.{Fixed, IsStateOf, Fine, Safe, Gives}
 use Rattle.kr_laws_safety.specs.Steps.{is_junction}
 use Rattle.kr_laws_slots.proofs.Spaces.{some_is}
@@ -33,10 +36,10 @@ use Rattle.kr_laws_safety.proofs.Steps.{IsObjectType, Assigned, object_type, typ
 
 -- ---- ints
 
-pub is_int_of : (n : ℕ) → IsInt (int_of n)
-is_int_of n = go (nat_lt n 2147483648) refl
+pub whole_within : (w : Width) (n : ℕ) → IsWithin w (whole_of w n)
+whole_within Bits32 n = go (nat_lt n 2147483648) refl
   where
-    go : (b : Bool) → nat_lt n 2147483648 ≡ b → IsInt (if b then pos n else negsuc (4294967295 - n))
+    go : (b : Bool) → nat_lt n 2147483648 ≡ b → IsWithin Bits32 (if b then pos n else negsuc (4294967295 - n))
     go true e = ltb-true n 2147483648 e
     go false e = omega (arith, ltb-false n 2147483648 e)
 
@@ -47,8 +50,8 @@ Good t (Err (Trapped k)) = Unit {0}
 Good t (Err OutOfFuel) = ⊥
 Good t (Err Stuck) = ⊥
 
-whole_good : (n : ℕ) → Good IntType (Ok (Int (int_of n)))
-whole_good n table types = (refl, is_int_of n)
+whole_good : (n : ℕ) → Good IntType (Ok (Int (whole_of Bits32 n)))
+whole_good n table types = (refl, whole_within Bits32 n)
 
 -- the type that an operator gives on ints, and on booleans
 abbrev pub on_ints : BinaryOperator → Option JavaType
@@ -62,7 +65,7 @@ on_ints And = None
 on_ints Or = None
 on_ints o = Some IntType
 
-divided : (b : Bool) (n : ℕ) → Good IntType (Rattle.kr_mean.specs.Operators.constant_result true (if b then None else Some (Whole (int_of n))))
+divided : (b : Bool) (n : ℕ) → Good IntType (Rattle.kr_mean.specs.Operators.constant_result true (if b then None else Some (Whole (whole_of Bits32 n))))
 divided true n = tt
 divided false n = whole_good n
 
@@ -335,7 +338,7 @@ module _ (program : Program) (fixed : Fixed) where
       made n small =
           safe_map program fixed types this ls (make_array t n (Some k)) _ _
           (safe_make program fixed types this ls (ArrayType t) (Array k) (replicate n (default_of t)) (is_numbered t k e, all_replicate program.table types t n (default_of t) (value_more program.table [] types t (default_of t) (types, refl) d), omega (arith, small, length-replicate n (default_of t))))
-          (λ more ms x h. (h.0, subst (λ (y : Value). IsOf program.table more (ArrayType t) y) (sym h.2) (h.3, ap (λ (u : JavaType). is_assignable program.table u (ArrayType t)) h.4 ∙ type_same t)))
+          (λ more ms x h. (h.0, subst (λ (y : Value). IsOf program.table more (ArrayType t) y) (sym h.2) (h.3, ap (λ (u : JavaType). is_subtype program.table u (ArrayType t)) h.4 ∙ type_same t)))
 
       sized : (s : State) → IsStateOf program fixed types this ls s → (n : ℕ) (b : Bool) → nat_lt 64 n ≡ b → Made (if b then stop (Trapped ArrayTooLong) else make_array t n (array_number program.arrays (ArrayType t))) s
       sized s h n true q = (types, ls, extends_self types, h, extends_self ls)

@@ -10,11 +10,13 @@ use Rattle.kr_classes_table.specs.Types.{JavaType, BooleanType, ClassType, is_vo
 use Rattle.kr_classes_table.specs.Table.{Method, method_named}
 use Rattle.kr_types_meaning.specs.Scopes.{Scope, in_contract, Requiring}
 use Rattle.kr_types_meaning.specs.Typing.{judged}
+use Rattle.kr_mean.specs.declared.kind.Stop.{Stop}
+use Rattle.kr_mean.specs.declared.kind.Stop.TheVariants.{Trapped, OutOfFuel, Stuck}
 use Rattle.kr_mean.specs.Program.{Program, class_scope, method_scope}
 use Rattle.kr_mean.specs.Places.{SlotPlace}
 use Rattle.kr_mean.specs.Problem.{Problem, DomainObject, all_objects, upto}
 use Rattle.kr_mean.specs.Heaps.{heap_of, value_at}
-use Rattle.kr_mean.specs.Steps.{Stop, Trapped, OutOfFuel, Stuck, State, Run, give, go_on, bind, ◌>>=◌, tick, get_this}
+use Rattle.kr_mean.specs.Steps.{State, Run, give, go_on, bind, ◌>>=◌, tick, get_this}
 use Rattle.kr_mean.specs.Meaning.{Parts, run_chosen, parts_within, eval, value, execute}
 use Rattle.kr_mean.specs.Code.{Node}
 use Rattle.kr_mean.specs.Runs.{nowhere, rep_ok, rep_ok_node, root_class, requires_of, conditions, where_true, hold_all, parameter_values, parameters_from, tested_method, start, outcome_of, IsStuck}

@@ -9,7 +9,9 @@ use Rattle.kr_types_meaning.specs.Scopes.{Scope, Local, Locals, after, written, 
 use Rattle.kr_types_meaning.specs.Rules.{is_statement}
 use Rattle.kr_types_meaning.specs.Typing.{judged}
 use Rattle.kr_mean.specs.Program.{Program}
-use Rattle.kr_mean.specs.Meaning.{Flow, Next, Broke, Continued, Left, Gave, Parts, then_on, all}
+use Rattle.kr_mean.specs.declared.flow.Flow.{Flow}
+use Rattle.kr_mean.specs.declared.flow.Flow.TheVariants.{Next, Broke, Continued, Left, Gave}
+use Rattle.kr_mean.specs.Meaning.{Parts, then_on, all}
 use Rattle.kr_laws_safety.specs.Triples.{Fixed, Safe, Extends, type_of_old}
 use Rattle.kr_laws_safety.proofs.Heaps.{extends_self, extends_twice}
 use Rattle.kr_laws_safety.proofs.Steps.{safe_give, safe_map, safe_then}

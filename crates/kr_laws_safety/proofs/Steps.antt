@@ -12,12 +12,14 @@ use Rattle.kr_value.specs.declared.object.Class.TheVariants.{Object, Array, Set,
 use Rattle.kr_value.specs.declared.object.Spot.TheVariants.{Field as FieldSpot, Length}
 use Rattle.kr_value.specs.Heaps.{HeapObject, object_in, has_spot, has_spot_of}
 use Rattle.kr_classes_table.specs.Types.{JavaType, IntType, BooleanType, VoidType, ClassType, ArrayType, SetType, ListType, is_element, is_reference}
-use Rattle.kr_classes_table.specs.Table.{Table, Field, ancestors, is_among, is_below, is_assignable}
+use Rattle.kr_classes_table.specs.Table.{Table, Field, ancestors, is_among, is_below, is_subtype}
 use Rattle.kr_classes_table.specs.Constants.{is_at_place}
 use Rattle.kr_mean.specs.declared.kind.Kind.{Kind}
+use Rattle.kr_mean.specs.declared.kind.Stop.{Stop}
+use Rattle.kr_mean.specs.declared.kind.Stop.TheVariants.{Trapped, OutOfFuel, Stuck}
 use Rattle.kr_mean.specs.Program.{Program, is_array_of, field_position, spot_of_field}
 use Rattle.kr_mean.specs.Places.{SlotPlace}
-use Rattle.kr_mean.specs.Steps.{Stop, Trapped, OutOfFuel, Stuck, Local, Old, State, Outcome, Run, give, stop, go_on, bind, ◌>>=◌, tick, tick_at, get_this, local_at, local_given, read_local, plain_local, declare, assign_if, assign, given, get_result, old_at, get_old, entered, within, scoped, load_if, load, load_at, load_in, load_field, index_within, element_read, element_if, element, class_or_null, put, store_at, store, store_new_if, store_new, store_index, store_element_if, store_element, make}
+use Rattle.kr_mean.specs.Steps.{Local, Old, State, Outcome, Run, give, stop, go_on, bind, ◌>>=◌, tick, tick_at, get_this, local_at, local_given, read_local, plain_local, declare, assign_if, assign, given, get_result, old_at, get_old, entered, within, scoped, load_if, load, load_at, load_in, load_field, index_within, element_read, element_if, element, class_or_null, put, store_at, store, store_new_if, store_new, store_index, store_element_if, store_element, make}
 use Rattle.kr_mean.specs.Meaning.{choose}
 use Rattle.kr_laws_safety.specs.Fits.{IsOf, AreOf, IsLength, IsObjectOf, IsHeapOf, type_at}
 use Rattle.kr_laws_safety.specs.Triples.{Fixed, IsThis, values_in, IsResult, AreOlds, IsStateOf, Extends, Fine, Safe, Gives, Keeps, type_of_local, type_of_old}
@@ -45,7 +47,7 @@ object_type program types _ o h = absurd h
 abbrev pub Assigned : Table → JavaType → JavaType → Type 0
 Assigned table u t = (u ≡ t) ⊎ ((c : ℕ) × (d : ℕ) × (u ≡ ClassType c) × (t ≡ ClassType d) × (is_below table c d ≡ true))
 
-pub assigned : (table : Table) (u t : JavaType) → IsObjectType u → is_assignable table u t ≡ true → Assigned table u t
+pub assigned : (table : Table) (u t : JavaType) → IsObjectType u → is_subtype table u t ≡ true → Assigned table u t
 assigned table (ClassType c) (ClassType d) h e = inr (c, d, refl, refl, e)
 assigned table (ClassType c) t h e = inl (same_type (ClassType c) t e)
 assigned table (ArrayType s) t h e = inl (same_type (ArrayType s) t e)
@@ -147,7 +149,7 @@ module _ (program : Program) (fixed : Fixed) where
       no_boolean : (s : State) → IsStateOf program fixed types this ls s → ⊥
       no_boolean s h = go (type_at types o) (object_type program types (type_at types o) (object_in s.heap o) (object_found program types types s.heap o h.heap i.0)) i.1
         where
-          go : (u : JavaType) → IsObjectType u → is_assignable program.table u BooleanType ≡ true → ⊥
+          go : (u : JavaType) → IsObjectType u → is_subtype program.table u BooleanType ≡ true → ⊥
           go u k e = no_assigned u (assigned program.table u BooleanType k e) k
             where
               no_assigned : (u : JavaType) → Assigned program.table u BooleanType → IsObjectType u → ⊥
@@ -262,7 +264,7 @@ module _ (program : Program) (fixed : Fixed) where
 
   -- ---- what is seen of a reference
 
-  class_is : (types : List JavaType) (t u : JavaType) (x : HeapObject) → is_reference t ≡ true → is_assignable program.table u t ≡ true → IsObjectOf program types u x → IsClassOf program u x.class
+  class_is : (types : List JavaType) (t u : JavaType) (x : HeapObject) → is_reference t ≡ true → is_subtype program.table u t ≡ true → IsObjectOf program types u x → IsClassOf program u x.class
   class_is types t (ClassType c) x r a h = h.0
   class_is types t (ArrayType e) x r a h = h.0
   class_is types t (SetType e) x r a h = h.0
@@ -285,7 +287,7 @@ module _ (program : Program) (fixed : Fixed) where
     where
       go : Assigned program.table (type_at types o) (ClassType c) → (d : ℕ) × (type_at types o ≡ ClassType d) × (is_below program.table d c ≡ true)
       go (inl e) = (c, e, below_itself program.table c)
-      go (inr r) = (r.0, r.2, ap (λ (x : JavaType). is_assignable program.table (ClassType r.0) x) r.3 ∙ r.4)
+      go (inr r) = (r.0, r.2, ap (λ (x : JavaType). is_subtype program.table (ClassType r.0) x) r.3 ∙ r.4)
 
   pub array_known : (types : List JavaType) (s : State) (o : ℕ) (t : JavaType) → IsHeapOf program types s.heap → IsOf program.table types (ArrayType t) (Reference o) → type_at types o ≡ ArrayType t
   array_known types s o t h i = go (type_known types s o (ArrayType t) h i)

@@ -5,7 +5,7 @@ use Rattle.kr_base.specs.declared.place.Place.{Place}
 use Rattle.kr_ast.specs.Tree as trees
 use Rattle.kr_ast.specs.Tree.{Tree}
 use Rattle.kr_classes_table.specs.Types.{JavaType, IntType, BooleanType, ArrayType, is_void, is_reference, is_collection, is_element}
-use Rattle.kr_classes_table.specs.Table.{is_assignable, are_related}
+use Rattle.kr_classes_table.specs.Table.{is_subtype, are_related}
 use Rattle.kr_types_meaning.specs.Scopes.{Scope, value, in_old, written}
 use Rattle.kr_types_meaning.specs.Rules as rules
 use Rattle.kr_types_meaning.specs.Rules.{Typed, Untyped, Judgement, Fits, Breaks, ask, gives, both_int, both_boolean, related_references, is_ensuring, choice_rule, cast_rule, instance_rule, array_creation_rule, result_value_rule, old_rule}
@@ -118,15 +118,15 @@ module _ (program : Program) (fixed : Fixed) (facts : IsTypedProgram program) (p
       let y = typed_at program fixed facts (value S) b k hb fb in
       let z = typed_at program fixed facts (value S) d k hd fd in
       let rule = ruled_as v (choice_rule S x.type y.type z.type) t (on_type (λ n. on_two (choice_rule S n) jb.typed jd.typed) jc.typed x.type x.known ∙ (on_type (λ n. on_one (choice_rule S x.type n) jd.typed) jb.typed y.type y.known ∙ on_type (choice_rule S x.type y.type) jd.typed z.type z.known)) (ruled pl v (jc.faults ++ jb.faults ++ jd.faults) t f r) in
-      let asked = ruled_ask (rules.is_boolean x.type && are_related program.table y.type z.type) 15 (Fits (rules.Value (if is_assignable program.table y.type z.type then z.type else y.type))) t rule in
+      let asked = ruled_ask (rules.is_boolean x.type && are_related program.table y.type z.type) 15 (Fits (rules.Value (if is_subtype program.table y.type z.type then z.type else y.type))) t rule in
       let both = and_true (rules.is_boolean x.type) (are_related program.table y.type z.type) asked.0 in
-      let arms = go y.type z.type (is_assignable program.table y.type z.type) refl (ruled_value (if is_assignable program.table y.type z.type then z.type else y.type) t asked.1) both.1 in
+      let arms = go y.type z.type (is_subtype program.table y.type z.type) refl (ruled_value (if is_subtype program.table y.type z.type then z.type else y.type) t asked.1) both.1 in
       safe_next program fixed types (this_of s) (types_of s.locals) (p.value (plain S) c) _ _ _ (part_as program fixed facts p q (value S) c k hc fc types BooleanType (x.known ∙ ap (λ (n : JavaType). Some n) (boolean_is x.type both.0)) refl refl)
       (λ more v m i. safe_choose program fixed more (this_of s) (types_of s.locals) v (p.value (plain S) b) (p.value (plain S) d) _ i (q.value (value S) b k hb fb more y.type u y.known g arms.0) (q.value (value S) d k hd fd more z.type u z.known g arms.1))
     where
-      go : (y z : JavaType) (n : Bool) → is_assignable program.table y z ≡ n → (if n then z else y) ≡ t → (n || is_assignable program.table z y) ≡ true → (is_assignable program.table y u ≡ true) × (is_assignable program.table z u ≡ true)
-      go y z true e i h = let j = subst (λ (n : JavaType). is_assignable program.table n u ≡ true) (sym i) a in (assignable_through program.table facts.below y z u e j, j)
-      go y z false e i h = let j = subst (λ (n : JavaType). is_assignable program.table n u ≡ true) (sym i) a in (j, assignable_through program.table facts.below z y u h j)
+      go : (y z : JavaType) (n : Bool) → is_subtype program.table y z ≡ n → (if n then z else y) ≡ t → (n || is_subtype program.table z y) ≡ true → (is_subtype program.table y u ≡ true) × (is_subtype program.table z u ≡ true)
+      go y z true e i h = let j = subst (λ (n : JavaType). is_subtype program.table n u ≡ true) (sym i) a in (assignable_through program.table facts.below y z u e j, j)
+      go y z false e i h = let j = subst (λ (n : JavaType). is_subtype program.table n u ≡ true) (sym i) a in (j, assignable_through program.table facts.below z y u h j)
 
   -- ---- new arrays
 

@@ -11,10 +11,11 @@ use Rattle.kr_classes_table.specs.Table.{Method, method_named}
 use Rattle.kr_types_meaning.specs.Scopes.{Scope, in_contract, in_old, after, Ensuring}
 use Rattle.kr_types_meaning.specs.Rules.{is_ensuring}
 use Rattle.kr_types_meaning.specs.Typing.{judged, type_in}
+use Rattle.kr_mean.specs.declared.kind.Stop.{Stop}
 use Rattle.kr_mean.specs.Program.{Program, class_scope, method_scope}
 use Rattle.kr_mean.specs.Problem.{Problem}
 use Rattle.kr_mean.specs.Heaps.{value_at}
-use Rattle.kr_mean.specs.Steps.{Stop, Old, State, Outcome, plain_local}
+use Rattle.kr_mean.specs.Steps.{Old, State, Outcome, plain_local}
 use Rattle.kr_mean.specs.Meaning.{value, run_method, parts_within, body_of}
 use Rattle.kr_mean.specs.Code.{Node, code}
 use Rattle.kr_laws_runs.proofs.Respects.{AllOf, all_both}

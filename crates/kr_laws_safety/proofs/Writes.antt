@@ -11,7 +11,7 @@ use Rattle.kr_ast.specs.Tree.{Tree}
 use Rattle.kr_value.specs.declared.value.Value.{Value}
 use Rattle.kr_value.specs.declared.value.Value.TheVariants.{Int}
 use Rattle.kr_classes_table.specs.Types.{JavaType, IntType, ClassType, ArrayType, is_void, is_known}
-use Rattle.kr_classes_table.specs.Table.{Field, field_named, is_below, is_assignable}
+use Rattle.kr_classes_table.specs.Table.{Field, field_named, is_below, is_subtype}
 use Rattle.kr_classes_table.specs.Constants.{field_meant}
 use Rattle.kr_types_meaning.specs.Scopes.{Scope, Meant, LocalName, FieldName, NoName, value, meant, class_before}
 use Rattle.kr_types_meaning.specs.Rules as rules
@@ -275,11 +275,11 @@ module _ (program : Program) (fixed : Fixed) (facts : IsTypedProgram program) (p
       let x = typed_at program fixed facts (value S) b k h front in
       let y = typed_at program fixed facts (value S) e k l back in
       let rule = ruled_two pl (assignment_rule S jb.typed) jb je x.type y.type t x.known y.known f r in
-      let asked = ruled_ask (is_assignable program.table y.type x.type) 16 (written_rule S jb.typed x.type) t rule in
+      let asked = ruled_ask (is_subtype program.table y.type x.type) 16 (written_rule S jb.typed x.type) t rule in
       let is = written_is S jb.typed x.type t asked.1 in
       let place = x.variable is.0 in
       let writes = target_writes s b x.type k h front x.known is.0 place.0 in
-      safe_as program fixed facts.below types (this_of s) (types_of s.locals) _ x.type u (subst (λ (n : JavaType). is_assignable program.table n u ≡ true) (sym is.1) a)
+      safe_as program fixed facts.below types (this_of s) (types_of s.locals) _ x.type u (subst (λ (n : JavaType). is_subtype program.table n u ≡ true) (sym is.1) a)
       (write S x.type (target_of (plain S) b) k writes (p.value (plain S) e)
       (λ more. safe_map program fixed more (this_of s) (types_of s.locals) (p.value (plain S) e) _ _ (q.value (value S) e k l back more y.type x.type y.known (variable_target x.type place.1) asked.0) (λ others ms v z. (z.0, z.1 (variable_not_void x.type place.1))))
       types)
@@ -303,7 +303,7 @@ module _ (program : Program) (fixed : Fixed) (facts : IsTypedProgram program) (p
       let writes = target_writes s b x.type k h front x.known is.0 place.0 in
       let rule' = compound_gives S o x.type y.type c asked.0 in
       let operand = compound_operand o x.type y.type x.type c (used_by S o x.type y.type x.type (compound_plain o c) rule') in
-      safe_as program fixed facts.below types (this_of s) (types_of s.locals) _ x.type u (subst (λ (n : JavaType). is_assignable program.table n u ≡ true) (sym is.1) a)
+      safe_as program fixed facts.below types (this_of s) (types_of s.locals) _ x.type u (subst (λ (n : JavaType). is_subtype program.table n u ≡ true) (sym is.1) a)
       (change S x.type (target_of (plain S) b) k writes (compound o (p.value (plain S) e))
       (λ more v i. safe_next program fixed more (this_of s) (types_of s.locals) (p.value (plain S) e) _ _ _ (part_as program fixed facts p q (value S) e k l back more y.type y.known operand.0 operand.1)
       (λ others w z j. safe_next program fixed others (this_of s) (types_of s.locals) (say (operated o v w)) _ _ _ (safe_operated program fixed others (this_of s) (types_of s.locals) S o x.type y.type x.type v w (compound_plain o c) rule' (value_more program.table more others x.type v z i) j)
@@ -323,13 +323,13 @@ module _ (program : Program) (fixed : Fixed) (facts : IsTypedProgram program) (p
       let place = x.variable is.0 in
       let int = int_is x.type asked.0 in
       let writes = subst (λ (n : JavaType). Writes S n (target_of (plain S) b)) int (target_writes s b x.type k h below x.known is.0 place.0) in
-      safe_as program fixed facts.below types (this_of s) (types_of s.locals) _ IntType u (subst (λ (n : JavaType). is_assignable program.table n u ≡ true) (sym is.1 ∙ int) a)
+      safe_as program fixed facts.below types (this_of s) (types_of s.locals) _ IntType u (subst (λ (n : JavaType). is_subtype program.table n u ≡ true) (sym is.1 ∙ int) a)
       (change S IntType (target_of (plain S) b) k writes (stepped o)
       (λ more v i. safe_next program fixed more (this_of s) (types_of s.locals) (say (operated (step_operator o) v (Int (pos 1)))) _ _ _ (safe_operated program fixed more (this_of s) (types_of s.locals) S (step_operator o) IntType IntType IntType v (Int (pos 1)) (step_plain o) (step_gives S o) i (refl, one))
       (λ others w z j. safe_give program fixed others (this_of s) (types_of s.locals) (change_from (gives_old o) v w) _ (refl, from (gives_old o) others v w (value_more program.table more others IntType v z i) j)))
       types)
     where
-      one : Rattle.kr_laws_safety.specs.Fits.IsInt (pos 1)
+      one : Rattle.kr_laws_safety.specs.Fits.IsWithin Rattle.kr_classes_table.specs.Numbers.Bits32 (pos 1)
       one = omega arith
 
       from : (n : Bool) (others : List JavaType) (v w : Value) → IsOf program.table others IntType v → IsOf program.table others IntType w → IsChange others IntType (change_from n v w)

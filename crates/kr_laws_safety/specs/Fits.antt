@@ -8,15 +8,16 @@ use Rattle.kr_value.specs.declared.object.Class.{Class}
 use Rattle.kr_value.specs.declared.object.Class.TheVariants.{Object, Array, Set, List as ListClass}
 use Rattle.kr_value.specs.Heaps.{HeapObject}
 use Rattle.kr_classes_table.specs.Types.{JavaType, IntType, BooleanType, VoidType, ClassType, ArrayType, SetType, ListType, is_element, is_reference}
-use Rattle.kr_classes_table.specs.Table.{Table, fields_of, is_assignable}
+use Rattle.kr_classes_table.specs.Table.{Table, fields_of, is_subtype}
+use Rattle.kr_classes_table.specs.Numbers.{Width, Bits32, half}
 use Rattle.kr_mean.specs.Program.{Program, is_array_of}
 
 -- ---- values
 
--- 32 bits
-abbrev pub IsInt : ℤ → Type 0
-IsInt (pos n) = n < 2147483648
-IsInt (negsuc n) = n < 2147483648
+-- a number of a width
+abbrev pub IsWithin : Width → ℤ → Type 0
+IsWithin w (pos n) = n < half w
+IsWithin w (negsuc n) = n < half w
 
 -- the type of an object by its number
 abbrev pub type_at : List JavaType → ℕ → JavaType
@@ -24,10 +25,10 @@ type_at types o = get_or types o VoidType
 
 -- An int, a boolean; null is of each reference type, and an object of those to which its own may be assigned.
 abbrev pub IsOf : Table → List JavaType → JavaType → Value → Type 0
-IsOf table types t (Int z) = (t ≡ IntType) × IsInt z
+IsOf table types t (Int z) = (t ≡ IntType) × IsWithin Bits32 z
 IsOf table types t (Truth b) = t ≡ BooleanType
 IsOf table types t Null = is_reference t ≡ true
-IsOf table types t (Reference o) = (o < length types) × (is_assignable table (type_at types o) t ≡ true)
+IsOf table types t (Reference o) = (o < length types) × (is_subtype table (type_at types o) t ≡ true)
 
 -- values in order, each of its type
 abbrev pub AreOf : Table → List JavaType → List JavaType → List Value → Type 0

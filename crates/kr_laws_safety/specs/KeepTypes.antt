@@ -15,7 +15,8 @@ use Rattle.kr_types_meaning.specs.Scopes.{Scope}
 use Rattle.kr_types_meaning.specs.Rules.{Fits, Value as Typed, operator_rule, unary_rule}
 use Rattle.kr_mean.specs.Steps.{Run, say, tick, get_this, read_local, declare, assign, get_result, get_old, within, scoped, class_or_null, load, load_field, store, store_new, element, store_element, make, collect}
 use Rattle.kr_mean.specs.Operators.{operated, operated_alone}
-use Rattle.kr_mean.specs.Meaning.{Flow, create_array}
+use Rattle.kr_mean.specs.declared.flow.Flow.{Flow}
+use Rattle.kr_mean.specs.Meaning.{create_array}
 use Rattle.kr_laws_safety.specs.Fits.{IsOf, AreOf, IsLength, IsObjectOf, type_at}
 use Rattle.kr_laws_safety.specs.Triples.{Fixed, IsThis, Extends, Safe, Gives, Keeps, type_of_local, type_of_old}
 use Rattle.kr_laws_safety.specs.Steps.{HasField, IsSeen, Collection, type_with, is_junction}

@@ -5,9 +5,10 @@ use Rattle.kr_value.specs.declared.value.Value.{Value}
 use Rattle.kr_classes_table.specs.Types.{JavaType, BooleanType, VoidType}
 use Rattle.kr_classes_table.specs.Table.{Method, method_named}
 use Rattle.kr_types_meaning.specs.Typing.{judged, type_in}
+use Rattle.kr_mean.specs.declared.kind.Stop.TheVariants.{Stuck}
 use Rattle.kr_mean.specs.Program.{Program}
 use Rattle.kr_mean.specs.Problem.{Problem}
-use Rattle.kr_mean.specs.Steps.{Stuck, Old, State, Outcome}
+use Rattle.kr_mean.specs.Steps.{Old, State, Outcome}
 use Rattle.kr_mean.specs.Meaning.{value, body_of}
 use Rattle.kr_mean.specs.Code.{Node}
 use Rattle.kr_mean.specs.Runs.{root_class, tested_method, rep_ok_node, requires_of, ensures_of}

@@ -7,8 +7,10 @@ use Rattle.kr_value.specs.declared.value.Value.TheVariants.{Ref as Reference}
 use Rattle.kr_classes_table.specs.Types.{JavaType, ClassType}
 use Rattle.kr_classes_table.specs.Table.{Table}
 use Rattle.kr_classes_table.specs.Constants.{is_at_place}
+use Rattle.kr_mean.specs.declared.kind.Stop.{Stop}
+use Rattle.kr_mean.specs.declared.kind.Stop.TheVariants.{Trapped, OutOfFuel, Stuck}
 use Rattle.kr_mean.specs.Program.{Program}
-use Rattle.kr_mean.specs.Steps.{Stop, Trapped, OutOfFuel, Stuck, Local, Old, State, Run}
+use Rattle.kr_mean.specs.Steps.{Local, Old, State, Run}
 use Rattle.kr_laws_safety.specs.Fits.{IsOf, AreOf, IsHeapOf}
 
 -- what no run changes: how many objects are candidates, and the types of the result of the method under test and of the

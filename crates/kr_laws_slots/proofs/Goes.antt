@@ -19,14 +19,17 @@ use Rattle.kr_value.specs.Heaps.{HeapObject, no_object, object_in, has_spot_of, 
 use Rattle.kr_classes_table.specs.Types.{JavaType, IntType, BooleanType, NullType, VoidType, ClassType, ArrayType, SetType, ListType, InferredType, UnknownType, AppliedType}
 use Rattle.kr_classes_table.specs.Table.{Field as FieldOf, Method}
 use Rattle.kr_classes_table.specs.Arrays.{array_number}
-use Rattle.kr_classes_table.specs.Constants.{ConstantValue, Whole, Truth as TruthConstant, Absent, of_ints, of_booleans, unary_value, is_at_place}
+use Rattle.kr_classes_table.specs.Constants.{ConstantValue, Whole, Truth as TruthConstant, Absent, of_wholes, of_booleans, unary_value, is_at_place}
+use Rattle.kr_classes_table.specs.Numbers.{Bits32}
 use Rattle.kr_types_meaning.specs.Scopes.{Scope}
 use Rattle.kr_mean.specs.declared.kind.Kind.{Kind}
 use Rattle.kr_mean.specs.declared.kind.Kind.TheVariants.{NegativeArraySizeException, ArrayTooLong}
+use Rattle.kr_mean.specs.declared.kind.Stop.{Stop}
+use Rattle.kr_mean.specs.declared.kind.Stop.TheVariants.{Trapped, Stuck}
 use Rattle.kr_mean.specs.Program.{Program, default_of, spot_of_field, is_array_of}
 use Rattle.kr_mean.specs.Places.{SlotPlace, This, Parameter, At}
 use Rattle.kr_mean.specs.Collections.{is_same_value, has_member, without, Collected, gives, added_once, add, remove_first, is_collection, is_empty, called_with, called_alone, called_on, collected}
-use Rattle.kr_mean.specs.Steps.{Stop, Trapped, Stuck, Local, Old, State, Outcome, Run, say, stop, go_on, bind, ◌>>=◌, given, tick, tick_at, get_result, old_at, get_old, local_at, place_reads, local_given, read_local, plain_local, declare, assign_if, assign, back_to, entered, within, scoped, load_if, load, index_within, element_read, element_if, element, class_or_null, put, store_at, store, store_new, store_index, store_element_if, store_element, make, collected_said, collect_as, collect}
+use Rattle.kr_mean.specs.Steps.{Local, Old, State, Outcome, Run, say, stop, go_on, bind, ◌>>=◌, given, tick, tick_at, get_result, old_at, get_old, local_at, place_reads, local_given, read_local, plain_local, declare, assign_if, assign, back_to, entered, within, scoped, load_if, load, index_within, element_read, element_if, element, class_or_null, put, store_at, store, store_new, store_index, store_element_if, store_element, make, collected_said, collect_as, collect}
 use Rattle.kr_mean.specs.Operators.{value_of_constant, is_division, constant_result, of_references, operated, operated_alone}
 use Rattle.kr_mean.specs.Meaning.{choose, make_array, create_array, parts_within, run_method, eval, value}
 use Rattle.kr_mean.specs.Code.{Node, code, code_of_method}
@@ -716,7 +719,7 @@ module _ (program : Program) (st : Setting) where
   references_like _ b = refl
 
   operated_like : (o : BinaryOperator) (v w : Value) → SaidLike Related (operated o v w) (operated o (renamed_value st.name v) (renamed_value st.name w))
-  operated_like o (Int m) (Int n) = constant_result_like (is_division o) (of_ints o m n)
+  operated_like o (Int m) (Int n) = constant_result_like (is_division o) (of_wholes Bits32 o m n)
   operated_like o (Truth a) (Truth b) = constant_result_like false (of_booleans o a b)
   operated_like o Null Null = references_like o true
   operated_like o Null (Reference p) = references_like o false

@@ -14,23 +14,19 @@ use Rattle.kr_value.specs.declared.object.Class.TheVariants.{Object, Array, Set,
 use Rattle.kr_classes_table.specs.Types.{JavaType, ClassType, ArrayType, SetType, ListType, is_void}
 use Rattle.kr_classes_table.specs.Table.{Table, Field, Method, Constructor, items, fields_of, line_of, field_named, method_named}
 use Rattle.kr_classes_table.specs.Arrays.{array_number}
-use Rattle.kr_classes_table.specs.Constants.{constant_of, wrap, known_value as constant_value}
+use Rattle.kr_classes_table.specs.Constants.{constant_of, known_value as constant_value}
+use Rattle.kr_classes_table.specs.Numbers.{Bits32, wrap}
 use Rattle.kr_types_meaning.specs.Scopes.{Scope, Locals, Meant, LocalName, FieldName, NoName, written, declaring, bind_local as with_local, after, meant, class_before, static_only, method_meant, super_class}
 use Rattle.kr_types_meaning.specs.Typing.{type_of}
+use Rattle.kr_mean.specs.declared.flow.Flow.{Flow}
+use Rattle.kr_mean.specs.declared.flow.Flow.TheVariants.{Next, Broke, Continued, Left, Gave}
 use Rattle.kr_mean.specs.declared.kind.Kind.TheVariants.{NegativeArraySizeException, ClassCastException, NoReturn, ArrayTooLong}
+use Rattle.kr_mean.specs.declared.kind.Stop.TheVariants.{Trapped, OutOfFuel, Stuck}
 use Rattle.kr_mean.specs.Program.{Program, default_of, is_of_type, overriding, class_scope, method_scope, constructor_scope, constructor_of, declared_fields}
-use Rattle.kr_mean.specs.Steps.{Trapped, OutOfFuel, Stuck, Run, say, give, stop, given, ◌>>=◌, ◌>>◌, tick, get_this, read_local, declare, assign, get_result, get_old, within, scoped, load_field, element, class_or_null, class_of, store, store_new, store_element, make, collect}
+use Rattle.kr_mean.specs.Steps.{Run, say, give, stop, given, ◌>>=◌, ◌>>◌, tick, get_this, read_local, declare, assign, get_result, get_old, within, scoped, load_field, element, class_or_null, class_of, store, store_new, store_element, make, collect}
 use Rattle.kr_mean.specs.Operators.{value_of_constant, operated, operated_alone, step_operator, gives_old}
 
 -- ---- where statements lead
-
--- on, out of a loop or to its next round, or out of the body, which may give a value
-pub data Flow : Type 0 where
-  Next : Flow
-  Broke : Flow
-  Continued : Flow
-  Left : Flow
-  Gave : Value → Flow
 
 -- goes on after a statement that led to the next one
 abbrev pub then_on : Flow → Run Flow → Run Flow
@@ -370,7 +366,7 @@ instance program t (Some class) = Truth (is_of_type program t class)
 
 -- an expression after its unit
 abbrev pub value_of : Program → Parts → Scope → Tree → Run Value
-value_of program parts s (trees.Number p n) = give (Int (wrap (pos n)))
+value_of program parts s (trees.Number p n) = give (Int (wrap Bits32 (pos n)))
 value_of program parts s (trees.Truth p b) = give (Truth b)
 value_of program parts s (trees.Null p) = give Null
 value_of program parts s (trees.This p) = get_this

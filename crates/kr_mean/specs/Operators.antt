@@ -8,10 +8,12 @@ use Rattle.kr_ast.specs.declared.node.StepOperator.{StepOperator}
 use Rattle.kr_ast.specs.declared.node.StepOperator.TheVariants.{IncrementBefore, DecrementBefore, IncrementBehind, DecrementBehind}
 use Rattle.kr_value.specs.declared.value.Value.{Value}
 use Rattle.kr_value.specs.declared.value.Value.TheVariants.{Int, Bool as Truth, Null, Ref as Reference}
-use Rattle.kr_classes_table.specs.Constants.{ConstantValue, Whole, Truth as TruthConstant, Absent, of_ints, of_booleans, unary_value}
+use Rattle.kr_classes_table.specs.Constants.{ConstantValue, Whole, Truth as TruthConstant, Absent, of_wholes, of_booleans, unary_value}
+use Rattle.kr_classes_table.specs.Numbers.{Bits32}
 use Rattle.kr_mean.specs.declared.kind.Kind.TheVariants.{ArithmeticException}
+use Rattle.kr_mean.specs.declared.kind.Stop.{Stop}
+use Rattle.kr_mean.specs.declared.kind.Stop.TheVariants.{Trapped, Stuck}
 use Rattle.kr_mean.specs.Collections.{is_same_value}
-use Rattle.kr_mean.specs.Steps.{Stop, Trapped, Stuck}
 
 abbrev pub value_of_constant : ConstantValue → Value
 value_of_constant (Whole z) = Int z
@@ -39,7 +41,7 @@ of_references NotEqual same = Ok (Truth (not same))
 of_references o same = Err Stuck
 
 abbrev pub operated : BinaryOperator → Value → Value → Result Value Stop
-operated o (Int a) (Int b) = constant_result (is_division o) (of_ints o a b)
+operated o (Int a) (Int b) = constant_result (is_division o) (of_wholes Bits32 o a b)
 operated o (Truth a) (Truth b) = constant_result false (of_booleans o a b)
 operated o Null Null = of_references o true
 operated o Null (Reference p) = of_references o false

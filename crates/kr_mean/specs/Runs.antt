@@ -15,11 +15,13 @@ use Rattle.kr_types_meaning.specs.Scopes.{Part, Requiring, Ensuring, in_contract
 use Rattle.kr_mean.specs.declared.kind.Kind.{Kind}
 use Rattle.kr_mean.specs.declared.mode.Mode.{Mode}
 use Rattle.kr_mean.specs.declared.mode.Mode.TheVariants.{List as Listing, Method as Testing}
+use Rattle.kr_mean.specs.declared.kind.Stop.{Stop}
+use Rattle.kr_mean.specs.declared.kind.Stop.TheVariants.{Trapped, OutOfFuel, Stuck}
 use Rattle.kr_mean.specs.Program.{Program, class_scope, method_scope}
 use Rattle.kr_mean.specs.Places.{SlotPlace, This, Parameter, At}
 use Rattle.kr_mean.specs.Problem.{Problem, all_objects, slot_at, slots, domain_at, upto}
 use Rattle.kr_mean.specs.Heaps.{distinct, heap_of, value_at, walk}
-use Rattle.kr_mean.specs.Steps.{Stop, Trapped, OutOfFuel, Stuck, Local, State, Outcome, Run, after_reads, give, stop, ◌>>=◌}
+use Rattle.kr_mean.specs.Steps.{Local, State, Outcome, Run, after_reads, give, stop, ◌>>=◌}
 use Rattle.kr_mean.specs.Meaning.{value}
 use Rattle.kr_mean.specs.Code.{Node}
 

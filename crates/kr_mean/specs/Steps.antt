@@ -13,16 +13,12 @@ use Rattle.kr_classes_table.specs.Types.{JavaType}
 use Rattle.kr_classes_table.specs.Table.{Field}
 use Rattle.kr_classes_table.specs.Constants.{is_at_place}
 use Rattle.kr_mean.specs.declared.kind.Kind.{Kind}
+use Rattle.kr_mean.specs.declared.kind.Stop.{Stop}
+use Rattle.kr_mean.specs.declared.kind.Stop.TheVariants.{Trapped, OutOfFuel, Stuck}
 use Rattle.kr_mean.specs.declared.kind.Kind.TheVariants.{NullPointerException, ArrayIndexOutOfBoundsException}
 use Rattle.kr_mean.specs.Program.{Program, field_position, spot_of_field, is_array_of}
 use Rattle.kr_mean.specs.Places.{SlotPlace, At}
 use Rattle.kr_mean.specs.Collections.{Collected, collected}
-
--- How a run ends early. It is stuck where a node has no meaning: one that breaks a typing rule.
-pub data Stop : Type 0 where
-  Trapped : Kind → Stop
-  OutOfFuel : Stop
-  Stuck : Stop
 
 -- a local's value, and the place that is read with it where a candidate gives it
 pub record Local : Type 0 where

@@ -11,10 +11,12 @@ use Rattle.kr_types_meaning.specs.Scopes.{Scope, in_old}
 use Rattle.kr_mean.specs.declared.kind.Kind.{Kind}
 use Rattle.kr_mean.specs.declared.kind.Verdict.{Verdict}
 use Rattle.kr_mean.specs.declared.kind.Verdict.TheVariants.{Pass, Ensures, RepOk, Trap, CheckTrap, Spent}
+use Rattle.kr_mean.specs.declared.kind.Stop.{Stop}
+use Rattle.kr_mean.specs.declared.kind.Stop.TheVariants.{Trapped, OutOfFuel, Stuck}
 use Rattle.kr_mean.specs.Program.{Program}
 use Rattle.kr_mean.specs.Problem.{Problem}
 use Rattle.kr_mean.specs.Heaps.{heap_of, value_at}
-use Rattle.kr_mean.specs.Steps.{Stop, Trapped, OutOfFuel, Stuck, Old, State, Outcome, Run, give, plain_local, ◌>>=◌}
+use Rattle.kr_mean.specs.Steps.{Old, State, Outcome, Run, give, plain_local, ◌>>=◌}
 use Rattle.kr_mean.specs.Meaning.{value, body_of}
 use Rattle.kr_mean.specs.Code.{Node, code}
 use Rattle.kr_mean.specs.Runs.{rep_ok_node, ensures_of, parameter_values, tested_method}

@@ -16,6 +16,14 @@ pub enum Kind {
     ArrayTooLong,
 }
 
+/// How a run ends early. It is stuck where a node has no meaning: one that breaks a typing rule.
+#[derive(Clone, Copy, PartialEq, Eq)]
+pub enum Stop {
+    Trapped(Kind),
+    OutOfFuel,
+    Stuck,
+}
+
 /// What a test says of the method under test on a structure.
 #[derive(Clone, Copy, PartialEq, Eq)]
 pub enum Verdict {

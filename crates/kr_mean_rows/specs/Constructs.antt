@@ -11,9 +11,11 @@ use Rattle.kr_value.specs.declared.object.Class.TheVariants.{Object, Array}
 use Rattle.kr_value.specs.declared.object.Spot.TheVariants.{Field, Length, Element}
 use Rattle.kr_value.specs.Heaps.{HeapObject}
 use Rattle.kr_mean.specs.declared.kind.Kind.TheVariants.{NullPointerException, ArithmeticException, ArrayIndexOutOfBoundsException, NegativeArraySizeException, ClassCastException, NoSuchElementException, NoReturn, ArrayTooLong}
+use Rattle.kr_mean.specs.declared.kind.Stop.{Stop}
+use Rattle.kr_mean.specs.declared.kind.Stop.TheVariants.{Trapped, OutOfFuel, Stuck}
 use Rattle.kr_mean.specs.Program.{Program, program_of, class_scope}
 use Rattle.kr_mean.specs.Places.{SlotPlace, At}
-use Rattle.kr_mean.specs.Steps.{Stop, Trapped, OutOfFuel, Stuck, State, Outcome}
+use Rattle.kr_mean.specs.Steps.{State, Outcome}
 use Rattle.kr_mean.specs.Meaning.{value}
 use Rattle.kr_mean_rows.specs.Words.{list_of, absent, int, boolean, void, named, array_of, hash_set, linked_list, number, yes, no, null, this, name, ◌dot◌, ◌at◌, call, call_on, super_call, new, new_array, unary, step, binary, ◌*'◌, ◌/'◌, ◌+'◌, ◌-'◌, ◌<'◌, ◌>'◌, ◌instance_of◌, ◌=='◌, ◌!='◌, ◌&&'◌, ◌||'◌, ◌becomes◌, compound, conditional, cast, empty, block, declared, local, locals, evaluate, assign, increment, return, break, continue, if_then, if_else, while, do_while, for, field_with, field, constant, parameter, method, static_method, constructor, constructor_after, class, class_below}
 

@@ -5,9 +5,11 @@ use Rattle.std.proofs.lemmas.Bool.{eq-eqb}
 use Rattle.std.proofs.lemmas.List.{take-map}
 use Rattle.kr_value.specs.declared.value.Value.{Value}
 use Rattle.kr_ast.specs.declared.node.BinaryOperator.{BinaryOperator}
+use Rattle.kr_mean.specs.declared.kind.Stop.{Stop}
+use Rattle.kr_mean.specs.declared.kind.Stop.TheVariants.{Stuck}
 use Rattle.kr_mean.specs.Places.{SlotPlace}
 use Rattle.kr_mean.specs.Steps as steps
-use Rattle.kr_mean.specs.Steps.{Stop, State, Outcome, Run, after_reads, go_on, bind, give, stop, Stuck, say, within, entered, back_to, plain_local}
+use Rattle.kr_mean.specs.Steps.{State, Outcome, Run, after_reads, go_on, bind, give, stop, say, within, entered, back_to, plain_local}
 use Rattle.kr_mean.specs.Operators.{operated}
 use Rattle.kr_mean.specs.Meaning.{Change, change_to}
 use Rattle.kr_code.specs.declared.code.Code.{Code}

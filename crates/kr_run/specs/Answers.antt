@@ -1,11 +1,11 @@
 -- Between crates: what a step, and what a whole run, says of the meaning.
 use Rattle.std.specs.Prelude.{◌≡◌, List, Result, Ok, Err}
 use Rattle.kr_value.specs.declared.value.Value.{Value}
+use Rattle.kr_mean.specs.declared.kind.Stop.{Stop}
 use Rattle.kr_mean.specs.Steps.{Outcome}
 use Rattle.kr_code.specs.declared.code.Code.{Code}
 use Rattle.kr_code.specs.Doing.{Doing, IsMeaning}
 use Rattle.kr_run_state.specs.declared.world.World.{World}
-use Rattle.kr_run_state.specs.declared.world.End.{End}
 use Rattle.kr_run_state.specs.declared.world.Halt.{Halt}
 use Rattle.kr_run_state.specs.declared.world.Halt.TheVariants.{Ended, Memory}
 use Rattle.kr_run_state.specs.Noting.{noting}
@@ -21,7 +21,7 @@ abbrev pub Gives : Code → Value → World → World → (Doing → Others → 
 Gives code v w before o = (x : Others) → Allows w x → Keeps before w x × ((d : Doing) → IsMeaning code d → noting before.reads (o d x) ≡ record { said = Ok v; after = state_at w x; reads = w.reads })
 
 -- the run has ended so
-abbrev pub EndsSo : Code → End → World → World → (Doing → Others → Outcome Value) → Type 0
+abbrev pub EndsSo : Code → Stop → World → World → (Doing → Others → Outcome Value) → Type 0
 EndsSo code e w before o = (x : Others) → Allows w x → Keeps before w x × ((d : Doing) → IsMeaning code d → HasEnded e w x (noting before.reads (o d x)))
 
 -- a step leads on to a task, or the run has given a value or has ended

@@ -1,6 +1,6 @@
 -- Between crates: flows that leave the body.
-use Rattle.kr_run_frames.specs.declared.task.Flow.{Flow}
-use Rattle.kr_run_frames.specs.declared.task.Flow.TheVariants as flows
+use Rattle.kr_mean.specs.declared.flow.Flow.{Flow}
+use Rattle.kr_mean.specs.declared.flow.Flow.TheVariants as flows
 
 abbrev pub IsLeaving : Flow → Type 0
 IsLeaving flows.Left = Unit {0}

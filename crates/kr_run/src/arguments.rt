@@ -13,9 +13,10 @@ ghost use Rattle.kr_run_state.specs.Worlds.{state_at};
 
 use crate::calls::apply;
 use kr_code::{Code, Nodes};
+use kr_mean::Stop;
 use kr_run_frames::{Goal, Stack, Task, UnitFrame, Up, Waiting};
 use kr_run_moves::{await_arguments, unit};
-use kr_run_state::{End, Halt, NoMemory, World};
+use kr_run_state::{Halt, NoMemory, World};
 use kr_value::Value;
 use std::alloc::Global;
 
@@ -146,7 +147,7 @@ pub(crate) fn next_arguments(
     ensures { Leads code.now (next_task result task.new) stack.new world.new world.old (λ d x. out_arguments code.now d stack.old (state_at world.old x)) }
 {
     let Some(top) = stack.top() else {
-        return Err(Halt::Ended(End::Stuck));
+        return Err(Halt::Ended(Stop::Stuck));
     };
     let frame = *top;
     match frame {
@@ -156,7 +157,7 @@ pub(crate) fn next_arguments(
         Waiting::UpArguments(up, nodes, _) => {
             return begin_upwards(alloc, code, world, stack, up, nodes, task);
         }
-        _ => return Err(Halt::Ended(End::Stuck)),
+        _ => return Err(Halt::Ended(Stop::Stuck)),
     }
 }
 

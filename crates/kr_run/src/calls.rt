@@ -12,9 +12,9 @@ ghost use Rattle.kr_run_state.specs.Worlds.{state_at};
 
 use crate::create::create;
 use kr_code::{Code, CollectionCall, MethodCode};
-use kr_mean::Kind;
+use kr_mean::{Kind, Stop};
 use kr_run_frames::{Goal, Stack, Task};
-use kr_run_state::{Action, End, Halt, Local, NoMemory, World, class_of, collect};
+use kr_run_state::{Action, Halt, Local, NoMemory, World, class_of, collect};
 use kr_value::{Class, Value};
 use std::alloc::Global;
 
@@ -52,11 +52,11 @@ fn run_method(
     ensures { Leads code.now (next_task result task.new) stack.new world.new world.old (λ d x. out_value code.now d stack.old (run_step code.now d receiver arguments.now.items method (state_at world.old x))) }
 {
     let Some(found) = method else {
-        *task = Task::Act(Action::End(End::Stuck));
+        *task = Task::Act(Action::End(Stop::Stuck));
         return Ok(());
     };
     if arguments.len() != found.parameters as usize {
-        *task = Task::Act(Action::End(End::Stuck));
+        *task = Task::Act(Action::End(Stop::Stuck));
         return Ok(());
     }
     stack.push_leave(found.is_void, world.this, world.locals.as_slice())?;
@@ -81,7 +81,7 @@ fn run_numbered(
 {
     match method {
         None => {
-            *task = Task::Act(Action::End(End::Stuck));
+            *task = Task::Act(Action::End(Stop::Stuck));
             Ok(())
         }
         Some(number) => {
@@ -110,11 +110,11 @@ fn run_on(
             run_numbered(code, world, stack, object, found, arguments, task)
         }
         Value::Null => {
-            *task = Task::Act(Action::End(End::Trapped(Kind::NullPointerException)));
+            *task = Task::Act(Action::End(Stop::Trapped(Kind::NullPointerException)));
             Ok(())
         }
         _ => {
-            *task = Task::Act(Action::End(End::Stuck));
+            *task = Task::Act(Action::End(Stop::Stuck));
             Ok(())
         }
     }
@@ -139,11 +139,11 @@ fn run_static(
             run_method(code, world, stack, Value::Null, found, arguments, task)
         }
         Value::Null => {
-            *task = Task::Act(Action::End(End::Trapped(Kind::NullPointerException)));
+            *task = Task::Act(Action::End(Stop::Trapped(Kind::NullPointerException)));
             Ok(())
         }
         _ => {
-            *task = Task::Act(Action::End(End::Stuck));
+            *task = Task::Act(Action::End(Stop::Stuck));
             Ok(())
         }
     }
@@ -167,7 +167,7 @@ fn new_collection(
             Ok(())
         }
         Some(_) => {
-            *task = Task::Act(Action::End(End::Stuck));
+            *task = Task::Act(Action::End(Stop::Stuck));
             Ok(())
         }
     }
@@ -209,7 +209,7 @@ pub fn apply(
 {
     match goal {
         Goal::Stop => {
-            *task = Task::Act(Action::End(End::Stuck));
+            *task = Task::Act(Action::End(Stop::Stuck));
             return Ok(());
         }
         Goal::Run(receiver, method) => {

@@ -1,18 +1,20 @@
 // Creation: the constructors of a line of classes, and the initial values of fields.
 ghost use Rattle.std.specs.Prelude.{◌≡◌, ◌∷◌, [], map};
+ghost use Rattle.kr_mean.specs.declared.kind.Stop.TheVariants.{Stuck};
 ghost use Rattle.kr_code.specs.Tables.{class_at, listed};
 ghost use Rattle.kr_code.specs.Doing.{create as create_step, constructed, constructed_in, super_values, initialised as initialised_step};
 ghost use Rattle.kr_run_frames.specs.Frames.{out_value, out_unit, done, upwards};
 ghost use Rattle.kr_run_frames.specs.Leads.{Leads, next_task};
-ghost use Rattle.kr_mean.specs.Steps.{Stuck, bind, within, stop as stop_step};
+ghost use Rattle.kr_mean.specs.Steps.{bind, within, stop as stop_step};
 ghost use Rattle.kr_run_state.specs.Shown.{local_of};
 ghost use Rattle.kr_run_state.specs.Worlds.{state_at};
 
 use crate::calls::become_arguments;
 use kr_code::{ClassCode, Code, Constructor, Nodes};
+use kr_mean::Stop;
 use kr_run_frames::{Stack, Task, UnitFrame, Up, Waiting};
 use kr_run_moves::{push, unit};
-use kr_run_state::{Action, End, Halt, Local, World, new_object};
+use kr_run_state::{Action, Halt, Local, World, new_object};
 use kr_value::Value;
 use std::alloc::Global;
 
@@ -31,7 +33,7 @@ pub(crate) fn create(
 {
     match code.class(class) {
         None => {
-            *task = Task::Act(Action::End(End::Stuck));
+            *task = Task::Act(Action::End(Stop::Stuck));
             return Ok(());
         }
         Some(found) => match new_object(alloc, code, world, class, found.defaults) {
@@ -57,7 +59,7 @@ pub(crate) fn stop_unit(
     ensures { Leads code.now (next_task result task.new) stack.new world.now world.now (λ d x. out_unit code.now d stack.old (stop_step Stuck (state_at world.now x))) }
 {
     push(stack, Waiting::Store(0, Value::Null))?;
-    *task = Task::Act(Action::End(End::Stuck));
+    *task = Task::Act(Action::End(Stop::Stuck));
     Ok(())
 }
 

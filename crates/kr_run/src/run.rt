@@ -8,10 +8,10 @@ ghost use Rattle.kr_code.specs.declared.statement.Statement.TheVariants.{Declare
 ghost use Rattle.kr_run.specs.Statements.{IsTicked};
 ghost use Rattle.kr_run.specs.Leaving.{IsLeaving};
 ghost use Rattle.kr_run_frames.specs.declared.task.Task.TheVariants as tasks;
-ghost use Rattle.kr_code.specs.Doing.{statement_done, flow_of as statement_flow};
+ghost use Rattle.kr_code.specs.Doing.{statement_done, flow_of};
 ghost use Rattle.kr_code.specs.Steps.{store_initial as store_step};
 ghost use Rattle.kr_run_frames.specs.declared.frame.Change.TheVariants as changes;
-ghost use Rattle.kr_run_frames.specs.Frames.{resumed, out_value, out_flow, out_unit, flow_of, altered, restored, cut_to};
+ghost use Rattle.kr_run_frames.specs.Frames.{resumed, out_value, out_flow, out_unit, altered, restored, cut_to};
 ghost use Rattle.kr_mean.specs.Meaning.{returned, completed};
 ghost use Rattle.kr_mean.specs.Operators.{step_operator as operator_of_step};
 ghost use Rattle.kr_run_state.specs.Actions.{acted};
@@ -25,14 +25,14 @@ use crate::create::{construct, initialise, stop_unit, take_unit};
 use crate::steps::Step;
 use kr_ast::{BinaryOperator, StepOperator};
 use kr_code::{Code, Nodes, Statement};
-use kr_mean::Kind;
-use kr_run_frames::{Change, Flow, Stack, Task, ValueFrame, Waiting, WriteFrame};
+use kr_mean::{Flow, Kind, Stop};
+use kr_run_frames::{Change, Stack, Task, ValueFrame, Waiting, WriteFrame};
 use kr_run_known::{at_once, statement_at};
 use kr_run_moves::{
     all, declare, enter_node, enter_statement, feed, repeat, take_flow, take_test, take_value,
     update, value, write,
 };
-use kr_run_state::{Action, Cell, End, Halt, Local, NoMemory, World, act, store_initial, tick};
+use kr_run_state::{Action, Cell, Halt, Local, NoMemory, World, act, store_initial, tick};
 use kr_value::Value;
 use std::alloc::Global;
 
@@ -68,7 +68,7 @@ fn tick_statement(
     statement: &Statement,
     task: &mut Task,
 ) -> Result<(), Halt>
-    ensures { Leads code.now (next_task result task.new) stack.new world.new world.old (λ d x. out_flow code.now d stack.old (bind tick (λ u. statement_flow code.now d statement.now) (state_at world.old x))) }
+    ensures { Leads code.now (next_task result task.new) stack.new world.new world.old (λ d x. out_flow code.now d stack.old (bind tick (λ u. flow_of code.now d statement.now) (state_at world.old x))) }
 {
     match tick(world) {
         Err(halt) => Err(halt),
@@ -254,7 +254,7 @@ fn value_frame(
             stack.drop_top();
             return store(code, world, stack, field, object, given, task);
         }
-        _ => return Err(Halt::Ended(End::Stuck)),
+        _ => return Err(Halt::Ended(Stop::Stuck)),
     }
 }
 
@@ -270,7 +270,7 @@ fn leave(
     task: &mut Task,
 ) -> Result<(), Halt>
     requires { (locals : List Local) × (fs : List Frame) × (stack.old ≡ frames.Leave is_void this locals ∷ fs) }
-    ensures { Leads code.now (next_task result task.new) stack.new world.new world.old (λ d x. out_flow code.now d stack.old (give (flow_of flow) (state_at world.old x))) }
+    ensures { Leads code.now (next_task result task.new) stack.new world.new world.old (λ d x. out_flow code.now d stack.old (give flow (state_at world.old x))) }
 {
     stack.take_locals(&mut world.locals)?;
     world.this = this;
@@ -284,7 +284,7 @@ fn leave(
             Ok(())
         }
         (false, Flow::Next) => {
-            *task = Task::Act(Action::End(End::Trapped(Kind::NoReturn)));
+            *task = Task::Act(Action::End(Stop::Trapped(Kind::NoReturn)));
             Ok(())
         }
         (false, Flow::Gave(given)) => {
@@ -292,7 +292,7 @@ fn leave(
             Ok(())
         }
         _ => {
-            *task = Task::Act(Action::End(End::Stuck));
+            *task = Task::Act(Action::End(Stop::Stuck));
             Ok(())
         }
     }
@@ -307,7 +307,7 @@ fn complete(
     flow: Flow,
     task: &mut Task,
 ) -> Result<(), Halt>
-    ensures { Leads code.now (next_task result task.new) stack.new world.now world.now (λ d x. out_unit code.now d stack.old (completed (flow_of flow) (state_at world.now x))) }
+    ensures { Leads code.now (next_task result task.new) stack.new world.now world.now (λ d x. out_unit code.now d stack.old (completed flow (state_at world.now x))) }
 {
     match flow {
         Flow::Next => {
@@ -333,7 +333,7 @@ fn end_scope(
     flow: Flow,
     task: &mut Task,
 ) -> Result<(), Halt>
-    ensures { Leads code.now (next_task result task.new) stack.now world.new world.old (λ d x. out_flow code.now d stack.now (cut_to count (give (flow_of flow) (state_at world.old x)))) }
+    ensures { Leads code.now (next_task result task.new) stack.now world.new world.old (λ d x. out_flow code.now d stack.now (cut_to count (give flow (state_at world.old x)))) }
 {
     world.locals.truncate(count);
     *task = Task::Led(flow);
@@ -352,7 +352,7 @@ fn flow_frame(
     task: &mut Task,
 ) -> Result<(), Halt>
     requires { IsOnTop frame stack.old }
-    ensures { Leads code.now (next_task result task.new) stack.new world.new world.old (λ d x. out_flow code.now d stack.old (give (flow_of flow) (state_at world.old x))) }
+    ensures { Leads code.now (next_task result task.new) stack.new world.new world.old (λ d x. out_flow code.now d stack.old (give flow (state_at world.old x))) }
 {
     match frame {
         Waiting::Flow(waiting) => {
@@ -370,7 +370,7 @@ fn flow_frame(
             stack.drop_top();
             return complete(code, world, stack, flow, task);
         }
-        _ => return Err(Halt::Ended(End::Stuck)),
+        _ => return Err(Halt::Ended(Stop::Stuck)),
     }
 }
 
@@ -438,7 +438,7 @@ fn unit_frame(
             *task = Task::Got(object);
             return Ok(());
         }
-        _ => return Err(Halt::Ended(End::Stuck)),
+        _ => return Err(Halt::Ended(Stop::Stuck)),
     }
 }
 
@@ -533,7 +533,7 @@ fn is_leaving(flow: Flow) -> bool
 /// Blocks, loops and lists of statements are left, whose frames only pass on what leaves the body.
 fn pass_by(code: &Code, world: &mut World, stack: &mut Stack, flow: Flow)
     requires { IsLeaving flow }
-    ensures { Leads code.now (Ok (tasks.Led flow)) stack.new world.new world.old (λ d x. out_flow code.now d stack.old (give (flow_of flow) (state_at world.old x))) }
+    ensures { Leads code.now (Ok (tasks.Led flow)) stack.new world.new world.old (λ d x. out_flow code.now d stack.old (give flow (state_at world.old x))) }
 {
     'frames: for _ in 0..stack.len() {
         let Some(top) = stack.top() else {
@@ -564,13 +564,13 @@ fn give_flow(
     flow: Flow,
     task: &mut Task,
 ) -> Result<(), Halt>
-    ensures { Leads code.now (next_task result task.new) stack.new world.new world.old (λ d x. out_flow code.now d stack.old (give (flow_of flow) (state_at world.old x))) }
+    ensures { Leads code.now (next_task result task.new) stack.new world.new world.old (λ d x. out_flow code.now d stack.old (give flow (state_at world.old x))) }
 {
     if is_leaving(flow) {
         pass_by(code, world, stack, flow);
     }
     let Some(top) = stack.top() else {
-        return Err(Halt::Ended(End::Stuck));
+        return Err(Halt::Ended(Stop::Stuck));
     };
     let frame = *top;
     return flow_frame(code, world, stack, frame, flow, task);
@@ -588,7 +588,7 @@ fn give_nothing(
     ensures { Leads code.now (next_task result task.new) stack.new world.new world.old (λ d x. out_unit code.now d stack.old (give tt (state_at world.old x))) }
 {
     let Some(top) = stack.top() else {
-        return Err(Halt::Ended(End::Stuck));
+        return Err(Halt::Ended(Stop::Stuck));
     };
     let frame = *top;
     return unit_frame(alloc, code, world, stack, frame, task);

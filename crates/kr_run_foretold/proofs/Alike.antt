@@ -2,7 +2,7 @@
 use Rattle.std.proofs.Common.{◌≡◌, ℕ, ◌-◌, ◌<◌, suc, Some, None, Ok, sym, ap, subst, arith, ◌∙◌}
 use Rattle.std.specs.Prelude.{Option, IfSome}
 use Rattle.kr_value.specs.declared.value.Value.{Value}
-use Rattle.kr_mean.specs.Meaning.{Flow}
+use Rattle.kr_mean.specs.declared.flow.Flow.{Flow}
 use Rattle.kr_mean.specs.Steps.{Outcome, Run, bind, tick, tick_at}
 use Rattle.kr_code.specs.declared.code.Code.{Code}
 use Rattle.kr_code.specs.Doing.{Doing}

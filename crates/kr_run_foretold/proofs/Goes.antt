@@ -2,6 +2,7 @@
 use Rattle.std.proofs.Common.{◌≡◌, ℕ, zero, suc, ◌+◌, ◌≤◌, List, [], ◌∷◌, length, drop, take, Ok, refl, sym, ap, subst, arith, ◌∙◌}
 use Rattle.std.specs.Prelude.{map, Option, Some, None, IfSome}
 use Rattle.kr_value.specs.declared.value.Value.{Value}
+use Rattle.kr_mean.specs.declared.flow.Flow.{Flow}
 use Rattle.kr_mean.specs.Places.{SlotPlace}
 use Rattle.kr_mean.specs.Steps.{Outcome, State, give}
 use Rattle.kr_mean.specs.Steps as steps
@@ -18,11 +19,10 @@ use Rattle.kr_run_known.specs.declared.known.Known.{Known}
 use Rattle.kr_run_known.specs.Knowing.{Knows, fuelled}
 use Rattle.kr_run_frames.specs.Frame.{Frame}
 use Rattle.kr_run_frames.specs.Frame as frames
-use Rattle.kr_run_frames.specs.Frames.{continued, flow_of, got, led, out_flow, out_value, tested}
+use Rattle.kr_run_frames.specs.Frames.{continued, got, led, out_flow, out_value, tested}
 use Rattle.kr_run_frames.specs.declared.frame.ValueFrame.{ValueFrame}
 use Rattle.kr_run_frames.specs.declared.frame.TestFrame.{TestFrame}
 use Rattle.kr_run_frames.specs.declared.frame.FlowFrame.{FlowFrame}
-use Rattle.kr_run_frames.specs.declared.task.Flow.{Flow}
 use Rattle.kr_run_frames.proofs.Outcomes.{flow_reads, gave, gave_value}
 use Rattle.kr_run_foretold.specs.Ahead.{IsSpent, IsTold, TellsFrom, TellsOf, comes, flows}
 use Rattle.kr_run_foretold.specs.declared.flows.Led.{Led}
@@ -34,10 +34,10 @@ pub value_passes : (code : Code) (d : Doing) (w : World) (f : ValueFrame) (fs : 
 value_passes code d w f fs v k h i = gave_value code d fs w.reads w.reads (continued (give v (state_of w)) (got code d f)) k.value (fuelled w k.fuel None) (h None tt d i)
 
 pub test_passes : (code : Code) (d : Doing) (w : World) (f : TestFrame) (fs : List Frame) (v : Value) (l : Led) → KnowsFlow code w w.fuel l (λ e. tested code e f v) → IsMeaning code d → comes code d (frames.Test f ∷ fs) w v ≡ flows code d fs (record w { fuel = l.fuel }) l.flow
-test_passes code d w f fs v l h i = gave (out_flow code d fs) (flow_reads code d fs) w.reads w.reads (continued (give v (state_of w)) (tested code d f)) (flow_of l.flow) (fuelled w l.fuel None) (h None tt d i)
+test_passes code d w f fs v l h i = gave (out_flow code d fs) (flow_reads code d fs) w.reads w.reads (continued (give v (state_of w)) (tested code d f)) l.flow (fuelled w l.fuel None) (h None tt d i)
 
-pub flow_passes : (code : Code) (d : Doing) (w : World) (f : FlowFrame) (fs : List Frame) (flow : Flow) (l : Led) → KnowsFlow code w w.fuel l (λ e. led code e f (flow_of flow)) → IsMeaning code d → flows code d (frames.Flow f ∷ fs) w flow ≡ flows code d fs (record w { fuel = l.fuel }) l.flow
-flow_passes code d w f fs flow l h i = gave (out_flow code d fs) (flow_reads code d fs) w.reads w.reads (continued (give (flow_of flow) (state_of w)) (led code d f)) (flow_of l.flow) (fuelled w l.fuel None) (h None tt d i)
+pub flow_passes : (code : Code) (d : Doing) (w : World) (f : FlowFrame) (fs : List Frame) (flow : Flow) (l : Led) → KnowsFlow code w w.fuel l (λ e. led code e f flow) → IsMeaning code d → flows code d (frames.Flow f ∷ fs) w flow ≡ flows code d fs (record w { fuel = l.fuel }) l.flow
+flow_passes code d w f fs flow l h i = gave (out_flow code d fs) (flow_reads code d fs) w.reads w.reads (continued (give flow (state_of w)) (led code d f)) l.flow (fuelled w l.fuel None) (h None tt d i)
 
 take_mapped : (n : ℕ) (ls : List Local) → take n (map local_of ls) ≡ map local_of (take n ls)
 take_mapped zero [] = refl
@@ -45,8 +45,8 @@ take_mapped zero (l ∷ ls) = refl
 take_mapped (suc n) [] = refl
 take_mapped (suc n) (l ∷ ls) = ap (λ (ks : List steps.Local). local_of l ∷ ks) (take_mapped n ls)
 
-pub scope_passes : (code : Code) (d : Doing) (w : World) (n : ℕ) (ls : List Local) (fs : List Frame) (flow : Flow) → ls ≡ take n w.locals.items → flows code d (frames.Scope n ∷ fs) w flow ≡ noting w.reads (out_flow code d fs (give (flow_of flow) (record (state_of w) { locals = map local_of ls })))
-scope_passes code d w n ls fs flow e = ap (λ (ks : List steps.Local). noting w.reads (out_flow code d fs (give (flow_of flow) (record (state_of w) { locals = ks })))) (take_mapped n w.locals.items ∙ ap (map local_of) (sym e))
+pub scope_passes : (code : Code) (d : Doing) (w : World) (n : ℕ) (ls : List Local) (fs : List Frame) (flow : Flow) → ls ≡ take n w.locals.items → flows code d (frames.Scope n ∷ fs) w flow ≡ noting w.reads (out_flow code d fs (give flow (record (state_of w) { locals = map local_of ls })))
+scope_passes code d w n ls fs flow e = ap (λ (ks : List steps.Local). noting w.reads (out_flow code d fs (give flow (record (state_of w) { locals = ks })))) (take_mapped n w.locals.items ∙ ap (map local_of) (sym e))
 
 -- ---- frames one below another
 

@@ -2,7 +2,8 @@
 use Rattle.std.proofs.Common.{◌≡◌, ℕ, suc, false, List, [], ◌∷◌, take, refl, sym, ap, subst, ◌∙◌}
 use Rattle.std.specs.Prelude.{map, Option, Some, None, IfSome}
 use Rattle.kr_value.specs.declared.value.Value as v
-use Rattle.kr_mean.specs.Meaning as meaning
+use Rattle.kr_mean.specs.declared.flow.Flow.{Flow}
+use Rattle.kr_mean.specs.declared.flow.Flow.TheVariants as ways
 use Rattle.kr_mean.specs.Steps.{Outcome, Run, State, after_reads, bind, give, go_on, tick, tick_at}
 use Rattle.kr_code.specs.declared.code.Code.{Code}
 use Rattle.kr_code.specs.declared.expression.Expression.{Expression}
@@ -11,8 +12,6 @@ use Rattle.kr_code.specs.declared.statement.Statement.{Statement}
 use Rattle.kr_code.specs.declared.statement.Statement.TheVariants as statements
 use Rattle.kr_code.specs.Doing.{Doing, IsMeaning, flow_of, statement_done, value_done}
 use Rattle.kr_code.specs.Tables.{expression_of, node_at, statement_of}
-use Rattle.kr_run_frames.specs.declared.task.Flow.{Flow}
-use Rattle.kr_run_frames.specs.declared.task.Flow.TheVariants as ways
 use Rattle.kr_run_state.specs.declared.world.World.{World}
 use Rattle.kr_run_state.specs.Worlds.{state_of}
 use Rattle.kr_run_state.specs.Shown.{local_of}
@@ -41,13 +40,13 @@ scope_on code n fuel u = λ d vs ls fs s i e. (record s { locals = take n s.loca
 pub leave_on : (code : Code) (this : v.Value) (k fuel : ℕ) (u : v.Value) → PassesOn code (kept.Leave false this k) (record { point = points.Gives u; fuel = fuel }) (record { point = points.Comes u; fuel = fuel })
 leave_on code this k fuel u = λ d vs ls fs s i e. (record s { this_value = this; locals = map local_of ls }, e, refl)
 
-pub test_on : (code : Code) (f : TestFrame) (fuel : ℕ) (u : v.Value) (k : Known) → ((d : Doing) (s : State) → IsMeaning code d → s.fuel ≡ fuel → tested code d f u s ≡ give (meaning.Gave k.value) (record s { fuel = k.fuel }))
+pub test_on : (code : Code) (f : TestFrame) (fuel : ℕ) (u : v.Value) (k : Known) → ((d : Doing) (s : State) → IsMeaning code d → s.fuel ≡ fuel → tested code d f u s ≡ give (ways.Gave k.value) (record s { fuel = k.fuel }))
     → PassesOn code (kept.Test f) (record { point = points.Comes u; fuel = fuel }) (record { point = points.Gives k.value; fuel = k.fuel })
-test_on code f fuel u k h = λ d vs ls fs s i e. (record s { fuel = k.fuel }, refl, ap (λ (o : Outcome meaning.Flow). out_flow code d fs (after_reads [] o)) (h d s i e))
+test_on code f fuel u k h = λ d vs ls fs s i e. (record s { fuel = k.fuel }, refl, ap (λ (o : Outcome Flow). out_flow code d fs (after_reads [] o)) (h d s i e))
 
 pub holds_as : (code : Code) (f : TestFrame) (g : TestFrame) (u x : v.Value) (fuel : ℕ) (r : Option Known) → f ≡ g → u ≡ x
-    → IfSome r (λ k. (d : Doing) (s : State) → IsMeaning code d → s.fuel ≡ fuel → tested code d g x s ≡ give (meaning.Gave k.value) (record s { fuel = k.fuel }))
-    → IfSome r (λ k. (d : Doing) (s : State) → IsMeaning code d → s.fuel ≡ fuel → tested code d f u s ≡ give (meaning.Gave k.value) (record s { fuel = k.fuel }))
+    → IfSome r (λ k. (d : Doing) (s : State) → IsMeaning code d → s.fuel ≡ fuel → tested code d g x s ≡ give (ways.Gave k.value) (record s { fuel = k.fuel }))
+    → IfSome r (λ k. (d : Doing) (s : State) → IsMeaning code d → s.fuel ≡ fuel → tested code d f u s ≡ give (ways.Gave k.value) (record s { fuel = k.fuel }))
 holds_as code f g u x fuel None e h p = tt
 holds_as code f g u x fuel (Some k) e h p = λ d s i q. ap (λ (t : TestFrame). tested code d t u s) e ∙ (ap (λ (y : v.Value). tested code d g y s) h ∙ p d s i q)
 
@@ -68,13 +67,13 @@ literal_is code d i n u s m e f =
     ∙ unit_then (give u) s n f)
 
 pub returned_is : (code : Code) (d : Doing) (i j n : ℕ) (u : v.Value) (s : State) → IsMeaning code d → statement_of (node_at code i) ≡ statements.Return j → s.fuel ≡ suc (suc n)
-    → d.value j (record s { fuel = suc n }) ≡ give u (record s { fuel = n }) → d.exec i s ≡ give (meaning.Gave u) (record s { fuel = n })
+    → d.value j (record s { fuel = suc n }) ≡ give u (record s { fuel = n }) → d.exec i s ≡ give (ways.Gave u) (record s { fuel = n })
 unfolding bind
 returned_is code d i j n u s m e f h =
     m.exec_is i s
     ∙ (ap (λ (x : Statement). statement_done code d x s) e
     ∙ (unit_then (flow_of code d (statements.Return j)) s (suc n) f
-    ∙ ap (λ (o : Outcome v.Value). after_reads [] (go_on o.said o.after o.reads (λ w. give (meaning.Gave w)))) h))
+    ∙ ap (λ (o : Outcome v.Value). after_reads [] (go_on o.said o.after o.reads (λ w. give (ways.Gave w)))) h))
 
 -- ---- frames one below another
 

@@ -1,6 +1,7 @@
 -- Between crates: what is known at once of how a run goes on.
 use Rattle.std.specs.Prelude.{◌≡◌, List, ◌++◌, Ok}
 use Rattle.kr_value.specs.declared.value.Value.{Value}
+use Rattle.kr_mean.specs.declared.flow.Flow.{Flow}
 use Rattle.kr_mean.specs.Places.{SlotPlace}
 use Rattle.kr_mean.specs.Steps.{Outcome, give}
 use Rattle.kr_code.specs.declared.code.Code.{Code}
@@ -9,8 +10,7 @@ use Rattle.kr_run_state.specs.declared.world.World.{World}
 use Rattle.kr_run_state.specs.Noting.{noting}
 use Rattle.kr_run_state.specs.Worlds.{state_of}
 use Rattle.kr_run_frames.specs.Frame.{Frame}
-use Rattle.kr_run_frames.specs.Frames.{flow_of, out_flow, out_value}
-use Rattle.kr_run_frames.specs.declared.task.Flow.{Flow}
+use Rattle.kr_run_frames.specs.Frames.{out_flow, out_value}
 
 -- a run gives a value, and these places are what was read before it and in it
 pub record IsTold (v : Value) (reads : List SlotPlace) (o : Outcome Value) : Type 0 where
@@ -30,7 +30,7 @@ abbrev pub comes : Code → Doing → List Frame → World → Value → Outcome
 comes code d fs w v = noting w.reads (out_value code d fs (give v (state_of w)))
 
 abbrev pub flows : Code → Doing → List Frame → World → Flow → Outcome Value
-flows code d fs w flow = noting w.reads (out_flow code d fs (give (flow_of flow) (state_of w)))
+flows code d fs w flow = noting w.reads (out_flow code d fs (give flow (state_of w)))
 
 -- The run gives this value, in every meaning of the code, where one comes to the frames.
 abbrev pub TellsFrom : Code → List Frame → World → Value → Value → Type 0

@@ -1,7 +1,7 @@
 -- Between crates: values that leave bodies: what they pass needs neither locals nor `this`.
 use Rattle.std.specs.Prelude.{◌≡◌, List, [], ◌∷◌}
 use Rattle.kr_value.specs.declared.value.Value as v
-use Rattle.kr_mean.specs.Meaning as meaning
+use Rattle.kr_mean.specs.declared.flow.Flow.TheVariants as flows
 use Rattle.kr_mean.specs.Steps.{Outcome, State, give}
 use Rattle.kr_code.specs.declared.code.Code.{Code}
 use Rattle.kr_code.specs.Doing.{Doing, IsMeaning}
@@ -18,7 +18,7 @@ use Rattle.kr_run_foretold.specs.declared.leaving.Stand.{Stand}
 -- a value comes to frames, or the value that a body gives
 abbrev pub out_point : Code → Doing → List Frame → Point → State → Outcome v.Value
 out_point code d fs (points.Comes u) s = out_value code d fs (give u s)
-out_point code d fs (points.Gives u) s = out_flow code d fs (give (meaning.Gave u) s)
+out_point code d fs (points.Gives u) s = out_flow code d fs (give (flows.Gave u) s)
 
 -- What comes to a frame comes on to those below it, from each state with so much fuel, in every meaning of the code.
 abbrev pub PassesOn : Code → Waiting → Stand → Stand → Type 0

@@ -3,14 +3,13 @@ ghost use Rattle.std.specs.Prelude.{IfSome};
 ghost use Rattle.kr_mean.specs.Steps.{bind, give};
 ghost use Rattle.kr_mean.specs.Meaning.{choose};
 ghost use Rattle.kr_code.specs.declared.code.Code.{Code};
-ghost use Rattle.kr_code.specs.Doing.{all_at, flow_of as statement_flow};
+ghost use Rattle.kr_code.specs.Doing.{all_at, flow_of};
 ghost use Rattle.kr_code.specs.Tables.{listed};
-ghost use Rattle.kr_run_frames.specs.Frames.{flow_of};
 ghost use Rattle.kr_run_state.specs.declared.world.World.{World};
 ghost use Rattle.kr_run_foretold.specs.Flows.{KnowsFlow, otherwise as otherwise_flow};
 
 use kr_code::{Code, Nodes, Statement};
-use kr_run_frames::Flow;
+use kr_mean::Flow;
 use kr_run_known::{look_at, statement_at};
 use kr_run_state::World;
 use kr_value::Value;
@@ -60,7 +59,7 @@ impl<L: Follow> Follow for Over<L> {
 /// A statement leads there, with so much fuel left.
 #[inline(always)]
 fn leads(flow: Flow, fuel: u64) -> Option<Led>
-    ensures { (code : Code) (w : World) → IfSome result (λ l. KnowsFlow code w fuel l (λ d. give (flow_of flow))) }
+    ensures { (code : Code) (w : World) → IfSome result (λ l. KnowsFlow code w fuel l (λ d. give flow)) }
 {
     Some(Led { flow, fuel })
 }
@@ -118,7 +117,7 @@ fn branch<L: Follow>(
 /// A statement, after its unit.
 #[inline(always)]
 fn flow_in<L: Follow>(code: &Code, world: &World, statement: &Statement, fuel: u64) -> Option<Led>
-    ensures { IfSome result (λ l. KnowsFlow code.now world.now fuel l (λ d. statement_flow code.now d statement.now)) }
+    ensures { IfSome result (λ l. KnowsFlow code.now world.now fuel l (λ d. flow_of code.now d statement.now)) }
 {
     match statement {
         Statement::Empty => leads(Flow::Next, fuel),

@@ -1,10 +1,10 @@
 // A value leaves bodies: it passes frames that need neither the locals nor `this`, which are those of a caller then.
 ghost use Rattle.std.specs.Prelude.{◌≡◌, ℕ, suc, IfSome, drop};
+ghost use Rattle.kr_mean.specs.declared.flow.Flow.TheVariants as flows;
 ghost use Rattle.kr_run_foretold.specs.declared.leaving.Point.TheVariants as points;
 ghost use Rattle.kr_code.specs.declared.code.Code.{Code};
 ghost use Rattle.kr_code.specs.Doing.{Doing, IsMeaning};
 ghost use Rattle.kr_run_frames.specs.Frames.{got, tested};
-ghost use Rattle.kr_mean.specs.Meaning as meaning;
 ghost use Rattle.kr_mean.specs.Steps.{State, give};
 ghost use Rattle.kr_run_foretold.specs.Leaving.{PassesOn, TellsAt};
 
@@ -71,7 +71,7 @@ fn literal_at(code: &Code, node: u32) -> Option<Value>
 /// The literal that a statement returns, if it is such a `return`: its two units are spent.
 #[inline(always)]
 fn literal_returned(code: &Code, node: u32, fuel: u64) -> Option<Known>
-    ensures { IfSome result (λ k. (d : Doing) (s : State) → IsMeaning code.now d → s.fuel ≡ fuel → d.exec node s ≡ give (meaning.Gave k.value) (record s { fuel = k.fuel })) }
+    ensures { IfSome result (λ k. (d : Doing) (s : State) → IsMeaning code.now d → s.fuel ≡ fuel → d.exec node s ≡ give (flows.Gave k.value) (record s { fuel = k.fuel })) }
 {
     if fuel < 2 {
         return None;
@@ -94,7 +94,7 @@ fn literal_returned(code: &Code, node: u32, fuel: u64) -> Option<Known>
 /// A value comes to a frame that leads on: the value that the body gives, and the fuel that is left.
 #[inline(always)]
 fn test_left(code: &Code, frame: &TestFrame, given: Value, fuel: u64) -> Option<Known>
-    ensures { IfSome result (λ k. (d : Doing) (s : State) → IsMeaning code.now d → s.fuel ≡ fuel → tested code.now d frame.now given s ≡ give (meaning.Gave k.value) (record s { fuel = k.fuel })) }
+    ensures { IfSome result (λ k. (d : Doing) (s : State) → IsMeaning code.now d → s.fuel ≡ fuel → tested code.now d frame.now given s ≡ give (flows.Gave k.value) (record s { fuel = k.fuel })) }
 {
     match frame {
         TestFrame::Return => Some(Known { value: given, fuel }),

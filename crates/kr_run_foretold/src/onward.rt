@@ -15,7 +15,8 @@ ghost use Rattle.kr_run_foretold.specs.Ahead.{Grows, IsSpent, IsTold, TellsFrom,
 use crate::leaving::left_ahead;
 use crate::passing::{flow_from, flow_onward, value_from};
 use kr_code::Code;
-use kr_run_frames::{Flow, FlowFrame, Stack, TestFrame, ValueFrame, Waiting};
+use kr_mean::Flow;
+use kr_run_frames::{FlowFrame, Stack, TestFrame, ValueFrame, Waiting};
 use kr_run_state::{Action, World, element, load_named};
 use kr_value::Value;
 

@@ -1,20 +1,22 @@
 // What a value, or a flow, becomes in the frame that waits for it, where that is known at once.
 ghost use Rattle.std.specs.Prelude.{◌≡◌, IfSome, false, true};
 ghost use Rattle.kr_value.specs.declared.value.Value.TheVariants.{Bool as Truth};
-ghost use Rattle.kr_mean.specs.Meaning.{Next, choose, then_on, then_round};
+ghost use Rattle.kr_mean.specs.declared.flow.Flow.TheVariants.{Next};
+ghost use Rattle.kr_mean.specs.Meaning.{choose, then_on, then_round};
 ghost use Rattle.kr_mean.specs.Operators.{operated as operated_step, operated_alone as alone_step};
 ghost use Rattle.kr_mean.specs.Steps.{bind, give, say};
 ghost use Rattle.kr_code.specs.Doing.{Doing, all_at};
 ghost use Rattle.kr_code.specs.Steps.{load_named};
 ghost use Rattle.kr_code.specs.Tables.{listed};
-ghost use Rattle.kr_run_frames.specs.Frames.{flow_of, got, led, repeated, test_of, tested, turned};
+ghost use Rattle.kr_run_frames.specs.Frames.{got, led, repeated, test_of, tested, turned};
 ghost use Rattle.kr_run_known.specs.Knowing.{Knows};
 ghost use Rattle.kr_run_foretold.specs.Flows.{KnowsFlow};
 
 use crate::flows::{Led, known_flow, known_flow_of};
 use kr_ast::{BinaryOperator, UnaryOperator};
 use kr_code::{Code, Nodes};
-use kr_run_frames::{Flow, FlowFrame, Loop, TestFrame, ValueFrame};
+use kr_mean::Flow;
+use kr_run_frames::{FlowFrame, Loop, TestFrame, ValueFrame};
 use kr_run_known::{Known, field, look_at};
 use kr_run_state::{World, alone, binary};
 use kr_value::Value;
@@ -245,7 +247,7 @@ fn ended(code: &Code, world: &World, turn: Loop, fuel: u64) -> Option<Led>
 /// Statements that are left, unless the one before them has led elsewhere.
 #[inline(always)]
 fn rest(code: &Code, world: &World, others: Nodes, flow: Flow, fuel: u64) -> Option<Led>
-    ensures { IfSome result (λ l. KnowsFlow code.now world.now fuel l (λ d. then_on (flow_of flow) (all_at d (listed code.now others)))) }
+    ensures { IfSome result (λ l. KnowsFlow code.now world.now fuel l (λ d. then_on flow (all_at d (listed code.now others)))) }
 {
     match flow {
         Flow::Next => known_flow_of(code, world, others, fuel),
@@ -256,7 +258,7 @@ fn rest(code: &Code, world: &World, others: Nodes, flow: Flow, fuel: u64) -> Opt
 /// A loop, behind one of its rounds.
 #[inline(always)]
 fn again(code: &Code, world: &World, turn: Loop, flow: Flow, fuel: u64) -> Option<Led>
-    ensures { IfSome result (λ l. KnowsFlow code.now world.now fuel l (λ d. then_round (flow_of flow) (repeated code.now d turn))) }
+    ensures { IfSome result (λ l. KnowsFlow code.now world.now fuel l (λ d. then_round flow (repeated code.now d turn))) }
 {
     match flow {
         Flow::Next => ended(code, world, turn, fuel),
@@ -278,7 +280,7 @@ pub(crate) fn flow_onward(
     flow: Flow,
     fuel: u64,
 ) -> Option<Led>
-    ensures { IfSome result (λ l. KnowsFlow code.now world.now fuel l (λ d. led code.now d frame.now (flow_of flow))) }
+    ensures { IfSome result (λ l. KnowsFlow code.now world.now fuel l (λ d. led code.now d frame.now flow)) }
 {
     match frame {
         FlowFrame::Rest(others) => rest(code, world, *others, flow, fuel),

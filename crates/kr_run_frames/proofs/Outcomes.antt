@@ -4,9 +4,10 @@ use Rattle.std.specs.Prelude.{None, reverse}
 use Rattle.std.proofs.lemmas.List.{append_assoc, append-nil}
 use Rattle.kr_value.specs.declared.value.Value.{Value}
 use Rattle.kr_value.specs.Heaps.{HeapObject}
+use Rattle.kr_mean.specs.declared.kind.Stop.{Stop}
 use Rattle.kr_mean.specs.Places.{SlotPlace}
-use Rattle.kr_mean.specs.Steps.{Stop, State, Outcome, Run, after_reads, go_on, bind, give}
-use Rattle.kr_mean.specs.Meaning as meaning
+use Rattle.kr_mean.specs.Steps.{State, Outcome, Run, after_reads, go_on, bind, give}
+use Rattle.kr_mean.specs.declared.flow.Flow.{Flow}
 use Rattle.kr_mean.specs.Meaning.{returned, completed}
 use Rattle.kr_code.specs.declared.code.Code.{Code}
 use Rattle.kr_code.specs.Doing.{Doing, IsMeaning, values_at, constructed}
@@ -14,11 +15,9 @@ use Rattle.kr_code.specs.Tables.{listed}
 use Rattle.kr_code.specs.Steps.{store_initial}
 use Rattle.kr_run_state.specs.declared.world.Local.{Local}
 use Rattle.kr_run_state.specs.declared.world.World.{World}
-use Rattle.kr_run_state.specs.declared.world.End.{End}
 use Rattle.kr_run_state.specs.declared.world.Halt.{Halt}
 use Rattle.kr_run_state.specs.declared.world.Halt.TheVariants.{Ended, Memory}
 use Rattle.kr_run_state.specs.Noting.{noting, noted_once, with_read}
-use Rattle.kr_run_state.specs.Shown.{stop_of}
 use Rattle.kr_run_state.specs.Worlds.{Others, Allows, Keeps, Agrees, candidates_of, state_at}
 use Rattle.kr_run_state.proofs.Candidates.{kept_same, kept_then}
 use Rattle.kr_run_frames.specs.Frame.{Frame}
@@ -66,7 +65,7 @@ mutual
   value_reads code d (frames.Back this locals ∷ fs) rs o = continued_reads rs o _
   value_reads code d (frames.Made object ∷ fs) rs o = continued_reads rs o _
 
-  pub flow_reads : (code : Code) (d : Doing) (fs : List Frame) (rs : List SlotPlace) (o : Outcome meaning.Flow) → out_flow code d fs (after_reads rs o) ≡ after_reads rs (out_flow code d fs o)
+  pub flow_reads : (code : Code) (d : Doing) (fs : List Frame) (rs : List SlotPlace) (o : Outcome Flow) → out_flow code d fs (after_reads rs o) ≡ after_reads rs (out_flow code d fs o)
   flow_reads code d [] rs o = continued_reads rs o _
   flow_reads code d (frames.Flow f ∷ fs) rs o = ap (out_flow code d fs) (continued_reads rs o (led code d f)) ∙ flow_reads code d fs rs (continued o (led code d f))
   flow_reads code d (frames.Scope n ∷ fs) rs o = flow_reads code d fs rs (cut_to n o)
@@ -174,7 +173,7 @@ module _ (code : Code) (d : Doing) (e : Stop) (heap : List HeapObject) (fuel : �
     value_ends (frames.Back this locals ∷ fs) o x = ends_on e heap fuel reads o _ x
     value_ends (frames.Made object ∷ fs) o x = ends_on e heap fuel reads o _ x
 
-    pub flow_ends : (fs : List Frame) (o : Outcome meaning.Flow) → Ends e heap fuel reads o → Ends e heap fuel reads (out_flow code d fs o)
+    pub flow_ends : (fs : List Frame) (o : Outcome Flow) → Ends e heap fuel reads o → Ends e heap fuel reads (out_flow code d fs o)
     flow_ends [] o x = ends_on e heap fuel reads o _ x
     flow_ends (frames.Flow f ∷ fs) o x = flow_ends fs _ (ends_on e heap fuel reads o (led code d f) x)
     flow_ends (frames.Scope n ∷ fs) o x = flow_ends fs _ (ends_cut n o x)
@@ -209,9 +208,9 @@ module _ (code : Code) (d : Doing) (e : Stop) (heap : List HeapObject) (fuel : �
     unit_ends (frames.Store field object ∷ fs) o x = ends_on e heap fuel reads o _ x
 
 -- what ends a part ends the run
-pub has_ended : {A : Type 0} (out : Outcome A → Outcome Value) (law : (e : Stop) (heap : List HeapObject) (fuel : ℕ) (reads : List SlotPlace) (o : Outcome A) → Ends e heap fuel reads o → Ends e heap fuel reads (out o)) (e : End) (w : World) (x : Others) (seen : List SlotPlace) (o : Outcome A) → noting seen o ≡ record { said = Err (stop_of e); after = state_at w x; reads = w.reads } → HasEnded e w x (noting seen (out o))
+pub has_ended : {A : Type 0} (out : Outcome A → Outcome Value) (law : (e : Stop) (heap : List HeapObject) (fuel : ℕ) (reads : List SlotPlace) (o : Outcome A) → Ends e heap fuel reads o → Ends e heap fuel reads (out o)) (e : Stop) (w : World) (x : Others) (seen : List SlotPlace) (o : Outcome A) → noting seen o ≡ record { said = Err e; after = state_at w x; reads = w.reads } → HasEnded e w x (noting seen (out o))
 has_ended {A} out law e w x seen o h =
-    let y = law (stop_of e) (candidates_of w.candidates x ++ w.made) w.fuel o.reads o (record { said = ap (λ (q : Outcome A). q.said) h; heap = ap (λ (q : Outcome A). q.after.heap) h; fuel = ap (λ (q : Outcome A). q.after.fuel) h; reads = refl }) in
+    let y = law e (candidates_of w.candidates x ++ w.made) w.fuel o.reads o (record { said = ap (λ (q : Outcome A). q.said) h; heap = ap (λ (q : Outcome A). q.after.heap) h; fuel = ap (λ (q : Outcome A). q.after.fuel) h; reads = refl }) in
     record { said = y.said; heap = y.heap; fuel = y.fuel; reads = ap (noted_once seen) y.reads ∙ ap (λ (q : Outcome A). q.reads) h }
 
 -- ---- both, for what the machine answers

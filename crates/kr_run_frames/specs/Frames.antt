@@ -2,7 +2,10 @@
 use Rattle.std.specs.Prelude.{ℕ, true, false, List, [], ◌∷◌, map, take, reverse}
 use Rattle.kr_value.specs.declared.value.Value.{Value}
 use Rattle.kr_value.specs.declared.value.Value.TheVariants.{Bool as Truth, Null}
-use Rattle.kr_mean.specs.Steps.{Stuck, State, Outcome, Run, go_on, say, give, stop, ◌>>=◌, ◌>>◌, get_this, assign, within, element, class_or_null, class_of, collect}
+use Rattle.kr_mean.specs.declared.kind.Stop.TheVariants.{Stuck}
+use Rattle.kr_mean.specs.declared.flow.Flow.{Flow}
+use Rattle.kr_mean.specs.declared.flow.Flow.TheVariants as flows
+use Rattle.kr_mean.specs.Steps.{State, Outcome, Run, go_on, say, give, stop, ◌>>=◌, ◌>>◌, get_this, assign, within, element, class_or_null, class_of, collect}
 use Rattle.kr_mean.specs.Operators.{operated, operated_alone, gives_old}
 use Rattle.kr_mean.specs.Meaning as meaning
 use Rattle.kr_mean.specs.Meaning.{then_on, then_round, then_update, returned, completed, choose, stepped, change_from}
@@ -17,8 +20,6 @@ use Rattle.kr_run_state.specs.declared.action.Cell.{Cell}
 use Rattle.kr_run_state.specs.declared.action.Cell.TheVariants as cells
 use Rattle.kr_run_state.specs.Shown.{local_of}
 use Rattle.kr_run_state.specs.Actions.{acted, written}
-use Rattle.kr_run_frames.specs.declared.task.Flow.{Flow}
-use Rattle.kr_run_frames.specs.declared.task.Flow.TheVariants as flows
 use Rattle.kr_run_frames.specs.declared.task.Task.{Task}
 use Rattle.kr_run_frames.specs.declared.task.Task.TheVariants as tasks
 use Rattle.kr_run_frames.specs.declared.frame.Goal.{Goal}
@@ -40,13 +41,6 @@ use Rattle.kr_run_frames.specs.declared.frame.UnitFrame.{UnitFrame}
 use Rattle.kr_run_frames.specs.declared.frame.UnitFrame.TheVariants as units
 use Rattle.kr_run_frames.specs.Frame.{Frame}
 use Rattle.kr_run_frames.specs.Frame as frames
-
-abbrev pub flow_of : Flow → meaning.Flow
-flow_of flows.Next = meaning.Next
-flow_of flows.Broke = meaning.Broke
-flow_of flows.Continued = meaning.Continued
-flow_of flows.Left = meaning.Left
-flow_of (flows.Gave v) = meaning.Gave v
 
 -- what goes on from an outcome
 abbrev pub continued : {A B : Type 0} → Outcome A → (A → Run B) → Outcome B
@@ -98,16 +92,16 @@ abbrev pub test_of : Doing → Loop → Run Value
 test_of d (loops.While e a) = d.value e
 test_of d (loops.For e us a) = condition d e
 
-abbrev pub round_of : Code → Doing → Loop → Run meaning.Flow
+abbrev pub round_of : Code → Doing → Loop → Run Flow
 round_of code d (loops.While e a) = d.exec a
 round_of code d (loops.For e us a) = for_round d a (listed code us)
 
-abbrev pub repeated : Code → Doing → Loop → Run meaning.Flow
+abbrev pub repeated : Code → Doing → Loop → Run Flow
 repeated code d l = d.loop (test_of d l) (round_of code d l)
 
 -- behind a loop's test
-abbrev pub turned : Code → Doing → Loop → Value → Run meaning.Flow
-turned code d l v = choose v (round_of code d l >>= (λ flow. then_round flow (repeated code d l))) (give meaning.Next)
+abbrev pub turned : Code → Doing → Loop → Value → Run Flow
+turned code d l v = choose v (round_of code d l >>= (λ flow. then_round flow (repeated code d l))) (give flows.Next)
 
 -- ---- frames
 
@@ -142,11 +136,11 @@ got code d (values.StaticCallOn m ns) v = values_at d (listed code ns) >>= (λ v
 got code d (values.CallCollection c ns) v = values_at d (listed code ns) >>= collect (name_of c) v
 got code d (values.Write f) v = wrote code d f v
 
-abbrev pub tested : Code → Doing → TestFrame → Value → Run meaning.Flow
-tested code d (tests.Then a) v = choose v (d.exec a) (give meaning.Next)
+abbrev pub tested : Code → Doing → TestFrame → Value → Run Flow
+tested code d (tests.Then a) v = choose v (d.exec a) (give flows.Next)
 tested code d (tests.Branch a b) v = choose v (d.exec a) (d.exec b)
-tested code d tests.Discard v = give meaning.Next
-tested code d tests.Return v = give (meaning.Gave v)
+tested code d tests.Discard v = give flows.Next
+tested code d tests.Return v = give (flows.Gave v)
 tested code d (tests.Initial k ns) v = assign k v >> all_declared code d (listed code ns)
 tested code d (tests.Declared k e ns) v = initial_value d k e >> all_declared code d (listed code ns)
 tested code d (tests.Rest ns) v = all_declared code d (listed code ns)
@@ -154,7 +148,7 @@ tested code d (tests.Updates ns) v = updates_at d (listed code ns)
 tested code d (tests.Begin l) v = test_of d l >>= turned code d l
 tested code d (tests.Test l) v = turned code d l v
 
-abbrev pub led : Code → Doing → FlowFrame → meaning.Flow → Run meaning.Flow
+abbrev pub led : Code → Doing → FlowFrame → Flow → Run Flow
 led code d (leads.Rest ns) flow = then_on flow (all_at d (listed code ns))
 led code d (leads.Again l) flow = then_round flow (repeated code d l)
 led code d (leads.Update ns) flow = then_update flow (updates_at d (listed code ns))
@@ -194,7 +188,7 @@ abbrev mutual
   out_value code d _ o = misled o
 
   -- a statement has led on
-  pub out_flow : Code → Doing → List Frame → Outcome meaning.Flow → Outcome Value
+  pub out_flow : Code → Doing → List Frame → Outcome Flow → Outcome Value
   out_flow code d (frames.Flow f ∷ fs) o = out_flow code d fs (continued o (led code d f))
   out_flow code d (frames.Scope n ∷ fs) o = out_flow code d fs (cut_to n o)
   out_flow code d (frames.Leave void this locals ∷ fs) o = out_value code d fs (restored this locals (continued o (returned void)))
@@ -220,7 +214,7 @@ abbrev pub resumed : Code → Doing → List Frame → Task → State → Outcom
 resumed code d fs (tasks.Evaluate i) s = out_value code d fs (d.value i s)
 resumed code d fs (tasks.Execute i) s = out_flow code d fs (d.exec i s)
 resumed code d fs (tasks.Got v) s = out_value code d fs (give v s)
-resumed code d fs (tasks.Led flow) s = out_flow code d fs (give (flow_of flow) s)
+resumed code d fs (tasks.Led flow) s = out_flow code d fs (give flow s)
 resumed code d fs tasks.Done s = out_unit code d fs (give tt s)
 resumed code d fs (tasks.Act action) s = out_value code d fs (acted code action s)
 resumed code d fs (tasks.Alter change cell v) s = out_value code d fs (altered code d change cell v s)

@@ -1,23 +1,22 @@
 -- Between crates: what a step of the machine leaves to do is what there was to do.
 use Rattle.std.specs.Prelude.{◌≡◌, List, ◌++◌, Result, Ok, Err}
 use Rattle.kr_value.specs.declared.value.Value.{Value}
+use Rattle.kr_mean.specs.declared.kind.Stop.{Stop}
 use Rattle.kr_mean.specs.Steps.{Outcome}
 use Rattle.kr_code.specs.declared.code.Code.{Code}
 use Rattle.kr_code.specs.Doing.{Doing, IsMeaning}
 use Rattle.kr_run_state.specs.declared.world.World.{World}
-use Rattle.kr_run_state.specs.declared.world.End.{End}
 use Rattle.kr_run_state.specs.declared.world.Halt.{Halt}
 use Rattle.kr_run_state.specs.declared.world.Halt.TheVariants.{Ended, Memory}
 use Rattle.kr_run_state.specs.Noting.{noting}
-use Rattle.kr_run_state.specs.Shown.{stop_of}
 use Rattle.kr_run_state.specs.Worlds.{Others, Allows, Keeps, candidates_of, state_at}
 use Rattle.kr_run_frames.specs.declared.task.Task.{Task}
 use Rattle.kr_run_frames.specs.Frame.{Frame}
 use Rattle.kr_run_frames.specs.Frames.{resumed}
 
 -- A run has ended so, with the world's heap and fuel, and its reads.
-pub record HasEnded (e : End) (w : World) (x : Others) (o : Outcome Value) : Type 0 where
-  pub said : o.said ≡ Err (stop_of e)
+pub record HasEnded (e : Stop) (w : World) (x : Others) (o : Outcome Value) : Type 0 where
+  pub said : o.said ≡ Err e
   pub heap : o.after.heap ≡ candidates_of w.candidates x ++ w.made
   pub fuel : o.after.fuel ≡ w.fuel
   pub reads : o.reads ≡ w.reads

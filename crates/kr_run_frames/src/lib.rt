@@ -11,4 +11,4 @@ pub use frame::{
     Change, FlowFrame, Goal, Loop, TestFrame, UnitFrame, Up, ValueFrame, Waiting, WriteFrame,
 };
 pub use stack::Stack;
-pub use task::{Flow, Task};
+pub use task::Task;

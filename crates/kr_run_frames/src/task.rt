@@ -2,18 +2,9 @@
 
 use crate::{Change, Loop};
 use kr_code::Nodes;
+use kr_mean::Flow;
 use kr_run_state::{Action, Cell};
 use kr_value::Value;
-
-/// Where a statement leads: on, out of a loop or to its next round, or out of the body, which may give a value.
-#[derive(Clone, Copy)]
-pub enum Flow {
-    Next,
-    Broke,
-    Continued,
-    Left,
-    Gave(Value),
-}
 
 /// What comes next.
 #[derive(Clone, Copy)]

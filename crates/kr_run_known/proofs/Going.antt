@@ -3,8 +3,9 @@ use Rattle.std.proofs.Common.{◌≡◌, ℕ, suc, ◌-◌, ◌<◌, List, [], �
 use Rattle.std.specs.Prelude.{Option, Result, IfSome, take, drop}
 use Rattle.std.proofs.lemmas.List.{append-nil}
 use Rattle.kr_value.specs.declared.value.Value.{Value}
+use Rattle.kr_mean.specs.declared.kind.Stop.{Stop}
 use Rattle.kr_mean.specs.Places.{SlotPlace}
-use Rattle.kr_mean.specs.Steps.{Stop, State, Outcome, Run, after_reads, go_on, bind, give, get_this, tick, tick_at}
+use Rattle.kr_mean.specs.Steps.{State, Outcome, Run, after_reads, go_on, bind, give, get_this, tick, tick_at}
 use Rattle.kr_code.specs.declared.code.Code.{Code}
 use Rattle.kr_code.specs.declared.expression.Nodes.{Nodes}
 use Rattle.kr_code.specs.declared.expression.Expression.{Expression}

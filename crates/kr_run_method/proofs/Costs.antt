@@ -6,26 +6,26 @@ use Rattle.kr_value.specs.declared.value.Value.TheVariants.{Null}
 use Rattle.kr_value.specs.Heaps.{Heap}
 use Rattle.kr_classes_table.specs.Types.{is_void}
 use Rattle.kr_classes_table.specs.Table as tables
+use Rattle.kr_mean.specs.declared.kind.Stop.{Stop}
+use Rattle.kr_mean.specs.declared.kind.Stop.TheVariants.{Trapped, OutOfFuel, Stuck}
 use Rattle.kr_mean.specs.Program.{Program}
-use Rattle.kr_mean.specs.Steps.{Stop, Trapped, OutOfFuel, Stuck, State, Outcome, Run}
+use Rattle.kr_mean.specs.Steps.{State, Outcome, Run}
 use Rattle.kr_mean.specs.Meaning.{body_of, value}
 use Rattle.kr_mean.specs.Code.{Node}
 use Rattle.kr_mean.specs.Verdicts.{olds_of}
 use Rattle.kr_laws_costs.specs.Laws.{IsSameWith}
 use Rattle.kr_laws_costs.proofs.Costs.{body_cost, value_cost}
-use Rattle.kr_run_state.specs.declared.world.End.{End}
-use Rattle.kr_run_state.specs.declared.world.End.TheVariants as ends
 use Rattle.kr_run_method.specs.declared.executed.Env.{Env}
 use Rattle.kr_run_method.specs.declared.executed.Executed.{Executed}
 use Rattle.kr_run_method.specs.Evaluated.{evaluated, places_of, seen}
 use Rattle.kr_run_method.specs.Executed.{begun, ending_of, executed, left_by, run_on}
 use Rattle.kr_run_method.specs.Costs.{HasCost}
 
-is_spent : (void : Bool) (r : Result Value Stop) → r ≡ Err OutOfFuel → ending_of void r ≡ Err ends.OutOfFuel
+is_spent : (void : Bool) (r : Result Value Stop) → r ≡ Err OutOfFuel → ending_of void r ≡ Err OutOfFuel
 is_spent true r e = ap (ending_of true) e
 is_spent false r e = ap (ending_of false) e
 
-was_spent : (void : Bool) (r : Result Value Stop) → ending_of void r ≡ Err ends.OutOfFuel → r ≡ Err OutOfFuel
+was_spent : (void : Bool) (r : Result Value Stop) → ending_of void r ≡ Err OutOfFuel → r ≡ Err OutOfFuel
 was_spent true (Err OutOfFuel) e = refl
 was_spent false (Err OutOfFuel) e = refl
 was_spent true (Ok v) e = cc (e)
@@ -40,7 +40,7 @@ same_left void more o o' x =
     ap (λ (r : Result Value Stop). of (ending_of void r) o'.after.heap o'.after.fuel) x.said
     ∙ ap (λ (t : State). of (ending_of void o.said) t.heap t.fuel) x.after
   where
-    of : Result (Option Value) End → Heap → ℕ → Executed
+    of : Result (Option Value) Stop → Heap → ℕ → Executed
     of end heap left = record { end = end; heap = heap; left = left }
 
 module _ (program : Program) (m : tables.Method) (heap : Heap) where
@@ -53,7 +53,7 @@ module _ (program : Program) (m : tables.Method) (heap : Heap) where
   abbrev Cost : Bool → List Value → ℕ → Type 0
   Cost b vs fuel = (c : ℕ) × (c ≤ fuel) × HasCost (run b vs) c
 
-  entered : (o : Value) (vs : List Value) (fuel : ℕ) → ((left_by (is_void m.result) (bodies o vs (begun heap fuel))).end ≡ Err ends.OutOfFuel → ⊥) → (c : ℕ) × (c ≤ fuel) × HasCost (λ f. left_by (is_void m.result) (bodies o vs (begun heap f))) c
+  entered : (o : Value) (vs : List Value) (fuel : ℕ) → ((left_by (is_void m.result) (bodies o vs (begun heap fuel))).end ≡ Err OutOfFuel → ⊥) → (c : ℕ) × (c ≤ fuel) × HasCost (λ f. left_by (is_void m.result) (bodies o vs (begun heap f))) c
   entered o vs fuel fine =
       let found = body_cost program o vs m (begun heap 0) fuel (λ e. fine (is_spent (is_void m.result) (bodies o vs (begun heap fuel)).said e)) in (
         found.0,
@@ -66,12 +66,12 @@ module _ (program : Program) (m : tables.Method) (heap : Heap) where
         },
       )
 
-  cost_on : (b : Bool) (vs : List Value) (fuel : ℕ) → ((run b vs fuel).end ≡ Err ends.OutOfFuel → ⊥) → Cost b vs fuel
+  cost_on : (b : Bool) (vs : List Value) (fuel : ℕ) → ((run b vs fuel).end ≡ Err OutOfFuel → ⊥) → Cost b vs fuel
   cost_on true vs fuel fine = entered Null vs fuel fine
   cost_on false (o ∷ vs) fuel fine = entered o vs fuel fine
   cost_on false [] fuel fine = (0, omega arith, record { below = λ f lt. absurd (omega (arith, lt)); enough = fine; above = λ more. refl; exact = refl })
 
-  pub has_cost : (values : List Value) (fuel : ℕ) → ((executed program m values heap fuel).end ≡ Err ends.OutOfFuel → ⊥) → (c : ℕ) × (c ≤ fuel) × HasCost (executed program m values heap) c
+  pub has_cost : (values : List Value) (fuel : ℕ) → ((executed program m values heap fuel).end ≡ Err OutOfFuel → ⊥) → (c : ℕ) × (c ≤ fuel) × HasCost (executed program m values heap) c
   has_cost values fuel fine = cost_on m.is_static values fuel fine
 
 module _ (program : Program) (m : tables.Method) (e : Node) (env : Env) (heap : Heap) where
@@ -81,7 +81,7 @@ module _ (program : Program) (m : tables.Method) (e : Node) (env : Env) (heap : 
   abbrev valued : ℕ → Outcome Value
   valued fuel = value program e.scope e.tree (seen places env heap fuel)
 
-  pub evaluation_has_cost : (fuel : ℕ) → ((evaluated program m e env heap fuel).end ≡ Err ends.OutOfFuel → ⊥) → (c : ℕ) × (c ≤ fuel) × HasCost (evaluated program m e env heap) c
+  pub evaluation_has_cost : (fuel : ℕ) → ((evaluated program m e env heap fuel).end ≡ Err OutOfFuel → ⊥) → (c : ℕ) × (c ≤ fuel) × HasCost (evaluated program m e env heap) c
   evaluation_has_cost fuel fine =
       let found = value_cost program e.scope e.tree (seen places env heap 0) fuel (λ x. fine (is_spent false (valued fuel).said x)) in (
         found.0,

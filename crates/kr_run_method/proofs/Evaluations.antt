@@ -11,8 +11,10 @@ use Rattle.kr_classes_table.specs.Table as tables
 use Rattle.kr_types_meaning.specs.Scopes.{Part, Requiring, Ensuring, Scope, in_contract, in_old}
 use Rattle.kr_types_meaning.specs.Rules.{is_ensuring}
 use Rattle.kr_types_meaning.specs.Typing.{Judged, type_in}
+use Rattle.kr_mean.specs.declared.kind.Stop.{Stop}
+use Rattle.kr_mean.specs.declared.kind.Stop.TheVariants.{Trapped, OutOfFuel, Stuck}
 use Rattle.kr_mean.specs.Program.{Program, method_scope}
-use Rattle.kr_mean.specs.Steps.{Stop, Trapped, OutOfFuel, Stuck, State, Outcome, plain_local}
+use Rattle.kr_mean.specs.Steps.{State, Outcome, plain_local}
 use Rattle.kr_mean.specs.Meaning.{value}
 use Rattle.kr_mean.specs.Code.{Node}
 use Rattle.kr_mean.specs.Verdicts.{OldNode, olds_of}
@@ -31,7 +33,6 @@ use Rattle.kr_laws_safety.proofs.Calls.{parameter_types, parameter_variables}
 use Rattle.kr_laws_safety.proofs.Glue.{typed_at}
 use Rattle.kr_laws_safety.proofs.Runs.{contract_boolean, fine_said, value_safe}
 use Rattle.kr_laws_safety.proofs.Targets.{assignable_itself}
-use Rattle.kr_run_state.specs.declared.world.End.TheVariants as stops
 use Rattle.kr_run_method.specs.declared.executed.Env.{Env}
 use Rattle.kr_run_method.specs.declared.executed.Executed.{Executed}
 use Rattle.kr_run_method.specs.Executed.{ending_of}
@@ -48,7 +49,7 @@ olds_fit table types [] vs h = tt
 olds_fit table types (o ∷ os) (v ∷ vs) h = (refl, h.0, olds_fit table types os vs h.1)
 olds_fit table types (o ∷ os) [] h = absurd h
 
-no_stuck : (r : Result Value Stop) → (r ≡ Err Stuck → ⊥) → ending_of false r ≡ Err stops.Stuck → ⊥
+no_stuck : (r : Result Value Stop) → (r ≡ Err Stuck → ⊥) → ending_of false r ≡ Err Stuck → ⊥
 no_stuck (Ok v) h e = cc (e)
 no_stuck (Err (Trapped k)) h e = cc (e)
 no_stuck (Err OutOfFuel) h e = cc (e)
@@ -149,7 +150,7 @@ module _ (program : Program) (facts : IsTypedProgram program) (m : tables.Method
     by_kind n b (ensured t h) s = postcondition t s h
     by_kind n b (held o at h) s = holds o at h
 
-    pub evaluation_never_stuck : (evaluated program m e env heap fuel).end ≡ Err stops.Stuck → ⊥
+    pub evaluation_never_stuck : (evaluated program m e env heap fuel).end ≡ Err Stuck → ⊥
     evaluation_never_stuck x = no_stuck (value program e.scope e.tree state).said (by_kind e call.is_ensured call.expression call.seen) x
 
 pub evaluated_in_typed_programs : (code : Code) (node : ℕ) (places : List Place) (env : Env) (heap : Heap) (fuel : ℕ) (r : Result Executed NoMemory)

@@ -7,8 +7,10 @@ use Rattle.kr_value.specs.declared.value.Value.TheVariants.{Null}
 use Rattle.kr_value.specs.Heaps.{Heap}
 use Rattle.kr_classes_table.specs.Types.{is_void}
 use Rattle.kr_classes_table.specs.Table as tables
+use Rattle.kr_mean.specs.declared.kind.Stop.{Stop}
+use Rattle.kr_mean.specs.declared.kind.Stop.TheVariants.{Trapped, OutOfFuel, Stuck}
 use Rattle.kr_mean.specs.Program.{Program}
-use Rattle.kr_mean.specs.Steps.{Stop, Trapped, OutOfFuel, Stuck, State, Run}
+use Rattle.kr_mean.specs.Steps.{State, Run}
 use Rattle.kr_mean.specs.Meaning.{body_of, parts_within}
 use Rattle.kr_code.specs.declared.code.Code.{Code}
 use Rattle.kr_code.specs.Resolved.{Numbering, IsCodeOf}
@@ -18,7 +20,6 @@ use Rattle.kr_laws_safety.specs.Claims.{GivesAs}
 use Rattle.kr_laws_safety.specs.Typed.{IsTypedProgram, types_in}
 use Rattle.kr_laws_safety.proofs.Calls.{method_run}
 use Rattle.kr_laws_safety.proofs.Statements.{parts_safe}
-use Rattle.kr_run_state.specs.declared.world.End.TheVariants as stops
 use Rattle.kr_run_method.specs.declared.executed.Executed.{Executed}
 use Rattle.kr_run_method.specs.declared.executed.Method.{Method}
 use Rattle.kr_run_method.specs.Executed.{IsMethodOf, begun, ending_of, executed, run_on}
@@ -50,7 +51,7 @@ module _ (program : Program) (facts : IsTypedProgram program) (m : tables.Method
   ends false e (o ∷ vs) g = body_ends o vs (subst (λ (b : Bool). This b o) (sym e) g.0) g.1
   ends false e [] g = absurd g
 
-  not_stuck : (void : Bool) (r : Result Value Stop) (t : State) → Ends r t → ending_of void r ≡ Err stops.Stuck → ⊥
+  not_stuck : (void : Bool) (r : Result Value Stop) (t : State) → Ends r t → ending_of void r ≡ Err Stuck → ⊥
   not_stuck true (Ok v) t f e = cc (e)
   not_stuck false (Ok v) t f e = cc (e)
   not_stuck true (Err (Trapped k)) t f e = cc (e)
@@ -59,7 +60,7 @@ module _ (program : Program) (facts : IsTypedProgram program) (m : tables.Method
   not_stuck false (Err OutOfFuel) t f e = cc (e)
   not_stuck void (Err Stuck) t f e = absurd f
 
-  pub never_stuck : (executed program m values heap fuel).end ≡ Err stops.Stuck → ⊥
+  pub never_stuck : (executed program m values heap fuel).end ≡ Err Stuck → ⊥
   never_stuck e = not_stuck (is_void m.result) (run_on m.is_static bodies values (begun heap fuel)).said (run_on m.is_static bodies values (begun heap fuel)).after (ends m.is_static refl values call.given) e
 
 pub in_typed_programs : (code : Code) (method : Method) (values : List Value) (heap : Heap) (fuel : ℕ) (r : Result Executed NoMemory)

@@ -3,8 +3,8 @@ use Rattle.std.specs.Prelude.{◌≡◌, ℕ, ◌+◌, ◌<◌, ◌≤◌, List,
 use Rattle.kr_value.specs.declared.value.Value.{Value}
 use Rattle.kr_value.specs.Heaps.{Heap}
 use Rattle.kr_classes_table.specs.Table as tables
+use Rattle.kr_mean.specs.declared.kind.Stop.TheVariants.{OutOfFuel}
 use Rattle.kr_mean.specs.Program.{Program}
-use Rattle.kr_run_state.specs.declared.world.End.TheVariants.{OutOfFuel}
 use Rattle.kr_mean.specs.Code.{Node}
 use Rattle.kr_run_method.specs.declared.executed.Env.{Env}
 use Rattle.kr_run_method.specs.declared.executed.Executed.{Executed}

@@ -6,16 +6,16 @@ use Rattle.kr_value.specs.declared.value.Value.TheVariants.{Null}
 use Rattle.kr_value.specs.Heaps.{Heap}
 use Rattle.kr_classes_table.specs.Types.{is_void}
 use Rattle.kr_classes_table.specs.Table as tables
+use Rattle.kr_mean.specs.declared.kind.Stop.{Stop}
+use Rattle.kr_mean.specs.declared.kind.Stop.TheVariants.{Trapped, OutOfFuel, Stuck}
 use Rattle.kr_mean.specs.Program.{Program}
-use Rattle.kr_mean.specs.Steps.{Stop, Trapped, OutOfFuel, Stuck, State, Outcome, Run, stop}
+use Rattle.kr_mean.specs.Steps.{State, Outcome, Run, stop}
 use Rattle.kr_mean.specs.Meaning.{body_of}
 use Rattle.kr_code.specs.declared.code.Code.{Code}
 use Rattle.kr_code.specs.declared.code.MethodCode.{MethodCode}
 use Rattle.kr_code.specs.Doing.{Doing, run_method}
 use Rattle.kr_code.specs.Resolved.{Numbering, IsMethod}
 use Rattle.kr_code.specs.Tables.{method_at}
-use Rattle.kr_run_state.specs.declared.world.End.{End}
-use Rattle.kr_run_state.specs.declared.world.End.TheVariants as ends
 use Rattle.kr_run_method.specs.declared.executed.Executed.{Executed}
 use Rattle.kr_run_method.specs.declared.executed.Method.{Method}
 
@@ -42,12 +42,12 @@ run_on false body [] = stop Stuck
 -- ---- behind it
 
 -- A method without result gives no value.
-abbrev pub ending_of : Bool → Result Value Stop → Result (Option Value) End
+abbrev pub ending_of : Bool → Result Value Stop → Result (Option Value) Stop
 ending_of true (Ok v) = Ok None
 ending_of false (Ok v) = Ok (Some v)
-ending_of void (Err (Trapped kind)) = Err (ends.Trapped kind)
-ending_of void (Err OutOfFuel) = Err ends.OutOfFuel
-ending_of void (Err Stuck) = Err ends.Stuck
+ending_of void (Err (Trapped kind)) = Err (Trapped kind)
+ending_of void (Err OutOfFuel) = Err OutOfFuel
+ending_of void (Err Stuck) = Err Stuck
 
 abbrev pub left_by : Bool → Outcome Value → Executed
 left_by void o = record { end = ending_of void o.said; heap = o.after.heap; left = o.after.fuel }

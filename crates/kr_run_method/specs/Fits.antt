@@ -8,6 +8,7 @@ use Rattle.kr_classes_table.specs.Types.{JavaType, is_void}
 use Rattle.kr_classes_table.specs.Table as tables
 use Rattle.kr_classes_table.specs.Table.{Table, method_named}
 use Rattle.kr_types_meaning.specs.Scopes.{Requiring, Ensuring, in_contract, in_old}
+use Rattle.kr_mean.specs.declared.kind.Stop.TheVariants.{Stuck}
 use Rattle.kr_mean.specs.Program.{Program, method_scope}
 use Rattle.kr_mean.specs.Code.{Node}
 use Rattle.kr_mean.specs.Verdicts.{OldNode, olds_of}
@@ -18,7 +19,6 @@ use Rattle.kr_laws_safety.specs.Fits.{AreOf, IsHeapOf}
 use Rattle.kr_laws_safety.specs.Triples.{IsResult, IsThis, type_of_old}
 use Rattle.kr_laws_safety.specs.Typed.{IsTypedProgram, Olds, types_in}
 use Rattle.kr_laws_safety.specs.Tested.{IsCondition, IsOld, old_type, old_types}
-use Rattle.kr_run_state.specs.declared.world.End.TheVariants.{Stuck}
 use Rattle.kr_run_method.specs.declared.executed.Env.{Env}
 use Rattle.kr_run_method.specs.declared.executed.Executed.{Executed}
 use Rattle.kr_run_method.specs.declared.executed.Method.{Method}

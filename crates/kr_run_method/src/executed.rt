@@ -2,7 +2,7 @@
 
 use kr_classes_table::MethodId;
 use kr_heap::Heap;
-use kr_run_state::End;
+use kr_mean::Stop;
 use kr_value::Value;
 
 /// A method of code: its number there, and whether it is static, so that it has no receiver.
@@ -27,7 +27,7 @@ pub struct Env {
 /// types.
 #[derive(Drop)]
 pub struct Executed {
-    pub end: Result<Option<Value>, End>,
+    pub end: Result<Option<Value>, Stop>,
     pub heap: Heap,
     pub left: u64,
 }

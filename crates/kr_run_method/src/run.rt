@@ -1,5 +1,6 @@
 // A method is run.
 ghost use Rattle.std.specs.Prelude.{◌≡◌, [], IfOk, Result};
+ghost use Rattle.kr_mean.specs.declared.kind.Stop.{Stop};
 ghost use Rattle.kr_code.specs.Doing.{Doing, IsMeaning, run_method as run_step};
 ghost use Rattle.kr_code.specs.Resolved.{IsCodeOf, Numbering};
 ghost use Rattle.kr_code.specs.Tables.{method_at};
@@ -9,8 +10,6 @@ ghost use Rattle.kr_run_frames.specs.Frames.{resumed};
 ghost use Rattle.kr_mean.specs.Program.{Program};
 ghost use Rattle.kr_run.specs.Answers.{Answers};
 ghost use Rattle.kr_classes_table.specs.Table.{Method as TableMethod};
-ghost use Rattle.kr_mean.specs.Steps.{Stop};
-ghost use Rattle.kr_run_state.specs.Ends.{IsSaid};
 ghost use Rattle.kr_run_state.specs.Worlds.{state_at, state_of};
 ghost use Rattle.kr_value.specs.declared.value.Value.{Value as Given};
 
@@ -19,9 +18,10 @@ use kr_base::NoMemory;
 use kr_classes_table::MethodId;
 use kr_code::{Code, Nodes};
 use kr_heap::Heap;
+use kr_mean::Stop;
 use kr_run::{Step, advance};
 use kr_run_frames::{Goal, Stack, Task};
-use kr_run_state::{End, Halt, Reads, World, ended};
+use kr_run_state::{Halt, Reads, World, ended};
 use kr_value::Value;
 use std::alloc::Global;
 
@@ -113,14 +113,14 @@ fn is_void(code: &Code, method: MethodId) -> bool
 }
 
 /// What a run gives: nothing, where the method has no result.
-pub(crate) fn given(is_void: bool, end: Result<Value, End>) -> Result<Option<Value>, End>
-    ensures { (said : Result Given Stop) → IsSaid end said → result ≡ ending_of is_void said }
+pub(crate) fn given(is_void: bool, end: Result<Value, Stop>) -> Result<Option<Value>, Stop>
+    ensures { result ≡ ending_of is_void end }
 {
     match end {
         Ok(value) => { if is_void { Ok(None) } else { Ok(Some(value)) } }
-        Err(End::Trapped(kind)) => Err(End::Trapped(kind)),
-        Err(End::OutOfFuel) => Err(End::OutOfFuel),
-        Err(End::Stuck) => Err(End::Stuck),
+        Err(Stop::Trapped(kind)) => Err(Stop::Trapped(kind)),
+        Err(Stop::OutOfFuel) => Err(Stop::OutOfFuel),
+        Err(Stop::Stuck) => Err(Stop::Stuck),
     }
 }
 
@@ -169,7 +169,7 @@ fn run_method(
             run_on(alloc, code, heap, number, *receiver, arguments, fuel)
         }
         None => Ok(Executed {
-            end: Err(End::Stuck),
+            end: Err(Stop::Stuck),
             heap,
             left: fuel,
         }),

@@ -3,10 +3,13 @@ use Rattle.std.proofs.Common.{◌≡◌, ℕ, List, [], ◌∷◌, ◌++◌, Res
 use Rattle.std.specs.Prelude.{take, drop}
 use Rattle.std.proofs.lemmas.List.{append-nil}
 use Rattle.kr_value.specs.declared.value.Value.{Value}
+use Rattle.kr_mean.specs.declared.kind.Stop.{Stop}
 use Rattle.kr_mean.specs.Places.{SlotPlace}
-use Rattle.kr_mean.specs.Steps.{Stop, State, Outcome, Run, after_reads, go_on, bind, give, tick}
+use Rattle.kr_mean.specs.Steps.{State, Outcome, Run, after_reads, go_on, bind, give, tick}
 use Rattle.kr_value.specs.declared.value.Value.TheVariants.{Null}
-use Rattle.kr_mean.specs.Meaning.{Flow, Next, Broke, Continued, Left, Gave, then_on}
+use Rattle.kr_mean.specs.declared.flow.Flow.{Flow}
+use Rattle.kr_mean.specs.declared.flow.Flow.TheVariants.{Next, Broke, Continued, Left, Gave}
+use Rattle.kr_mean.specs.Meaning.{then_on}
 use Rattle.kr_code.specs.declared.code.Code.{Code}
 use Rattle.kr_code.specs.declared.expression.Nodes.{Nodes}
 use Rattle.kr_code.specs.Tables.{listed}

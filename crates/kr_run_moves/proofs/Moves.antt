@@ -5,8 +5,9 @@ use Rattle.std.proofs.lemmas.List.{length-map, append_assoc, append-nil, reverse
 use Rattle.kr_value.specs.declared.value.Value.{Value}
 use Rattle.kr_value.specs.declared.value.Value.TheVariants.{Null}
 use Rattle.kr_ast.specs.declared.node.StepOperator.{StepOperator}
+use Rattle.kr_mean.specs.declared.kind.Stop.{Stop}
 use Rattle.kr_mean.specs.Places.{SlotPlace}
-use Rattle.kr_mean.specs.Steps.{Stop, State, Run, after_reads, assign, declare, go_on, bind, give, tick}
+use Rattle.kr_mean.specs.Steps.{State, Run, after_reads, assign, declare, go_on, bind, give, tick}
 use Rattle.kr_mean.specs.Operators.{gives_old}
 use Rattle.kr_mean.specs.Meaning.{change_from}
 use Rattle.kr_code.specs.declared.code.Code.{Code}

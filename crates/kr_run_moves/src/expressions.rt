@@ -12,9 +12,10 @@ ghost use Rattle.kr_code.specs.Tables.{expression_of, listed, node_at};
 use crate::pushes::{await_arguments, first, then_write, write};
 use crate::values::{feed, take_array};
 use kr_code::{Callee, Code, CollectionCall, Expression, Nodes, Variable};
+use kr_mean::Stop;
 use kr_run_frames::{Change, Goal, Stack, Task, ValueFrame, WriteFrame};
 use kr_run_known::{at_once, expression_at};
-use kr_run_state::{Action, Cell, End, Halt, World, collect, tick};
+use kr_run_state::{Action, Cell, Halt, World, collect, tick};
 use kr_value::{Class, Value};
 use std::alloc::Global;
 
@@ -59,7 +60,7 @@ fn enter_assignment(
 {
     match variable {
         Variable::Unknown => {
-            *task = Task::Act(Action::End(End::Stuck));
+            *task = Task::Act(Action::End(Stop::Stuck));
             Ok(())
         }
         Variable::Local(local) => then_write(
@@ -97,7 +98,7 @@ fn enter_change(
 {
     match variable {
         Variable::Unknown => {
-            *task = Task::Act(Action::End(End::Stuck));
+            *task = Task::Act(Action::End(Stop::Stuck));
             Ok(())
         }
         Variable::Local(local) => {
@@ -314,7 +315,7 @@ fn enter_expression(
 {
     match expression {
         Expression::Stuck => {
-            *task = Task::Act(Action::End(End::Stuck));
+            *task = Task::Act(Action::End(Stop::Stuck));
             Ok(())
         }
         Expression::Literal(literal) => {
@@ -455,7 +456,7 @@ fn enter_ticked(
 {
     match expression_at(code, node) {
         None => {
-            *task = Task::Act(Action::End(End::Stuck));
+            *task = Task::Act(Action::End(Stop::Stuck));
             Ok(())
         }
         Some(expression) => enter_expression(alloc, code, world, stack, expression, task),

@@ -1,11 +1,12 @@
 // A statement has led on, and comes to a frame.
-ghost use Rattle.kr_run_frames.specs.Frames.{out_flow, led, flow_of};
+ghost use Rattle.kr_run_frames.specs.Frames.{out_flow, led};
 ghost use Rattle.kr_run_frames.specs.Leads.{Leads, next_task};
 ghost use Rattle.kr_run_state.specs.Worlds.{state_at};
 
 use crate::lists::all;
 use kr_code::Code;
-use kr_run_frames::{Flow, FlowFrame, Stack, Task};
+use kr_mean::Flow;
+use kr_run_frames::{FlowFrame, Stack, Task};
 use kr_run_state::{Halt, World};
 
 /// A flow that leads on.
@@ -19,7 +20,7 @@ pub fn take_flow(
     flow: Flow,
     task: &mut Task,
 ) -> Result<(), Halt>
-    ensures { Leads code.now (next_task result task.new) stack.new world.now world.now (λ d x. out_flow code.now d stack.old (led code.now d frame (flow_of flow) (state_at world.now x))) }
+    ensures { Leads code.now (next_task result task.new) stack.new world.now world.now (λ d x. out_flow code.now d stack.old (led code.now d frame flow (state_at world.now x))) }
 {
     match frame {
         FlowFrame::Rest(others) => match flow {

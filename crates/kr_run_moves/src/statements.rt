@@ -8,7 +8,8 @@ use crate::lists::all;
 use crate::pushes::{flow, push};
 use crate::values::{stop, test_next};
 use kr_code::{Code, Statement};
-use kr_run_frames::{Flow, FlowFrame, Loop, Stack, Task, TestFrame, Waiting};
+use kr_mean::Flow;
+use kr_run_frames::{FlowFrame, Loop, Stack, Task, TestFrame, Waiting};
 use kr_run_state::{Halt, World};
 use std::alloc::Global;
 

@@ -1,9 +1,10 @@
 // A value comes to a frame.
 ghost use Rattle.std.specs.Prelude.{◌≡◌, true};
 ghost use Rattle.kr_value.specs.declared.value.Value.TheVariants.{Bool as Truth};
+ghost use Rattle.kr_mean.specs.declared.kind.Stop.TheVariants.{Stuck};
 ghost use Rattle.kr_mean.specs.Operators.{gives_old as gives_old_step};
 ghost use Rattle.kr_mean.specs.Operators.{operated as operated_step, operated_alone as alone_step};
-ghost use Rattle.kr_mean.specs.Steps.{Stuck, bind, give, say, stop as stop_step};
+ghost use Rattle.kr_mean.specs.Steps.{bind, give, say, stop as stop_step};
 ghost use Rattle.kr_code.specs.Steps.{load_named};
 ghost use Rattle.kr_code.specs.Doing.{all_declared};
 ghost use Rattle.kr_code.specs.Tables.{listed};
@@ -18,11 +19,12 @@ use crate::expressions::enter_node;
 use crate::pushes::{await_arguments, first, flow, test, then_write, value, write};
 use kr_ast::{BinaryOperator, StepOperator, UnaryOperator};
 use kr_code::{Code, Nodes};
+use kr_mean::{Flow, Stop};
 use kr_run_frames::{
-    Flow, FlowFrame, Goal, Loop, Stack, Task, TestFrame, ValueFrame, Waiting, WriteFrame,
+    FlowFrame, Goal, Loop, Stack, Task, TestFrame, ValueFrame, Waiting, WriteFrame,
 };
 use kr_run_known::at_once;
-use kr_run_state::{Action, Cell, End, Halt, World, act, operated, operated_alone};
+use kr_run_state::{Action, Cell, Halt, World, act, operated, operated_alone};
 use kr_value::Value;
 use std::alloc::Global;
 
@@ -366,7 +368,7 @@ pub fn take_value(
                 Ok(())
             }
             _ => {
-                *task = Task::Act(Action::End(End::Stuck));
+                *task = Task::Act(Action::End(Stop::Stuck));
                 Ok(())
             }
         },
@@ -380,7 +382,7 @@ pub fn take_value(
                 Ok(())
             }
             _ => {
-                *task = Task::Act(Action::End(End::Stuck));
+                *task = Task::Act(Action::End(Stop::Stuck));
                 Ok(())
             }
         },
@@ -394,7 +396,7 @@ pub fn take_value(
                 Ok(())
             }
             _ => {
-                *task = Task::Act(Action::End(End::Stuck));
+                *task = Task::Act(Action::End(Stop::Stuck));
                 Ok(())
             }
         },
@@ -436,7 +438,7 @@ pub fn stop(code: &Code, world: &World, stack: &mut Stack, task: &mut Task) -> R
     ensures { Leads code.now (next_task result task.new) stack.new world.now world.now (λ d x. out_flow code.now d stack.old (stop_step Stuck (state_at world.now x))) }
 {
     test(stack, TestFrame::Discard)?;
-    *task = Task::Act(Action::End(End::Stuck));
+    *task = Task::Act(Action::End(Stop::Stuck));
     Ok(())
 }
 

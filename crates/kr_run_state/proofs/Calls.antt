@@ -6,12 +6,13 @@ use Rattle.kr_value.specs.declared.value.Value.{Value}
 use Rattle.kr_value.specs.declared.value.Value.TheVariants.{Ref as Reference}
 use Rattle.kr_value.specs.declared.object.Class.{Class}
 use Rattle.kr_value.specs.Heaps.{Heap, HeapObject, object_in, no_object}
+use Rattle.kr_mean.specs.declared.kind.Stop.{Stop}
+use Rattle.kr_mean.specs.declared.kind.Stop.TheVariants.{Trapped, Stuck, OutOfFuel}
 use Rattle.kr_heap.specs.Objects.{with_values}
 use Rattle.kr_mean.specs.declared.kind.Kind.{Kind}
 use Rattle.kr_mean.specs.Collections.{Collected, collected}
-use Rattle.kr_mean.specs.Steps.{Stop, Trapped, Stuck, State, Outcome, collect, collect_as, collected_said}
+use Rattle.kr_mean.specs.Steps.{State, Outcome, collect, collect_as, collected_said}
 use Rattle.kr_run_state.specs.declared.world.World.{World}
-use Rattle.kr_run_state.specs.declared.world.End.TheVariants as ends
 use Rattle.kr_run_state.specs.declared.world.Halt.{Halt}
 use Rattle.kr_run_state.specs.declared.world.Halt.TheVariants.{Ended, Memory}
 use Rattle.kr_run_state.specs.Collecting.{Collects}
@@ -50,17 +51,17 @@ collects_made (Ok v) w n o k args new e h = λ x a. (
   ap (λ (q : Outcome Value). noting w.reads q) (called n o args (object_in w.made k) (Ok v) new (state_at w x) (object_made w.is_frozen w.candidates w.reads w.made x o k a e) h)
       ∙ ap (λ (heap : Heap). record { said = Ok v; after = record (state_at w x) { heap = heap }; reads = w.reads }) (sym (values_made w.is_frozen w.candidates w.reads w.made x o k new a e)),
 )
-collects_made (Err (Ended (ends.Trapped kind))) w n o k args new e h = λ x a. (
+collects_made (Err (Ended (Trapped kind))) w n o k args new e h = λ x a. (
   record { allowed = a; frozen_before = λ e. e; same = λ e. refl; long = refl },
   ap (λ (q : Outcome Value). noting w.reads q) (called n o args (object_in w.made k) (Err kind) new (state_at w x) (object_made w.is_frozen w.candidates w.reads w.made x o k a e) h)
       ∙ ap (λ (heap : Heap). record { said = collected_said (Err kind); after = record (state_at w x) { heap = heap }; reads = w.reads }) (sym (values_made w.is_frozen w.candidates w.reads w.made x o k new a e)),
 )
-collects_made (Err (Ended ends.Stuck)) w n o k args new e h = λ x a. (
+collects_made (Err (Ended Stuck)) w n o k args new e h = λ x a. (
   record { allowed = a; frozen_before = λ e. e; same = λ e. refl; long = refl },
   ap (λ (q : Outcome Value). noting w.reads q) (missed n o args (object_in w.made k) (state_at w x) (object_made w.is_frozen w.candidates w.reads w.made x o k a e) h.0
       ∙ ap (λ (made : Heap). collect_as None o (record (state_at w x) { heap = candidates_of w.candidates x ++ made })) (sym (same_values w.made k new h.1))),
 )
-collects_made (Err (Ended ends.OutOfFuel)) w n o k args new e h = absurd h
+collects_made (Err (Ended OutOfFuel)) w n o k args new e h = absurd h
 collects_made (Err (Memory why)) w n o k args new e h = tt
 
 -- a candidate, which is thawed, has other members
@@ -106,7 +107,7 @@ module _ (w : World) (n : List ℕ) (o : ℕ) (args new : List Value) (lt : o < 
       → Agrees r (record w { candidates = with_values w.candidates o new; is_frozen = false }) w (λ x. collect n (Reference o) args (state_at w x))
   unfolding changed
   collects_candidate (Ok v) h = own_only (Ok v) (gives_candidate (Ok v) h)
-  collects_candidate (Err (Ended (ends.Trapped kind))) h = own_only (Err (Trapped kind)) (gives_candidate (Err kind) h)
-  collects_candidate (Err (Ended ends.Stuck)) h = own_only (Err Stuck) (misses_candidate h.0 h.1)
-  collects_candidate (Err (Ended ends.OutOfFuel)) h = absurd h
+  collects_candidate (Err (Ended (Trapped kind))) h = own_only (Err (Trapped kind)) (gives_candidate (Err kind) h)
+  collects_candidate (Err (Ended Stuck)) h = own_only (Err Stuck) (misses_candidate h.0 h.1)
+  collects_candidate (Err (Ended OutOfFuel)) h = absurd h
   collects_candidate (Err (Memory why)) h = tt

@@ -8,7 +8,8 @@ use Rattle.kr_value.specs.declared.value.Value.{Value}
 use Rattle.kr_value.specs.declared.value.Value.TheVariants.{Int, Ref as Reference, Null}
 use Rattle.kr_value.specs.declared.object.Class.TheVariants.{Object, Array, Set, List as Sequence}
 use Rattle.kr_value.specs.declared.object.Spot.TheVariants.{Field, Length, Element}
-use Rattle.kr_mean.specs.Steps.{State, Outcome, Trapped, load, load_if, element, element_if, element_read, index_within, noted}
+use Rattle.kr_mean.specs.declared.kind.Stop.TheVariants.{Trapped}
+use Rattle.kr_mean.specs.Steps.{State, Outcome, load, load_if, element, element_if, element_read, index_within, noted}
 use Rattle.kr_mean.specs.declared.kind.Kind.TheVariants.{ArrayIndexOutOfBoundsException}
 use Rattle.kr_value.specs.declared.object.Class.{Class}
 use Rattle.kr_value.specs.declared.object.Spot.{Spot}

@@ -2,7 +2,6 @@
 use Rattle.std.specs.Prelude.{[]}
 use Rattle.kr_value.specs.declared.value.Value.{Value}
 use Rattle.kr_value.specs.declared.value.Value.TheVariants.{Null}
-use Rattle.kr_run_state.specs.Shown.{stop_of}
 use Rattle.kr_mean.specs.Steps.{Run, say, give, stop, ◌>>=◌, ◌>>◌, tick, get_this, read_local, declare, assign, get_result, get_old, element, class_or_null, make}
 use Rattle.kr_mean.specs.Operators.{operated, operated_alone}
 use Rattle.kr_code.specs.declared.code.Code.{Code}
@@ -40,4 +39,4 @@ acted code (actions.NewCollection class) = make class []
 acted code (actions.Write cell v g) = written code cell v >> give g
 acted code actions.Tick = tick >> give Null
 acted code (actions.Declare v) = tick >> (declare v >> give Null)
-acted code (actions.End e) = stop (stop_of e)
+acted code (actions.End e) = stop e

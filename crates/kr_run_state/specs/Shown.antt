@@ -4,16 +4,9 @@ use Rattle.kr_mean.specs.Places.{Parameter}
 use Rattle.kr_mean.specs.Steps as steps
 use Rattle.kr_run_state.specs.declared.world.Local.{Local}
 use Rattle.kr_run_state.specs.declared.world.Old.{Old}
-use Rattle.kr_run_state.specs.declared.world.End.{End}
-use Rattle.kr_run_state.specs.declared.world.End.TheVariants as ends
 
 abbrev pub local_of : Local → steps.Local
 local_of l = record { value = l.value; place = option_map Parameter l.parameter }
 
 abbrev pub old_of : Old → steps.Old
 old_of o = record { place = o.place; value = o.value }
-
-abbrev pub stop_of : End → steps.Stop
-stop_of (ends.Trapped k) = steps.Trapped k
-stop_of ends.OutOfFuel = steps.OutOfFuel
-stop_of ends.Stuck = steps.Stuck

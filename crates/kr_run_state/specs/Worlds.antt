@@ -11,7 +11,7 @@ use Rattle.kr_run_state.specs.declared.world.World.{World}
 use Rattle.kr_run_state.specs.declared.world.Halt.{Halt}
 use Rattle.kr_run_state.specs.declared.world.Halt.TheVariants.{Ended, Memory}
 use Rattle.kr_run_state.specs.Noting.{noting, is_read}
-use Rattle.kr_run_state.specs.Shown.{local_of, old_of, stop_of}
+use Rattle.kr_run_state.specs.Shown.{local_of, old_of}
 
 -- ---- other candidates
 
@@ -79,7 +79,7 @@ pub record Keeps (before w : World) (x : Others) : Type 0 where
 -- until then allows. Where memory ran out nothing is said.
 abbrev pub Agrees : {A : Type 0} → Result A Halt → World → World → (Others → Outcome A) → Type 0
 Agrees (Ok a) w before o = (x : Others) → Allows w x → Keeps before w x × (noting before.reads (o x) ≡ record { said = Ok a; after = state_at w x; reads = w.reads })
-Agrees (Err (Ended e)) w before o = (x : Others) → Allows w x → Keeps before w x × (noting before.reads (o x) ≡ record { said = Err (stop_of e); after = state_at w x; reads = w.reads })
+Agrees (Err (Ended e)) w before o = (x : Others) → Allows w x → Keeps before w x × (noting before.reads (o x) ≡ record { said = Err e; after = state_at w x; reads = w.reads })
 Agrees (Err (Memory why)) w before o = Unit {0}
 
 abbrev pub IsArray : Class → Type 0

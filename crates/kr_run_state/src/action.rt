@@ -8,11 +8,12 @@ use crate::memory::{
 };
 use crate::names::{assign, declare, old, read_local, result, tick};
 use crate::operators::{operated, operated_alone};
-use crate::{End, Halt, World};
+use crate::{Halt, World};
 use kr_ast::{BinaryOperator, UnaryOperator};
 use kr_base::Place;
 use kr_classes_table::{FieldId, NameId, TypeId};
 use kr_code::Code;
+use kr_mean::Stop;
 use kr_value::{Class, Value};
 use std::alloc::Global;
 
@@ -53,7 +54,7 @@ pub enum Action {
     /// A unit, and a new local.
     Declare(Value),
     /// The run ends.
-    End(End),
+    End(Stop),
 }
 
 /// Gives a variable a value.

@@ -9,11 +9,11 @@ ghost use Rattle.kr_run_state.specs.Collecting.{Collects};
 ghost use Rattle.kr_run_state.specs.Worlds.{state_at, Agrees};
 
 use crate::memory::made_number;
-use crate::{End, Halt, World};
+use crate::{Halt, World};
 use kr_code::CollectionCall;
 use kr_coll::{ListObj, SetObj};
 use kr_heap::Members;
-use kr_mean::Kind;
+use kr_mean::{Kind, Stop};
 use kr_value::{Class, Obj, Value};
 
 /// A size, which is at most the greatest int.
@@ -38,7 +38,7 @@ fn set_with(members: &mut Members, call: CollectionCall, member: Value) -> Resul
         },
         CollectionCall::Contains => Ok(Value::Bool(set.contains(member))),
         CollectionCall::Remove => Ok(Value::Bool(set.remove(member))),
-        _ => Err(Halt::Ended(End::Stuck)),
+        _ => Err(Halt::Ended(Stop::Stuck)),
     }
 }
 
@@ -55,7 +55,7 @@ fn list_with(members: &mut Members, call: CollectionCall, member: Value) -> Resu
         },
         CollectionCall::Contains => Ok(Value::Bool(list.contains(member))),
         CollectionCall::Remove => Ok(Value::Bool(list.remove(member))),
-        _ => Err(Halt::Ended(End::Stuck)),
+        _ => Err(Halt::Ended(Stop::Stuck)),
     }
 }
 
@@ -69,7 +69,7 @@ fn set_alone(members: &mut Members, call: CollectionCall) -> Result<Value, Halt>
     match call {
         CollectionCall::Size => Ok(size_value(set.size())),
         CollectionCall::IsEmpty => Ok(Value::Bool(set.is_empty())),
-        _ => Err(Halt::Ended(End::Stuck)),
+        _ => Err(Halt::Ended(Stop::Stuck)),
     }
 }
 
@@ -85,9 +85,9 @@ fn list_alone(members: &mut Members, call: CollectionCall) -> Result<Value, Halt
         CollectionCall::IsEmpty => Ok(Value::Bool(list.is_empty())),
         CollectionCall::RemoveFirst => match list.remove_first() {
             Some(first) => Ok(first),
-            None => Err(Halt::Ended(End::Trapped(Kind::NoSuchElementException))),
+            None => Err(Halt::Ended(Stop::Trapped(Kind::NoSuchElementException))),
         },
-        _ => Err(Halt::Ended(End::Stuck)),
+        _ => Err(Halt::Ended(Stop::Stuck)),
     }
 }
 
@@ -100,7 +100,7 @@ fn set_call(members: &mut Members, call: CollectionCall, arguments: &[Value]) ->
         None => set_alone(members, call),
         Some((argument, others)) => match others.split_first() {
             None => set_with(members, call, *argument),
-            Some(_) => Err(Halt::Ended(End::Stuck)),
+            Some(_) => Err(Halt::Ended(Stop::Stuck)),
         },
     }
 }
@@ -118,7 +118,7 @@ fn list_call(
         None => list_alone(members, call),
         Some((argument, others)) => match others.split_first() {
             None => list_with(members, call, *argument),
-            Some(_) => Err(Halt::Ended(End::Stuck)),
+            Some(_) => Err(Halt::Ended(Stop::Stuck)),
         },
     }
 }
@@ -136,7 +136,7 @@ fn call_on(
     match class {
         Class::Set => set_call(members, call, arguments),
         Class::List => list_call(members, call, arguments),
-        _ => Err(Halt::Ended(End::Stuck)),
+        _ => Err(Halt::Ended(Stop::Stuck)),
     }
 }
 
@@ -153,7 +153,7 @@ fn collect_made(
     ensures { Agrees result world.new world.old (λ x. collect_step (name_of call) (Reference object) arguments.now (state_at world.old x)) }
 {
     if (number as usize) >= world.made.len() {
-        return Err(Halt::Ended(End::Stuck));
+        return Err(Halt::Ended(Stop::Stuck));
     }
     let class = world.made.class_of(number);
     let members = world.made.members_mut(number);
@@ -190,7 +190,7 @@ pub fn collect(
             None => collect_candidate(world, call, number, arguments),
             Some(made) => collect_made(world, call, number, made, arguments),
         },
-        Value::Null => Err(Halt::Ended(End::Trapped(Kind::NullPointerException))),
-        _ => Err(Halt::Ended(End::Stuck)),
+        Value::Null => Err(Halt::Ended(Stop::Trapped(Kind::NullPointerException))),
+        _ => Err(Halt::Ended(Stop::Stuck)),
     }
 }

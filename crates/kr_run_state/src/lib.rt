@@ -19,4 +19,4 @@ pub use memory::{
 pub use names::{declare, tick};
 pub use operators::{alone, binary, operated, operated_alone};
 pub use reads::Reads;
-pub use world::{End, Halt, Local, Old, World, ended};
+pub use world::{Halt, Local, Old, World, ended};

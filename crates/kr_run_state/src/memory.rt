@@ -10,12 +10,12 @@ ghost use Rattle.kr_code.specs.Doing.{array_of, new_array as new_array_step};
 ghost use Rattle.kr_run_state.specs.Reading.{OnlyReads};
 ghost use Rattle.kr_run_state.specs.Worlds.{state_at, Agrees, Allows, is_fixed, candidates_of, Others, IsArray};
 
-use crate::{End, Halt, World};
+use crate::{Halt, World};
 use kr_base::NoMemory;
 use kr_classes_table::{ClassId, FieldId, NameId, TypeId};
 use kr_code::{Code, Nodes};
 use kr_heap::too_many;
-use kr_mean::Kind;
+use kr_mean::{Kind, Stop};
 use kr_value::{Class, Obj, SlotPlace, Spot, Value};
 use std::alloc::Global;
 
@@ -51,7 +51,7 @@ fn load_made(world: &World, object: Obj, number: u32, spot: Spot) -> Result<Valu
     ensures { Agrees result world.now world.now (λ x. load_step (Reference object) spot (state_at world.now x)) }
 {
     match world.made.read(number, spot) {
-        None => Err(Halt::Ended(End::Stuck)),
+        None => Err(Halt::Ended(Stop::Stuck)),
         Some(value) => Ok(value),
     }
 }
@@ -65,7 +65,7 @@ fn load_candidate(world: &mut World, object: Obj, spot: Spot) -> Result<Value, H
     ensures only { OnlyReads world.old world.new }
 {
     let Some(value) = world.candidates.read(object, spot) else {
-        return Err(Halt::Ended(End::Stuck));
+        return Err(Halt::Ended(Stop::Stuck));
     };
     world.reads.note(SlotPlace::At(object, spot))?;
     Ok(value)
@@ -99,19 +99,19 @@ pub fn load_named(
         Value::Ref(number) => match class_of(world, number) {
             Class::Object(class) => match code.position(name, class) {
                 Some(at) => load(world, number, Spot::Field(at)),
-                None => Err(Halt::Ended(End::Stuck)),
+                None => Err(Halt::Ended(Stop::Stuck)),
             },
             Class::Array(_) => {
                 if name == 0 {
                     load(world, number, Spot::Length)
                 } else {
-                    Err(Halt::Ended(End::Stuck))
+                    Err(Halt::Ended(Stop::Stuck))
                 }
             }
-            _ => Err(Halt::Ended(End::Stuck)),
+            _ => Err(Halt::Ended(Stop::Stuck)),
         },
-        Value::Null => Err(Halt::Ended(End::Trapped(Kind::NullPointerException))),
-        _ => Err(Halt::Ended(End::Stuck)),
+        Value::Null => Err(Halt::Ended(Stop::Trapped(Kind::NullPointerException))),
+        _ => Err(Halt::Ended(Stop::Stuck)),
     }
 }
 
@@ -139,9 +139,9 @@ fn element_made(world: &World, object: Obj, number: u32, index: i32) -> Result<V
     ensures { Agrees result world.now world.now (λ x. element_step (Reference object) (Int index) (state_at world.now x)) }
 {
     match index_below(index, world.made.size_of(number)) {
-        None => Err(Halt::Ended(End::Trapped(Kind::ArrayIndexOutOfBoundsException))),
+        None => Err(Halt::Ended(Stop::Trapped(Kind::ArrayIndexOutOfBoundsException))),
         Some(at) => match world.made.read(number, Spot::Element(at)) {
-            None => Err(Halt::Ended(End::Stuck)),
+            None => Err(Halt::Ended(Stop::Stuck)),
             Some(value) => Ok(value),
         },
     }
@@ -156,9 +156,9 @@ fn element_candidate(world: &mut World, object: Obj, index: i32) -> Result<Value
 {
     world.reads.note(SlotPlace::At(object, Spot::Length))?;
     match index_below(index, world.candidates.size_of(object)) {
-        None => Err(Halt::Ended(End::Trapped(Kind::ArrayIndexOutOfBoundsException))),
+        None => Err(Halt::Ended(Stop::Trapped(Kind::ArrayIndexOutOfBoundsException))),
         Some(at) => match world.candidates.read(object, Spot::Element(at)) {
-            None => Err(Halt::Ended(End::Stuck)),
+            None => Err(Halt::Ended(Stop::Stuck)),
             Some(value) => {
                 world.reads.note(SlotPlace::At(object, Spot::Element(at)))?;
                 Ok(value)
@@ -178,12 +178,12 @@ pub fn element(world: &mut World, array: Value, index: Value) -> Result<Value, H
                 None => element_candidate(world, object, at),
                 Some(number) => element_made(world, object, number, at),
             },
-            _ => Err(Halt::Ended(End::Stuck)),
+            _ => Err(Halt::Ended(Stop::Stuck)),
         },
         (Value::Null, Value::Int(_)) => {
-            Err(Halt::Ended(End::Trapped(Kind::NullPointerException)))
+            Err(Halt::Ended(Stop::Trapped(Kind::NullPointerException)))
         }
-        _ => Err(Halt::Ended(End::Stuck)),
+        _ => Err(Halt::Ended(Stop::Stuck)),
     }
 }
 
@@ -235,10 +235,10 @@ pub fn store(
     match object {
         Value::Ref(number) => match code.spot(field, class_of(world, number)) {
             Some(at) => put_and_give(world, number, at, value, given),
-            None => Err(Halt::Ended(End::Stuck)),
+            None => Err(Halt::Ended(Stop::Stuck)),
         },
-        Value::Null => Err(Halt::Ended(End::Trapped(Kind::NullPointerException))),
-        _ => Err(Halt::Ended(End::Stuck)),
+        Value::Null => Err(Halt::Ended(Stop::Trapped(Kind::NullPointerException))),
+        _ => Err(Halt::Ended(Stop::Stuck)),
     }
 }
 
@@ -254,13 +254,13 @@ pub fn store_initial(
 {
     match object {
         Value::Ref(number) => match made_number(world, number) {
-            None => Err(Halt::Ended(End::Stuck)),
+            None => Err(Halt::Ended(Stop::Stuck)),
             Some(_) => match code.spot(field, class_of(world, number)) {
                 Some(at) => put(world, number, at, value),
-                None => Err(Halt::Ended(End::Stuck)),
+                None => Err(Halt::Ended(Stop::Stuck)),
             },
         },
-        _ => Err(Halt::Ended(End::Stuck)),
+        _ => Err(Halt::Ended(Stop::Stuck)),
     }
 }
 
@@ -296,7 +296,7 @@ fn put_element(
 {
     world.is_frozen = stays_frozen(world, object);
     match index_below(index, size_of(world, object)) {
-        None => Err(Halt::Ended(End::Trapped(Kind::ArrayIndexOutOfBoundsException))),
+        None => Err(Halt::Ended(Stop::Trapped(Kind::ArrayIndexOutOfBoundsException))),
         Some(at) => put_and_give(world, object, at, value, given),
     }
 }
@@ -319,13 +319,13 @@ pub(crate) fn store_item(
             if code.is_instance(class, class_of(world, object)) {
                 put_element(world, object, at, value, given)
             } else {
-                Err(Halt::Ended(End::Stuck))
+                Err(Halt::Ended(Stop::Stuck))
             }
         }
         (Value::Null, Value::Int(_)) => {
-            Err(Halt::Ended(End::Trapped(Kind::NullPointerException)))
+            Err(Halt::Ended(Stop::Trapped(Kind::NullPointerException)))
         }
-        _ => Err(Halt::Ended(End::Stuck)),
+        _ => Err(Halt::Ended(Stop::Stuck)),
     }
 }
 
@@ -342,7 +342,7 @@ pub(crate) fn instance(
     match value {
         Value::Ref(object) => Ok(Value::Bool(code.is_instance(class, class_of(world, object)))),
         Value::Null => Ok(Value::Bool(false)),
-        _ => Err(Halt::Ended(End::Stuck)),
+        _ => Err(Halt::Ended(Stop::Stuck)),
     }
 }
 
@@ -356,11 +356,11 @@ pub(crate) fn cast(code: &Code, world: &World, class: TypeId, value: Value) -> R
             if code.is_instance(class, class_of(world, object)) {
                 Ok(value)
             } else {
-                Err(Halt::Ended(End::Trapped(Kind::ClassCastException)))
+                Err(Halt::Ended(Stop::Trapped(Kind::ClassCastException)))
             }
         }
         Value::Null => Ok(value),
-        _ => Err(Halt::Ended(End::Stuck)),
+        _ => Err(Halt::Ended(Stop::Stuck)),
     }
 }
 
@@ -403,7 +403,7 @@ fn fresh_array(
     ensures { Agrees result world.new world.old (λ x. new_array_step length class default (state_at world.old x)) }
 {
     let Some(number) = class else {
-        return Err(Halt::Ended(End::Stuck));
+        return Err(Halt::Ended(Stop::Stuck));
     };
     let values = elements(alloc, default, length)?;
     allocate(world, Class::Array(number), values)
@@ -421,15 +421,15 @@ pub(crate) fn new_array(
 {
     match length {
         Value::Int(number) => match u32::try_from(number) {
-            Err(_) => Err(Halt::Ended(End::Trapped(Kind::NegativeArraySizeException))),
+            Err(_) => Err(Halt::Ended(Stop::Trapped(Kind::NegativeArraySizeException))),
             Ok(count) => {
                 if count > 64 {
-                    return Err(Halt::Ended(End::Trapped(Kind::ArrayTooLong)));
+                    return Err(Halt::Ended(Stop::Trapped(Kind::ArrayTooLong)));
                 }
                 fresh_array(alloc, world, class, default, count as usize)
             }
         },
-        _ => Err(Halt::Ended(End::Stuck)),
+        _ => Err(Halt::Ended(Stop::Stuck)),
     }
 }
 

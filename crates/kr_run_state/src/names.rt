@@ -8,9 +8,10 @@ ghost use Rattle.kr_run_state.specs.Shown.{local_of};
 ghost use Rattle.kr_value.specs.declared.value.Value.TheVariants.{Null};
 ghost use Rattle.kr_run_state.specs.Worlds.{state_at, Agrees};
 
-use crate::{End, Halt, Local, World};
+use crate::{Halt, Local, World};
 use kr_base::Place;
 use kr_heap::append;
+use kr_mean::Stop;
 use kr_value::{SlotPlace, Value};
 
 /// One unit of fuel.
@@ -20,7 +21,7 @@ pub fn tick(world: &mut World) -> Result<Value, Halt>
     ensures { Agrees result world.new world.old (λ x. bind tick_step (λ u. give Null) (state_at world.old x)) }
 {
     if world.fuel == 0 {
-        return Err(Halt::Ended(End::OutOfFuel));
+        return Err(Halt::Ended(Stop::OutOfFuel));
     }
     world.fuel -= 1;
     Ok(Value::Null)
@@ -33,7 +34,7 @@ pub fn declare(world: &mut World, value: Value) -> Result<Value, Halt>
     ensures { Agrees result world.new world.old (λ x. bind tick_step (λ u. bind (declare_step value) (λ w. give Null)) (state_at world.old x)) }
 {
     if world.fuel == 0 {
-        return Err(Halt::Ended(End::OutOfFuel));
+        return Err(Halt::Ended(Stop::OutOfFuel));
     }
     world.fuel -= 1;
     let local = Local {
@@ -62,7 +63,7 @@ pub(crate) fn assign(
         };
         return Ok(given);
     }
-    Err(Halt::Ended(End::Stuck))
+    Err(Halt::Ended(Stop::Stuck))
 }
 
 #[inline(always)]
@@ -98,7 +99,7 @@ pub fn read_local(world: &mut World, local: u32) -> Result<Value, Halt>
     ensures { Agrees result world.new world.old (λ x. read_step local (state_at world.old x)) }
 {
     match local_in(&world.locals, local) {
-        None => Err(Halt::Ended(End::Stuck)),
+        None => Err(Halt::Ended(Stop::Stuck)),
         Some(found) => match note_parameter(world, found.parameter) {
             Err(halt) => Err(halt),
             Ok(()) => Ok(found.value),
@@ -113,7 +114,7 @@ pub fn result(world: &World) -> Result<Value, Halt>
 {
     match world.result {
         Some(value) => Ok(value),
-        None => Err(Halt::Ended(End::Stuck)),
+        None => Err(Halt::Ended(Stop::Stuck)),
     }
 }
 
@@ -132,5 +133,5 @@ pub fn old(world: &World, place: Place) -> Result<Value, Halt>
             return Ok(old.value);
         }
     }
-    Err(Halt::Ended(End::Stuck))
+    Err(Halt::Ended(Stop::Stuck))
 }

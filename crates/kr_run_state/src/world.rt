@@ -6,21 +6,13 @@ ghost use Rattle.kr_run_state.specs.declared.world.Halt.TheVariants.{Memory};
 use crate::Reads;
 use kr_base::{NoMemory, Place};
 use kr_heap::Heap;
-use kr_mean::Kind;
+use kr_mean::Stop;
 use kr_value::Value;
-
-/// How a run ends early: it is stuck where code has no meaning.
-#[derive(Clone, Copy, PartialEq, Eq)]
-pub enum End {
-    Trapped(Kind),
-    OutOfFuel,
-    Stuck,
-}
 
 /// Why a machine doesn't go on: the run has ended, or memory ran out.
 #[derive(Clone, Copy)]
 pub enum Halt {
-    Ended(End),
+    Ended(Stop),
     Memory(NoMemory),
 }
 
@@ -33,7 +25,7 @@ impl From<NoMemory> for Halt {
 }
 
 /// How a run has ended.
-pub fn ended<T: Copy>(answer: Result<T, Halt>) -> Result<Result<T, End>, NoMemory>
+pub fn ended<T: Copy>(answer: Result<T, Halt>) -> Result<Result<T, Stop>, NoMemory>
     ensures { IsEnd answer result }
 {
     match answer {

@@ -12,8 +12,8 @@ use kr_ast::BinaryOperator;
 use kr_base::{NoMemory, Place};
 use kr_code::{Code, Expression};
 use kr_heap::Heap;
+use kr_mean::Stop;
 use kr_run_method::{Env, Executed, evaluate};
-use kr_run_state::End;
 use kr_value::{Class, Value};
 use std::alloc::Global;
 use std::process::Abort;
@@ -112,7 +112,7 @@ fn ends(
     number: Option<i32>,
     olds: &[i32],
     fuel: u64,
-    end: Result<Option<Value>, End>,
+    end: Result<Option<Value>, Stop>,
     left: u64,
 ) -> Result<bool, NoMemory> {
     let given = match number {
@@ -130,13 +130,13 @@ fn evaluate_all(rt: &impl Abort, alloc: Global, code: &Code) -> Result<(), Fail>
     for (node, given, olds, fuel, end, left) in [
         (GROWN, None, &[2, 2][..], 5, yes, 0),
         (GROWN, None, &[3, 2][..], 9, no, 4),
-        (GROWN, None, &[2, 2][..], 4, Err(End::OutOfFuel), 0),
+        (GROWN, None, &[2, 2][..], 4, Err(Stop::OutOfFuel), 0),
         (GREATER, Some(7), &[3, 2][..], 10, yes, 3),
         (GREATER, Some(7), &[2, 3][..], 10, no, 3),
         (GREATER, Some(1), &[2, 2][..], 10, no, 6),
         // no value for the `\old`, or no result
-        (GROWN, None, &[][..], 9, Err(End::Stuck), 5),
-        (GREATER, None, &[2, 2][..], 9, Err(End::Stuck), 6),
+        (GROWN, None, &[][..], 9, Err(Stop::Stuck), 5),
+        (GREATER, None, &[2, 2][..], 9, Err(Stop::Stuck), 6),
     ] {
         assert!(rt;
             ends(alloc, code, node, given, olds, fuel, end, left)?,

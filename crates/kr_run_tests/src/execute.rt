@@ -22,9 +22,8 @@ use kr_code::{
     Variable,
 };
 use kr_heap::Heap;
-use kr_mean::Kind;
+use kr_mean::{Kind, Stop};
 use kr_run_method::{Executed, Method, execute};
-use kr_run_state::End;
 use kr_value::{Class, Spot, Value};
 use std::alloc::Global;
 use std::process::Abort;
@@ -210,11 +209,11 @@ fn executed(
 }
 
 /// How a run ends.
-type Ending = Result<Option<Value>, End>;
+type Ending = Result<Option<Value>, Stop>;
 
-const SPENT: Ending = Err(End::OutOfFuel);
+const SPENT: Ending = Err(Stop::OutOfFuel);
 
-const STUCK: Ending = Err(End::Stuck);
+const STUCK: Ending = Err(Stop::Stuck);
 
 const VOID: Ending = Ok(None);
 
@@ -223,7 +222,7 @@ fn gives(value: Value) -> Ending {
 }
 
 fn traps(kind: Kind) -> Ending {
-    Err(End::Trapped(kind))
+    Err(Stop::Trapped(kind))
 }
 
 /// Whether a run ends so, with so much fuel left.

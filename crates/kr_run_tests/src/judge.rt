@@ -13,8 +13,7 @@ use kr_base::{NoMemory, Steps};
 use kr_code::{Expression, MethodCode, Node, Nodes, Statement};
 use kr_fin::Listed;
 use kr_judge::{Judge, Predicate};
-use kr_mean::Mode;
-use kr_run_state::End;
+use kr_mean::{Mode, Stop};
 use kr_space_layout::{ClassDomain, DomainEntry, Layout, Spotted};
 use kr_value::{Class, Spot, Value};
 use kr_vector::{Slot, Vector};
@@ -120,7 +119,7 @@ fn judged<L: Ledger>(
     layout: &Layout,
     predicate: &Predicate,
     vector: &Vector,
-) -> Result<Result<bool, End>, NoMemory>
+) -> Result<Result<bool, Stop>, NoMemory>
     requires ledger { blank.name ≡ L.name }
     requires parts { blank.parts ≡ L.parts }
     requires some { 0 < L.parts }
@@ -139,7 +138,7 @@ fn ends_in(
     layout: &Layout,
     fuel: u64,
     value: u32,
-    wanted: Result<bool, End>,
+    wanted: Result<bool, Stop>,
     order: &[u32],
 ) -> Result<bool, NoMemory>
     requires value { value < 3 }
@@ -157,7 +156,7 @@ fn ends(
     predicate: &Predicate,
     fuel: u64,
     value: u32,
-    wanted: Result<bool, End>,
+    wanted: Result<bool, Stop>,
     order: &[u32],
 ) -> Result<bool, NoMemory>
     requires { value < 3 }
@@ -166,11 +165,11 @@ fn ends(
     ends_in(alloc, predicate, &layout, fuel, value, wanted, order)
 }
 
-const HOLDS: Result<bool, End> = Ok(true);
+const HOLDS: Result<bool, Stop> = Ok(true);
 
-const FAILS: Result<bool, End> = Ok(false);
+const FAILS: Result<bool, Stop> = Ok(false);
 
-const SPENT: Result<bool, End> = Err(End::OutOfFuel);
+const SPENT: Result<bool, Stop> = Err(Stop::OutOfFuel);
 
 // A run of this predicate takes six units: the call, `this`, `return`, `>`, `v` and `0`.
 fn judge_all(rt: &impl Abort, alloc: Global, predicate: &Predicate) {

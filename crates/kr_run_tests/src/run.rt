@@ -8,9 +8,9 @@ use kr_code::{
     Statement, Variable,
 };
 use kr_heap::Heap;
-use kr_mean::Kind;
+use kr_mean::{Kind, Stop};
 use kr_run::evaluate;
-use kr_run_state::{End, Halt, Local, Reads, World};
+use kr_run_state::{Halt, Local, Reads, World};
 use kr_value::{Class, Value};
 use std::alloc::Global;
 use std::test::Fail;
@@ -193,7 +193,7 @@ fn is_counted(alloc: Global, code: &Code, heap: Heap) -> bool {
     let said = evaluate(alloc, code, &mut world, 21);
     world.fuel = 10;
     let ended = evaluate(alloc, code, &mut world, 21);
-    matches!(&said, Ok(Value::Int(10000))) && matches!(&ended, Err(Halt::Ended(End::OutOfFuel)))
+    matches!(&said, Ok(Value::Int(10000))) && matches!(&ended, Err(Halt::Ended(Stop::OutOfFuel)))
 }
 
 fn calls_deep(alloc: Global, code: &Code) -> Result<bool, NoMemory> {
@@ -279,7 +279,7 @@ fn called(object: u32, call: CollectionCall, count: u32) -> Node {
 
 fn traps(said: &Result<Value, Halt>, kind: Kind) -> bool {
     match said {
-        Err(Halt::Ended(End::Trapped(trapped))) => *trapped == kind,
+        Err(Halt::Ended(Stop::Trapped(trapped))) => *trapped == kind,
         _ => false,
     }
 }

@@ -9,7 +9,7 @@ use Rattle.kr_ast.specs.declared.node.Name.{Name}
 use Rattle.kr_ast.specs.declared.node.Node.{Node}
 use Rattle.kr_ast.specs.declared.node.Node.TheVariants as nodes
 use Rattle.kr_ast.specs.declared.node.Entry.{Entry}
-use Rattle.kr_ast.specs.Arena.{AreBelow, ArePartsFrom, IsArena, IsForest, IsPart, name_in, parts, tree_in, tree_of}
+use Rattle.kr_ast.specs.Arena.{Arena, AreBelow, AreNamesIn, ArePartsFrom, IsArena, IsForest, IsPart, name_in, names, parts, tree_in, tree_of}
 use Rattle.kr_ast.proofs.Trees.{tree_stands}
 use Rattle.kr_classes_table.specs.Types.{JavaType}
 use Rattle.kr_classes_table.specs.Constants.{values_of}
@@ -31,8 +31,9 @@ use Rattle.kr_types_resolving.proofs.Inside.{method_law, super_law}
 use Rattle.kr_types_expressions.specs.Notes.{AreNotesWithin, shown_notes}
 use Rattle.kr_types_expressions.proofs.Notes.{notes_same, shown_before, within_none}
 use Rattle.kr_types.specs.declared.site.Site.{Site}
+use Rattle.kr_types.specs.declared.site.Spot.{Spot}
 use Rattle.kr_types.specs.declared.notes.Noted.{Noted}
-use Rattle.kr_types.specs.Sites.{AreKept, AreMeant, AreNoted, IsInside, IsMeantBy, IsNoteOf, IsSite, object_noted, scope_here, scope_of, tree_there}
+use Rattle.kr_types.specs.Sites.{AreKept, AreMeant, AreNoted, IsInside, IsMeantBy, IsNoteOf, IsSite, IsSpot, object_noted, scope_here, scope_of, tree_there}
 use Rattle.kr_types.proofs.Passing.{noted_more, parts_below, some_entry}
 
 -- an item of a longer list
@@ -176,6 +177,25 @@ module _ (s : Site) (b : TypeList) (ns : List Note) (at : ℕ) (entry e : Entry)
 
   meaning_said : (shown : List noting.Note) (x : Meaning) → IsMeantBy s shown at entry.node x → IsMeantBy s shown (length ns) e.node x
   meaning_said shown x h = subst (λ (j : ℕ). IsMeantBy s shown j e.node x) count (subst (λ (y : Entry). IsMeantBy s shown at y.node x) same_entry h)
+
+-- as its entry says
+pub spot_is : (s : Site) (n at : ℕ) (a : Arena) (e : Entry) (w : Within) (class : ℕ) → a ≡ tree_there s → n ≡ at → at < length (tree_there s).entries → w ≡ slice_index_or s.scopes.now.within.items at nowhere → (scope_here s w).class ≡ class
+    → tree_in a at ≡ tree_of a.text (tree_in a) e.place e.node → ArePartsFrom a.entries at 0 (parts e.node) → AreNamesIn a.text (names e.node) → IsSpot s n (record { at = at; place = e.place; here = w; class = class; node = e.node })
+spot_is s n at a e w class is count lt here inside tree stands named =
+    let parts_there = subst (λ (t : Arena). ArePartsFrom t.entries at 0 (parts e.node)) is stands in
+    record {
+      count = count;
+      within = lt;
+      here = here;
+      class = inside;
+      tree = subst (λ (t : Arena). tree_in t at ≡ tree_of t.text (tree_in t) e.place e.node) is tree;
+      stands = parts_there;
+      parts = subst (λ (k : ℕ). AreBelow k (parts e.node)) (sym count) (parts_below (tree_there s).entries at 0 (parts e.node) parts_there);
+      names = subst (λ (t : Arena). AreNamesIn t.text (names e.node)) is named;
+    }
+
+pub class_is : (s : Site) (n : ℕ) (x : Spot) → IsSpot s n x → (scope_of s x.at).class ≡ x.class
+class_is s n x h = ap (λ (w : Within). (scope_here s w).class) (sym h.here) ∙ h.class
 
 pub kept_more : (s : Site) (a b : TypeList) (k j : Noted) (m : Note) (x : Meaning) (at : ℕ) (entry : Entry) (w : Within) → IsForest (tree_there s).text (tree_there s).entries → AreKept s a k → Extends a b → at ≡ length k.notes → at < length (tree_there s).entries
     → slice_get (tree_there s).entries at ≡ Some entry → w ≡ slice_index_or s.scopes.now.within.items at nowhere → IsNoteOf s b k.notes (length k.notes) (scope_here s w) entry.place entry.node m → IsMeantBy s (shown_notes a k.notes) at entry.node x

@@ -1,17 +1,17 @@
 -- Between crates: what the notes of a file's nodes are made from, and what each note says.
-use Rattle.std.specs.Prelude.{◌≡◌, ℕ, ◌<◌, List, length, Option, Some, None, slice_get}
+use Rattle.std.specs.Prelude.{◌≡◌, ℕ, ◌<◌, List, length, Option, Some, None, slice_get, slice_index_or}
 use Rattle.kr_base.specs.declared.place.Place.{Place}
 use Rattle.kr_ast.specs.declared.node.Node.{Node}
 use Rattle.kr_ast.specs.declared.node.Node.TheVariants as nodes
 use Rattle.kr_ast.specs.declared.node.Entry.{Entry}
-use Rattle.kr_ast.specs.Arena.{Arena, tree_in, tree_of}
+use Rattle.kr_ast.specs.Arena.{Arena, AreBelow, AreNamesIn, ArePartsFrom, names, parts, tree_in, tree_of}
 use Rattle.kr_classes_table.specs.Constants.{values_of}
 use Rattle.kr_classes_table.specs.Types.{JavaType}
 use Rattle.kr_types_meaning.specs.Scopes.{Scope, class_before}
 use Rattle.kr_types_meaning.specs.Typing.{type_in}
 use Rattle.kr_types_scopes.specs.declared.within.Within.{Within}
 use Rattle.kr_types_scopes.specs.Settings.{class_there, scope_in}
-use Rattle.kr_types_scopes.specs.Scoped.{AreScopes, scope_at}
+use Rattle.kr_types_scopes.specs.Scoped.{AreScopes, nowhere, scope_at}
 use Rattle.kr_types_meaning.specs.Noting as noting
 use Rattle.kr_classes_names.specs.Shown.{AreHeads}
 use Rattle.kr_ast.specs.Files.{file_at}
@@ -32,6 +32,7 @@ use Rattle.kr_types_expressions.specs.Notes.{AreNotesWithin, IsRestBelow, shown_
 use Rattle.kr_types.specs.Programs.{setting_in}
 use Rattle.kr_types.specs.declared.site.Inside.{Inside}
 use Rattle.kr_types.specs.declared.site.Site.{Site}
+use Rattle.kr_types.specs.declared.site.Spot.{Spot}
 use Rattle.kr_types.specs.declared.notes.Noted.{Noted}
 
 -- the tree of the file
@@ -67,6 +68,21 @@ pub record IsNoteOf (s : Site) (l : TypeList) (ns : List Note) (i : ℕ) (here :
   pub below : IsRestBelow i made.known
   pub linked : IsLinked (typed_in l ns) made.known
   pub shown : note_shown l (typed_in l ns) made ≡ noted_there s l ns here p n
+
+-- a node of the file, behind the notes of as many nodes
+pub record IsSpot (s : Site) (n : ℕ) (x : Spot) : Type 0 where
+  pub count : n ≡ x.at
+  pub within : x.at < length (tree_there s).entries
+  pub here : x.here ≡ slice_index_or s.scopes.now.within.items x.at nowhere
+  pub class : (scope_here s x.here).class ≡ x.class
+  pub tree : tree_in (tree_there s) x.at ≡ tree_of (tree_there s).text (tree_in (tree_there s)) x.place x.node
+  pub stands : ArePartsFrom (tree_there s).entries x.at 0 (parts x.node)
+  pub parts : AreBelow n (parts x.node)
+  pub names : AreNamesIn (tree_there s).text (names x.node)
+
+-- the note of such a node
+abbrev pub IsSpotNote : Site → TypeList → List Note → Spot → Note → Type 0
+IsSpotNote s l ns x made = IsNoteOf s l ns (length ns) (scope_here s x.here) x.place x.node made
 
 -- the notes of the first nodes of the file: each follows from those of its parts
 pub record AreNoted (s : Site) (l : TypeList) (ns : List Note) : Type 0 where

@@ -1,20 +1,16 @@
 // Notes of fields, constants and calls behind a dot.
-ghost use Rattle.std.specs.Prelude.{◌≡◌, ◌<◌, length, slice_index_or, IfOk};
-ghost use Rattle.kr_ast.specs.Arena.{AreNamesIn, names, parts};
-ghost use Rattle.kr_types_scopes.specs.Scoped.{nowhere};
-ghost use Rattle.kr_ast.specs.Arena.{AreBelow};
+ghost use Rattle.std.specs.Prelude.{length, IfOk};
 ghost use Rattle.kr_types_expressions.specs.Notes.{AreNotesWithin};
-ghost use Rattle.kr_types.specs.Sites.{IsBefore, IsNoteOf, IsSite, scope_here, tree_there};
+ghost use Rattle.kr_types.specs.Sites.{IsBefore, IsSite, IsSpot, IsSpotNote};
 ghost use Rattle.kr_types.specs.Kinds.{IsAccess};
 
-use crate::site::{Site, part_note};
+use crate::site::{Site, Spot, part_note};
 use kr_ast::Node;
-use kr_base::{NoMemory, Place};
+use kr_base::NoMemory;
 use kr_classes_table::ClassId;
 use kr_classes_types::Types;
 use kr_types_expressions::{NoteList, field_note, method_call_note};
-use kr_types_judging::{Note, plain};
-use kr_types_scopes::Within;
+use kr_types_judging::{ClassTypes, Note, plain};
 use std::alloc::Global;
 
 /// The note of what stands behind a dot: the node of a number, in its scope.
@@ -23,31 +19,27 @@ pub(crate) fn access_note(
     site: &Site<'_>,
     types: &Types,
     notes: &NoteList,
-    here: Within,
-    at: u32,
-    place: Place,
+    spot: Spot,
     before: Option<ClassId>,
-    node: Node,
 ) -> Result<Note, NoMemory>
     requires site { IsSite site.now types.now }
     requires notes { AreNotesWithin types.now notes.now }
-    requires at { at < length (tree_there site.now).entries }
-    requires count { length notes.now ≡ at }
-    requires here { here ≡ slice_index_or site.now.scopes.now.within.items at nowhere }
-    requires parts { AreBelow (length notes.now) (parts node) }
-    requires names { AreNamesIn (tree_there site.now).text (names node) }
-    requires kind { IsAccess node }
-    requires before { IsBefore site.now at node before }
-    ensures { IfOk result (λ note. IsNoteOf site.now types.now notes.now (length notes.now) (scope_here site.now here) place node note) }
+    requires spot { IsSpot site.now (length notes.now) spot }
+    requires kind { IsAccess spot.node }
+    requires before { IsBefore site.now spot.at spot.node before }
+    ensures { IfOk result (λ note. IsSpotNote site.now types.now notes.now spot note) }
 {
-    match node {
+    let classes = ClassTypes {
+        trees: site.trees,
+        types,
+        members: site.members,
+        node_types: site.numbers,
+    };
+    match spot.node {
         Node::FieldAccess { object, name } => Ok(field_note(
-            site.trees,
-            types,
-            site.members,
-            site.numbers,
-            here,
-            place,
+            &classes,
+            spot.here,
+            spot.place,
             site.tree().name(name),
             before,
             part_note(types, notes, object),
@@ -61,13 +53,10 @@ pub(crate) fn access_note(
             let y = part_note(types, notes, arguments);
             method_call_note(
                 alloc,
-                site.trees,
-                types,
-                site.members,
-                site.numbers,
+                &classes,
                 notes,
-                here,
-                place,
+                spot.here,
+                spot.place,
                 site.tree().name(name),
                 before,
                 x,

@@ -1,17 +1,17 @@
 // What a node means, from what is kept of its parts.
 ghost use Rattle.std.specs.Prelude.{◌≡◌, ◌<◌, IfOk, IfSome, length, option_map};
-ghost use Rattle.kr_ast.specs.Arena.{ArePartsFrom, AreNamesIn, names, parts, tree_in, tree_of};
+ghost use Rattle.kr_ast.specs.Arena.{tree_in};
 ghost use Rattle.kr_types_meaning.specs.Scopes.{class_before, value};
 ghost use Rattle.kr_types_meaning.specs.Typing.{type_in};
 ghost use Rattle.kr_types_meaning.specs.Noting.{note_at};
 ghost use Rattle.kr_classes_types.specs.Types.{count, type_at};
 ghost use Rattle.kr_types_expressions.specs.Notes.{AreNotesWithin, shown_notes};
-ghost use Rattle.kr_types.specs.Sites.{AreKept, IsBefore, IsMeantBy, IsSite, scope_of, tree_there};
+ghost use Rattle.kr_types.specs.Sites.{AreKept, IsBefore, IsMeantBy, IsSite, IsSpot, scope_of, tree_there};
 
 use crate::notes::Noted;
-use crate::site::{Site, part_note};
+use crate::site::{Site, Spot, part_note};
 use kr_ast::Node;
-use kr_base::{NoMemory, Place};
+use kr_base::NoMemory;
 use kr_classes_table::{ClassId, TypeId};
 use kr_classes_types::Types;
 use kr_types_expressions::part_type;
@@ -43,21 +43,16 @@ pub(crate) fn class_before(
     site: &Site<'_>,
     types: &Types,
     noted: &Noted,
-    at: u32,
-    _place: Place,
-    node: Node,
+    spot: Spot,
 ) -> Option<ClassId>
     requires site { IsSite site.now types.now }
     requires kept { AreKept site.now types.now noted.now }
-    requires at { at ≡ length noted.now.notes }
-    requires within { at < length (tree_there site.now).entries }
-    requires tree { tree_in (tree_there site.now) at ≡ tree_of (tree_there site.now).text (tree_in (tree_there site.now)) _place node }
-    requires parts { ArePartsFrom (tree_there site.now).entries at 0 (parts node) }
-    ensures { IsBefore site.now at node result }
+    requires spot { IsSpot site.now (length noted.now.notes) spot }
+    ensures { IsBefore site.now spot.at spot.node result }
 {
-    match node {
-        Node::FieldAccess { object, .. } => class_of_object(site, types, noted, at, object),
-        Node::MethodCall { object, .. } => class_of_object(site, types, noted, at, object),
+    match spot.node {
+        Node::FieldAccess { object, .. } => class_of_object(site, types, noted, spot.at, object),
+        Node::MethodCall { object, .. } => class_of_object(site, types, noted, spot.at, object),
         _ => None,
     }
 }
@@ -77,22 +72,14 @@ pub(crate) fn node_meaning(
     site: &Site<'_>,
     types: &Types,
     noted: &Noted,
-    at: u32,
-    class: ClassId,
-    place: Place,
+    spot: Spot,
     before: Option<ClassId>,
-    node: Node,
 ) -> Result<Meaning, NoMemory>
     requires site { IsSite site.now types.now }
     requires kept { AreKept site.now types.now noted.now }
-    requires at { at ≡ length noted.now.notes }
-    requires within { at < length (tree_there site.now).entries }
-    requires tree { tree_in (tree_there site.now) at ≡ tree_of (tree_there site.now).text (tree_in (tree_there site.now)) place node }
-    requires parts { ArePartsFrom (tree_there site.now).entries at 0 (parts node) }
-    requires names { AreNamesIn (tree_there site.now).text (names node) }
-    requires class { (scope_of site.now at).class ≡ class }
-    requires before { IsBefore site.now at node before }
-    ensures { IfOk result (λ m. IsMeantBy site.now (shown_notes types.now noted.now.notes) at node m) }
+    requires spot { IsSpot site.now (length noted.now.notes) spot }
+    requires before { IsBefore site.now spot.at spot.node before }
+    ensures { IfOk result (λ m. IsMeantBy site.now (shown_notes types.now noted.now.notes) spot.at spot.node m) }
 {
     let classes = Classes {
         trees: site.trees,
@@ -100,26 +87,26 @@ pub(crate) fn node_meaning(
         members: site.members,
         roster: site.roster,
     };
-    match node {
+    match spot.node {
         Node::Variable { name } => variable_meaning(
             &classes,
             site.scopes,
             site.file,
-            at,
-            class,
+            spot.at,
+            spot.class,
             site.tree().name(name),
         ),
         Node::FieldAccess { object, name } => {
             let object = object_type(types, noted, object);
             Ok(field_behind(&classes, types, before, object, site.tree().name(name)))
         }
-        Node::Call { name, .. } => Ok(call_meaning(&classes, class, site.tree().name(name))),
+        Node::Call { name, .. } => Ok(call_meaning(&classes, spot.class, site.tree().name(name))),
         Node::MethodCall { object, name, .. } => {
             let object = object_type(types, noted, object);
             Ok(method_behind(&classes, types, before, object, site.tree().name(name)))
         }
         Node::SuperCall { name, .. } => {
-            Ok(super_meaning(&classes, class, site.tree().name(name)))
+            Ok(super_meaning(&classes, spot.class, site.tree().name(name)))
         }
         Node::ObjectCreation { class, .. } => {
             let created = type_of_node(site.trees, types, site.numbers, site.file, Some(class));

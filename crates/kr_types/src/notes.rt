@@ -12,7 +12,7 @@ ghost use Rattle.kr_types.specs.Sites.{AreKept, IsSite, scope_of, tree_there};
 
 use crate::meanings::{class_before, node_meaning};
 use crate::nodes::node_note;
-use crate::site::{Inside, Site};
+use crate::site::{Inside, Site, Spot};
 use kr_base::NoMemory;
 use kr_classes_types::Types;
 use kr_types_expressions::NoteList;
@@ -67,31 +67,16 @@ fn add_node(
     let entry = site.tree().entry(at);
     let here = site.here(at);
     let inside = site.inside(noted.inside, here);
-    let class = inside.class;
-    let before = class_before(site, types, noted, at, entry.place, entry.node);
-    let meaning = node_meaning(
-        site,
-        types,
-        noted,
+    let spot = Spot {
         at,
-        class,
-        entry.place,
-        before,
-        entry.node,
-    )?;
-    let note = node_note(
-        alloc,
-        site,
-        types,
-        &noted.notes,
+        place: entry.place,
         here,
-        class,
-        at,
-        entry.place,
-        before,
-        meaning,
-        entry.node,
-    )?;
+        class: inside.class,
+        node: entry.node,
+    };
+    let before = class_before(site, types, noted, spot);
+    let meaning = node_meaning(site, types, noted, spot, before)?;
+    let note = node_note(alloc, site, types, &noted.notes, spot, before, meaning)?;
     noted.notes.push(note)?;
     noted.meanings.push(meaning)?;
     noted.inside = inside;

@@ -1,40 +1,29 @@
 // Notes of operators, choices and elements of arrays.
 ghost use Rattle.std.specs.Prelude.{length};
-ghost use Rattle.kr_ast.specs.Arena.{parts};
-ghost use Rattle.kr_ast.specs.Arena.{AreBelow};
 ghost use Rattle.kr_types_expressions.specs.Notes.{AreNotesWithin};
-ghost use Rattle.kr_types.specs.Sites.{IsNoteOf, IsSite, scope_here};
+ghost use Rattle.kr_types.specs.Sites.{IsSite, IsSpot, IsSpotNote};
 ghost use Rattle.kr_types.specs.Kinds.{IsOperation};
 
-use crate::site::{Site, part_note};
+use crate::site::{Site, Spot, part_note};
 use kr_ast::Node;
-use kr_base::Place;
 use kr_classes_types::Types;
 use kr_types_expressions::{
     NoteList, binary_note, cast_note, choice_note, element_note, instance_note, unary_note,
 };
 use kr_types_judging::{Note, plain};
-use kr_types_scopes::Within;
 
 /// The note of a node that makes a value from those of its parts.
-pub(crate) fn operation_note(
-    site: &Site<'_>,
-    types: &Types,
-    notes: &NoteList,
-    here: Within,
-    place: Place,
-    node: Node,
-) -> Note
+pub(crate) fn operation_note(site: &Site<'_>, types: &Types, notes: &NoteList, spot: Spot) -> Note
     requires site { IsSite site.now types.now }
     requires notes { AreNotesWithin types.now notes.now }
-    requires parts { AreBelow (length notes.now) (parts node) }
-    requires kind { IsOperation node }
-    ensures { IsNoteOf site.now types.now notes.now (length notes.now) (scope_here site.now here) place node result }
+    requires spot { IsSpot site.now (length notes.now) spot }
+    requires kind { IsOperation spot.node }
+    ensures { IsSpotNote site.now types.now notes.now spot result }
 {
-    match node {
+    match spot.node {
         Node::Unary { operator, operand } => {
             let x = part_note(types, notes, operand);
-            unary_note(types, place, operator, x)
+            unary_note(types, spot.place, operator, x)
         }
         Node::Binary {
             operator,
@@ -43,17 +32,17 @@ pub(crate) fn operation_note(
         } => {
             let x = part_note(types, notes, left);
             let y = part_note(types, notes, right);
-            binary_note(types, site.members, here, place, operator, x, y)
+            binary_note(types, site.members, spot.here, spot.place, operator, x, y)
         }
         Node::InstanceOf { operand, tested } => {
             let x = part_note(types, notes, operand);
             let y = part_note(types, notes, tested);
-            instance_note(types, site.members, here, place, x, y)
+            instance_note(types, site.members, spot.here, spot.place, x, y)
         }
         Node::Cast { target, operand } => {
             let x = part_note(types, notes, target);
             let y = part_note(types, notes, operand);
-            cast_note(types, site.members, here, place, x, y)
+            cast_note(types, site.members, spot.here, spot.place, x, y)
         }
         Node::Conditional {
             condition,
@@ -63,12 +52,12 @@ pub(crate) fn operation_note(
             let x = part_note(types, notes, condition);
             let y = part_note(types, notes, holds);
             let z = part_note(types, notes, fails);
-            choice_note(types, site.members, here, place, x, y, z)
+            choice_note(types, site.members, spot.here, spot.place, x, y, z)
         }
         Node::ArrayAccess { array, index } => {
             let x = part_note(types, notes, array);
             let y = part_note(types, notes, index);
-            element_note(types, place, x, y)
+            element_note(types, spot.place, x, y)
         }
         _ => plain(None),
     }

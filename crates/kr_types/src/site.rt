@@ -12,7 +12,8 @@ ghost use Rattle.kr_types_expressions.specs.Notes.{AreNotesWithin, IsRestBelow, 
 ghost use Rattle.kr_types.specs.Programs.{setting_in};
 ghost use Rattle.kr_types.specs.Sites.{IsInside, scope_here, tree_there};
 
-use kr_ast::{Tree, tree_of};
+use kr_ast::{Node, Tree, tree_of};
+use kr_base::Place;
 use kr_classes_constants::Values;
 use kr_classes_members::{Members, Method};
 use kr_classes_names::Heads;
@@ -22,6 +23,16 @@ use kr_classes_types::{NodeTypes, Types};
 use kr_types_expressions::{NoteList, class_of};
 use kr_types_judging::Note;
 use kr_types_scopes::{Scopes, Within};
+
+/// A node of the file: its number, where it is, its scope and the class whose code it is in.
+#[derive(Clone, Copy)]
+pub(crate) struct Spot {
+    pub(crate) at: u32,
+    pub(crate) place: Place,
+    pub(crate) here: Within,
+    pub(crate) class: ClassId,
+    pub(crate) node: Node,
+}
 
 /// The class whose code a node is in, and the node that declares it.
 #[derive(Clone, Copy)]

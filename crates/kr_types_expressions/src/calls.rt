@@ -7,9 +7,8 @@ ghost use Rattle.kr_types_meaning.specs.Noting as noting;
 ghost use Rattle.kr_types_scopes.specs.Settings.{Setting, scope_in};
 ghost use Rattle.kr_types_scopes.specs.declared.within.Binding.{Binding};
 ghost use Rattle.kr_classes_members.specs.Shown.{IsMethod, method_shown, table_in};
-ghost use Rattle.kr_classes_members.specs.Kept.{AreMembers};
 ghost use Rattle.kr_classes_types.specs.Types.{count, type_at};
-ghost use Rattle.kr_classes_types.specs.Numbers.{AreNodeTypes};
+ghost use Rattle.kr_types_judging.specs.Classes.{AreClassTypes};
 ghost use Rattle.kr_types_judging.specs.Shown.{HasNoRest, IsNoteWithin, IsVerdictWithin, note_shown, verdict_shown};
 ghost use Rattle.kr_types_expressions.specs.Notes.{AreNotesWithin, IsRestBelow, typed_in};
 ghost use Rattle.kr_types_expressions.specs.Parts.{with_list, with_one_and_list};
@@ -17,173 +16,140 @@ ghost use Rattle.kr_types_expressions.specs.Parts.{with_list, with_one_and_list}
 use crate::lists::value_types;
 use crate::note_list::NoteList;
 use crate::parts::part_type;
-use kr_ast::Tree;
 use kr_base::{NoMemory, Place};
-use kr_classes_members::{Members, Method};
+use kr_classes_members::Method;
 use kr_classes_table::{ClassId, TypeId};
-use kr_classes_types::{NodeTypes, Types};
 use kr_types_judging::{
-    Judgement, Note, call_rule, conclude, earlier, object_call_rule, static_rule, super_rule,
+    ClassTypes, Judgement, Note, call_rule, conclude, earlier, object_call_rule, static_rule,
+    super_rule,
 };
 use kr_types_scopes::Within;
 use std::alloc::Global;
 
 /// What T5, T24 and T32 say of a call where all arguments have types.
 fn call_verdict(
-    trees: &[Tree],
-    types: &Types,
-    members: &Members,
-    node_types: &NodeTypes,
+    classes: &ClassTypes<'_>,
     here: Within,
     found: Option<Method>,
     arguments: Option<Vec<TypeId>>,
 ) -> Judgement
-    requires members { AreMembers trees.now members.now }
-    requires numbers { AreNodeTypes trees.now types.now node_types.now }
-    requires found { IfSome found (IsMethod trees.now) }
-    requires arguments { IfSome arguments (λ ts. All (λ t. t < count types.now) ts.items) }
-    ensures within { IsVerdictWithin types.now result }
-    ensures says { (g : Setting) (bs : List Binding) → g.table ≡ table_in trees.now → verdict_shown types.now result ≡ with_list (rules.call_rule (scope_in g bs here) (option_map (method_shown trees.now) found)) (option_map (λ ts. map (type_at types.now) ts.items) arguments) }
+    requires classes { AreClassTypes classes.now }
+    requires found { IfSome found (IsMethod classes.now.trees.now) }
+    requires arguments { IfSome arguments (λ ts. All (λ t. t < count classes.now.types.now) ts.items) }
+    ensures within { IsVerdictWithin classes.now.types.now result }
+    ensures says { (g : Setting) (bs : List Binding) → g.table ≡ table_in classes.now.trees.now → verdict_shown classes.now.types.now result ≡ with_list (rules.call_rule (scope_in g bs here) (option_map (method_shown classes.now.trees.now) found)) (option_map (λ ts. map (type_at classes.now.types.now) ts.items) arguments) }
 {
     match arguments {
         None => Judgement::fine(),
-        Some(arguments) => call_rule(trees, types, members, node_types, here, found, &arguments),
+        Some(arguments) => call_rule(classes, here, found, &arguments),
     }
 }
 
 /// A call without object of this method: its arguments.
 pub fn call_note(
     alloc: Global,
-    trees: &[Tree],
-    types: &Types,
-    members: &Members,
-    node_types: &NodeTypes,
+    classes: &ClassTypes<'_>,
     notes: &NoteList,
     here: Within,
     place: Place,
     found: Option<Method>,
     x: Note,
 ) -> Result<Note, NoMemory>
-    requires members { AreMembers trees.now members.now }
-    requires numbers { AreNodeTypes trees.now types.now node_types.now }
-    requires notes { AreNotesWithin types.now notes.now }
-    requires found { IfSome found (IsMethod trees.now) }
-    requires arguments { IsNoteWithin types.now x }
+    requires classes { AreClassTypes classes.now }
+    requires notes { AreNotesWithin classes.now.types.now notes.now }
+    requires found { IfSome found (IsMethod classes.now.trees.now) }
+    requires arguments { IsNoteWithin classes.now.types.now x }
     requires below { IsRestBelow (length notes.now) x.known }
-    ensures within { IfOk result (λ n. IsNoteWithin types.now n) }
+    ensures within { IfOk result (λ n. IsNoteWithin classes.now.types.now n) }
     ensures no_rest { IfOk result (λ n. HasNoRest n.known) }
-    ensures shown { IfOk result (λ n. (g : Setting) (bs : List Binding) → g.table ≡ table_in trees.now → let look = typed_in types.now notes.now in let s = scope_in g bs here in note_shown types.now look n ≡ noting.list place (rules.call_rule s (option_map (method_shown trees.now) found)) (note_shown types.now look x)) }
+    ensures shown { IfOk result (λ n. (g : Setting) (bs : List Binding) → g.table ≡ table_in classes.now.trees.now → let look = typed_in classes.now.types.now notes.now in let s = scope_in g bs here in note_shown classes.now.types.now look n ≡ noting.list place (rules.call_rule s (option_map (method_shown classes.now.trees.now) found)) (note_shown classes.now.types.now look x)) }
 {
-    let arguments = value_types(alloc, types, notes, x.known)?;
-    let verdict = call_verdict(trees, types, members, node_types, here, found, arguments);
+    let arguments = value_types(alloc, classes.types, notes, x.known)?;
+    let verdict = call_verdict(classes, here, found, arguments);
     Ok(conclude(place, verdict, x.least))
 }
 
 /// What T5, T24 and T33 say of a call of `super.m` where all arguments have types.
 fn super_call_verdict(
-    trees: &[Tree],
-    types: &Types,
-    members: &Members,
-    node_types: &NodeTypes,
+    classes: &ClassTypes<'_>,
     here: Within,
     found: Option<Method>,
     arguments: Option<Vec<TypeId>>,
 ) -> Judgement
-    requires members { AreMembers trees.now members.now }
-    requires numbers { AreNodeTypes trees.now types.now node_types.now }
-    requires found { IfSome found (IsMethod trees.now) }
-    requires arguments { IfSome arguments (λ ts. All (λ t. t < count types.now) ts.items) }
-    ensures within { IsVerdictWithin types.now result }
-    ensures says { (g : Setting) (bs : List Binding) (name : List ℕ) → g.table ≡ table_in trees.now → option_map (method_shown trees.now) found ≡ option_and_then (λ c. method_named g.table c name) (scopes.super_class (scope_in g bs here)) → verdict_shown types.now result ≡ with_list (rules.super_rule (scope_in g bs here) name) (option_map (λ ts. map (type_at types.now) ts.items) arguments) }
+    requires classes { AreClassTypes classes.now }
+    requires found { IfSome found (IsMethod classes.now.trees.now) }
+    requires arguments { IfSome arguments (λ ts. All (λ t. t < count classes.now.types.now) ts.items) }
+    ensures within { IsVerdictWithin classes.now.types.now result }
+    ensures says { (g : Setting) (bs : List Binding) (name : List ℕ) → g.table ≡ table_in classes.now.trees.now → option_map (method_shown classes.now.trees.now) found ≡ option_and_then (λ c. method_named g.table c name) (scopes.super_class (scope_in g bs here)) → verdict_shown classes.now.types.now result ≡ with_list (rules.super_rule (scope_in g bs here) name) (option_map (λ ts. map (type_at classes.now.types.now) ts.items) arguments) }
 {
     match arguments {
         None => Judgement::fine(),
-        Some(arguments) => {
-            super_rule(trees, types, members, node_types, here, found, &arguments)
-        }
+        Some(arguments) => super_rule(classes, here, found, &arguments),
     }
 }
 
 /// A call of `super.m`, by the method that the superclass has: its arguments.
 pub fn super_call_note(
     alloc: Global,
-    trees: &[Tree],
-    types: &Types,
-    members: &Members,
-    node_types: &NodeTypes,
+    classes: &ClassTypes<'_>,
     notes: &NoteList,
     here: Within,
     place: Place,
     found: Option<Method>,
     x: Note,
 ) -> Result<Note, NoMemory>
-    requires members { AreMembers trees.now members.now }
-    requires numbers { AreNodeTypes trees.now types.now node_types.now }
-    requires notes { AreNotesWithin types.now notes.now }
-    requires found { IfSome found (IsMethod trees.now) }
-    requires arguments { IsNoteWithin types.now x }
+    requires classes { AreClassTypes classes.now }
+    requires notes { AreNotesWithin classes.now.types.now notes.now }
+    requires found { IfSome found (IsMethod classes.now.trees.now) }
+    requires arguments { IsNoteWithin classes.now.types.now x }
     requires below { IsRestBelow (length notes.now) x.known }
-    ensures within { IfOk result (λ n. IsNoteWithin types.now n) }
+    ensures within { IfOk result (λ n. IsNoteWithin classes.now.types.now n) }
     ensures no_rest { IfOk result (λ n. HasNoRest n.known) }
-    ensures shown { IfOk result (λ n. (g : Setting) (bs : List Binding) (name : List ℕ) → g.table ≡ table_in trees.now → option_map (method_shown trees.now) found ≡ option_and_then (λ c. method_named g.table c name) (scopes.super_class (scope_in g bs here)) → let look = typed_in types.now notes.now in note_shown types.now look n ≡ noting.list place (rules.super_rule (scope_in g bs here) name) (note_shown types.now look x)) }
+    ensures shown { IfOk result (λ n. (g : Setting) (bs : List Binding) (name : List ℕ) → g.table ≡ table_in classes.now.trees.now → option_map (method_shown classes.now.trees.now) found ≡ option_and_then (λ c. method_named g.table c name) (scopes.super_class (scope_in g bs here)) → let look = typed_in classes.now.types.now notes.now in note_shown classes.now.types.now look n ≡ noting.list place (rules.super_rule (scope_in g bs here) name) (note_shown classes.now.types.now look x)) }
 {
-    let arguments = value_types(alloc, types, notes, x.known)?;
-    let verdict = super_call_verdict(trees, types, members, node_types, here, found, arguments);
+    let arguments = value_types(alloc, classes.types, notes, x.known)?;
+    let verdict = super_call_verdict(classes, here, found, arguments);
     Ok(conclude(place, verdict, x.least))
 }
 
 /// What T24 says of a call behind a class's name where all arguments have types.
 fn static_call_verdict(
-    trees: &[Tree],
-    types: &Types,
-    members: &Members,
-    node_types: &NodeTypes,
+    classes: &ClassTypes<'_>,
     here: Within,
     found: Option<Method>,
     arguments: Option<Vec<TypeId>>,
 ) -> Judgement
-    requires members { AreMembers trees.now members.now }
-    requires numbers { AreNodeTypes trees.now types.now node_types.now }
-    requires found { IfSome found (IsMethod trees.now) }
-    requires arguments { IfSome arguments (λ ts. All (λ t. t < count types.now) ts.items) }
-    ensures within { IsVerdictWithin types.now result }
-    ensures says { (g : Setting) (bs : List Binding) → g.table ≡ table_in trees.now → verdict_shown types.now result ≡ with_list (rules.static_rule (scope_in g bs here) (option_map (method_shown trees.now) found)) (option_map (λ ts. map (type_at types.now) ts.items) arguments) }
+    requires classes { AreClassTypes classes.now }
+    requires found { IfSome found (IsMethod classes.now.trees.now) }
+    requires arguments { IfSome arguments (λ ts. All (λ t. t < count classes.now.types.now) ts.items) }
+    ensures within { IsVerdictWithin classes.now.types.now result }
+    ensures says { (g : Setting) (bs : List Binding) → g.table ≡ table_in classes.now.trees.now → verdict_shown classes.now.types.now result ≡ with_list (rules.static_rule (scope_in g bs here) (option_map (method_shown classes.now.trees.now) found)) (option_map (λ ts. map (type_at classes.now.types.now) ts.items) arguments) }
 {
     match arguments {
         None => Judgement::fine(),
-        Some(arguments) => {
-            static_rule(trees, types, members, node_types, here, found, &arguments)
-        }
+        Some(arguments) => static_rule(classes, here, found, &arguments),
     }
 }
 
 /// What T24, T25 and T32 say of a call through an object where the object and all arguments have types.
 fn object_call_verdict(
-    trees: &[Tree],
-    types: &Types,
-    members: &Members,
-    node_types: &NodeTypes,
+    classes: &ClassTypes<'_>,
     here: Within,
     name: &[u8],
     object: Option<TypeId>,
     arguments: Option<Vec<TypeId>>,
 ) -> Judgement
-    requires members { AreMembers trees.now members.now }
-    requires numbers { AreNodeTypes trees.now types.now node_types.now }
-    requires object { IfSome object (λ t. t < count types.now) }
-    requires arguments { IfSome arguments (λ ts. All (λ t. t < count types.now) ts.items) }
-    ensures within { IsVerdictWithin types.now result }
-    ensures says { (g : Setting) (bs : List Binding) → g.table ≡ table_in trees.now → verdict_shown types.now result ≡ with_one_and_list (rules.object_call_rule (scope_in g bs here) name.now) (option_map (type_at types.now) object) (option_map (λ ts. map (type_at types.now) ts.items) arguments) }
+    requires classes { AreClassTypes classes.now }
+    requires object { IfSome object (λ t. t < count classes.now.types.now) }
+    requires arguments { IfSome arguments (λ ts. All (λ t. t < count classes.now.types.now) ts.items) }
+    ensures within { IsVerdictWithin classes.now.types.now result }
+    ensures says { (g : Setting) (bs : List Binding) → g.table ≡ table_in classes.now.trees.now → verdict_shown classes.now.types.now result ≡ with_one_and_list (rules.object_call_rule (scope_in g bs here) name.now) (option_map (type_at classes.now.types.now) object) (option_map (λ ts. map (type_at classes.now.types.now) ts.items) arguments) }
 {
     match object {
         None => Judgement::fine(),
         Some(object) => match arguments {
             None => Judgement::fine(),
-            Some(arguments) => {
-                object_call_rule(
-                    trees, types, members, node_types, here, name, object, &arguments,
-                )
-            }
+            Some(arguments) => object_call_rule(classes, here, name, object, &arguments),
         },
     }
 }
@@ -191,10 +157,7 @@ fn object_call_verdict(
 /// A call behind a dot: what stands before the dot, which is a class where this is one; then its arguments.
 pub fn method_call_note(
     alloc: Global,
-    trees: &[Tree],
-    types: &Types,
-    members: &Members,
-    node_types: &NodeTypes,
+    classes: &ClassTypes<'_>,
     notes: &NoteList,
     here: Within,
     place: Place,
@@ -203,30 +166,25 @@ pub fn method_call_note(
     x: Note,
     y: Note,
 ) -> Result<Note, NoMemory>
-    requires members { AreMembers trees.now members.now }
-    requires numbers { AreNodeTypes trees.now types.now node_types.now }
-    requires notes { AreNotesWithin types.now notes.now }
-    requires object { IsNoteWithin types.now x }
-    requires arguments { IsNoteWithin types.now y }
+    requires classes { AreClassTypes classes.now }
+    requires notes { AreNotesWithin classes.now.types.now notes.now }
+    requires object { IsNoteWithin classes.now.types.now x }
+    requires arguments { IsNoteWithin classes.now.types.now y }
     requires below { IsRestBelow (length notes.now) y.known }
-    ensures within { IfOk result (λ n. IsNoteWithin types.now n) }
+    ensures within { IfOk result (λ n. IsNoteWithin classes.now.types.now n) }
     ensures no_rest { IfOk result (λ n. HasNoRest n.known) }
-    ensures shown { IfOk result (λ n. (g : Setting) (bs : List Binding) → g.table ≡ table_in trees.now → let look = typed_in types.now notes.now in note_shown types.now look n ≡ noting.method_of (scope_in g bs here) place name.now before (note_shown types.now look x) (note_shown types.now look y)) }
+    ensures shown { IfOk result (λ n. (g : Setting) (bs : List Binding) → g.table ≡ table_in classes.now.trees.now → let look = typed_in classes.now.types.now notes.now in note_shown classes.now.types.now look n ≡ noting.method_of (scope_in g bs here) place name.now before (note_shown classes.now.types.now look x) (note_shown classes.now.types.now look y)) }
 {
-    let arguments = value_types(alloc, types, notes, y.known)?;
+    let arguments = value_types(alloc, classes.types, notes, y.known)?;
     match before {
         Some(class) => {
-            let found = members.method_named(class, name);
-            let verdict = static_call_verdict(
-                trees, types, members, node_types, here, found, arguments,
-            );
+            let found = classes.members.method_named(class, name);
+            let verdict = static_call_verdict(classes, here, found, arguments);
             Ok(conclude(place, verdict, y.least))
         }
         None => {
             let object = part_type(x.known);
-            let verdict = object_call_verdict(
-                trees, types, members, node_types, here, name, object, arguments,
-            );
+            let verdict = object_call_verdict(classes, here, name, object, arguments);
             Ok(conclude(place, verdict, earlier(x.least, y.least)))
         }
     }

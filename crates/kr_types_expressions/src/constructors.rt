@@ -5,9 +5,8 @@ ghost use Rattle.kr_types_meaning.specs.Noting as noting;
 ghost use Rattle.kr_types_scopes.specs.Settings.{Setting, class_there, scope_in};
 ghost use Rattle.kr_types_scopes.specs.declared.within.Binding.{Binding};
 ghost use Rattle.kr_classes_members.specs.Shown.{table_in};
-ghost use Rattle.kr_classes_members.specs.Kept.{AreMembers};
 ghost use Rattle.kr_classes_types.specs.Types.{Extends, count, type_at};
-ghost use Rattle.kr_classes_types.specs.Numbers.{AreNodeTypes};
+ghost use Rattle.kr_types_judging.specs.Classes.{AreClassTypes};
 ghost use Rattle.kr_types_judging.specs.Shown.{HasNoRest, IsNoteWithin, IsVerdictWithin, note_shown, verdict_shown};
 ghost use Rattle.kr_types_expressions.specs.Constructors.{AreSingle};
 ghost use Rattle.kr_types_expressions.specs.Notes.{AreNotesWithin, IsRestBelow, typed_in};
@@ -17,39 +16,31 @@ use crate::creations::{array_creation_rule, creation_rule, super_constructor_rul
 use crate::lists::value_types;
 use crate::note_list::NoteList;
 use crate::parts::part_type;
-use kr_ast::Tree;
 use kr_base::{NoMemory, Place};
-use kr_classes_members::Members;
 use kr_classes_table::{ClassId, TypeId};
-use kr_classes_types::{NodeTypes, Types};
-use kr_types_judging::{Judgement, Note, conclude, earlier};
+use kr_classes_types::Types;
+use kr_types_judging::{ClassTypes, Judgement, Note, conclude, earlier};
 use kr_types_scopes::Within;
 use std::alloc::Global;
 
 /// What T26 and T39 say where the type and all arguments are known.
 fn creation_verdict(
-    trees: &[Tree],
-    types: &Types,
-    members: &Members,
-    node_types: &NodeTypes,
+    classes: &ClassTypes<'_>,
     here: Within,
     created: Option<TypeId>,
     arguments: Option<Vec<TypeId>>,
 ) -> Judgement
-    requires members { AreMembers trees.now members.now }
-    requires numbers { AreNodeTypes trees.now types.now node_types.now }
-    requires created { IfSome created (λ t. t < count types.now) }
-    requires arguments { IfSome arguments (λ ts. All (λ t. t < count types.now) ts.items) }
-    ensures within { IsVerdictWithin types.now result }
-    ensures says { (g : Setting) (bs : List Binding) → g.table ≡ table_in trees.now → AreSingle g.table → verdict_shown types.now result ≡ with_one_and_list (rules.creation_rule (scope_in g bs here)) (option_map (type_at types.now) created) (option_map (λ ts. map (type_at types.now) ts.items) arguments) }
+    requires classes { AreClassTypes classes.now }
+    requires created { IfSome created (λ t. t < count classes.now.types.now) }
+    requires arguments { IfSome arguments (λ ts. All (λ t. t < count classes.now.types.now) ts.items) }
+    ensures within { IsVerdictWithin classes.now.types.now result }
+    ensures says { (g : Setting) (bs : List Binding) → g.table ≡ table_in classes.now.trees.now → AreSingle g.table → verdict_shown classes.now.types.now result ≡ with_one_and_list (rules.creation_rule (scope_in g bs here)) (option_map (type_at classes.now.types.now) created) (option_map (λ ts. map (type_at classes.now.types.now) ts.items) arguments) }
 {
     match created {
         None => Judgement::fine(),
         Some(created) => match arguments {
             None => Judgement::fine(),
-            Some(arguments) => {
-                creation_rule(trees, types, members, node_types, here, created, &arguments)
-            }
+            Some(arguments) => creation_rule(classes, here, created, &arguments),
         },
     }
 }
@@ -57,29 +48,25 @@ fn creation_verdict(
 /// The creation of an object: its type, then the arguments.
 pub fn creation_note(
     alloc: Global,
-    trees: &[Tree],
-    types: &Types,
-    members: &Members,
-    node_types: &NodeTypes,
+    classes: &ClassTypes<'_>,
     notes: &NoteList,
     here: Within,
     place: Place,
     x: Note,
     y: Note,
 ) -> Result<Note, NoMemory>
-    requires members { AreMembers trees.now members.now }
-    requires numbers { AreNodeTypes trees.now types.now node_types.now }
-    requires notes { AreNotesWithin types.now notes.now }
-    requires created { IsNoteWithin types.now x }
-    requires arguments { IsNoteWithin types.now y }
+    requires classes { AreClassTypes classes.now }
+    requires notes { AreNotesWithin classes.now.types.now notes.now }
+    requires created { IsNoteWithin classes.now.types.now x }
+    requires arguments { IsNoteWithin classes.now.types.now y }
     requires below { IsRestBelow (length notes.now) y.known }
-    ensures within { IfOk result (λ n. IsNoteWithin types.now n) }
+    ensures within { IfOk result (λ n. IsNoteWithin classes.now.types.now n) }
     ensures no_rest { IfOk result (λ n. HasNoRest n.known) }
-    ensures shown { IfOk result (λ n. (g : Setting) (bs : List Binding) → g.table ≡ table_in trees.now → AreSingle g.table → let look = typed_in types.now notes.now in note_shown types.now look n ≡ noting.one_and_list place (rules.creation_rule (scope_in g bs here)) (note_shown types.now look x) (note_shown types.now look y)) }
+    ensures shown { IfOk result (λ n. (g : Setting) (bs : List Binding) → g.table ≡ table_in classes.now.trees.now → AreSingle g.table → let look = typed_in classes.now.types.now notes.now in note_shown classes.now.types.now look n ≡ noting.one_and_list place (rules.creation_rule (scope_in g bs here)) (note_shown classes.now.types.now look x) (note_shown classes.now.types.now look y)) }
 {
-    let arguments = value_types(alloc, types, notes, y.known)?;
+    let arguments = value_types(alloc, classes.types, notes, y.known)?;
     let created = part_type(x.known);
-    let verdict = creation_verdict(trees, types, members, node_types, here, created, arguments);
+    let verdict = creation_verdict(classes, here, created, arguments);
     Ok(conclude(place, verdict, earlier(x.least, y.least)))
 }
 
@@ -125,53 +112,41 @@ pub fn array_creation_note(
 
 /// What T34 says of `super(..)` where all arguments have types.
 fn constructor_call_verdict(
-    trees: &[Tree],
-    types: &Types,
-    members: &Members,
-    node_types: &NodeTypes,
+    classes: &ClassTypes<'_>,
     here: Within,
     class: ClassId,
     arguments: Option<Vec<TypeId>>,
 ) -> Judgement
-    requires members { AreMembers trees.now members.now }
-    requires numbers { AreNodeTypes trees.now types.now node_types.now }
-    requires arguments { IfSome arguments (λ ts. All (λ t. t < count types.now) ts.items) }
-    ensures within { IsVerdictWithin types.now result }
-    ensures says { (g : Setting) (bs : List Binding) → g.table ≡ table_in trees.now → AreSingle g.table → class_there g here.class ≡ class → verdict_shown types.now result ≡ with_list (rules.super_constructor_rule (scope_in g bs here)) (option_map (λ ts. map (type_at types.now) ts.items) arguments) }
+    requires classes { AreClassTypes classes.now }
+    requires arguments { IfSome arguments (λ ts. All (λ t. t < count classes.now.types.now) ts.items) }
+    ensures within { IsVerdictWithin classes.now.types.now result }
+    ensures says { (g : Setting) (bs : List Binding) → g.table ≡ table_in classes.now.trees.now → AreSingle g.table → class_there g here.class ≡ class → verdict_shown classes.now.types.now result ≡ with_list (rules.super_constructor_rule (scope_in g bs here)) (option_map (λ ts. map (type_at classes.now.types.now) ts.items) arguments) }
 {
     match arguments {
         None => Judgement::fine(),
-        Some(arguments) => super_constructor_rule(
-            trees, types, members, node_types, here, class, &arguments,
-        ),
+        Some(arguments) => super_constructor_rule(classes, here, class, &arguments),
     }
 }
 
 /// `super(..)` at the head of a constructor: its arguments.
 pub fn constructor_call_note(
     alloc: Global,
-    trees: &[Tree],
-    types: &Types,
-    members: &Members,
-    node_types: &NodeTypes,
+    classes: &ClassTypes<'_>,
     notes: &NoteList,
     here: Within,
     place: Place,
     class: ClassId,
     x: Note,
 ) -> Result<Note, NoMemory>
-    requires members { AreMembers trees.now members.now }
-    requires numbers { AreNodeTypes trees.now types.now node_types.now }
-    requires notes { AreNotesWithin types.now notes.now }
-    requires arguments { IsNoteWithin types.now x }
+    requires classes { AreClassTypes classes.now }
+    requires notes { AreNotesWithin classes.now.types.now notes.now }
+    requires arguments { IsNoteWithin classes.now.types.now x }
     requires below { IsRestBelow (length notes.now) x.known }
-    ensures within { IfOk result (λ n. IsNoteWithin types.now n) }
+    ensures within { IfOk result (λ n. IsNoteWithin classes.now.types.now n) }
     ensures no_rest { IfOk result (λ n. HasNoRest n.known) }
-    ensures shown { IfOk result (λ n. (g : Setting) (bs : List Binding) → g.table ≡ table_in trees.now → AreSingle g.table → class_there g here.class ≡ class → let look = typed_in types.now notes.now in note_shown types.now look n ≡ noting.list place (rules.super_constructor_rule (scope_in g bs here)) (note_shown types.now look x)) }
+    ensures shown { IfOk result (λ n. (g : Setting) (bs : List Binding) → g.table ≡ table_in classes.now.trees.now → AreSingle g.table → class_there g here.class ≡ class → let look = typed_in classes.now.types.now notes.now in note_shown classes.now.types.now look n ≡ noting.list place (rules.super_constructor_rule (scope_in g bs here)) (note_shown classes.now.types.now look x)) }
 {
-    let arguments = value_types(alloc, types, notes, x.known)?;
-    let verdict = constructor_call_verdict(
-        trees, types, members, node_types, here, class, arguments,
-    );
+    let arguments = value_types(alloc, classes.types, notes, x.known)?;
+    let verdict = constructor_call_verdict(classes, here, class, arguments);
     Ok(conclude(place, verdict, x.least))
 }

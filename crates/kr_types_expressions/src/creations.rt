@@ -7,18 +7,16 @@ ghost use Rattle.kr_types_meaning.specs.Scopes.{Scope, super_parameters};
 ghost use Rattle.kr_types_scopes.specs.Settings.{Setting, class_there, scope_in};
 ghost use Rattle.kr_types_scopes.specs.declared.within.Binding.{Binding};
 ghost use Rattle.kr_classes_members.specs.Shown.{IsConstructor, table_in};
-ghost use Rattle.kr_classes_members.specs.Kept.{AreMembers};
 ghost use Rattle.kr_classes_types.specs.Types.{Extends, count, type_at};
-ghost use Rattle.kr_classes_types.specs.Numbers.{AreNodeTypes};
+ghost use Rattle.kr_types_judging.specs.Classes.{AreClassTypes};
 ghost use Rattle.kr_types_judging.specs.Shown.{IsVerdictWithin, verdict_shown};
 ghost use Rattle.kr_types_expressions.specs.Constructors.{AreSingle, IsSingle};
 
-use kr_ast::Tree;
 use kr_base::NoMemory;
-use kr_classes_members::{Constructor, Members};
+use kr_classes_members::Constructor;
 use kr_classes_table::{ClassId, TypeId};
-use kr_classes_types::{NodeTypes, TypeForm, Types};
-use kr_types_judging::{Judgement, TypingRule, arguments_fit, is_code, is_int};
+use kr_classes_types::{TypeForm, Types};
+use kr_types_judging::{ClassTypes, Judgement, TypingRule, arguments_fit, is_code, is_int};
 use kr_types_scopes::Within;
 
 /// T27: the length is an int; T39.
@@ -53,54 +51,28 @@ fn first_constructor(constructors: &[Constructor]) -> Constructor
 }
 
 /// Whether arguments fit a class's constructor: there are none where it has none.
-fn constructor_fits(
-    trees: &[Tree],
-    types: &Types,
-    members: &Members,
-    node_types: &NodeTypes,
-    class: ClassId,
-    arguments: &[TypeId],
-) -> bool
-    requires members { AreMembers trees.now members.now }
-    requires numbers { AreNodeTypes trees.now types.now node_types.now }
-    requires arguments { All (λ t. t < count types.now) arguments.now }
-    ensures { (s : Scope) → s.table ≡ table_in trees.now → IsSingle s.table class → result ≡ rules.arguments_fit s (map (type_at types.now) arguments.now) (constructor_parameters s.table class) }
+fn constructor_fits(classes: &ClassTypes<'_>, class: ClassId, arguments: &[TypeId]) -> bool
+    requires classes { AreClassTypes classes.now }
+    requires arguments { All (λ t. t < count classes.now.types.now) arguments.now }
+    ensures { (s : Scope) → s.table ≡ table_in classes.now.trees.now → IsSingle s.table class → result ≡ rules.arguments_fit s (map (type_at classes.now.types.now) arguments.now) (constructor_parameters s.table class) }
 {
-    let constructors = members.constructors(class);
+    let constructors = classes.members.constructors(class);
     if constructors.is_empty() {
         return arguments.is_empty();
     }
     let constructor = first_constructor(constructors);
-    arguments_fit(
-        trees,
-        types,
-        members,
-        node_types,
-        arguments,
-        constructor.file,
-        constructor.parameters,
-    )
+    arguments_fit(classes, arguments, constructor.file, constructor.parameters)
 }
 
 /// Whether arguments fit the creation of an object of a type.
-fn creation_fits(
-    trees: &[Tree],
-    types: &Types,
-    members: &Members,
-    node_types: &NodeTypes,
-    created: TypeId,
-    arguments: &[TypeId],
-) -> bool
-    requires members { AreMembers trees.now members.now }
-    requires numbers { AreNodeTypes trees.now types.now node_types.now }
-    requires created { created < count types.now }
-    requires arguments { All (λ t. t < count types.now) arguments.now }
-    ensures { (s : Scope) → s.table ≡ table_in trees.now → AreSingle s.table → result ≡ rules.creation_fits s (type_at types.now created) (map (type_at types.now) arguments.now) }
+fn creation_fits(classes: &ClassTypes<'_>, created: TypeId, arguments: &[TypeId]) -> bool
+    requires classes { AreClassTypes classes.now }
+    requires created { created < count classes.now.types.now }
+    requires arguments { All (λ t. t < count classes.now.types.now) arguments.now }
+    ensures { (s : Scope) → s.table ≡ table_in classes.now.trees.now → AreSingle s.table → result ≡ rules.creation_fits s (type_at classes.now.types.now created) (map (type_at classes.now.types.now) arguments.now) }
 {
-    match types.form(created) {
-        TypeForm::Class(class) => {
-            constructor_fits(trees, types, members, node_types, class, arguments)
-        }
+    match classes.types.form(created) {
+        TypeForm::Class(class) => constructor_fits(classes, class, arguments),
         TypeForm::Set(_) => arguments.is_empty(),
         TypeForm::List(_) => arguments.is_empty(),
         _ => false,
@@ -109,22 +81,18 @@ fn creation_fits(
 
 /// T26: the arguments fit the constructor, and a collection takes none; `<>` only on collections; T39.
 pub(crate) fn creation_rule(
-    trees: &[Tree],
-    types: &Types,
-    members: &Members,
-    node_types: &NodeTypes,
+    classes: &ClassTypes<'_>,
     here: Within,
     created: TypeId,
     arguments: &[TypeId],
 ) -> Judgement
-    requires members { AreMembers trees.now members.now }
-    requires numbers { AreNodeTypes trees.now types.now node_types.now }
-    requires created { created < count types.now }
-    requires arguments { All (λ t. t < count types.now) arguments.now }
-    ensures within { IsVerdictWithin types.now result }
-    ensures says { (g : Setting) (bs : List Binding) → g.table ≡ table_in trees.now → AreSingle g.table → verdict_shown types.now result ≡ rules.creation_rule (scope_in g bs here) (type_at types.now created) (map (type_at types.now) arguments.now) }
+    requires classes { AreClassTypes classes.now }
+    requires created { created < count classes.now.types.now }
+    requires arguments { All (λ t. t < count classes.now.types.now) arguments.now }
+    ensures within { IsVerdictWithin classes.now.types.now result }
+    ensures says { (g : Setting) (bs : List Binding) → g.table ≡ table_in classes.now.trees.now → AreSingle g.table → verdict_shown classes.now.types.now result ≡ rules.creation_rule (scope_in g bs here) (type_at classes.now.types.now created) (map (type_at classes.now.types.now) arguments.now) }
 {
-    let fits = creation_fits(trees, types, members, node_types, created, arguments);
+    let fits = creation_fits(classes, created, arguments);
     Judgement::ask(
         fits,
         TypingRule::Creation,
@@ -133,58 +101,39 @@ pub(crate) fn creation_rule(
 }
 
 /// Whether arguments fit the constructor of a class's superclass: there are none where it has none.
-fn fits_above(
-    trees: &[Tree],
-    types: &Types,
-    members: &Members,
-    node_types: &NodeTypes,
-    class: ClassId,
-    arguments: &[TypeId],
-) -> bool
-    requires members { AreMembers trees.now members.now }
-    requires numbers { AreNodeTypes trees.now types.now node_types.now }
-    requires arguments { All (λ t. t < count types.now) arguments.now }
-    ensures { (s : Scope) → s.table ≡ table_in trees.now → AreSingle s.table → s.class ≡ class → result ≡ rules.arguments_fit s (map (type_at types.now) arguments.now) (super_parameters s) }
+fn fits_above(classes: &ClassTypes<'_>, class: ClassId, arguments: &[TypeId]) -> bool
+    requires classes { AreClassTypes classes.now }
+    requires arguments { All (λ t. t < count classes.now.types.now) arguments.now }
+    ensures { (s : Scope) → s.table ≡ table_in classes.now.trees.now → AreSingle s.table → s.class ≡ class → result ≡ rules.arguments_fit s (map (type_at classes.now.types.now) arguments.now) (super_parameters s) }
 {
-    match members.superclass(class) {
+    match classes.members.superclass(class) {
         None => arguments.is_empty(),
-        Some(above) => constructor_fits(trees, types, members, node_types, above, arguments),
+        Some(above) => constructor_fits(classes, above, arguments),
     }
 }
 
 /// T34: where `super(..)` is absent the superclass's constructor takes no arguments.
-pub fn implied_rule(
-    trees: &[Tree],
-    types: &Types,
-    members: &Members,
-    node_types: &NodeTypes,
-    class: ClassId,
-) -> Judgement
-    requires members { AreMembers trees.now members.now }
-    requires numbers { AreNodeTypes trees.now types.now node_types.now }
-    ensures within { IsVerdictWithin types.now result }
-    ensures says { (s : Scope) → s.table ≡ table_in trees.now → AreSingle s.table → s.class ≡ class → verdict_shown types.now result ≡ rules.implied_rule s }
+pub fn implied_rule(classes: &ClassTypes<'_>, class: ClassId) -> Judgement
+    requires classes { AreClassTypes classes.now }
+    ensures within { IsVerdictWithin classes.now.types.now result }
+    ensures says { (s : Scope) → s.table ≡ table_in classes.now.trees.now → AreSingle s.table → s.class ≡ class → verdict_shown classes.now.types.now result ≡ rules.implied_rule s }
 {
-    let fits = fits_above(trees, types, members, node_types, class, &[]);
+    let fits = fits_above(classes, class, &[]);
     Judgement::fine_if(fits, TypingRule::SuperConstructor)
 }
 
 /// T34: `super(..)` fits the superclass's constructor.
 pub(crate) fn super_constructor_rule(
-    trees: &[Tree],
-    types: &Types,
-    members: &Members,
-    node_types: &NodeTypes,
+    classes: &ClassTypes<'_>,
     here: Within,
     class: ClassId,
     arguments: &[TypeId],
 ) -> Judgement
-    requires members { AreMembers trees.now members.now }
-    requires numbers { AreNodeTypes trees.now types.now node_types.now }
-    requires arguments { All (λ t. t < count types.now) arguments.now }
-    ensures within { IsVerdictWithin types.now result }
-    ensures says { (g : Setting) (bs : List Binding) → g.table ≡ table_in trees.now → AreSingle g.table → class_there g here.class ≡ class → verdict_shown types.now result ≡ rules.super_constructor_rule (scope_in g bs here) (map (type_at types.now) arguments.now) }
+    requires classes { AreClassTypes classes.now }
+    requires arguments { All (λ t. t < count classes.now.types.now) arguments.now }
+    ensures within { IsVerdictWithin classes.now.types.now result }
+    ensures says { (g : Setting) (bs : List Binding) → g.table ≡ table_in classes.now.trees.now → AreSingle g.table → class_there g here.class ≡ class → verdict_shown classes.now.types.now result ≡ rules.super_constructor_rule (scope_in g bs here) (map (type_at classes.now.types.now) arguments.now) }
 {
-    let fits = fits_above(trees, types, members, node_types, class, arguments);
+    let fits = fits_above(classes, class, arguments);
     Judgement::fine_if(fits, TypingRule::SuperConstructor)
 }

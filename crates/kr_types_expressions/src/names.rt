@@ -10,19 +10,17 @@ ghost use Rattle.kr_types_scopes.specs.Scoped.{AreScopes, scope_at};
 ghost use Rattle.kr_classes_names.specs.Shown.{AreHeads};
 ghost use Rattle.kr_ast.specs.Files.{file_at};
 ghost use Rattle.kr_classes_members.specs.Shown.{table_in};
-ghost use Rattle.kr_classes_members.specs.Kept.{AreMembers};
 ghost use Rattle.kr_classes_types.specs.Types.{Extends};
-ghost use Rattle.kr_classes_types.specs.Numbers.{AreNodeTypes};
+ghost use Rattle.kr_types_judging.specs.Classes.{AreClassTypes};
 ghost use Rattle.kr_types_judging.specs.Shown.{HasNoRest, IsNoteWithin, IsVerdictWithin, note_shown, verdict_shown};
 
 use kr_ast::{Node, Tree, tree_of};
 use kr_base::{NoMemory, Place};
-use kr_classes_members::Members;
 use kr_classes_names::Heads;
 use kr_classes_table::ClassId;
-use kr_classes_types::{NodeTypes, TypeForm, Types};
+use kr_classes_types::{TypeForm, Types};
 use kr_types_judging::{
-    Judgement, Note, TypingRule, conclude, field_name_rule, type_of_node, variable_of,
+    ClassTypes, Judgement, Note, TypingRule, conclude, field_name_rule, type_of_node, variable_of,
 };
 use kr_types_scopes::{Scopes, Within};
 
@@ -50,35 +48,37 @@ pub fn class_of(trees: &[Tree], heads: &Heads, file: u32, node: Option<u32>) -> 
 
 /// T3: a name means something; T5: no instance field in static code.
 pub fn variable_rule(
-    trees: &[Tree],
-    types: &Types,
-    members: &Members,
-    node_types: &NodeTypes,
+    classes: &ClassTypes<'_>,
     scopes: &Scopes,
     file: u32,
     node: u32,
     class: ClassId,
     name: &[u8],
 ) -> Judgement
-    requires members { AreMembers trees.now members.now }
-    requires numbers { AreNodeTypes trees.now types.now node_types.now }
-    requires file { file < length trees.now }
-    requires node { node < length (file_at trees.now file).entries }
-    requires scopes { AreScopes (file_at trees.now file) scopes.now.bindings.items scopes.now.within.items }
-    ensures within { IsVerdictWithin types.now result }
-    ensures says { (known : List Known) → let s = scope_at (setting (table_in trees.now) known (file_at trees.now file)) scopes.now.bindings.items scopes.now.within.items node in s.class ≡ class → verdict_shown types.now result ≡ rules.name_rule s (meant s name.now) }
+    requires classes { AreClassTypes classes.now }
+    requires file { file < length classes.now.trees.now }
+    requires node { node < length (file_at classes.now.trees.now file).entries }
+    requires scopes { AreScopes (file_at classes.now.trees.now file) scopes.now.bindings.items scopes.now.within.items }
+    ensures within { IsVerdictWithin classes.now.types.now result }
+    ensures says { (known : List Known) → let s = scope_at (setting (table_in classes.now.trees.now) known (file_at classes.now.trees.now file)) scopes.now.bindings.items scopes.now.within.items node in s.class ≡ class → verdict_shown classes.now.types.now result ≡ rules.name_rule s (meant s name.now) }
 {
-    let tree = tree_of(trees, file);
+    let tree = tree_of(classes.trees, file);
     match scopes.local(tree, node, name) {
         Some(local) => {
-            let number = type_of_node(trees, types, node_types, file, local.declared);
-            variable_of(types, number)
+            let number = type_of_node(
+                classes.trees,
+                classes.types,
+                classes.node_types,
+                file,
+                local.declared,
+            );
+            variable_of(classes.types, number)
         }
-        None => match members.field_meant(class, name) {
+        None => match classes.members.field_meant(class, name) {
             None => Judgement::Breaks(TypingRule::UnknownName),
             Some(field) => {
                 let here = scopes.at(node);
-                field_name_rule(trees, types, node_types, here, field)
+                field_name_rule(classes, here, field)
             }
         },
     }
@@ -86,10 +86,7 @@ pub fn variable_rule(
 
 /// A name.
 pub fn variable_note(
-    trees: &[Tree],
-    types: &Types,
-    members: &Members,
-    node_types: &NodeTypes,
+    classes: &ClassTypes<'_>,
     scopes: &Scopes,
     file: u32,
     node: u32,
@@ -97,18 +94,15 @@ pub fn variable_note(
     class: ClassId,
     name: &[u8],
 ) -> Note
-    requires members { AreMembers trees.now members.now }
-    requires numbers { AreNodeTypes trees.now types.now node_types.now }
-    requires file { file < length trees.now }
-    requires node { node < length (file_at trees.now file).entries }
-    requires scopes { AreScopes (file_at trees.now file) scopes.now.bindings.items scopes.now.within.items }
-    ensures within { IsNoteWithin types.now result }
+    requires classes { AreClassTypes classes.now }
+    requires file { file < length classes.now.trees.now }
+    requires node { node < length (file_at classes.now.trees.now file).entries }
+    requires scopes { AreScopes (file_at classes.now.trees.now file) scopes.now.bindings.items scopes.now.within.items }
+    ensures within { IsNoteWithin classes.now.types.now result }
     ensures no_rest { HasNoRest result.known }
-    ensures shown { (known : List Known) (look : ℕ → rules.Typed) → let s = scope_at (setting (table_in trees.now) known (file_at trees.now file)) scopes.now.bindings.items scopes.now.within.items node in s.class ≡ class → note_shown types.now look result ≡ leaf place (rules.name_rule s (meant s name.now)) }
+    ensures shown { (known : List Known) (look : ℕ → rules.Typed) → let s = scope_at (setting (table_in classes.now.trees.now) known (file_at classes.now.trees.now file)) scopes.now.bindings.items scopes.now.within.items node in s.class ≡ class → note_shown classes.now.types.now look result ≡ leaf place (rules.name_rule s (meant s name.now)) }
 {
-    let verdict = variable_rule(
-        trees, types, members, node_types, scopes, file, node, class, name,
-    );
+    let verdict = variable_rule(classes, scopes, file, node, class, name);
     conclude(place, verdict, None)
 }
 

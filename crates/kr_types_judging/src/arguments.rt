@@ -4,22 +4,20 @@ ghost use Rattle.kr_ast.specs.Arena.{tree_in};
 ghost use Rattle.kr_classes_table.specs.Table.{items};
 ghost use Rattle.kr_ast.specs.Files.{file_at};
 ghost use Rattle.kr_classes_members.specs.Shown.{headings_in, table_in};
-ghost use Rattle.kr_classes_members.specs.Kept.{AreMembers};
 ghost use Rattle.kr_classes_types.specs.Types.{count, type_at};
-ghost use Rattle.kr_classes_types.specs.Numbers.{AreNodeTypes};
+ghost use Rattle.kr_types_judging.specs.Classes.{AreClassTypes};
 ghost use Rattle.kr_types_judging.specs.Arguments.{arguments_go_into, listed_types, parameter_types_in};
 
+use crate::class_types::ClassTypes;
 use crate::relations::takes;
 use kr_ast::{Node, Tree, tree_of};
-use kr_classes_members::Members;
 use kr_classes_table::TypeId;
-use kr_classes_types::{NodeTypes, Types};
 
 /// A parameter's type by its node, and the list behind it.
 #[derive(Clone, Copy)]
-pub(crate) struct NextParameter {
-    pub(crate) declared: u32,
-    pub(crate) rest: u32,
+pub struct NextParameter {
+    pub declared: u32,
+    pub rest: u32,
 }
 
 /// The first item of a list and what is behind it.
@@ -47,7 +45,7 @@ fn declared_type(tree: &Tree, node: u32) -> Option<u32>
 }
 
 /// The next parameter of a list.
-fn next_parameter(tree: &Tree, list: u32) -> Option<NextParameter>
+pub fn next_parameter(tree: &Tree, list: u32) -> Option<NextParameter>
     requires { list < length tree.now.entries }
     ensures behind { IfSome result (λ p. p.rest < list) }
     ensures shown { MatchOption result (listed_types tree.now list ≡ []) (λ p. listed_types tree.now list ≡ tree_in tree.now p.declared ∷ listed_types tree.now p.rest) }
@@ -64,29 +62,25 @@ fn next_parameter(tree: &Tree, list: u32) -> Option<NextParameter>
 
 /// Whether there are as many arguments as parameters, and each goes into its parameter.
 pub fn arguments_fit(
-    trees: &[Tree],
-    types: &Types,
-    members: &Members,
-    node_types: &NodeTypes,
+    classes: &ClassTypes<'_>,
     arguments: &[TypeId],
     file: u32,
     parameters: u32,
 ) -> bool
-    requires members { AreMembers trees.now members.now }
-    requires numbers { AreNodeTypes trees.now types.now node_types.now }
-    requires arguments { All (λ t. t < count types.now) arguments.now }
-    requires file { file < length trees.now }
-    requires parameters { parameters < length (file_at trees.now file).entries }
-    ensures { result ≡ arguments_go_into (table_in trees.now) (headings_in trees.now) (map (type_at types.now) arguments.now) (listed_types (file_at trees.now file) parameters) }
+    requires classes { AreClassTypes classes.now }
+    requires arguments { All (λ t. t < count classes.now.types.now) arguments.now }
+    requires file { file < length classes.now.trees.now }
+    requires parameters { parameters < length (file_at classes.now.trees.now file).entries }
+    ensures { result ≡ arguments_go_into (table_in classes.now.trees.now) (headings_in classes.now.trees.now) (map (type_at classes.now.types.now) arguments.now) (listed_types (file_at classes.now.trees.now file) parameters) }
 {
-    let tree = tree_of(trees, file);
+    let tree = tree_of(classes.trees, file);
     let mut at = parameters;
     for argument in arguments {
         match next_parameter(tree, at) {
             None => return false,
             Some(next) => {
-                let to = node_types.number(file, next.declared);
-                if !takes(types, members, to, *argument) {
+                let to = classes.node_types.number(file, next.declared);
+                if !takes(classes.types, classes.members, to, *argument) {
                     return false;
                 }
                 at = next.rest;

@@ -5,20 +5,20 @@ ghost use Rattle.kr_types_meaning.specs.Rules as rules;
 ghost use Rattle.kr_types_scopes.specs.Settings.{Setting, role_of, scope_in};
 ghost use Rattle.kr_types_scopes.specs.declared.within.Binding.{Binding};
 ghost use Rattle.kr_classes_members.specs.Shown.{IsMethod, method_shown, table_in};
-ghost use Rattle.kr_classes_members.specs.Kept.{AreMembers};
 ghost use Rattle.kr_classes_types.specs.Types.{IsTypeNumber, count, type_at};
 ghost use Rattle.kr_classes_types.specs.Numbers.{AreNodeTypes};
+ghost use Rattle.kr_types_judging.specs.Classes.{AreClassTypes};
 ghost use Rattle.kr_types_judging.specs.Shown.{IsVerdictWithin, verdict_shown};
 
 use crate::arguments::arguments_fit;
+use crate::class_types::ClassTypes;
 use crate::known::Judgement;
 use crate::members::value_of;
 use crate::relations::is_void;
 use crate::rules::TypingRule;
-use kr_ast::Tree;
-use kr_classes_members::{Members, Method};
+use kr_classes_members::Method;
 use kr_classes_table::TypeId;
-use kr_classes_types::{NodeTypes, Types};
+use kr_classes_types::Types;
 use kr_types_scopes::{Role, Within};
 
 /// Whether it stands for a statement.
@@ -40,136 +40,102 @@ fn may_stand(types: &Types, number: TypeId, here: Within) -> bool
 }
 
 /// The type of a method's result.
-fn result_type(trees: &[Tree], types: &Types, node_types: &NodeTypes, method: Method) -> TypeId
-    requires { AreNodeTypes trees.now types.now node_types.now }
-    ensures { IsTypeNumber types.now result (method_shown trees.now method).result }
+fn result_type(classes: &ClassTypes<'_>, method: Method) -> TypeId
+    requires { AreNodeTypes classes.now.trees.now classes.now.types.now classes.now.node_types.now }
+    ensures { IsTypeNumber classes.now.types.now result (method_shown classes.now.trees.now method).result }
 {
-    node_types.number(method.file, method.result)
+    classes.node_types.number(method.file, method.result)
 }
 
 /// T32: a call of a method without result stands only as a statement.
-fn result_rule(
-    trees: &[Tree],
-    types: &Types,
-    node_types: &NodeTypes,
-    here: Within,
-    method: Method,
-) -> Judgement
-    requires { AreNodeTypes trees.now types.now node_types.now }
-    ensures within { IsVerdictWithin types.now result }
-    ensures says { (g : Setting) (bs : List Binding) → verdict_shown types.now result ≡ rules.result_rule (scope_in g bs here) (method_shown trees.now method) }
+fn result_rule(classes: &ClassTypes<'_>, here: Within, method: Method) -> Judgement
+    requires { AreNodeTypes classes.now.trees.now classes.now.types.now classes.now.node_types.now }
+    ensures within { IsVerdictWithin classes.now.types.now result }
+    ensures says { (g : Setting) (bs : List Binding) → verdict_shown classes.now.types.now result ≡ rules.result_rule (scope_in g bs here) (method_shown classes.now.trees.now method) }
 {
-    let number = result_type(trees, types, node_types, method);
+    let number = result_type(classes, method);
     Judgement::ask(
-        may_stand(types, number, here),
+        may_stand(classes.types, number, here),
         TypingRule::NoResult,
-        value_of(types, number),
+        value_of(classes.types, number),
     )
 }
 
 /// T24: the arguments fit.
 fn arguments_rule(
-    trees: &[Tree],
-    types: &Types,
-    members: &Members,
-    node_types: &NodeTypes,
+    classes: &ClassTypes<'_>,
     here: Within,
     method: Method,
     arguments: &[TypeId],
 ) -> Judgement
-    requires members { AreMembers trees.now members.now }
-    requires numbers { AreNodeTypes trees.now types.now node_types.now }
-    requires method { IsMethod trees.now method }
-    requires arguments { All (λ t. t < count types.now) arguments.now }
-    ensures within { IsVerdictWithin types.now result }
-    ensures says { (g : Setting) (bs : List Binding) → g.table ≡ table_in trees.now → verdict_shown types.now result ≡ rules.arguments_rule (scope_in g bs here) (map (type_at types.now) arguments.now) (method_shown trees.now method) }
+    requires classes { AreClassTypes classes.now }
+    requires method { IsMethod classes.now.trees.now method }
+    requires arguments { All (λ t. t < count classes.now.types.now) arguments.now }
+    ensures within { IsVerdictWithin classes.now.types.now result }
+    ensures says { (g : Setting) (bs : List Binding) → g.table ≡ table_in classes.now.trees.now → verdict_shown classes.now.types.now result ≡ rules.arguments_rule (scope_in g bs here) (map (type_at classes.now.types.now) arguments.now) (method_shown classes.now.trees.now method) }
 {
-    let fit = arguments_fit(
-        trees,
-        types,
-        members,
-        node_types,
-        arguments,
-        method.file,
-        method.parameters,
-    );
-    Judgement::ask(
-        fit,
-        TypingRule::Call,
-        result_rule(trees, types, node_types, here, method),
-    )
+    let fit = arguments_fit(classes, arguments, method.file, method.parameters);
+    Judgement::ask(fit, TypingRule::Call, result_rule(classes, here, method))
 }
 
 /// T24: there is the method; T5: no instance method in static code.
 pub fn call_rule(
-    trees: &[Tree],
-    types: &Types,
-    members: &Members,
-    node_types: &NodeTypes,
+    classes: &ClassTypes<'_>,
     here: Within,
     found: Option<Method>,
     arguments: &[TypeId],
 ) -> Judgement
-    requires members { AreMembers trees.now members.now }
-    requires numbers { AreNodeTypes trees.now types.now node_types.now }
-    requires found { IfSome found (IsMethod trees.now) }
-    requires arguments { All (λ t. t < count types.now) arguments.now }
-    ensures within { IsVerdictWithin types.now result }
-    ensures says { (g : Setting) (bs : List Binding) → g.table ≡ table_in trees.now → verdict_shown types.now result ≡ rules.call_rule (scope_in g bs here) (option_map (method_shown trees.now) found) (map (type_at types.now) arguments.now) }
+    requires classes { AreClassTypes classes.now }
+    requires found { IfSome found (IsMethod classes.now.trees.now) }
+    requires arguments { All (λ t. t < count classes.now.types.now) arguments.now }
+    ensures within { IsVerdictWithin classes.now.types.now result }
+    ensures says { (g : Setting) (bs : List Binding) → g.table ≡ table_in classes.now.trees.now → verdict_shown classes.now.types.now result ≡ rules.call_rule (scope_in g bs here) (option_map (method_shown classes.now.trees.now) found) (map (type_at classes.now.types.now) arguments.now) }
 {
     match found {
         None => Judgement::Breaks(TypingRule::Call),
         Some(method) => Judgement::ask(
             method.is_static || !here.is_static,
             TypingRule::StaticCode,
-            arguments_rule(trees, types, members, node_types, here, method, arguments),
+            arguments_rule(classes, here, method, arguments),
         ),
     }
 }
 
 /// T24 behind a class's name.
 pub fn static_rule(
-    trees: &[Tree],
-    types: &Types,
-    members: &Members,
-    node_types: &NodeTypes,
+    classes: &ClassTypes<'_>,
     here: Within,
     found: Option<Method>,
     arguments: &[TypeId],
 ) -> Judgement
-    requires members { AreMembers trees.now members.now }
-    requires numbers { AreNodeTypes trees.now types.now node_types.now }
-    requires found { IfSome found (IsMethod trees.now) }
-    requires arguments { All (λ t. t < count types.now) arguments.now }
-    ensures within { IsVerdictWithin types.now result }
-    ensures says { (g : Setting) (bs : List Binding) → g.table ≡ table_in trees.now → verdict_shown types.now result ≡ rules.static_rule (scope_in g bs here) (option_map (method_shown trees.now) found) (map (type_at types.now) arguments.now) }
+    requires classes { AreClassTypes classes.now }
+    requires found { IfSome found (IsMethod classes.now.trees.now) }
+    requires arguments { All (λ t. t < count classes.now.types.now) arguments.now }
+    ensures within { IsVerdictWithin classes.now.types.now result }
+    ensures says { (g : Setting) (bs : List Binding) → g.table ≡ table_in classes.now.trees.now → verdict_shown classes.now.types.now result ≡ rules.static_rule (scope_in g bs here) (option_map (method_shown classes.now.trees.now) found) (map (type_at classes.now.types.now) arguments.now) }
 {
     match found {
         None => Judgement::Breaks(TypingRule::Call),
         Some(method) => Judgement::ask(
             method.is_static,
             TypingRule::Call,
-            arguments_rule(trees, types, members, node_types, here, method, arguments),
+            arguments_rule(classes, here, method, arguments),
         ),
     }
 }
 
 /// T33: `super.m` is an instance method of an ancestor; T24.
 pub(crate) fn above_rule(
-    trees: &[Tree],
-    types: &Types,
-    members: &Members,
-    node_types: &NodeTypes,
+    classes: &ClassTypes<'_>,
     here: Within,
     found: Option<Method>,
     arguments: &[TypeId],
 ) -> Judgement
-    requires members { AreMembers trees.now members.now }
-    requires numbers { AreNodeTypes trees.now types.now node_types.now }
-    requires found { IfSome found (IsMethod trees.now) }
-    requires arguments { All (λ t. t < count types.now) arguments.now }
-    ensures within { IsVerdictWithin types.now result }
-    ensures says { (g : Setting) (bs : List Binding) → g.table ≡ table_in trees.now → verdict_shown types.now result ≡ rules.above_rule (scope_in g bs here) (option_map (method_shown trees.now) found) (map (type_at types.now) arguments.now) }
+    requires classes { AreClassTypes classes.now }
+    requires found { IfSome found (IsMethod classes.now.trees.now) }
+    requires arguments { All (λ t. t < count classes.now.types.now) arguments.now }
+    ensures within { IsVerdictWithin classes.now.types.now result }
+    ensures says { (g : Setting) (bs : List Binding) → g.table ≡ table_in classes.now.trees.now → verdict_shown classes.now.types.now result ≡ rules.above_rule (scope_in g bs here) (option_map (method_shown classes.now.trees.now) found) (map (type_at classes.now.types.now) arguments.now) }
 {
     match found {
         None => Judgement::Breaks(TypingRule::SuperCall),
@@ -177,30 +143,26 @@ pub(crate) fn above_rule(
             if method.is_static {
                 return Judgement::Breaks(TypingRule::SuperCall);
             }
-            arguments_rule(trees, types, members, node_types, here, method, arguments)
+            arguments_rule(classes, here, method, arguments)
         }
     }
 }
 
 /// T24: a method of an object's class.
 pub(crate) fn method_rule(
-    trees: &[Tree],
-    types: &Types,
-    members: &Members,
-    node_types: &NodeTypes,
+    classes: &ClassTypes<'_>,
     here: Within,
     found: Option<Method>,
     arguments: &[TypeId],
 ) -> Judgement
-    requires members { AreMembers trees.now members.now }
-    requires numbers { AreNodeTypes trees.now types.now node_types.now }
-    requires found { IfSome found (IsMethod trees.now) }
-    requires arguments { All (λ t. t < count types.now) arguments.now }
-    ensures within { IsVerdictWithin types.now result }
-    ensures says { (g : Setting) (bs : List Binding) → g.table ≡ table_in trees.now → verdict_shown types.now result ≡ rules.method_rule (scope_in g bs here) (option_map (method_shown trees.now) found) (map (type_at types.now) arguments.now) }
+    requires classes { AreClassTypes classes.now }
+    requires found { IfSome found (IsMethod classes.now.trees.now) }
+    requires arguments { All (λ t. t < count classes.now.types.now) arguments.now }
+    ensures within { IsVerdictWithin classes.now.types.now result }
+    ensures says { (g : Setting) (bs : List Binding) → g.table ≡ table_in classes.now.trees.now → verdict_shown classes.now.types.now result ≡ rules.method_rule (scope_in g bs here) (option_map (method_shown classes.now.trees.now) found) (map (type_at classes.now.types.now) arguments.now) }
 {
     match found {
         None => Judgement::Breaks(TypingRule::Call),
-        Some(method) => arguments_rule(trees, types, members, node_types, here, method, arguments),
+        Some(method) => arguments_rule(classes, here, method, arguments),
     }
 }

@@ -3,6 +3,7 @@
 
 mod arguments;
 mod calls;
+mod class_types;
 mod collections;
 mod declarations;
 mod known;
@@ -15,8 +16,9 @@ mod rules;
 mod statements;
 mod writes;
 
-pub use arguments::arguments_fit;
+pub use arguments::{NextParameter, arguments_fit, next_parameter};
 pub use calls::{call_rule, static_rule};
+pub use class_types::ClassTypes;
 pub use declarations::{
     constant_initial_rule, field_initial_rule, local_rule, result_value_rule, return_rule,
     type_of_node,

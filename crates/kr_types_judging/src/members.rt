@@ -5,18 +5,18 @@ ghost use Rattle.kr_types_meaning.specs.Scopes.{FieldName};
 ghost use Rattle.kr_types_scopes.specs.Settings.{Setting, scope_in};
 ghost use Rattle.kr_types_scopes.specs.declared.within.Binding.{Binding};
 ghost use Rattle.kr_classes_members.specs.Shown.{field_shown, table_in};
-ghost use Rattle.kr_classes_members.specs.Kept.{AreMembers};
 ghost use Rattle.kr_classes_types.specs.Types.{IsTypeNumber, count, type_at};
 ghost use Rattle.kr_classes_types.specs.Numbers.{AreNodeTypes};
+ghost use Rattle.kr_types_judging.specs.Classes.{AreClassTypes};
 ghost use Rattle.kr_types_judging.specs.Shown.{IsVerdictWithin, verdict_shown};
 
+use crate::class_types::ClassTypes;
 use crate::known::{Judgement, Typed};
 use crate::relations::is_int;
 use crate::rules::TypingRule;
-use kr_ast::Tree;
-use kr_classes_members::{Field, Members};
+use kr_classes_members::Field;
 use kr_classes_table::TypeId;
-use kr_classes_types::{NodeTypes, TypeForm, Types};
+use kr_classes_types::{TypeForm, Types};
 use kr_types_scopes::Within;
 
 /// The value of a type; none where rule T1 is broken of it.
@@ -46,110 +46,85 @@ pub fn variable_of(types: &Types, number: TypeId) -> Judgement
 }
 
 /// The type of a field or constant.
-pub fn field_type(trees: &[Tree], types: &Types, node_types: &NodeTypes, field: Field) -> TypeId
-    requires { AreNodeTypes trees.now types.now node_types.now }
-    ensures { IsTypeNumber types.now result (field_shown trees.now field).type }
+pub fn field_type(classes: &ClassTypes<'_>, field: Field) -> TypeId
+    requires { AreNodeTypes classes.now.trees.now classes.now.types.now classes.now.node_types.now }
+    ensures { IsTypeNumber classes.now.types.now result (field_shown classes.now.trees.now field).type }
 {
-    node_types.number(field.file, field.declared)
+    classes.node_types.number(field.file, field.declared)
 }
 
 /// T5: no instance field in static code; a constant is no variable.
-pub fn field_name_rule(
-    trees: &[Tree],
-    types: &Types,
-    node_types: &NodeTypes,
-    here: Within,
-    field: Field,
-) -> Judgement
-    requires { AreNodeTypes trees.now types.now node_types.now }
-    ensures within { IsVerdictWithin types.now result }
-    ensures says { (g : Setting) (bs : List Binding) → verdict_shown types.now result ≡ rules.name_rule (scope_in g bs here) (FieldName (field_shown trees.now field)) }
+pub fn field_name_rule(classes: &ClassTypes<'_>, here: Within, field: Field) -> Judgement
+    requires { AreNodeTypes classes.now.trees.now classes.now.types.now classes.now.node_types.now }
+    ensures within { IsVerdictWithin classes.now.types.now result }
+    ensures says { (g : Setting) (bs : List Binding) → verdict_shown classes.now.types.now result ≡ rules.name_rule (scope_in g bs here) (FieldName (field_shown classes.now.trees.now field)) }
 {
-    let number = field_type(trees, types, node_types, field);
+    let number = field_type(classes, field);
     if field.is_static {
-        return value_of(types, number);
+        return value_of(classes.types, number);
     }
     Judgement::ask(
         !here.is_static,
         TypingRule::StaticCode,
-        variable_of(types, number),
+        variable_of(classes.types, number),
     )
 }
 
 /// T22: an instance field.
-fn field_rule(
-    trees: &[Tree],
-    types: &Types,
-    node_types: &NodeTypes,
-    found: Option<Field>,
-) -> Judgement
-    requires { AreNodeTypes trees.now types.now node_types.now }
-    ensures within { IsVerdictWithin types.now result }
-    ensures says { verdict_shown types.now result ≡ rules.field_rule (option_map (field_shown trees.now) found) }
+fn field_rule(classes: &ClassTypes<'_>, found: Option<Field>) -> Judgement
+    requires { AreNodeTypes classes.now.trees.now classes.now.types.now classes.now.node_types.now }
+    ensures within { IsVerdictWithin classes.now.types.now result }
+    ensures says { verdict_shown classes.now.types.now result ≡ rules.field_rule (option_map (field_shown classes.now.trees.now) found) }
 {
     match found {
         None => Judgement::Breaks(TypingRule::FieldAccess),
         Some(field) => {
-            let number = field_type(trees, types, node_types, field);
+            let number = field_type(classes, field);
             Judgement::ask(
                 !field.is_static,
                 TypingRule::FieldAccess,
-                variable_of(types, number),
+                variable_of(classes.types, number),
             )
         }
     }
 }
 
 /// T22: a constant of a class.
-pub fn constant_rule(
-    trees: &[Tree],
-    types: &Types,
-    node_types: &NodeTypes,
-    found: Option<Field>,
-) -> Judgement
-    requires { AreNodeTypes trees.now types.now node_types.now }
-    ensures within { IsVerdictWithin types.now result }
-    ensures says { verdict_shown types.now result ≡ rules.constant_rule (option_map (field_shown trees.now) found) }
+pub fn constant_rule(classes: &ClassTypes<'_>, found: Option<Field>) -> Judgement
+    requires { AreNodeTypes classes.now.trees.now classes.now.types.now classes.now.node_types.now }
+    ensures within { IsVerdictWithin classes.now.types.now result }
+    ensures says { verdict_shown classes.now.types.now result ≡ rules.constant_rule (option_map (field_shown classes.now.trees.now) found) }
 {
     match found {
         None => Judgement::Breaks(TypingRule::FieldAccess),
         Some(field) => {
-            let number = field_type(trees, types, node_types, field);
+            let number = field_type(classes, field);
             Judgement::ask(
                 field.is_static,
                 TypingRule::FieldAccess,
-                value_of(types, number),
+                value_of(classes.types, number),
             )
         }
     }
 }
 
 /// T22: an instance field of a class, or the length of an array.
-pub fn access_rule(
-    trees: &[Tree],
-    types: &Types,
-    members: &Members,
-    node_types: &NodeTypes,
-    here: Within,
-    name: &[u8],
-    object: TypeId,
-) -> Judgement
-    requires members { AreMembers trees.now members.now }
-    requires numbers { AreNodeTypes trees.now types.now node_types.now }
-    requires object { object < count types.now }
-    ensures within { IsVerdictWithin types.now result }
-    ensures says { (g : Setting) (bs : List Binding) → g.table ≡ table_in trees.now → verdict_shown types.now result ≡ rules.access_rule (scope_in g bs here) name.now (type_at types.now object) }
+pub fn access_rule(classes: &ClassTypes<'_>, here: Within, name: &[u8], object: TypeId) -> Judgement
+    requires classes { AreClassTypes classes.now }
+    requires object { object < count classes.now.types.now }
+    ensures within { IsVerdictWithin classes.now.types.now result }
+    ensures says { (g : Setting) (bs : List Binding) → g.table ≡ table_in classes.now.trees.now → verdict_shown classes.now.types.now result ≡ rules.access_rule (scope_in g bs here) name.now (type_at classes.now.types.now object) }
 {
-    match types.form(object) {
+    match classes.types.form(object) {
         TypeForm::Class(class) => {
-            let found = members.field_named(class, name);
-            field_rule(trees, types, node_types, found)
+            let found = classes.members.field_named(class, name);
+            field_rule(classes, found)
         }
         TypeForm::Array(_) => {
             Judgement::value_if(
                 name == b"length".as_slice(),
                 TypingRule::FieldAccess,
-                types.int(),
+                classes.types.int(),
             )
         }
         _ => Judgement::Breaks(TypingRule::FieldAccess),

@@ -6,73 +6,80 @@ ghost use Rattle.kr_types_meaning.specs.Scopes as scopes;
 ghost use Rattle.kr_types_scopes.specs.Settings.{Setting, scope_in};
 ghost use Rattle.kr_types_scopes.specs.declared.within.Binding.{Binding};
 ghost use Rattle.kr_classes_members.specs.Shown.{IsMethod, method_shown, table_in};
-ghost use Rattle.kr_classes_members.specs.Kept.{AreMembers};
 ghost use Rattle.kr_classes_types.specs.Types.{count, type_at};
-ghost use Rattle.kr_classes_types.specs.Numbers.{AreNodeTypes};
+ghost use Rattle.kr_types_judging.specs.Classes.{AreClassTypes};
 ghost use Rattle.kr_types_judging.specs.Shown.{IsVerdictWithin, verdict_shown};
 
 use crate::calls::{above_rule, method_rule};
+use crate::class_types::ClassTypes;
 use crate::collections::collection_rule;
 use crate::known::Judgement;
 use crate::rules::TypingRule;
-use kr_ast::Tree;
-use kr_classes_members::{Members, Method};
+use kr_classes_members::Method;
 use kr_classes_table::TypeId;
-use kr_classes_types::{NodeTypes, TypeForm, Types};
+use kr_classes_types::TypeForm;
 use kr_types_scopes::Within;
 
 /// T5: not in static code; T33: `super.m`, the method that the superclass has, is an instance method; T24.
 pub fn super_rule(
-    trees: &[Tree],
-    types: &Types,
-    members: &Members,
-    node_types: &NodeTypes,
+    classes: &ClassTypes<'_>,
     here: Within,
     found: Option<Method>,
     arguments: &[TypeId],
 ) -> Judgement
-    requires members { AreMembers trees.now members.now }
-    requires numbers { AreNodeTypes trees.now types.now node_types.now }
-    requires found { IfSome found (IsMethod trees.now) }
-    requires arguments { All (λ t. t < count types.now) arguments.now }
-    ensures within { IsVerdictWithin types.now result }
-    ensures says { (g : Setting) (bs : List Binding) (name : List ℕ) → g.table ≡ table_in trees.now → option_map (method_shown trees.now) found ≡ option_and_then (λ c. method_named g.table c name) (scopes.super_class (scope_in g bs here)) → verdict_shown types.now result ≡ rules.super_rule (scope_in g bs here) name (map (type_at types.now) arguments.now) }
+    requires classes { AreClassTypes classes.now }
+    requires found { IfSome found (IsMethod classes.now.trees.now) }
+    requires arguments { All (λ t. t < count classes.now.types.now) arguments.now }
+    ensures within { IsVerdictWithin classes.now.types.now result }
+    ensures says { (g : Setting) (bs : List Binding) (name : List ℕ) → g.table ≡ table_in classes.now.trees.now → option_map (method_shown classes.now.trees.now) found ≡ option_and_then (λ c. method_named g.table c name) (scopes.super_class (scope_in g bs here)) → verdict_shown classes.now.types.now result ≡ rules.super_rule (scope_in g bs here) name (map (type_at classes.now.types.now) arguments.now) }
 {
     Judgement::ask(
         !here.is_static,
         TypingRule::StaticCode,
-        above_rule(trees, types, members, node_types, here, found, arguments),
+        above_rule(classes, here, found, arguments),
     )
 }
 
 /// T24, T25: a call through an object.
 pub fn object_call_rule(
-    trees: &[Tree],
-    types: &Types,
-    members: &Members,
-    node_types: &NodeTypes,
+    classes: &ClassTypes<'_>,
     here: Within,
     name: &[u8],
     object: TypeId,
     arguments: &[TypeId],
 ) -> Judgement
-    requires members { AreMembers trees.now members.now }
-    requires numbers { AreNodeTypes trees.now types.now node_types.now }
-    requires object { object < count types.now }
-    requires arguments { All (λ t. t < count types.now) arguments.now }
-    ensures within { IsVerdictWithin types.now result }
-    ensures says { (g : Setting) (bs : List Binding) → g.table ≡ table_in trees.now → verdict_shown types.now result ≡ rules.object_call_rule (scope_in g bs here) name.now (type_at types.now object) (map (type_at types.now) arguments.now) }
+    requires classes { AreClassTypes classes.now }
+    requires object { object < count classes.now.types.now }
+    requires arguments { All (λ t. t < count classes.now.types.now) arguments.now }
+    ensures within { IsVerdictWithin classes.now.types.now result }
+    ensures says { (g : Setting) (bs : List Binding) → g.table ≡ table_in classes.now.trees.now → verdict_shown classes.now.types.now result ≡ rules.object_call_rule (scope_in g bs here) name.now (type_at classes.now.types.now object) (map (type_at classes.now.types.now) arguments.now) }
 {
-    match types.form(object) {
+    match classes.types.form(object) {
         TypeForm::Class(class) => {
-            let found = members.method_named(class, name);
-            method_rule(trees, types, members, node_types, here, found, arguments)
+            let found = classes.members.method_named(class, name);
+            method_rule(classes, here, found, arguments)
         }
         TypeForm::Set(member) => {
-            collection_rule(types, members, here, false, member, name, arguments)
+            collection_rule(
+                classes.types,
+                classes.members,
+                here,
+                false,
+                member,
+                name,
+                arguments,
+            )
         }
         TypeForm::List(member) => {
-            collection_rule(types, members, here, true, member, name, arguments)
+            collection_rule(
+                classes.types,
+                classes.members,
+                here,
+                true,
+                member,
+                name,
+                arguments,
+            )
         }
         _ => Judgement::Breaks(TypingRule::Call),
     }

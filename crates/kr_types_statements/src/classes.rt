@@ -8,8 +8,7 @@ ghost use Rattle.kr_types_meaning.specs.Typing.{class_rule, has_constructor, on_
 ghost use Rattle.kr_types_meaning.specs.Noting.{concluded};
 ghost use Rattle.kr_classes_names.specs.Shown.{AreHeads};
 ghost use Rattle.kr_classes_members.specs.Shown.{table_in};
-ghost use Rattle.kr_classes_members.specs.Kept.{AreMembers};
-ghost use Rattle.kr_classes_types.specs.Numbers.{AreNodeTypes};
+ghost use Rattle.kr_types_judging.specs.Classes.{AreClassTypes};
 ghost use Rattle.kr_types_judging.specs.Shown.{HasNoRest, IsNoteWithin, IsVerdictWithin, note_shown, verdict_shown};
 ghost use Rattle.kr_types_expressions.specs.Constructors.{AreSingle};
 ghost use Rattle.kr_types_expressions.specs.Links.{IsLinked};
@@ -17,12 +16,10 @@ ghost use Rattle.kr_types_expressions.specs.Links.{IsLinked};
 use crate::parts::maybe_type;
 use kr_ast::Tree;
 use kr_base::Place;
-use kr_classes_members::Members;
 use kr_classes_names::Heads;
 use kr_classes_table::ClassId;
-use kr_classes_types::{NodeTypes, Types};
 use kr_types_expressions::implied_rule;
-use kr_types_judging::{Judgement, Note, conclude, earlier};
+use kr_types_judging::{ClassTypes, Judgement, Note, conclude, earlier};
 
 /// The class of a name; the first one where no class has it.
 fn class_named(trees: &[Tree], heads: &Heads, name: &[u8]) -> ClassId
@@ -36,87 +33,64 @@ fn class_named(trees: &[Tree], heads: &Heads, name: &[u8]) -> ClassId
 }
 
 /// What T34 says of a class: only one without a constructor calls that of its superclass without a word.
-fn class_verdict(
-    trees: &[Tree],
-    types: &Types,
-    members: &Members,
-    node_types: &NodeTypes,
-    class: ClassId,
-) -> Judgement
-    requires members { AreMembers trees.now members.now }
-    requires numbers { AreNodeTypes trees.now types.now node_types.now }
-    ensures within { IsVerdictWithin types.now result }
-    ensures says { (s : Scope) → s.table ≡ table_in trees.now → AreSingle s.table → s.class ≡ class → verdict_shown types.now result ≡ class_rule (has_constructor s) s }
+fn class_verdict(classes: &ClassTypes<'_>, class: ClassId) -> Judgement
+    requires classes { AreClassTypes classes.now }
+    ensures within { IsVerdictWithin classes.now.types.now result }
+    ensures says { (s : Scope) → s.table ≡ table_in classes.now.trees.now → AreSingle s.table → s.class ≡ class → verdict_shown classes.now.types.now result ≡ class_rule (has_constructor s) s }
 {
-    if members.constructors(class).is_empty() {
-        return implied_rule(trees, types, members, node_types, class);
+    if classes.members.constructors(class).is_empty() {
+        return implied_rule(classes, class);
     }
     Judgement::fine()
 }
 
 /// A class, from what is kept of its members (Java Language Specification 8.8.9).
 pub fn class_note(
-    trees: &[Tree],
+    classes: &ClassTypes<'_>,
     heads: &Heads,
-    types: &Types,
-    members: &Members,
-    node_types: &NodeTypes,
     place: Place,
     name: &[u8],
     x: Note,
 ) -> Note
-    requires heads { AreHeads trees.now heads.now }
-    requires members { AreMembers trees.now members.now }
-    requires numbers { AreNodeTypes trees.now types.now node_types.now }
-    ensures within { IsNoteWithin types.now result }
+    requires heads { AreHeads classes.now.trees.now heads.now }
+    requires classes { AreClassTypes classes.now }
+    ensures within { IsNoteWithin classes.now.types.now result }
     ensures no_rest { HasNoRest result.known }
-    ensures shown { (s : Scope) (look : ℕ → rules.Typed) → s.table ≡ table_in trees.now → AreSingle s.table → note_shown types.now look result ≡ concluded place (class_rule (has_constructor (in_class name.now s)) (in_class name.now s)) (note_shown types.now look x).least }
+    ensures shown { (s : Scope) (look : ℕ → rules.Typed) → s.table ≡ table_in classes.now.trees.now → AreSingle s.table → note_shown classes.now.types.now look result ≡ concluded place (class_rule (has_constructor (in_class name.now s)) (in_class name.now s)) (note_shown classes.now.types.now look x).least }
 {
-    let class = class_named(trees, heads, name);
-    let verdict = class_verdict(trees, types, members, node_types, class);
+    let class = class_named(classes.trees, heads, name);
+    let verdict = class_verdict(classes, class);
     conclude(place, verdict, x.least)
 }
 
 /// What T34 says of a constructor of a class, by whether the call of the superclass's constructor is absent.
-fn constructor_verdict(
-    trees: &[Tree],
-    types: &Types,
-    members: &Members,
-    node_types: &NodeTypes,
-    class: ClassId,
-    call: Note,
-) -> Judgement
-    requires members { AreMembers trees.now members.now }
-    requires numbers { AreNodeTypes trees.now types.now node_types.now }
-    ensures within { IsVerdictWithin types.now result }
-    ensures says { (s : Scope) (look : ℕ → rules.Typed) → s.table ≡ table_in trees.now → AreSingle s.table → s.class ≡ class → IsLinked look call.known → verdict_shown types.now result ≡ on_maybe (λ t. rules.implied_rule s) (note_shown types.now look call).typed }
+fn constructor_verdict(classes: &ClassTypes<'_>, class: ClassId, call: Note) -> Judgement
+    requires classes { AreClassTypes classes.now }
+    ensures within { IsVerdictWithin classes.now.types.now result }
+    ensures says { (s : Scope) (look : ℕ → rules.Typed) → s.table ≡ table_in classes.now.trees.now → AreSingle s.table → s.class ≡ class → IsLinked look call.known → verdict_shown classes.now.types.now result ≡ on_maybe (λ t. rules.implied_rule s) (note_shown classes.now.types.now look call).typed }
 {
     match maybe_type(call.known) {
         None => Judgement::fine(),
-        Some(_) => implied_rule(trees, types, members, node_types, class),
+        Some(_) => implied_rule(classes, class),
     }
 }
 
 /// A constructor of a class: its parameters, the call of the superclass's constructor, which may be absent, and its body
 /// (Java Language Specification 8.8.7).
 pub fn constructor_note(
-    trees: &[Tree],
-    types: &Types,
-    members: &Members,
-    node_types: &NodeTypes,
+    classes: &ClassTypes<'_>,
     class: ClassId,
     place: Place,
     parameters: Note,
     call: Note,
     body: Note,
 ) -> Note
-    requires members { AreMembers trees.now members.now }
-    requires numbers { AreNodeTypes trees.now types.now node_types.now }
-    ensures within { IsNoteWithin types.now result }
+    requires classes { AreClassTypes classes.now }
+    ensures within { IsNoteWithin classes.now.types.now result }
     ensures no_rest { HasNoRest result.known }
-    ensures shown { (s : Scope) (look : ℕ → rules.Typed) → s.table ≡ table_in trees.now → AreSingle s.table → s.class ≡ class → IsLinked look call.known → note_shown types.now look result ≡ concluded place (on_maybe (λ t. rules.implied_rule s) (note_shown types.now look call).typed) (sooner (sooner (note_shown types.now look parameters).least (note_shown types.now look call).least) (note_shown types.now look body).least) }
+    ensures shown { (s : Scope) (look : ℕ → rules.Typed) → s.table ≡ table_in classes.now.trees.now → AreSingle s.table → s.class ≡ class → IsLinked look call.known → note_shown classes.now.types.now look result ≡ concluded place (on_maybe (λ t. rules.implied_rule s) (note_shown classes.now.types.now look call).typed) (sooner (sooner (note_shown classes.now.types.now look parameters).least (note_shown classes.now.types.now look call).least) (note_shown classes.now.types.now look body).least) }
 {
-    let verdict = constructor_verdict(trees, types, members, node_types, class, call);
+    let verdict = constructor_verdict(classes, class, call);
     let head = earlier(parameters.least, call.least);
     conclude(place, verdict, earlier(head, body.least))
 }

@@ -12,8 +12,8 @@ ghost use Rattle.kr_ast.specs.Files.{file_at};
 ghost use Rattle.kr_classes_members.specs.Shown.{table_in};
 ghost use Rattle.kr_classes_members.specs.Kept.{AreMembers};
 ghost use Rattle.kr_classes_types.specs.Types.{count, type_at};
-ghost use Rattle.kr_classes_types.specs.Numbers.{AreNodeTypes};
 ghost use Rattle.kr_classes_constants.specs.Kept.{AreValues};
+ghost use Rattle.kr_types_judging.specs.Classes.{AreClassTypes};
 ghost use Rattle.kr_types_judging.specs.Shown.{HasNoRest, IsNoteWithin, IsVerdictWithin, least_shown, note_shown, verdict_shown};
 ghost use Rattle.kr_types_expressions.specs.Links.{IsLinked};
 ghost use Rattle.kr_types_statements.specs.Declared.{declares};
@@ -25,10 +25,10 @@ use kr_base::Place;
 use kr_classes_constants::Values;
 use kr_classes_members::Members;
 use kr_classes_table::TypeId;
-use kr_classes_types::{NodeTypes, Types};
+use kr_classes_types::Types;
 use kr_types_judging::{
-    Judgement, Note, TypingRule, conclude, constant_initial_rule, field_initial_rule, local_rule,
-    type_of_node,
+    ClassTypes, Judgement, Note, TypingRule, conclude, constant_initial_rule, field_initial_rule,
+    local_rule, type_of_node,
 };
 use kr_types_scopes::{Declaring, Scopes};
 
@@ -93,10 +93,7 @@ fn declarator_verdict(
 /// A declared name with its initial value, which may be absent (Java Language Specification 8.3, 14.4). The node is the
 /// declarator, and the place that of the name.
 pub fn declarator_note(
-    trees: &[Tree],
-    types: &Types,
-    members: &Members,
-    node_types: &NodeTypes,
+    classes: &ClassTypes<'_>,
     values: &Values,
     scopes: &Scopes,
     file: u32,
@@ -105,24 +102,29 @@ pub fn declarator_note(
     name: &[u8],
     x: Note,
 ) -> Note
-    requires members { AreMembers trees.now members.now }
-    requires numbers { AreNodeTypes trees.now types.now node_types.now }
-    requires file { file < length trees.now }
-    requires node { node < length (file_at trees.now file).entries }
-    requires scopes { AreScopes (file_at trees.now file) scopes.now.bindings.items scopes.now.within.items }
-    requires initial { IsNoteWithin types.now x }
-    ensures within { IsNoteWithin types.now result }
+    requires classes { AreClassTypes classes.now }
+    requires file { file < length classes.now.trees.now }
+    requires node { node < length (file_at classes.now.trees.now file).entries }
+    requires scopes { AreScopes (file_at classes.now.trees.now file) scopes.now.bindings.items scopes.now.within.items }
+    requires initial { IsNoteWithin classes.now.types.now x }
+    ensures within { IsNoteWithin classes.now.types.now result }
     ensures no_rest { HasNoRest result.known }
-    ensures shown { (known : List Known) (look : ℕ → rules.Typed) → AreValues known values.now → IsLinked look x.known → let s = scope_at (setting (table_in trees.now) known (file_at trees.now file)) scopes.now.bindings.items scopes.now.within.items node in note_shown types.now look result ≡ maybe place (rules.declaration_rule s s.declaring place name.now) (note_shown types.now look x) }
+    ensures shown { (known : List Known) (look : ℕ → rules.Typed) → AreValues known values.now → IsLinked look x.known → let s = scope_at (setting (table_in classes.now.trees.now) known (file_at classes.now.trees.now file)) scopes.now.bindings.items scopes.now.within.items node in note_shown classes.now.types.now look result ≡ maybe place (rules.declaration_rule s s.declaring place name.now) (note_shown classes.now.types.now look x) }
 {
     let here = scopes.at(node);
-    let declared = type_of_node(trees, types, node_types, file, here.declared);
-    let is_new_name = is_new(trees, scopes, file, node, name);
+    let declared = type_of_node(
+        classes.trees,
+        classes.types,
+        classes.node_types,
+        file,
+        here.declared,
+    );
+    let is_new_name = is_new(classes.trees, scopes, file, node, name);
     let has_value = values.value_at(place).is_some();
     let initial = maybe_type(x.known);
     let verdict = declarator_verdict(
-        types,
-        members,
+        classes.types,
+        classes.members,
         here.declaring,
         declared,
         is_new_name,

@@ -10,35 +10,36 @@ ghost use Rattle.kr_classes_members.specs.Shown.{table_in};
 ghost use Rattle.kr_classes_members.specs.Kept.{AreMembers};
 ghost use Rattle.kr_classes_types.specs.Types.{count, type_at};
 ghost use Rattle.kr_classes_types.specs.Numbers.{AreNodeTypes};
+ghost use Rattle.kr_types_judging.specs.Classes.{AreClassTypes};
 ghost use Rattle.kr_types_judging.specs.Shown.{HasNoRest, IsNoteWithin, IsVerdictWithin, note_shown, verdict_shown};
 ghost use Rattle.kr_types_expressions.specs.Links.{IsLinked};
 ghost use Rattle.kr_types_statements.specs.Maybe.{types_in, with_maybe};
 
 use crate::parts::maybe_type;
-use kr_ast::Tree;
 use kr_base::Place;
 use kr_classes_members::Members;
 use kr_classes_table::TypeId;
-use kr_classes_types::{NodeTypes, Types};
-use kr_types_judging::{Judgement, Note, conclude, result_value_rule, return_rule, type_of_node};
+use kr_classes_types::Types;
+use kr_types_judging::{
+    ClassTypes, Judgement, Note, conclude, result_value_rule, return_rule, type_of_node,
+};
 use kr_types_scopes::Within;
 
 /// `\result`
-pub fn result_note(
-    trees: &[Tree],
-    types: &Types,
-    node_types: &NodeTypes,
-    file: u32,
-    here: Within,
-    place: Place,
-) -> Note
-    requires { AreNodeTypes trees.now types.now node_types.now }
-    ensures within { IsNoteWithin types.now result }
+pub fn result_note(classes: &ClassTypes<'_>, file: u32, here: Within, place: Place) -> Note
+    requires { AreNodeTypes classes.now.trees.now classes.now.types.now classes.now.node_types.now }
+    ensures within { IsNoteWithin classes.now.types.now result }
     ensures no_rest { HasNoRest result.known }
-    ensures shown { (g : Setting) (bs : List Binding) (look : ℕ → rules.Typed) → g.table ≡ table_in trees.now → g.tree ≡ file_at trees.now file → note_shown types.now look result ≡ leaf place (rules.result_value_rule (scope_in g bs here)) }
+    ensures shown { (g : Setting) (bs : List Binding) (look : ℕ → rules.Typed) → g.table ≡ table_in classes.now.trees.now → g.tree ≡ file_at classes.now.trees.now file → note_shown classes.now.types.now look result ≡ leaf place (rules.result_value_rule (scope_in g bs here)) }
 {
-    let number = type_of_node(trees, types, node_types, file, here.result);
-    let verdict = result_value_rule(types, here, number);
+    let number = type_of_node(
+        classes.trees,
+        classes.types,
+        classes.node_types,
+        file,
+        here.result,
+    );
+    let verdict = result_value_rule(classes.types, here, number);
     conclude(place, verdict, None)
 }
 
@@ -62,25 +63,21 @@ fn return_verdict(
 }
 
 /// `return`, with or without a value (Java Language Specification 14.17).
-pub fn return_note(
-    trees: &[Tree],
-    types: &Types,
-    members: &Members,
-    node_types: &NodeTypes,
-    file: u32,
-    here: Within,
-    place: Place,
-    x: Note,
-) -> Note
-    requires members { AreMembers trees.now members.now }
-    requires numbers { AreNodeTypes trees.now types.now node_types.now }
-    requires value { IsNoteWithin types.now x }
-    ensures within { IsNoteWithin types.now result }
+pub fn return_note(classes: &ClassTypes<'_>, file: u32, here: Within, place: Place, x: Note) -> Note
+    requires classes { AreClassTypes classes.now }
+    requires value { IsNoteWithin classes.now.types.now x }
+    ensures within { IsNoteWithin classes.now.types.now result }
     ensures no_rest { HasNoRest result.known }
-    ensures shown { (g : Setting) (bs : List Binding) (look : ℕ → rules.Typed) → g.table ≡ table_in trees.now → g.tree ≡ file_at trees.now file → IsLinked look x.known → note_shown types.now look result ≡ maybe place (rules.return_rule (scope_in g bs here)) (note_shown types.now look x) }
+    ensures shown { (g : Setting) (bs : List Binding) (look : ℕ → rules.Typed) → g.table ≡ table_in classes.now.trees.now → g.tree ≡ file_at classes.now.trees.now file → IsLinked look x.known → note_shown classes.now.types.now look result ≡ maybe place (rules.return_rule (scope_in g bs here)) (note_shown classes.now.types.now look x) }
 {
-    let number = type_of_node(trees, types, node_types, file, here.result);
+    let number = type_of_node(
+        classes.trees,
+        classes.types,
+        classes.node_types,
+        file,
+        here.result,
+    );
     let value = maybe_type(x.known);
-    let verdict = return_verdict(types, members, here, number, value);
+    let verdict = return_verdict(classes.types, classes.members, here, number, value);
     conclude(place, verdict, x.least)
 }

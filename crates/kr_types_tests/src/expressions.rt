@@ -4,6 +4,7 @@ ghost use Rattle.kr_classes_members.specs.Kept.{AreMembers};
 ghost use Rattle.kr_classes_names.specs.Shown.{AreHeads};
 ghost use Rattle.kr_classes_types.specs.Types.{TypeList, count};
 ghost use Rattle.kr_classes_types.specs.Numbers.{AreNodeTypes};
+ghost use Rattle.kr_types_judging.specs.Classes.{AreClassTypes};
 ghost use Rattle.kr_types_judging.specs.Shown.{HasNoRest, IsKnownWithin, IsNoteWithin};
 ghost use Rattle.kr_types_expressions.specs.Notes.{AreNotesWithin, IsRestBelow};
 
@@ -16,7 +17,7 @@ use kr_types_expressions::{
     NoteList, absent_note, array_creation_note, call_note, constructor_call_note, creation_note,
     list_note, method_call_note, super_call_note, this_note, value_types,
 };
-use kr_types_judging::{Known, Note, Typed};
+use kr_types_judging::{ClassTypes, Known, Note, Typed};
 use kr_types_scopes::Within;
 use std::alloc::Global;
 
@@ -93,56 +94,38 @@ fn types_that_are_new(rt: HostRuntime) -> Result<(), NoMemory> {
 /// The rules that calls with this list break in a program without methods.
 fn broken_calls(
     alloc: Global,
-    trees: &[Tree],
-    types: &Types,
-    members: &Members,
-    numbers: &NodeTypes,
+    classes: &ClassTypes<'_>,
     notes: &NoteList,
     x: Note,
 ) -> Result<(u32, u32), NoMemory>
-    requires members { AreMembers trees.now members.now }
-    requires numbers { AreNodeTypes trees.now types.now numbers.now }
-    requires notes { AreNotesWithin types.now notes.now }
-    requires arguments { IsNoteWithin types.now x }
+    requires classes { AreClassTypes classes.now }
+    requires notes { AreNotesWithin classes.now.types.now notes.now }
+    requires arguments { IsNoteWithin classes.now.types.now x }
     requires below { IsRestBelow (length notes.now) x.known }
 {
     let here = Within::outside();
-    let call = call_note(
-        alloc, trees, types, members, numbers, notes, here, PLACE, None, x,
-    )?;
-    let above = super_call_note(
-        alloc, trees, types, members, numbers, notes, here, PLACE, None, x,
-    )?;
+    let call = call_note(alloc, classes, notes, here, PLACE, None, x)?;
+    let above = super_call_note(alloc, classes, notes, here, PLACE, None, x)?;
     Ok((broken(call), broken(above)))
 }
 
 /// The rules that creations and a call through an object break, where the object and what is created have the type of `null`.
 fn broken_creations(
     alloc: Global,
-    trees: &[Tree],
-    types: &Types,
-    members: &Members,
-    numbers: &NodeTypes,
+    classes: &ClassTypes<'_>,
     notes: &NoteList,
     x: Note,
 ) -> Result<(u32, u32, u32), NoMemory>
-    requires members { AreMembers trees.now members.now }
-    requires numbers { AreNodeTypes trees.now types.now numbers.now }
-    requires notes { AreNotesWithin types.now notes.now }
-    requires arguments { IsNoteWithin types.now x }
+    requires classes { AreClassTypes classes.now }
+    requires notes { AreNotesWithin classes.now.types.now notes.now }
+    requires arguments { IsNoteWithin classes.now.types.now x }
     requires below { IsRestBelow (length notes.now) x.known }
 {
     let here = Within::outside();
-    let null = value_note(types.null());
-    let created = creation_note(
-        alloc, trees, types, members, numbers, notes, here, PLACE, null, x,
-    )?;
-    let call = constructor_call_note(
-        alloc, trees, types, members, numbers, notes, here, PLACE, 0, x,
-    )?;
-    let through = method_call_note(
-        alloc, trees, types, members, numbers, notes, here, PLACE, b"m", None, null, x,
-    )?;
+    let null = value_note(classes.types.null());
+    let created = creation_note(alloc, classes, notes, here, PLACE, null, x)?;
+    let call = constructor_call_note(alloc, classes, notes, here, PLACE, 0, x)?;
+    let through = method_call_note(alloc, classes, notes, here, PLACE, b"m", None, null, x)?;
     Ok((broken(created), broken(call), broken(through)))
 }
 
@@ -177,10 +160,16 @@ fn rules_fit(
     requires notes { AreNotesWithin types.now notes.now }
     requires two { length notes.now ≡ 2 }
 {
+    let classes = ClassTypes {
+        trees,
+        types,
+        members,
+        node_types: numbers,
+    };
     let x = standing(types, notes, 1);
     let given = types_given(alloc, types, notes, x.known)?;
-    let calls = broken_calls(alloc, trees, types, members, numbers, notes, x)?;
-    let creations = broken_creations(alloc, trees, types, members, numbers, notes, x)?;
+    let calls = broken_calls(alloc, &classes, notes, x)?;
+    let creations = broken_creations(alloc, &classes, notes, x)?;
     Ok(given == 1 && calls == (24, 33) && creations == (26, 34, 24))
 }
 

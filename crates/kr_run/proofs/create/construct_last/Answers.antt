@@ -1,5 +1,6 @@
 use Rattle.std.proofs.Common.{◌<◌, [], length, arith, ap}
-use Rattle.kr_mean.specs.Steps.{Outcome, Stuck, stop}
+use Rattle.kr_mean.specs.declared.kind.Stop.TheVariants.{Stuck}
+use Rattle.kr_mean.specs.Steps.{Outcome, stop}
 use Rattle.kr_code.specs.Doing.{constructed}
 use Rattle.kr_run_state.specs.Worlds.{state_at}
 use Rattle.kr_run_frames.specs.Frames.{out_unit}

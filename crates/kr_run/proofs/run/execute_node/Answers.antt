@@ -1,6 +1,6 @@
 use Rattle.std.proofs.Common.{ap, sym, ◌∙◌}
 use Rattle.kr_mean.specs.Steps.{Outcome}
-use Rattle.kr_mean.specs.Meaning.{Flow}
+use Rattle.kr_mean.specs.declared.flow.Flow.{Flow}
 use Rattle.kr_code.specs.declared.statement.Statement.{Statement}
 use Rattle.kr_code.specs.declared.statement.Statement.TheVariants.{Stuck}
 use Rattle.kr_code.specs.Doing.{statement_done}

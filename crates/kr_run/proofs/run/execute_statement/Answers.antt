@@ -1,6 +1,6 @@
 use Rattle.std.proofs.Common.{ap}
 use Rattle.kr_mean.specs.Steps.{Outcome, bind, tick}
-use Rattle.kr_mean.specs.Meaning.{Flow}
+use Rattle.kr_mean.specs.declared.flow.Flow.{Flow}
 use Rattle.kr_code.specs.Doing.{statement_done, flow_of, all_declared}
 use Rattle.kr_code.specs.Tables.{listed}
 use Rattle.kr_code.specs.declared.statement.Statement.{Statement}

@@ -1,7 +1,7 @@
 use Rattle.std.proofs.Common.{refl}
 use Rattle.kr_value.specs.declared.value.Value.{Value}
 use Rattle.kr_mean.specs.Steps.{give}
-use Rattle.kr_mean.specs.Meaning as meaning
+use Rattle.kr_mean.specs.declared.flow.Flow.TheVariants as flows
 use Rattle.kr_code.specs.Doing.{Doing, all_at}
 use Rattle.kr_code.specs.Tables.{listed}
 use Rattle.kr_run_foretold.proofs.Leading.{block_led, by_kind, value_then}
@@ -22,7 +22,7 @@ returns-in-Some g c =
     let w = c.args.world.now in
     let found = c.in-Some.found in
     let r = c.leads-in-Some.result in
-    by_kind code w c.args.fuel r _ _ c.in-Evaluate.is (value_then code w c.args.fuel found found.value r (λ (d : Doing). d.value c.in-Evaluate.node) (λ (d : Doing) (v : Value). give meaning.Next) refl c.in-Some.ensures (c.leads-in-Some.ensures code w))
+    by_kind code w c.args.fuel r _ _ c.in-Evaluate.is (value_then code w c.args.fuel found found.value r (λ (d : Doing). d.value c.in-Evaluate.node) (λ (d : Doing) (v : Value). give flows.Next) refl c.in-Some.ensures (c.leads-in-Some.ensures code w))
 
 pub returns-in-IfThen : goal.returns-in-IfThen
 returns-in-IfThen g c = by_kind c.args.code.now c.args.world.now c.args.fuel c.branch-code.result _ _ c.in-IfThen.is c.branch-code.ensures
@@ -45,4 +45,4 @@ returns-in-Some-look_at g c =
     let w = c.args.world.now in
     let found = c.in-Some-look_at.found in
     let r = c.leads-in-Some-look_at.result in
-    by_kind code w c.args.fuel r _ _ c.in-Return.is (value_then code w c.args.fuel found found.value r (λ (d : Doing). d.value c.in-Return.node) (λ (d : Doing) (v : Value). give (meaning.Gave v)) refl c.in-Some-look_at.ensures (c.leads-in-Some-look_at.ensures code w))
+    by_kind code w c.args.fuel r _ _ c.in-Return.is (value_then code w c.args.fuel found found.value r (λ (d : Doing). d.value c.in-Return.node) (λ (d : Doing) (v : Value). give (flows.Gave v)) refl c.in-Some-look_at.ensures (c.leads-in-Some-look_at.ensures code w))

@@ -2,7 +2,8 @@ use Rattle.std.proofs.Common.{true, rules}
 use Rattle.kr_value.specs.declared.value.Value.{Value}
 use Rattle.kr_value.specs.declared.value.Value.TheVariants.{Bool as Truth}
 use Rattle.kr_mean.specs.Steps.{give}
-use Rattle.kr_mean.specs.Meaning.{Next, choose}
+use Rattle.kr_mean.specs.declared.flow.Flow.TheVariants.{Next}
+use Rattle.kr_mean.specs.Meaning.{choose}
 use Rattle.kr_code.specs.Doing.{Doing}
 use Rattle.kr_run_foretold.proofs.Alike.{flow_as}
 use Rattle.kr_run_foretold.proofs.passing.chosen.Goals as goal

@@ -1,7 +1,8 @@
-use Rattle.std.proofs.Common.{Some, ap}
+use Rattle.std.proofs.Common.{Some, sym, ap}
 use Rattle.std.specs.Prelude.{Result}
 use Rattle.kr_value.specs.declared.value.Value.{Value}
-use Rattle.kr_mean.specs.Steps.{Stop, bind, say}
+use Rattle.kr_mean.specs.declared.kind.Stop.{Stop}
+use Rattle.kr_mean.specs.Steps.{bind, say}
 use Rattle.kr_mean.specs.Operators.{operated}
 use Rattle.kr_code.specs.Doing.{Doing}
 use Rattle.kr_run_known.specs.Knowing.{fuelled}
@@ -17,4 +18,4 @@ returns-in-Ok g c =
     let r = Some (record { value = c.in-Ok.value; fuel = second.fuel }) in
     knows_then code w c.args.fuel first r (λ (d : Doing). d.value c.args.left) (λ (d : Doing) (v : Value). bind (d.value c.args.right) (λ u. say (operated c.args.operator v u))) c.in-Some.ensures
     (knows_then code w first.fuel second r (λ (d : Doing). d.value c.args.right) (λ (d : Doing) (u : Value). say (operated c.args.operator first.value u)) c.in-Some-look.ensures
-    (λ x a d i. ap (λ (q : Result Value Stop). record { said = q; after = fuelled w second.fuel x; reads = w.reads }) c.in-Ok.ensures))
+    (λ x a d i. ap (λ (q : Result Value Stop). record { said = q; after = fuelled w second.fuel x; reads = w.reads }) (sym c.in-Ok.ensures)))

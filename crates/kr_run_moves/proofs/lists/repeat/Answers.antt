@@ -1,6 +1,6 @@
 use Rattle.std.proofs.Common.{Err, ap, ◌∙◌}
 use Rattle.kr_mean.specs.Steps.{Outcome, bind, tick}
-use Rattle.kr_mean.specs.Meaning.{Flow}
+use Rattle.kr_mean.specs.declared.flow.Flow.{Flow}
 use Rattle.kr_code.specs.Doing.{Doing}
 use Rattle.kr_run_state.specs.Noting.{noting}
 use Rattle.kr_run_state.specs.Worlds.{state_at}

@@ -3,8 +3,8 @@ use Rattle.std.specs.Prelude.{Option, Some, None}
 use Rattle.kr_value.specs.declared.value.Value.{Value}
 use Rattle.kr_value.specs.Heaps.{HeapObject, object_in}
 use Rattle.kr_mean.specs.declared.kind.Kind.TheVariants.{ArrayIndexOutOfBoundsException}
+use Rattle.kr_mean.specs.declared.kind.Stop.TheVariants as ends
 use Rattle.kr_mean.specs.Steps.{bind, give, store_index, index_within}
-use Rattle.kr_run_state.specs.declared.world.End.TheVariants as ends
 use Rattle.kr_run_state.specs.declared.world.Halt.TheVariants.{Ended}
 use Rattle.kr_run_state.specs.Noting.{noting}
 use Rattle.kr_run_state.specs.Worlds.{state_at, candidates_of}

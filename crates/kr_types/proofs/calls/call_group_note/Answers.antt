@@ -26,11 +26,11 @@ returns-in-Call c =
     let l = c.args.types.now in
     let ns = c.args.notes.now in
     let look = typed_in l ns in
-    let here = scope_here s c.args.here in
-    let p = c.args.place in
+    let here = scope_here s c.args.spot.here in
+    let p = c.args.spot.place in
     let t = table_in s.trees.now in
     let n = name_in (tree_there s).text c.in-Call.name in
-    let found = c.method_at.ensures.shown ∙ (c.method.ensures.shown t ∙ own_found s (shown_notes l ns) c.args._at p c.args.node c.args.here c.args.meaning c.requires.tree c.requires.here c.requires.meant c.in-Call.name c.in-Call.arguments c.in-Call.is) in
+    let found = c.method_at.ensures.shown ∙ (c.method.ensures.shown t ∙ own_found s (shown_notes l ns) c.args.spot.at p c.args.spot.node c.args.spot.here c.args.meaning c.requires.spot.tree c.requires.spot.here c.requires.meant c.in-Call.name c.in-Call.arguments c.in-Call.is) in
     made_if c.call_note.result _ s l ns (length ns) here p _ _ c.in-Call.is c.call_note.ensures.within c.call_note.ensures.no_rest c.call_note.ensures.shown
     (λ made h. h (setting_in s.trees.now s.file) s.scopes.now.bindings.items refl
     ∙ ap (λ (m : Option Method). noting.list p (rules.call_rule here m) (note_shown l look c.part_note.result)) found
@@ -41,12 +41,11 @@ returns-in-SuperCall c =
     let s = c.args.site.now in
     let l = c.args.types.now in
     let ns = c.args.notes.now in
-    let look = typed_in l ns in
-    let here = scope_here s c.args.here in
-    let p = c.args.place in
+    let here = scope_here s c.args.spot.here in
+    let p = c.args.spot.place in
     let t = table_in s.trees.now in
     let n = name_in (tree_there s).text c.in-SuperCall.name in
-    let found = c.method_at-in-SuperCall.ensures.shown ∙ (c.super_method.ensures.shown t ∙ super_found s (shown_notes l ns) c.args._at p c.args.node c.args.here c.args.meaning c.requires.tree c.requires.here c.requires.meant c.in-SuperCall.name c.in-SuperCall.arguments c.in-SuperCall.is) in
+    let found = c.method_at-in-SuperCall.ensures.shown ∙ (c.super_method.ensures.shown t ∙ super_found s (shown_notes l ns) c.args.spot.at p c.args.spot.node c.args.spot.here c.args.meaning c.requires.spot.tree c.requires.spot.here c.requires.meant c.in-SuperCall.name c.in-SuperCall.arguments c.in-SuperCall.is) in
     made_if c.super_call_note.result _ s l ns (length ns) here p _ _ c.in-SuperCall.is c.super_call_note.ensures.within c.super_call_note.ensures.no_rest c.super_call_note.ensures.shown
     (λ made h. h (setting_in s.trees.now s.file) s.scopes.now.bindings.items n refl found
     ∙ ap (λ (x : noting.Note). noting.list p (rules.super_rule here n) x) c.part_note-in-SuperCall.ensures.shown)
@@ -56,11 +55,10 @@ returns-in-ConstructorCall c =
     let s = c.args.site.now in
     let l = c.args.types.now in
     let ns = c.args.notes.now in
-    let look = typed_in l ns in
-    let here = scope_here s c.args.here in
-    let p = c.args.place in
+    let here = scope_here s c.args.spot.here in
+    let p = c.args.spot.place in
     made_if c.constructor_call_note.result _ s l ns (length ns) here p _ _ c.in-ConstructorCall.is c.constructor_call_note.ensures.within c.constructor_call_note.ensures.no_rest c.constructor_call_note.ensures.shown
-    (λ made h. h (setting_in s.trees.now s.file) s.scopes.now.bindings.items refl c.requires.site.single c.requires.class
+    (λ made h. h (setting_in s.trees.now s.file) s.scopes.now.bindings.items refl c.requires.site.single c.requires.spot.class
     ∙ ap (λ (x : noting.Note). noting.list p (rules.super_constructor_rule here) x) c.part_note-in-ConstructorCall.ensures.shown)
 
 pub returns-in-ObjectCreation : goal.returns-in-ObjectCreation
@@ -69,8 +67,8 @@ returns-in-ObjectCreation c =
     let l = c.args.types.now in
     let ns = c.args.notes.now in
     let look = typed_in l ns in
-    let here = scope_here s c.args.here in
-    let p = c.args.place in
+    let here = scope_here s c.args.spot.here in
+    let p = c.args.spot.place in
     let f = rules.creation_rule here in
     made_if c.creation_note.result _ s l ns (length ns) here p _ _ c.in-ObjectCreation.is c.creation_note.ensures.within c.creation_note.ensures.no_rest c.creation_note.ensures.shown
     (λ made h. h (setting_in s.trees.now s.file) s.scopes.now.bindings.items refl c.requires.site.single

@@ -15,8 +15,8 @@ returns-in-Class c =
     let l = c.args.types.now in
     let ns = c.args.notes.now in
     let look = typed_in l ns in
-    let here = scope_here s c.args.here in
-    let p = c.args.place in
+    let here = scope_here s c.args.spot.here in
+    let p = c.args.spot.place in
     let n = name_in (tree_there s).text c.in-Class.name in
     let name_is = c.name.ensures ∙ ap (λ (a : Arena). name_in a.text c.in-Class.name) c.tree.ensures in
     made_of s l ns (length ns) here p _ _ _ c.in-Class.is c.class_note.ensures.within c.class_note.ensures.no_rest

@@ -18,12 +18,12 @@ returns-in-FieldAccess c =
     let l = c.args.types.now in
     let ns = c.args.notes.now in
     let look = typed_in l ns in
-    let here = scope_here s c.args.here in
-    let p = c.args.place in
+    let here = scope_here s c.args.spot.here in
+    let p = c.args.spot.place in
     let n = name_in (tree_there s).text c.in-FieldAccess.name in
     let name_is = c.name.ensures ∙ ap (λ (a : Arena). name_in a.text c.in-FieldAccess.name) c.tree.ensures in
     let before = class_before here (tree_in (tree_there s) c.in-FieldAccess.object) in
-    let is : c.args.before ≡ before = subst (λ (k : Node). IsBefore s c.args.at k c.args.before) c.in-FieldAccess.is c.requires.before ∙ ap (λ (w : Within). class_before (scope_here s w) (tree_in (tree_there s) c.in-FieldAccess.object)) (sym c.requires.here) in
+    let is : c.args.before ≡ before = subst (λ (k : Node). IsBefore s c.args.spot.at k c.args.before) c.in-FieldAccess.is c.requires.before ∙ ap (λ (w : Within). class_before (scope_here s w) (tree_in (tree_there s) c.in-FieldAccess.object)) (sym c.requires.spot.here) in
     made_of s l ns (length ns) here p _ _ _ c.in-FieldAccess.is c.field_note.ensures.within c.field_note.ensures.no_rest
     (c.field_note.ensures.shown (setting_in s.trees.now s.file) s.scopes.now.bindings.items look refl
     ∙ ap (λ (m : List ℕ). noting.field_of here p m c.args.before (note_shown l look c.part_note.result)) name_is
@@ -36,12 +36,12 @@ returns-in-MethodCall c =
     let l = c.args.types.now in
     let ns = c.args.notes.now in
     let look = typed_in l ns in
-    let here = scope_here s c.args.here in
-    let p = c.args.place in
+    let here = scope_here s c.args.spot.here in
+    let p = c.args.spot.place in
     let n = name_in (tree_there s).text c.in-MethodCall.name in
     let name_is = c.name-in-MethodCall.ensures ∙ ap (λ (a : Arena). name_in a.text c.in-MethodCall.name) c.tree-in-MethodCall.ensures in
     let before = class_before here (tree_in (tree_there s) c.in-MethodCall.object) in
-    let is : c.args.before ≡ before = subst (λ (k : Node). IsBefore s c.args.at k c.args.before) c.in-MethodCall.is c.requires.before ∙ ap (λ (w : Within). class_before (scope_here s w) (tree_in (tree_there s) c.in-MethodCall.object)) (sym c.requires.here) in
+    let is : c.args.before ≡ before = subst (λ (k : Node). IsBefore s c.args.spot.at k c.args.before) c.in-MethodCall.is c.requires.before ∙ ap (λ (w : Within). class_before (scope_here s w) (tree_in (tree_there s) c.in-MethodCall.object)) (sym c.requires.spot.here) in
     made_if c.method_call_note.result _ s l ns (length ns) here p _ _ c.in-MethodCall.is c.method_call_note.ensures.within c.method_call_note.ensures.no_rest c.method_call_note.ensures.shown
     (λ made h. h (setting_in s.trees.now s.file) s.scopes.now.bindings.items refl
     ∙ ap (λ (m : List ℕ). noting.method_of here p m c.args.before (note_shown l look c.part_note-x.result) (note_shown l look c.part_note-y.result)) name_is

@@ -14,9 +14,9 @@ returns-in-This-clause-note c =
     let l = c.this_note.new.types in
     let ns = c.args.notes.now in
     let look = typed_in l ns in
-    let here = scope_here s c.args.here in
-    let p = c.args.place in
-    made_if c.this_note.result _ s l ns (length ns) here p _ _ c.in-This.is c.this_note.ensures.within c.this_note.ensures.no_rest c.this_note.ensures.shown (λ made h. h (setting_in s.trees.now s.file) s.scopes.now.bindings.items look c.requires.class)
+    let here = scope_here s c.args.spot.here in
+    let p = c.args.spot.place in
+    made_if c.this_note.result _ s l ns (length ns) here p _ _ c.in-This.is c.this_note.ensures.within c.this_note.ensures.no_rest c.this_note.ensures.shown (λ made h. h (setting_in s.trees.now s.file) s.scopes.now.bindings.items look c.requires.spot.class)
 
 pub returns-in-ArrayCreation-clause-note : goal.returns-in-ArrayCreation-clause-note
 returns-in-ArrayCreation-clause-note c =
@@ -24,8 +24,8 @@ returns-in-ArrayCreation-clause-note c =
     let l = c.array_creation_note.new.types in
     let ns = c.args.notes.now in
     let look = typed_in l ns in
-    let here = scope_here s c.args.here in
-    let p = c.args.place in
+    let here = scope_here s c.args.spot.here in
+    let p = c.args.spot.place in
     let a = c.args.types.now in
     let f = rules.array_creation_rule here in
     made_if c.array_creation_note.result _ s l ns (length ns) here p _ _ c.in-ArrayCreation.is c.array_creation_note.ensures.within c.array_creation_note.ensures.no_rest c.array_creation_note.ensures.shown

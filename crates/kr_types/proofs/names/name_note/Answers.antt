@@ -17,13 +17,13 @@ returns-in-Declarator c =
     let l = c.args.types.now in
     let ns = c.args.notes.now in
     let look = typed_in l ns in
-    let here = scope_here s c.args.here in
-    let p = c.args.place in
+    let here = scope_here s c.args.spot.here in
+    let p = c.args.spot.place in
     let n = name_in (tree_there s).text c.in-Declarator.name in
     let name_is = c.name-in-Declarator.ensures ∙ ap (λ (a : Arena). name_in a.text c.in-Declarator.name) c.tree-in-Declarator.ensures in
-    let there = scope_of s c.args.at in
+    let there = scope_of s c.args.spot.at in
     made_of s l ns (length ns) here p _ _ _ c.in-Declarator.is c.declarator_note.ensures.within c.declarator_note.ensures.no_rest
     (c.declarator_note.ensures.shown (values_of (table_in s.trees.now)) look c.requires.site.values c.part_note.ensures.linked
     ∙ ap (λ (m : List ℕ). noting.maybe p (rules.declaration_rule there there.declaring p m) (note_shown l look c.part_note.result)) name_is
-    ∙ ap (λ (w : Within). noting.maybe p (rules.declaration_rule (scope_here s w) (scope_here s w).declaring p n) (note_shown l look c.part_note.result)) (sym c.requires.here)
+    ∙ ap (λ (w : Within). noting.maybe p (rules.declaration_rule (scope_here s w) (scope_here s w).declaring p n) (note_shown l look c.part_note.result)) (sym c.requires.spot.here)
     ∙ ap (λ (x : noting.Note). noting.maybe p (rules.declaration_rule here here.declaring p n) x) c.part_note.ensures.shown)

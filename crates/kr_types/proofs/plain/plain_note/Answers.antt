@@ -13,9 +13,8 @@ returns-in-Block c =
     let l = c.args.types.now in
     let ns = c.args.notes.now in
     let look = typed_in l ns in
-    let here = scope_here s c.args.here in
-    let of = noting.note_at (shown_notes l ns) in
-    made_of s l ns (length ns) here c.args.place _ _ _ c.in-Block.is (c.one_part_note.ensures.within l) c.one_part_note.ensures.no_rest
+    let here = scope_here s c.args.spot.here in
+    made_of s l ns (length ns) here c.args.spot.place _ _ _ c.in-Block.is (c.one_part_note.ensures.within l) c.one_part_note.ensures.no_rest
     (c.one_part_note.ensures.shown l look
     ∙ ap (λ (x : noting.Note). noting.plain x.least) c.part_note-x.ensures.shown)
 
@@ -25,9 +24,8 @@ returns-in-ExpressionStatement c =
     let l = c.args.types.now in
     let ns = c.args.notes.now in
     let look = typed_in l ns in
-    let here = scope_here s c.args.here in
-    let of = noting.note_at (shown_notes l ns) in
-    made_of s l ns (length ns) here c.args.place _ _ _ c.in-ExpressionStatement.is (c.one_part_note-in-ExpressionStatement.ensures.within l) c.one_part_note-in-ExpressionStatement.ensures.no_rest
+    let here = scope_here s c.args.spot.here in
+    made_of s l ns (length ns) here c.args.spot.place _ _ _ c.in-ExpressionStatement.is (c.one_part_note-in-ExpressionStatement.ensures.within l) c.one_part_note-in-ExpressionStatement.ensures.no_rest
     (c.one_part_note-in-ExpressionStatement.ensures.shown l look
     ∙ ap (λ (x : noting.Note). noting.plain x.least) c.part_note-x-in-ExpressionStatement.ensures.shown)
 
@@ -37,9 +35,9 @@ returns-in-Local c =
     let l = c.args.types.now in
     let ns = c.args.notes.now in
     let look = typed_in l ns in
-    let here = scope_here s c.args.here in
+    let here = scope_here s c.args.spot.here in
     let of = noting.note_at (shown_notes l ns) in
-    made_of s l ns (length ns) here c.args.place _ _ _ c.in-Local.is (c.two_parts_note.ensures.within l) c.two_parts_note.ensures.no_rest
+    made_of s l ns (length ns) here c.args.spot.place _ _ _ c.in-Local.is (c.two_parts_note.ensures.within l) c.two_parts_note.ensures.no_rest
     (c.two_parts_note.ensures.shown l look
     ∙ ap (λ (x : noting.Note). noting.plain (sooner x.least ((note_shown l look c.part_note-y.result)).least)) c.part_note-x-in-Local.ensures.shown
     ∙ ap (λ (x : noting.Note). noting.plain (sooner ((of c.in-Local.declared)).least x.least)) c.part_note-y.ensures.shown)
@@ -50,9 +48,9 @@ returns-in-Field c =
     let l = c.args.types.now in
     let ns = c.args.notes.now in
     let look = typed_in l ns in
-    let here = scope_here s c.args.here in
+    let here = scope_here s c.args.spot.here in
     let of = noting.note_at (shown_notes l ns) in
-    made_of s l ns (length ns) here c.args.place _ _ _ c.in-Field.is (c.two_parts_note-in-Field.ensures.within l) c.two_parts_note-in-Field.ensures.no_rest
+    made_of s l ns (length ns) here c.args.spot.place _ _ _ c.in-Field.is (c.two_parts_note-in-Field.ensures.within l) c.two_parts_note-in-Field.ensures.no_rest
     (c.two_parts_note-in-Field.ensures.shown l look
     ∙ ap (λ (x : noting.Note). noting.plain (sooner x.least ((note_shown l look c.part_note-y-in-Field.result)).least)) c.part_note-x-in-Field.ensures.shown
     ∙ ap (λ (x : noting.Note). noting.plain (sooner ((of c.in-Field.declared)).least x.least)) c.part_note-y-in-Field.ensures.shown)
@@ -63,9 +61,9 @@ returns-in-Method c =
     let l = c.args.types.now in
     let ns = c.args.notes.now in
     let look = typed_in l ns in
-    let here = scope_here s c.args.here in
+    let here = scope_here s c.args.spot.here in
     let of = noting.note_at (shown_notes l ns) in
-    made_of s l ns (length ns) here c.args.place _ _ _ c.in-Method.is (c.two_parts_note-in-Method.ensures.within l) c.two_parts_note-in-Method.ensures.no_rest
+    made_of s l ns (length ns) here c.args.spot.place _ _ _ c.in-Method.is (c.two_parts_note-in-Method.ensures.within l) c.two_parts_note-in-Method.ensures.no_rest
     (c.two_parts_note-in-Method.ensures.shown l look
     ∙ ap (λ (x : noting.Note). noting.plain (sooner x.least ((note_shown l look c.part_note-y-in-Method.result)).least)) c.part_note-x-in-Method.ensures.shown
     ∙ ap (λ (x : noting.Note). noting.plain (sooner ((of c.in-Method.signature)).least x.least)) c.part_note-y-in-Method.ensures.shown)
@@ -76,9 +74,9 @@ returns-in-Signature c =
     let l = c.args.types.now in
     let ns = c.args.notes.now in
     let look = typed_in l ns in
-    let here = scope_here s c.args.here in
+    let here = scope_here s c.args.spot.here in
     let of = noting.note_at (shown_notes l ns) in
-    made_of s l ns (length ns) here c.args.place _ _ _ c.in-Signature.is (c.three_parts_note.ensures.within l) c.three_parts_note.ensures.no_rest
+    made_of s l ns (length ns) here c.args.spot.place _ _ _ c.in-Signature.is (c.three_parts_note.ensures.within l) c.three_parts_note.ensures.no_rest
     (c.three_parts_note.ensures.shown l look
     ∙ ap (λ (x : noting.Note). noting.plain (sooner (sooner x.least ((note_shown l look c.part_note-y-in-Signature.result)).least) ((note_shown l look c.part_note-z.result)).least)) c.part_note-x-in-Signature.ensures.shown
     ∙ ap (λ (x : noting.Note). noting.plain (sooner (sooner ((of c.in-Signature.result)).least x.least) ((note_shown l look c.part_note-z.result)).least)) c.part_note-y-in-Signature.ensures.shown

@@ -13,8 +13,8 @@ returns-in-Result c =
     let l = c.args.types.now in
     let ns = c.args.notes.now in
     let look = typed_in l ns in
-    let here = scope_here s c.args.here in
-    let p = c.args.place in
+    let here = scope_here s c.args.spot.here in
+    let p = c.args.spot.place in
     made_of s l ns (length ns) here p _ _ _ c.in-Result.is c.result_note.ensures.within c.result_note.ensures.no_rest (c.result_note.ensures.shown (setting_in s.trees.now s.file) s.scopes.now.bindings.items look refl refl)
 
 pub returns-in-Return : goal.returns-in-Return
@@ -23,7 +23,7 @@ returns-in-Return c =
     let l = c.args.types.now in
     let ns = c.args.notes.now in
     let look = typed_in l ns in
-    let here = scope_here s c.args.here in
-    let p = c.args.place in
+    let here = scope_here s c.args.spot.here in
+    let p = c.args.spot.place in
     made_of s l ns (length ns) here p _ _ _ c.in-Return.is c.return_note.ensures.within c.return_note.ensures.no_rest
     (c.return_note.ensures.shown (setting_in s.trees.now s.file) s.scopes.now.bindings.items look refl refl c.part_note.ensures.linked ∙ ap (λ (x : noting.Note). noting.maybe p (rules.return_rule here) x) c.part_note.ensures.shown)

@@ -9,14 +9,14 @@ use Rattle.kr_types_expressions.proofs.Asking.{asks_one}
 use Rattle.kr_types_expressions.proofs.accesses.field_note.Goals as goal
 
 pub returns-in-Some-clause-within : goal.returns-in-Some-clause-within
-returns-in-Some-clause-within c = c.conclude.ensures.within c.args.types.now c.constant_rule-verdict.ensures.within
+returns-in-Some-clause-within c = c.conclude.ensures.within c.args.classes.now.types.now c.constant_rule-verdict.ensures.within
 
 pub returns-in-None-clause-within : goal.returns-in-None-clause-within
-returns-in-None-clause-within c = c.conclude-in-None.ensures.within c.args.types.now c.access_verdict-verdict.ensures.within
+returns-in-None-clause-within c = c.conclude-in-None.ensures.within c.args.classes.now.types.now c.access_verdict-verdict.ensures.within
 
 pub returns-in-None-clause-shown : goal.returns-in-None-clause-shown
 returns-in-None-clause-shown c = λ g bs look e.
-    let l = c.args.types.now in
+    let l = c.args.classes.now.types.now in
     let s = scope_in g bs c.args.here in
     let f = rules.access_rule s c.args.name.now in
     let x = c.args.x in

@@ -10,12 +10,12 @@ use Rattle.kr_types_expressions.proofs.Asking.{concludes_list}
 use Rattle.kr_types_expressions.proofs.calls.call_note.Goals as goal
 
 pub returns-clause-within : goal.returns-clause-within
-returns-clause-within c = c.conclude.ensures.within c.args.types.now c.call_verdict-verdict.ensures.within
+returns-clause-within c = c.conclude.ensures.within c.args.classes.now.types.now c.call_verdict-verdict.ensures.within
 
 pub returns-clause-shown : goal.returns-clause-shown
 returns-clause-shown c = λ g bs e.
-    let l = c.args.types.now in
+    let l = c.args.classes.now.types.now in
     let look = typed_in l c.args.notes.now in
     let o = option_map (λ ts. map (type_at l) ts.items) c.in_ok-arguments.arguments in
-    concludes_list c.args.place (rules.call_rule (scope_in g bs c.args.here) (option_map (method_shown c.args.trees.now) c.args.found)) (note_shown l look c.args.x) (note_shown l look c.conclude.result) (verdict_shown l c.call_verdict-verdict.result) o (c.conclude.ensures.shown l look)
+    concludes_list c.args.place (rules.call_rule (scope_in g bs c.args.here) (option_map (method_shown c.args.classes.now.trees.now) c.args.found)) (note_shown l look c.args.x) (note_shown l look c.conclude.result) (verdict_shown l c.call_verdict-verdict.result) o (c.conclude.ensures.shown l look)
     (c.call_verdict-verdict.ensures.says g bs e) c.in_ok-arguments.ensures.shown

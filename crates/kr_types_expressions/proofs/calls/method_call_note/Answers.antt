@@ -12,11 +12,11 @@ use Rattle.kr_types_expressions.proofs.Asking.{concludes_list, concludes_one_and
 use Rattle.kr_types_expressions.proofs.calls.method_call_note.Goals as goal
 
 pub returns-in-Some-clause-within : goal.returns-in-Some-clause-within
-returns-in-Some-clause-within c = c.conclude.ensures.within c.args.types.now c.static_call_verdict-verdict.ensures.within
+returns-in-Some-clause-within c = c.conclude.ensures.within c.args.classes.now.types.now c.static_call_verdict-verdict.ensures.within
 
 pub returns-in-Some-clause-shown : goal.returns-in-Some-clause-shown
 returns-in-Some-clause-shown c = λ g bs e.
-    let l = c.args.types.now in
+    let l = c.args.classes.now.types.now in
     let look = typed_in l c.args.notes.now in
     let s = scope_in g bs c.args.here in
     let n = c.args.name.now in
@@ -25,16 +25,16 @@ returns-in-Some-clause-shown c = λ g bs e.
     let o = option_map (λ ts. map (type_at l) ts.items) c.in_ok-arguments.arguments in
     concludes_list c.args.place (rules.static_rule s (method_named s.table c.in-Some.class n)) y (note_shown l look c.conclude.result) (verdict_shown l c.static_call_verdict-verdict.result) o (c.conclude.ensures.shown l look)
     (c.static_call_verdict-verdict.ensures.says g bs e
-    ∙ ap (λ (m : Option Method). with_list (rules.static_rule s m) o) (c.method_named-found.ensures.shown c.args.trees.now c.requires.members ∙ ap (λ (t : Table). method_named t c.in-Some.class n) (sym e)))
+    ∙ ap (λ (m : Option Method). with_list (rules.static_rule s m) o) (c.method_named-found.ensures.shown c.args.classes.now.trees.now c.requires.classes.members ∙ ap (λ (t : Table). method_named t c.in-Some.class n) (sym e)))
     c.in_ok-arguments.ensures.shown
     ∙ ap (λ (b : Option ℕ). noting.method_of s c.args.place n b x y) (sym c.in-Some.is)
 
 pub returns-in-None-clause-within : goal.returns-in-None-clause-within
-returns-in-None-clause-within c = c.conclude-in-None.ensures.within c.args.types.now c.object_call_verdict-verdict.ensures.within
+returns-in-None-clause-within c = c.conclude-in-None.ensures.within c.args.classes.now.types.now c.object_call_verdict-verdict.ensures.within
 
 pub returns-in-None-clause-shown : goal.returns-in-None-clause-shown
 returns-in-None-clause-shown c = λ g bs e.
-    let l = c.args.types.now in
+    let l = c.args.classes.now.types.now in
     let look = typed_in l c.args.notes.now in
     let s = scope_in g bs c.args.here in
     let n = c.args.name.now in

@@ -9,11 +9,11 @@ use Rattle.kr_types_expressions.proofs.Asking.{concludes_list}
 use Rattle.kr_types_expressions.proofs.calls.super_call_note.Goals as goal
 
 pub returns-clause-within : goal.returns-clause-within
-returns-clause-within c = c.conclude.ensures.within c.args.types.now c.super_call_verdict-verdict.ensures.within
+returns-clause-within c = c.conclude.ensures.within c.args.classes.now.types.now c.super_call_verdict-verdict.ensures.within
 
 pub returns-clause-shown : goal.returns-clause-shown
 returns-clause-shown c = λ g bs n e k.
-    let l = c.args.types.now in
+    let l = c.args.classes.now.types.now in
     let look = typed_in l c.args.notes.now in
     let o = option_map (λ ts. map (type_at l) ts.items) c.in_ok-arguments.arguments in
     concludes_list c.args.place (rules.super_rule (scope_in g bs c.args.here) n) (note_shown l look c.args.x) (note_shown l look c.conclude.result) (verdict_shown l c.super_call_verdict-verdict.result) o (c.conclude.ensures.shown l look)

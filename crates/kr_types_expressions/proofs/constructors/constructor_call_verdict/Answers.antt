@@ -7,11 +7,11 @@ use Rattle.kr_types_expressions.specs.Parts.{with_list}
 use Rattle.kr_types_expressions.proofs.constructors.constructor_call_verdict.Goals as goal
 
 pub returns-in-None-clause-within : goal.returns-in-None-clause-within
-returns-in-None-clause-within c = c.fine.ensures.within c.args.types.now
+returns-in-None-clause-within c = c.fine.ensures.within c.args.classes.now.types.now
 
 pub returns-in-Some-clause-says : goal.returns-in-Some-clause-says
 returns-in-Some-clause-says c = λ g bs e single k.
-    let l = c.args.types.now in
+    let l = c.args.classes.now.types.now in
     let f = rules.super_constructor_rule (scope_in g bs c.args.here) in
     c.super_constructor_rule.ensures.says g bs e single k
     ∙ ap (λ (ts : List ℕ). f (map (type_at l) ts)) c.deref.ensures.value

@@ -9,11 +9,11 @@ use Rattle.kr_types_expressions.proofs.Asking.{concludes_one_and_list}
 use Rattle.kr_types_expressions.proofs.constructors.creation_note.Goals as goal
 
 pub returns-clause-within : goal.returns-clause-within
-returns-clause-within c = c.conclude.ensures.within c.args.types.now c.creation_verdict-verdict.ensures.within
+returns-clause-within c = c.conclude.ensures.within c.args.classes.now.types.now c.creation_verdict-verdict.ensures.within
 
 pub returns-clause-shown : goal.returns-clause-shown
 returns-clause-shown c = λ g bs e single.
-    let l = c.args.types.now in
+    let l = c.args.classes.now.types.now in
     let look = typed_in l c.args.notes.now in
     let a = option_map (type_at l) c.part_type-created.result in
     let o = option_map (λ ts. map (type_at l) ts.items) c.in_ok-arguments.arguments in

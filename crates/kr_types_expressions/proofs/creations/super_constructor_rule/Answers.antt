@@ -4,7 +4,7 @@ use Rattle.kr_types_scopes.specs.Settings.{scope_in}
 use Rattle.kr_types_expressions.proofs.creations.super_constructor_rule.Goals as goal
 
 pub returns-clause-within : goal.returns-clause-within
-returns-clause-within c = c.fine_if.ensures.within c.args.types.now
+returns-clause-within c = c.fine_if.ensures.within c.args.classes.now.types.now
 
 pub returns-clause-says : goal.returns-clause-says
-returns-clause-says c = λ g bs e single k. c.fine_if.ensures.says c.args.types.now ∙ ap (λ b. ask b 34 fine) (c.fits_above-fits.ensures (scope_in g bs c.args.here) e single k)
+returns-clause-says c = λ g bs e single k. c.fine_if.ensures.says c.args.classes.now.types.now ∙ ap (λ b. ask b 34 fine) (c.fits_above-fits.ensures (scope_in g bs c.args.here) e single k)

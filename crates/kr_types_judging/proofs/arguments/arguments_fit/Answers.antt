@@ -10,8 +10,8 @@ use Rattle.kr_types_judging.proofs.arguments.arguments_fit.Goals as goal
 
 pub returns-in-None : goal.returns-in-None
 returns-in-None c =
-    let files = c.args.trees.now in
-    let l = c.args.types.now in
+    let files = c.args.classes.now.trees.now in
+    let l = c.args.classes.now.types.now in
     let xs = c.args.arguments.now in
     let i = c.loop-argument.argument-index in
     let t = table_in files in
@@ -21,8 +21,8 @@ returns-in-None c =
 
 pub returns-then-not-takes : goal.returns-then-not-takes
 returns-then-not-takes c =
-    let files = c.args.trees.now in
-    let l = c.args.types.now in
+    let files = c.args.classes.now.trees.now in
+    let l = c.args.classes.now.types.now in
     let xs = c.args.arguments.now in
     let i = c.loop-argument.argument-index in
     let t = table_in files in
@@ -32,16 +32,16 @@ returns-then-not-takes c =
     let rest = listed_types tree c.in-Some.next.rest in
     let p = tree_in tree c.in-Some.next.declared in
     let named : type_at l c.number-to.result ≡ type_named hs p =
-    ap (type_at l) c.number-to.ensures ∙ (c.requires.numbers c.args.file c.in-Some.next.declared).type_is ∙ ap (λ (a : Arena). type_named hs (tree_in a c.in-Some.next.declared)) (sym c.tree_of-tree.ensures) in
-    let taken : c.takes.result ≡ goes_into t (type_named hs p) (type_at l (get_or xs i 0)) = c.takes.ensures files c.requires.members ∙ ap (λ x. goes_into t x (type_at l (get_or xs i 0))) named in
+    ap (type_at l) c.number-to.ensures ∙ (c.requires.classes.numbers c.args.file c.in-Some.next.declared).type_is ∙ ap (λ (a : Arena). type_named hs (tree_in a c.in-Some.next.declared)) (sym c.tree_of-tree.ensures) in
+    let taken : c.takes.result ≡ goes_into t (type_named hs p) (type_at l (get_or xs i 0)) = c.takes.ensures files c.requires.classes.members ∙ ap (λ x. goes_into t x (type_at l (get_or xs i 0))) named in
     let more = one_more t hs (type_at l) xs i here rest p (omega arith) c.in-Some.ensures.shown in
     let refused : c.takes.result ≡ false = grind (arith, rules) in
     sym (more ∙ ap (λ b. b && arguments_go_into t hs (map (type_at l) (drop (i + 1) xs)) rest) (sym taken ∙ refused)) ∙ c.loop-argument.invariant.same
 
 pub loop-argument-preserved : goal.loop-argument-preserved
 loop-argument-preserved c =
-    let files = c.args.trees.now in
-    let l = c.args.types.now in
+    let files = c.args.classes.now.trees.now in
+    let l = c.args.classes.now.types.now in
     let xs = c.args.arguments.now in
     let i = c.loop-argument.argument-index in
     let t = table_in files in
@@ -51,8 +51,8 @@ loop-argument-preserved c =
     let rest = listed_types tree c.in-Some.next.rest in
     let p = tree_in tree c.in-Some.next.declared in
     let named : type_at l c.number-to.result ≡ type_named hs p =
-    ap (type_at l) c.number-to.ensures ∙ (c.requires.numbers c.args.file c.in-Some.next.declared).type_is ∙ ap (λ (a : Arena). type_named hs (tree_in a c.in-Some.next.declared)) (sym c.tree_of-tree.ensures) in
-    let taken : c.takes.result ≡ goes_into t (type_named hs p) (type_at l (get_or xs i 0)) = c.takes.ensures files c.requires.members ∙ ap (λ x. goes_into t x (type_at l (get_or xs i 0))) named in
+    ap (type_at l) c.number-to.ensures ∙ (c.requires.classes.numbers c.args.file c.in-Some.next.declared).type_is ∙ ap (λ (a : Arena). type_named hs (tree_in a c.in-Some.next.declared)) (sym c.tree_of-tree.ensures) in
+    let taken : c.takes.result ≡ goes_into t (type_named hs p) (type_at l (get_or xs i 0)) = c.takes.ensures files c.requires.classes.members ∙ ap (λ x. goes_into t x (type_at l (get_or xs i 0))) named in
     let more = one_more t hs (type_at l) xs i here rest p (omega arith) c.in-Some.ensures.shown in
     let went : c.takes.result ≡ true = grind (arith, rules) in
     record {

@@ -7,8 +7,8 @@ use Rattle.kr_types_judging.proofs.arguments.arguments_fit.Given as goal
 
 abbrev pub invariant-loop-argument : goal.invariant-loop-argument
 invariant-loop-argument l = record {
-  tree : l.tree ≡ file_at l.trees l.file;
+  tree : l.tree ≡ file_at l.classes.trees.now l.file;
   at : l.at < length l.tree.entries;
-  same : arguments_go_into (table_in l.trees) (headings_in l.trees) (map (type_at l.types) (drop l.argument-index l.arguments)) (listed_types l.tree l.at)
-      ≡ arguments_go_into (table_in l.trees) (headings_in l.trees) (map (type_at l.types) l.arguments) (listed_types (file_at l.trees l.file) l.fn.parameters);
+  same : arguments_go_into (table_in l.classes.trees.now) (headings_in l.classes.trees.now) (map (type_at l.classes.types.now) (drop l.argument-index l.arguments)) (listed_types l.tree l.at)
+      ≡ arguments_go_into (table_in l.classes.trees.now) (headings_in l.classes.trees.now) (map (type_at l.classes.types.now) l.arguments) (listed_types (file_at l.classes.trees.now l.file) l.fn.parameters);
 }

@@ -11,12 +11,12 @@ use Rattle.kr_types_judging.proofs.Walking.{asked}
 use Rattle.kr_types_judging.proofs.calls.arguments_rule.Goals as goal
 
 pub returns-clause-within : goal.returns-clause-within
-returns-clause-within c = c.ask.ensures.within c.args.types.now c.result_rule.ensures.within
+returns-clause-within c = c.ask.ensures.within c.args.classes.now.types.now c.result_rule.ensures.within
 
 pub returns-clause-says : goal.returns-clause-says
 returns-clause-says c = λ g bs e.
-    let l = c.args.types.now in
-    let files = c.args.trees.now in
+    let l = c.args.classes.now.types.now in
+    let files = c.args.classes.now.trees.now in
     let m = c.args.method in
     let s = scope_in g bs c.args.here in
     let ts = map (type_at l) c.args.arguments.now in

@@ -6,4 +6,4 @@ use Rattle.kr_types_judging.proofs.calls.result_type.Goals as goal
 pub returns : goal.returns
 returns c =
     let m = c.args.method in
-    subst (λ (n : ℕ). IsTypeNumber c.args.types.now n (named_type c.args.trees.now m.file m.result)) (sym c.number.ensures) (c.requires m.file m.result)
+    subst (λ (n : ℕ). IsTypeNumber c.args.classes.now.types.now n (named_type c.args.classes.now.trees.now m.file m.result)) (sym c.number.ensures) (c.requires m.file m.result)

@@ -1,4 +1,4 @@
 use Rattle.kr_types_judging.proofs.calls.static_rule.Goals as goal
 
 pub returns-in-Some-clause-within : goal.returns-in-Some-clause-within
-returns-in-Some-clause-within c = c.ask.ensures.within c.args.types.now c.arguments_rule.ensures.within
+returns-in-Some-clause-within c = c.ask.ensures.within c.args.classes.now.types.now c.arguments_rule.ensures.within

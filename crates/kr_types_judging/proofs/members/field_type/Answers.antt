@@ -6,4 +6,4 @@ use Rattle.kr_types_judging.proofs.members.field_type.Goals as goal
 pub returns : goal.returns
 returns c =
     let f = c.args.field in
-    subst (λ (n : ℕ). IsTypeNumber c.args.types.now n (named_type c.args.trees.now f.file f.declared)) (sym c.number.ensures) (c.requires f.file f.declared)
+    subst (λ (n : ℕ). IsTypeNumber c.args.classes.now.types.now n (named_type c.args.classes.now.trees.now f.file f.declared)) (sym c.number.ensures) (c.requires f.file f.declared)

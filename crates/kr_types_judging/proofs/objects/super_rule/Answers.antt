@@ -7,11 +7,11 @@ use Rattle.kr_classes_types.specs.Types.{type_at}
 use Rattle.kr_types_judging.proofs.objects.super_rule.Goals as goal
 
 pub returns-clause-within : goal.returns-clause-within
-returns-clause-within c = c.ask.ensures.within c.args.types.now c.above_rule.ensures.within
+returns-clause-within c = c.ask.ensures.within c.args.classes.now.types.now c.above_rule.ensures.within
 
 pub returns-clause-says : goal.returns-clause-says
 returns-clause-says c = λ g bs n e m.
-    let l = c.args.types.now in
+    let l = c.args.classes.now.types.now in
     let s = scope_in g bs c.args.here in
     let ts = map (type_at l) c.args.arguments.now in
     c.ask.ensures.says l

@@ -18,21 +18,21 @@ use Rattle.kr_types_statements.proofs.Declared.{declares_is, maybe_same, said_li
 use Rattle.kr_types_statements.proofs.declarators.declarator_note.Goals as goal
 
 pub at-here-requires : goal.at-here-requires
-at-here-requires c = omega (arith, (c.requires.scopes (table_in c.args.trees.now) []).long, c.requires.node)
+at-here-requires c = omega (arith, (c.requires.scopes (table_in c.args.classes.now.trees.now) []).long, c.requires.node)
 
 pub declarator_verdict-verdict-requires-clause-declared : goal.declarator_verdict-verdict-requires-clause-declared
-declarator_verdict-verdict-requires-clause-declared c = (c.type_of_node-declared.ensures (setting (table_in c.args.trees.now) [] (file_at c.args.trees.now c.args.file)) refl refl).within
+declarator_verdict-verdict-requires-clause-declared c = (c.type_of_node-declared.ensures (setting (table_in c.args.classes.now.trees.now) [] (file_at c.args.classes.now.trees.now c.args.file)) refl refl).within
 
 pub declarator_verdict-verdict-requires-clause-initial : goal.declarator_verdict-verdict-requires-clause-initial
-declarator_verdict-verdict-requires-clause-initial c = c.maybe_type-initial.ensures.within c.args.types.now c.requires.initial
+declarator_verdict-verdict-requires-clause-initial c = c.maybe_type-initial.ensures.within c.args.classes.now.types.now c.requires.initial
 
 pub returns-clause-within : goal.returns-clause-within
-returns-clause-within c = c.conclude.ensures.within c.args.types.now c.declarator_verdict-verdict.ensures.within
+returns-clause-within c = c.conclude.ensures.within c.args.classes.now.types.now c.declarator_verdict-verdict.ensures.within
 
 pub returns-clause-shown : goal.returns-clause-shown
 returns-clause-shown c = λ known look kept linked.
-    let l = c.args.types.now in
-    let files = c.args.trees.now in
+    let l = c.args.classes.now.types.now in
+    let files = c.args.classes.now.trees.now in
     let t = table_in files in
     let g = setting t known (file_at files c.args.file) in
     let bs = c.args.scopes.now.bindings.items in
@@ -48,7 +48,7 @@ returns-clause-shown c = λ known look kept linked.
     let said : verdict_shown l c.declarator_verdict-verdict.result ≡ with_maybe rule o =
     said_likewise t o (verdict_shown l c.declarator_verdict-verdict.result) (declaring_of c.at-here.result.declaring) s.declaring (type_at l c.type_of_node-declared.result) s.declared
     c.is_new-is_new_name.result (rules.is_new s n (meant s n)) c.is_some-has_value.result (is_some (value_at known p))
-    (c.declarator_verdict-verdict.ensures.says files c.requires.members) (ap (λ (w : Within). declaring_of w.declaring) here)
+    (c.declarator_verdict-verdict.ensures.says files c.requires.classes.members) (ap (λ (w : Within). declaring_of w.declaring) here)
     (declared.type_is ∙ ap (λ (w : Within). type_there g w.declared) here) (c.is_new-is_new_name.ensures known) has in
     c.conclude.ensures.shown l look
     ∙ ap (λ (v : rules.Judgement). concluded p v (least_shown c.args.x.least))
