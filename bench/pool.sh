@@ -1,7 +1,8 @@
 #!/usr/bin/env bash
 # Times listings by 1, 2, 4 and 8 workers, in turns, so that another load on the machine slows all alike. Of each listing it
 # prints for each number of workers the least wall time and the least processor time of some runs, and their ratios to one
-# worker's; and of a run with --trace: how many entries were scanned and taken in, how many rounds there were, how many looks,
+# worker's; and to those of as many runs by one worker at once, since a processor is slower where its neighbours work, too: of each
+# the least. And of a run with --trace: how many entries were scanned and taken in, how many rounds there were, how many looks,
 # how many rests were laid out for others, how many events the log has, and whether the listing's bytes are one worker's. Then
 # the same over deques (--pool deque), whose times stand beside those of the board with as many workers; and
 # the same times for the trees of the demo, and the peak memory. First it says how many processors the machine has, and how
@@ -19,13 +20,14 @@
 #                                       deep, demo. All, where none is said
 #
 # NODES says of how many nodes the trees are, 11 and 12 where it isn't said; POOL whether the board's times are taken alone
-# (board), or those over deques (deque).
+# (board), or those over deques (deque); WINDOW how many rows a board keeps, 4,096 where it isn't said.
 words=("${@:2}")
 set -- "${1:-3}"
 source "$(dirname "$(readlink -f "$0")")/common.sh"
 examples="$(dirname "$(readlink -f "$0")")/../examples"
 counts=(1 2 4 8)
 sizes=(${NODES-11 12})
+window=(${WINDOW+--window "$WINDOW"})
 
 # Whether a listing is asked for.
 is_asked() {
@@ -57,9 +59,21 @@ ratio() {
     awk -v a="$1" -v b="$2" 'BEGIN { printf "%.2f", a / (b > 0 ? b : 1) }'
 }
 
+# As many runs at once as is said first, of the program with these words: their wall time, and the processor time of each.
+times_beside() {
+    local count=$1 TIMEFORMAT='%3R %3U %3S' wall user system copy
+    shift
+    read -r wall user system < <({ time {
+        for ((copy = 0; copy < count; copy++)); do "$program" "$@" >"$work/beside$copy" 2>/dev/null & done
+        wait
+    }; } 2>&1)
+    echo "$((10#${wall/./})) $(((10#${user/./} + 10#${system/./}) / count))"
+}
+
 # The least times for each number of workers, in turns: of a command, its words in front and behind. `least_wall` and
-# `least_used` have them by the number of workers.
-declare -A least_wall least_used
+# `least_used` have them by the number of workers, `beside_wall` and `beside_used` those of one worker beside as many others as
+# there are processors for.
+declare -A least_wall least_used beside_wall beside_used
 take_times() {
     local command=$1 run count wall used
     shift
@@ -68,6 +82,10 @@ take_times() {
             read -r wall used < <(times "$command" --workers "$count" "$@")
             ((run > 0 && least_wall[$count] <= wall)) || least_wall[$count]=$wall
             ((run > 0 && least_used[$count] <= used)) || least_used[$count]=$used
+            ((count > 1 && count <= $(nproc))) || continue
+            read -r wall used < <(times_beside "$count" "$command" --workers 1 "$@")
+            ((run > 0 && beside_wall[$count] <= wall)) || beside_wall[$count]=$wall
+            ((run > 0 && beside_used[$count] <= used)) || beside_used[$count]=$used
         done
     done
 }
@@ -76,6 +94,9 @@ say_times() {
     printf '  %s: %s ms, %s of one; processor %s ms, %s of one' "$1" \
         "${least_wall[$1]}" "$(ratio "${least_wall[$1]}" "${least_wall[1]}")" \
         "${least_used[$1]}" "$(ratio "${least_used[$1]}" "${least_used[1]}")"
+    [ -n "${beside_wall[$1]-}" ] || return 0
+    printf ' (%s and %s of one of %s at once)' "$(ratio "${least_wall[$1]}" "${beside_wall[$1]}")" \
+        "$(ratio "${least_used[$1]}" "${beside_used[$1]}")" "$1"
 }
 
 # What the log says of a run: entries scanned, rounds, looks, rests laid out, events.
@@ -97,11 +118,11 @@ figures() {
     "$program" list "$@" >"$work/one"
     echo "$name: $(tail -n 1 "$work/one"), the best of $runs"
     if [ "${POOL-}" != deque ]; then
-        take_times list "$@"
+        take_times list "${window[@]}" "$@"
         for count in "${counts[@]}"; do
-            "$program" list --workers "$count" "$@" >"$work/many"
+            "$program" list --workers "$count" "${window[@]}" "$@" >"$work/many"
             if cmp -s "$work/one" "$work/many"; then same="the same bytes"; else same="OTHER BYTES"; fi
-            "$program" list --workers "$count" --trace "$@" >"$work/traced"
+            "$program" list --workers "$count" "${window[@]}" --trace "$@" >"$work/traced"
             read -r scanned rounds looks laid_out events < <(read_trace "$work/traced")
             say_times "$count"
             echo "; entries $scanned, rounds $rounds, looks $looks, rests laid out $laid_out, events $events ($((events * 1000 / (least_wall[$count] + 1))) a second), $same"
