@@ -220,10 +220,10 @@ fn work_on<R: Drop, N: Run<R>, D: Ledger, S: Survey<Row = R>, G: Gate, W: Wait>(
     }
 }
 
-/// A worker at its seat, unless it gave up before: what it kept it reports first; then it takes leases, passes the gate once
-/// after each, scans batches of at most 256 entries and reports them. It leaves where nothing is left, where the board is
-/// full, then keeping lease and part, where all others left or wait, or after so many parts. Where memory is refused it
-/// gives its lease up, keeps the refusal and leaves. It may wait.
+/// A worker at its seat, unless it gave up before: what it kept it reports first, and where it kept nothing it waits a while until
+/// all have begun. Then it takes leases, passes the gate once after each, scans batches of at most 256 entries and reports them. It
+/// leaves where nothing is left, where the board is full, then keeping lease and part, where all others left or wait, or after so
+/// many parts. Where memory is refused it gives its lease up, keeps the refusal and leaves. It may wait.
 pub fn work_at<R: Drop, N: Run<R>, D: Ledger, S: Survey<Row = R>, G: Gate, W: Wait>(
     rt: &W,
     shared: &Shared<R, N, D>,
@@ -236,8 +236,10 @@ pub fn work_at<R: Drop, N: Run<R>, D: Ledger, S: Survey<Row = R>, G: Gate, W: Wa
     ensures number { hand.new.seat.number ≡ hand.old.seat.number }
 {
     shared.enter(rt);
-    shared.await_others(rt);
     if !hand.seat.gave_up() {
+        if hand.kept.is_none() {
+            shared.await_others(rt);
+        }
         match work_on(rt, shared, survey, hand, gate, parts) {
             Course::Done => {}
             Course::Leave => {}

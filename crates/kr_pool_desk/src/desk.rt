@@ -26,6 +26,9 @@ use std::sync::ledger::{Book, Share};
 /// A segment behind the foremost that holds more than this part of the window is left for one nearer to the front.
 const SHARES: u64 = 12;
 
+/// The window is nearly full where less than this part of it is left.
+const NEARLY: u64 = 8;
+
 /// A board, and the book of the calls that were logged at it. Contracts see both.
 #[derive(Drop)]
 pub struct Desk<R, N: Run<R>> {
@@ -306,9 +309,19 @@ impl<R: Drop, N: Run<R>> Desk<R, N> {
         }
     }
 
-    // Whether a rest is wanted now: nothing else can be taken, and there is room for its rows.
-    fn is_rest_wanted(&self) -> bool {
-        !self.has_takeable() && !self.is_at_window()
+    // Whether the rows kept fill nearly all of the window.
+    fn is_nearly_full(&self) -> bool {
+        match self.board.window() {
+            None => false,
+            Some(window) => self.board.rows_kept() >= window - window / NEARLY,
+        }
+    }
+
+    // Whether the rest of this lease is wanted now: nothing else can be taken, and there is room for its rows.
+    fn is_rest_wanted(&self, lease: &Lease) -> bool {
+        !self.has_takeable()
+            && !self.is_at_window()
+            && (!self.is_nearly_full() || self.is_foremost(lease.segment))
     }
 
     // A seat cuts what it has left, and gives the rest up. The lease under which it goes on, and whether there was a cut.
@@ -338,9 +351,9 @@ impl<R: Drop, N: Run<R>> Desk<R, N> {
         }
     }
 
-    /// A seat cuts what it has left, and lays rests out for others, unless something can be taken already or the window is full.
-    /// The highest cuts come first, behind which there is often nothing, so it lays out up to three at once. The lease under
-    /// which it goes on, and whether it cut.
+    /// A seat cuts what it has left, and lays rests out for others, unless something can be taken already or the window is
+    /// nearly full: there the foremost alone is cut. The highest cuts come first, behind which there is often nothing, so it lays
+    /// out up to three at once. The lease under which it goes on, and whether it cut.
     pub fn lay_out(&mut self, seat: u32, lease: Lease, calls: &mut Share<N>) -> (Lease, bool)
         requires part { 0 < calls.old.parts }
         requires below { seat < N.workers }
@@ -349,7 +362,7 @@ impl<R: Drop, N: Run<R>> Desk<R, N> {
         ensures drained { drained self.new.0.log ≡ drained self.old.0.log }
         ensures parts { calls.new.parts ≡ calls.old.parts }
     {
-        if !self.is_rest_wanted() {
+        if !self.is_rest_wanted(&lease) {
             return (lease, false);
         }
         let (first, cut) = self.cut_off(seat, lease, calls);

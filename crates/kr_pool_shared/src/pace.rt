@@ -33,7 +33,7 @@ impl Pace {
         }
     }
 
-    /// A seat begins a round. One that hasn't begun isn't waited for: it may be that no thread was started for it, and that the
+    /// A seat begins a round. One that hasn't begun isn't counted: it may be that no thread was started for it, and that the
     /// caller works at it behind the others.
     pub fn enter(&mut self) {
         self.present = self.present.saturating_add(1);
@@ -45,7 +45,7 @@ impl Pace {
         self.news = true;
     }
 
-    /// A seat waits, and it is answered; but not where all others of the round left or wait.
+    /// A seat begins to wait, but not where all others of the round left or wait. Whether it does.
     pub fn begin_wait(&mut self) -> bool {
         if self.waiting.saturating_add(1) >= self.present {
             return false;

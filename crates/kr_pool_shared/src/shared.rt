@@ -35,8 +35,9 @@ const PEEKS: u32 = 1000;
 /// How often seats wait in vain for the others to begin, one after another, before none waits any more.
 const MISSES: u64 = 4;
 
-/// A board under its lock, how often a seat began a round, how many seats there are, and how often one waited in vain until all
-/// have begun. Who waits is woken where a rest is laid out, a segment is done, a lease is given back, or a seat leaves.
+/// A board under its lock, how often a seat began a round, how many seats there are, how often one waited in vain until all
+/// have begun, and how often there was news. Who waits for news is woken where a rest is laid out, a segment is done, a lease is
+/// given back, or a seat leaves.
 #[derive(Drop)]
 pub struct Shared<R, N: Run<R>, D: Ledger> {
     table: Mutex<Table<R, N, D>>,
