@@ -2,13 +2,13 @@
 # Times listings by 1, 2, 4 and 8 workers, in turns, so that another load on the machine slows all alike. Of each listing it
 # prints for each number of workers the least wall time and the least processor time of some runs, and their ratios to one
 # worker's; and to those of as many runs by one worker at once, since a processor is slower where its neighbours work, too: of each
-# the least. And of a run with --trace: how many entries were scanned and taken in, how many rounds there were, how many looks,
+# the least. And of a run with --trace: how many entries were scanned and taken in, how many drains there were, how many looks,
 # how many rests were laid out for others, how many events the log has, and whether the listing's bytes are one worker's. Then
 # the same over deques (--pool deque), whose times stand beside those of the board with as many workers; and
 # the same times for the trees of the demo, and the peak memory. First it says how many processors the machine has, and how
 # many of them were free in the second before. It judges nothing and never fails.
 #
-# Entries scanned are the sum over the lines `report`, rounds the lines `drain`. A look is a take that found nothing left, or a
+# Entries scanned are the sum over the lines `report`, drains the lines `drain`. A look is a take that found nothing left, or a
 # part that a full board gave back, which is reported again. A rest laid out is a line `steal`. An event is a hold of the lock,
 # but that a rest laid out is two more in its report's.
 #
@@ -99,20 +99,20 @@ say_times() {
         "$(ratio "${least_used[$1]}" "${beside_used[$1]}")" "$1"
 }
 
-# What the log says of a run: entries scanned, rounds, looks, rests laid out, events.
+# What the log says of a run: entries scanned, drains, looks, rests laid out, events.
 read_trace() {
     awk '
         /^(take|giveup|steal|report|look|drain|stop) / { events++ }
         /^steal / { steals++ }
         /^report / { tried += $6 }
         /^look / { looks++ }
-        /^drain / { rounds++ }
-        END { printf "%d %d %d %d %d\n", tried, rounds, looks, steals, events }' "$1"
+        /^drain / { drains++ }
+        END { printf "%d %d %d %d %d\n", tried, drains, looks, steals, events }' "$1"
 }
 
 # A listing under a name.
 figures() {
-    local name=$1 count scanned rounds looks laid_out events same
+    local name=$1 count scanned drains looks laid_out events same
     is_asked "$name" || return 0
     shift
     "$program" list "$@" >"$work/one"
@@ -123,9 +123,9 @@ figures() {
             "$program" list --workers "$count" "${window[@]}" "$@" >"$work/many"
             if cmp -s "$work/one" "$work/many"; then same="the same bytes"; else same="OTHER BYTES"; fi
             "$program" list --workers "$count" "${window[@]}" --trace "$@" >"$work/traced"
-            read -r scanned rounds looks laid_out events < <(read_trace "$work/traced")
+            read -r scanned drains looks laid_out events < <(read_trace "$work/traced")
             say_times "$count"
-            echo "; entries $scanned, rounds $rounds, looks $looks, rests laid out $laid_out, events $events ($((events * 1000 / (least_wall[$count] + 1))) a second), $same"
+            echo "; entries $scanned, drains $drains, looks $looks, rests laid out $laid_out, events $events ($((events * 1000 / (least_wall[$count] + 1))) a second), $same"
         done
     fi
     [ "${POOL-}" = board ] || deque_figures "$@"

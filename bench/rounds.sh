@@ -51,13 +51,13 @@ make_keys() {
     } >"$work/deep.toml"
 }
 
-# Of a trace: entries scanned and taken in, rounds, and events.
+# Of a trace: entries scanned and taken in, drains, and events.
 read_trace() {
-    awk '/^(take|giveup|steal|look|report|drain|stop) / { events++ } /^report / { tried += $6 } /^drain / { rounds++ } END { printf "%d %d %d\n", tried, rounds, events }' "$1"
+    awk '/^(take|giveup|steal|look|report|drain|stop) / { events++ } /^report / { tried += $6 } /^drain / { drains++ } END { printf "%d %d %d\n", tried, drains, events }' "$1"
 }
 
 figures_scanned() {
-    local kind class window count one tried rounds events time same
+    local kind class window count one tried drains events time same
     make_keys
     for kind in flat deep; do
         class=${kind^}
@@ -66,11 +66,11 @@ figures_scanned() {
             for count in 1 2 4 8; do
                 set -- --workers "$count" --window "$window" "$work/$kind.toml" "$work/$class.java"
                 "$program" list --trace "$@" >"$work/traced"
-                read -r tried rounds events < <(read_trace "$work/traced")
+                read -r tried drains events < <(read_trace "$work/traced")
                 [ "$count" != 1 ] || one=$tried
                 time=$(least_time "$work/many" list "$@")
                 if cmp -s "$work/one" "$work/many"; then same="the same bytes"; else same="OTHER BYTES"; fi
-                echo "$kind, window $window, workers $count: $tried entries scanned, $(ratio "$tried" "$one") of one's; $rounds rounds, $events events; $time us; $same"
+                echo "$kind, window $window, workers $count: $tried entries scanned, $(ratio "$tried" "$one") of one's; $drains drains, $events events; $time us; $same"
             done
         done
     done
@@ -117,15 +117,15 @@ figures_streams() {
 }
 
 figures_memory() {
-    local count size peak tried rounds events last_peak last_events
+    local count size peak tried drains events last_peak last_events
     for count in 1 2 4 8; do
         last_peak=
         for size in $((nodes - 2)) $((nodes - 1)) "$nodes"; do
             trees "$size"
             "$program" list --workers "$count" --trace "$work/trees.toml" "$work/Tree.java" >"$work/traced"
-            read -r tried rounds events < <(read_trace "$work/traced")
+            read -r tried drains events < <(read_trace "$work/traced")
             peak=$(peak_memory list --workers "$count" "$work/trees.toml" "$work/Tree.java")
-            printf 'trees of %s nodes, workers %s: peak %s, %s rounds, %s events' "$size" "$count" "$peak" "$rounds" "$events"
+            printf 'trees of %s nodes, workers %s: peak %s, %s drains, %s events' "$size" "$count" "$peak" "$drains" "$events"
             if [ -n "$last_peak" ] && [ -n "${peak%%not*}" ]; then
                 printf ', %s bytes an event more' $(((${peak% KB} - last_peak) * 1024 / (events > last_events ? events - last_events : 1)))
             fi

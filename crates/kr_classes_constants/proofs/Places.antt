@@ -4,12 +4,11 @@ use Rattle.std.specs.Prelude.{Option, Some, None, is_some}
 use Rattle.std.specs.Map.{lookup}
 use Rattle.std.proofs.lemmas.Bool.Decides.{nat_tests}
 use Rattle.kr_base.specs.declared.place.Place.{Place}
-use Rattle.kr_classes_operators.specs.declared.constant.Constant.{Constant}
-use Rattle.kr_classes_operators.specs.Shown.{constant_shown, shown}
-use Rattle.kr_classes_table.specs.Constants.{ConstantValue, Known, is_at_place, value_at, or_else}
+use Rattle.kr_value.specs.declared.value.Value.{Value}
+use Rattle.kr_classes_table.specs.Constants.{Known, is_at_place, value_at, or_else}
 use Rattle.kr_classes_constants.specs.Kept.{Key, is_key_of, found, AreValues}
 
-pub looked : (p : Place) (es : List (Key × Constant)) → lookup (is_key_of p) es ≡ found p es
+pub looked : (p : Place) (es : List (Key × Value)) → lookup (is_key_of p) es ≡ found p es
 looked p [] = refl
 looked p (e ∷ es) = ap (λ r. if is_key_of p e.0 then Some e.1 else r) (looked p es)
 
@@ -21,7 +20,7 @@ value_push : (known : List Known) (k : Known) (p : Place) → value_at (known ++
 value_push [] k p = refl
 value_push (j ∷ known) k p = ap (λ r. if is_at_place j.place p then Some j.value else r) (value_push known k p) ∙ choice_or (is_at_place j.place p) j.value (value_at known p) (if is_at_place k.place p then Some k.value else None)
 
-found_push : (p : Place) (es : List (Key × Constant)) (e : Key × Constant) → found p (es ++ e ∷ []) ≡ or_else (found p es) (if is_key_of p e.0 then Some e.1 else None)
+found_push : (p : Place) (es : List (Key × Value)) (e : Key × Value) → found p (es ++ e ∷ []) ≡ or_else (found p es) (if is_key_of p e.0 then Some e.1 else None)
 found_push p [] e = refl
 found_push p (d ∷ es) e = ap (λ r. if is_key_of p d.0 then Some d.1 else r) (found_push p es e) ∙ choice_or (is_key_of p d.0) d.1 (found p es) (if is_key_of p e.0 then Some e.1 else None)
 
@@ -47,37 +46,27 @@ same_place p q h =
     let cols = equal p.col q.col f.1 in
     λ i. record { file = files i; line = lines i; col = cols i }
 
-present : (o : Option ConstantValue) (b : Bool) (v : ConstantValue) → (b ≡ true → is_some o ≡ true) → o ≡ or_else o (if b then Some v else None)
+present : (o : Option Value) (b : Bool) (v : Value) → (b ≡ true → is_some o ≡ true) → o ≡ or_else o (if b then Some v else None)
 present (Some x) b v h = refl
 present None true v h = absurd (cc (h refl))
 present None false v h = refl
 
-some_shown : (o : Option Constant) → is_some (shown o) ≡ is_some o
-some_shown None = refl
-some_shown (Some x) = refl
-
-shown_or : (o : Option Constant) (b : Bool) (c : Constant) → shown (or_else o (if b then Some c else None)) ≡ or_else (shown o) (if b then Some (constant_shown c) else None)
-shown_or (Some x) b c = refl
-shown_or None true c = refl
-shown_or None false c = refl
-
-module _ (known : List Known) (kept : List (Key × Constant)) (place : Place) (value : Constant) (h : AreValues known kept) where
+module _ (known : List Known) (kept : List (Key × Value)) (place : Place) (value : Value) (h : AreValues known kept) where
   -- a place that has a value keeps it
-  pub kept_value : is_some (found place kept) ≡ true → AreValues (known ++ record { place = place; value = constant_shown value } ∷ []) kept
+  pub kept_value : is_some (found place kept) ≡ true → AreValues (known ++ record { place = place; value = value } ∷ []) kept
   kept_value some p =
-      let there : is_some (value_at known place) ≡ true = ap is_some (sym (h place)) ∙ some_shown (found place kept) ∙ some in
+      let there : is_some (value_at known place) ≡ true = ap is_some (sym (h place)) ∙ some in
       h p
-      ∙ present (value_at known p) (is_at_place place p) (constant_shown value)
+      ∙ present (value_at known p) (is_at_place place p) value
       (λ b. subst (λ (q : Place). is_some (value_at known q) ≡ true) (same_place place p b) there)
-      ∙ sym (value_push known (record { place = place; value = constant_shown value }) p)
+      ∙ sym (value_push known (record { place = place; value = value }) p)
 
   -- one value more
-  pub added_value : AreValues (known ++ record { place = place; value = constant_shown value } ∷ []) (kept ++ ((place.file, place.line, place.col), value) ∷ [])
+  pub added_value : AreValues (known ++ record { place = place; value = value } ∷ []) (kept ++ ((place.file, place.line, place.col), value) ∷ [])
   added_value p =
-      ap shown (found_push p kept ((place.file, place.line, place.col), value))
-      ∙ shown_or (found p kept) (is_key_of p (place.file, place.line, place.col)) value
-      ∙ (λ i. or_else (h p i) (if key_is_place p place i then Some (constant_shown value) else None))
-      ∙ sym (value_push known (record { place = place; value = constant_shown value }) p)
+      found_push p kept ((place.file, place.line, place.col), value)
+      ∙ (λ i. or_else (h p i) (if key_is_place p place i then Some value else None))
+      ∙ sym (value_push known (record { place = place; value = value }) p)
 
 pub none_from : {A : Type 0} (o : Option A) → is_some o ≡ false → o ≡ None
 none_from None h = refl

@@ -9,9 +9,9 @@ use Rattle.kr_ast.specs.declared.node.UnaryOperator.{UnaryOperator}
 use Rattle.kr_ast.specs.declared.node.BinaryOperator.{BinaryOperator}
 use Rattle.kr_ast.specs.Arena.{Arena, ArePartsFrom, name_in, tree_in, tree_of}
 use Rattle.kr_classes_table.specs.Table.{Table, Field}
-use Rattle.kr_classes_table.specs.Constants.{ConstantValue, Known, known_as, with_constant, is_constant, evaluated, unary_value, binary_value, chosen, known_value, field_meant, constant_of, class_meant, is_primitive}
+use Rattle.kr_classes_table.specs.Constants.{Known, known_as, with_constant, is_constant, evaluated, unary_value, binary_value, chosen, known_value, field_meant, constant_of, class_meant, is_primitive}
 use Rattle.kr_classes_constants.specs.Outcomes.{outcome, outcome_of, unary_outcome, binary_outcome, conditional_outcome, known_outcome, with_outcome, note_shown}
-use Rattle.kr_classes_operators.specs.declared.constant.Constant.{Constant}
+use Rattle.kr_value.specs.declared.value.Value.{Value}
 use Rattle.kr_classes_constants.specs.declared.note.Note.{Note}
 use Rattle.kr_classes_constants.specs.declared.frames.Frame.{Frame}
 use Rattle.kr_classes_constants.specs.declared.frames.Task.{Task}
@@ -20,21 +20,21 @@ use Rattle.kr_classes_constants.specs.Kept.{Key, AreValues}
 use Rattle.kr_classes_constants.specs.Frames.{Setting, setting, node_outcome, outcome_at, resumed, whole}
 use Rattle.kr_ast.specs.Arena.{AreBelow}
 
-name_law : (o : Option ConstantValue) → outcome (is_some o) o ≡ known_outcome o
+name_law : (o : Option Value) → outcome (is_some o) o ≡ known_outcome o
 name_law None = refl
 name_law (Some v) = refl
 
-unary_law : (o : UnaryOperator) (b : Bool) (v : Option ConstantValue) → outcome b (option_and_then (unary_value o) v) ≡ unary_outcome o (outcome b v)
+unary_law : (o : UnaryOperator) (b : Bool) (v : Option Value) → outcome b (option_and_then (unary_value o) v) ≡ unary_outcome o (outcome b v)
 unary_law o true v = refl
 unary_law o false v = refl
 
-binary_law : (o : BinaryOperator) (a b : Bool) (v w : Option ConstantValue) → outcome (a && b) (binary_value o v w) ≡ binary_outcome o (outcome a v) (outcome b w)
+binary_law : (o : BinaryOperator) (a b : Bool) (v w : Option Value) → outcome (a && b) (binary_value o v w) ≡ binary_outcome o (outcome a v) (outcome b w)
 binary_law o true true v w = refl
 binary_law o true false v w = refl
 binary_law o false true v w = refl
 binary_law o false false v w = refl
 
-conditional_law : (a b c : Bool) (u v w : Option ConstantValue) → outcome (a && b && c) (chosen u v w) ≡ conditional_outcome (outcome a u) (outcome b v) (outcome c w)
+conditional_law : (a b c : Bool) (u v w : Option Value) → outcome (a && b && c) (chosen u v w) ≡ conditional_outcome (outcome a u) (outcome b v) (outcome c w)
 conditional_law true true true u v w = refl
 conditional_law true true false u v w = refl
 conditional_law true false true u v w = refl
@@ -44,7 +44,7 @@ conditional_law false true false u v w = refl
 conditional_law false false true u v w = refl
 conditional_law false false false u v w = refl
 
-cast_law : (a b : Bool) (v : Option ConstantValue) → outcome (a && b) v ≡ (if a then outcome b v else None)
+cast_law : (a b : Bool) (v : Option Value) → outcome (a && b) v ≡ (if a then outcome b v else None)
 cast_law true b v = refl
 cast_law false b v = refl
 
@@ -74,18 +74,18 @@ parts_below a i j [] h k = tt
 parts_below a i j (c ∷ cs) h k = (let b = k.0.below in omega arith, parts_below a i (j + 1) cs h k.1)
 
 -- a node is looked at
-pub looked : {E : Type 0} (t : Table) (c : ℕ) (a : Arena) (i : ℕ) (e : Entry) (fs new : List Frame) (kept : List (Key × Constant)) → tree_in a i ≡ tree_of a.text (tree_in a) e.place e.node → (r : Result Task E)
+pub looked : {E : Type 0} (t : Table) (c : ℕ) (a : Arena) (i : ℕ) (e : Entry) (fs new : List Frame) (kept : List (Key × Value)) → tree_in a i ≡ tree_of a.text (tree_in a) e.place e.node → (r : Result Task E)
     → IfOk r (λ task. (known : List Known) → AreValues known kept → whole (setting t known c a) task new ≡ resumed (setting t known c a) fs (node_outcome (setting t known c a) e.node))
     → IfOk r (λ task. (known : List Known) → AreValues known kept → whole (setting t known c a) task new ≡ whole (setting t known c a) (Look i) fs)
 looked t c a i e fs new kept h (Err x) k = tt
 looked t c a i e fs new kept h (Ok task) k = λ known v. k known v ∙ ap (resumed (setting t known c a) fs) (sym (entry_law (setting t known c a) i e h))
 
-by_outcome : (known : List Known) (p : Place) (b : Bool) (v : Option ConstantValue) → (if b then known ++ known_as p v else known) ≡ with_outcome known p (outcome b v)
+by_outcome : (known : List Known) (p : Place) (b : Bool) (v : Option Value) → (if b then known ++ known_as p v else known) ≡ with_outcome known p (outcome b v)
 by_outcome known p true v = refl
 by_outcome known p false v = refl
 
 -- a constant's value is noted
-pub noted : {A E : Type 0} (t : Table) (f : Field) (note : Note) (kept new : List (Key × Constant)) → ((known : List Known) → AreValues known kept → note_shown note ≡ outcome_of t known f.class f.initial) → (r : Result A E)
+pub noted : {A E : Type 0} (t : Table) (f : Field) (note : Note) (kept new : List (Key × Value)) → ((known : List Known) → AreValues known kept → note_shown note ≡ outcome_of t known f.class f.initial) → (r : Result A E)
     → IfOk r (λ none. (known : List Known) → AreValues known kept → AreValues (with_outcome known f.place (note_shown note)) new)
     → IfOk r (λ none. (known : List Known) → AreValues known kept → AreValues (with_constant t known f) new)
 noted t f note kept new h (Err x) k = tt

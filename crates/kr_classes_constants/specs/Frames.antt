@@ -6,8 +6,9 @@ use Rattle.kr_ast.specs.declared.node.Node.{Node}
 use Rattle.kr_ast.specs.declared.node.Node.TheVariants as nodes
 use Rattle.kr_ast.specs.Arena.{Arena, name_in, tree_in, tree_of}
 use Rattle.kr_classes_table.specs.Table.{Table}
-use Rattle.kr_classes_table.specs.Numbers.{Bits32}
-use Rattle.kr_classes_table.specs.Constants.{Known, Absent, whole as whole_value, truth, known_value, field_meant, constant_of, class_meant, is_primitive}
+use Rattle.kr_value.specs.declared.value.Value.TheVariants.{Int, Bool as Truth, Null}
+use Rattle.kr_classes_table.specs.Numbers.{Bits32, wrap}
+use Rattle.kr_classes_table.specs.Constants.{Known, known_value, field_meant, constant_of, class_meant, is_primitive}
 use Rattle.kr_classes_constants.specs.declared.frames.Frame.{Frame}
 use Rattle.kr_classes_constants.specs.declared.frames.Frame.TheVariants.{Operand, Left, Right, Condition, Holds, Fails}
 use Rattle.kr_classes_constants.specs.declared.frames.Task.{Task}
@@ -30,9 +31,9 @@ outcome_at s i = outcome_of s.table s.known s.class (tree_in s.tree i)
 
 -- what it comes to from what its parts come to
 abbrev pub node_outcome : Setting → Node → Outcome
-node_outcome s (nodes.Number n) = Some (whole_value Bits32 (pos n))
-node_outcome s (nodes.Truth b) = Some (truth b)
-node_outcome s nodes.Null = Some (Some Absent)
+node_outcome s (nodes.Number n) = Some (Some (Int (wrap Bits32 (pos n))))
+node_outcome s (nodes.Truth b) = Some (Some (Truth b))
+node_outcome s nodes.Null = Some (Some Null)
 node_outcome s (nodes.Variable n) = known_outcome (known_value s.known (field_meant s.table s.class (name_in s.tree.text n)))
 node_outcome s (nodes.FieldAccess x n) = known_outcome (known_value s.known (constant_of s.table (class_meant s.table s.class (tree_in s.tree x)) (name_in s.tree.text n)))
 node_outcome s (nodes.Unary o x) = unary_outcome o (outcome_at s x)

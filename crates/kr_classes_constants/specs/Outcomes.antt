@@ -4,17 +4,17 @@ use Rattle.kr_base.specs.declared.place.Place.{Place}
 use Rattle.kr_ast.specs.Tree.{Tree}
 use Rattle.kr_ast.specs.declared.node.UnaryOperator.{UnaryOperator}
 use Rattle.kr_ast.specs.declared.node.BinaryOperator.{BinaryOperator}
+use Rattle.kr_value.specs.declared.value.Value.{Value}
 use Rattle.kr_classes_table.specs.Table.{Table, Field}
-use Rattle.kr_classes_table.specs.Constants.{ConstantValue, Known, known_as, is_constant, evaluated, unary_value, binary_value, chosen, constant_only}
-use Rattle.kr_classes_operators.specs.Shown.{constant_shown}
+use Rattle.kr_classes_table.specs.Constants.{Known, known_as, is_constant, evaluated, unary_value, binary_value, chosen, constant_only}
 use Rattle.kr_classes_constants.specs.declared.note.Note.{Note}
-use Rattle.kr_classes_constants.specs.declared.note.Note.TheVariants.{NotConstant, NoValue, Value}
+use Rattle.kr_classes_constants.specs.declared.note.Note.TheVariants.{NotConstant, NoValue, Value as Valued}
 
 -- none where it is no constant expression; else its value, which is none where a zero divisor is met
 abbrev pub Outcome : Type 0
-Outcome = Option (Option ConstantValue)
+Outcome = Option (Option Value)
 
-abbrev pub outcome : Bool → Option ConstantValue → Outcome
+abbrev pub outcome : Bool → Option Value → Outcome
 outcome is v = if is then Some v else None
 
 abbrev pub outcome_of : Table → List Known → ℕ → Tree → Outcome
@@ -33,7 +33,7 @@ conditional_outcome (Some c) (Some v) (Some w) = Some (chosen c v w)
 conditional_outcome c v w = None
 
 -- of a name: the value of the constant that it means
-abbrev pub known_outcome : Option ConstantValue → Outcome
+abbrev pub known_outcome : Option Value → Outcome
 known_outcome None = None
 known_outcome (Some v) = Some (Some v)
 
@@ -49,4 +49,4 @@ constant_listed f = option_to_list (constant_only f)
 abbrev pub note_shown : Note → Outcome
 note_shown NotConstant = None
 note_shown NoValue = Some None
-note_shown (Value v) = Some (Some (constant_shown v))
+note_shown (Valued v) = Some (Some v)

@@ -21,7 +21,7 @@ use kr_ast::{Node, Tree, tree_of};
 use kr_base::NoMemory;
 use kr_classes_members::Members;
 use kr_classes_names::Heads;
-use kr_classes_operators::Constant;
+use kr_value::Value;
 use std::alloc::Global;
 
 /// Whether a type's node is a primitive type.
@@ -57,11 +57,11 @@ fn look_at(
     let tree = tree_of(trees, site.file);
     match node {
         Node::Number { value } => {
-            let number = Constant::Int(value.cast_signed());
+            let number = Value::Int(value.cast_signed());
             Ok(Task::Give(Note::Value(number)))
         }
-        Node::Truth { value } => Ok(Task::Give(Note::Value(Constant::Boolean(value)))),
-        Node::Null => Ok(Task::Give(Note::Value(Constant::Null))),
+        Node::Truth { value } => Ok(Task::Give(Note::Value(Value::Bool(value)))),
+        Node::Null => Ok(Task::Give(Note::Value(Value::Null))),
         Node::Variable { name } => {
             let note = name_note(members, values, site.class, tree.name(name));
             Ok(Task::Give(note))

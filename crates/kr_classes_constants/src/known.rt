@@ -2,33 +2,42 @@
 ghost use Rattle.std.specs.Prelude.{◌≡◌, ◌++◌, ◌∷◌, [], List, IfOk, Some, option_map};
 ghost use Rattle.kr_base.specs.declared.place.Place.{Place};
 ghost use Rattle.kr_ast.specs.Arena.{Arena};
-ghost use Rattle.kr_classes_table.specs.Constants.{Known, known_as, value_at, known_value};
+ghost use Rattle.kr_classes_table.specs.Constants.{Known, constant_in as constant_of_value, known_as, known_value, value_at};
 ghost use Rattle.kr_classes_members.specs.Shown.{field_shown};
 ghost use Rattle.kr_classes_constants.specs.Outcomes.{note_shown, with_outcome};
-ghost use Rattle.kr_classes_operators.specs.Shown.{constant_shown, shown};
 ghost use Rattle.kr_classes_constants.specs.Kept.{AreValues, found};
 
 use crate::note::Note;
 use indexmap::IndexMap;
 use kr_base::{NoMemory, Place};
 use kr_classes_members::Field;
-use kr_classes_operators::Constant;
+use kr_value::Value;
 use std::alloc::Global;
 use std::marker::Model;
 
 /// The values of constants: of each place the first one's.
 #[derive(Drop)]
 pub struct Values {
-    by_place: IndexMap<(u32, u32, u32), Constant>,
+    by_place: IndexMap<(u32, u32, u32), Value>,
 }
 
 impl Model for Values {
     ghost use Rattle.std.specs.Prelude.{List, ℕ};
-    ghost use Rattle.kr_classes_operators.specs.declared.constant.Constant.{Constant};
+    ghost use Rattle.kr_value.specs.declared.value.Value.{Value as JavaValue};
 
-    ghost Value = { List ((ℕ × ℕ × ℕ) × Constant) };
+    ghost Value = { List ((ℕ × ℕ × ℕ) × JavaValue) };
 
     ghost view = { λ v. v.by_place.entries };
+}
+
+/// What a constant's value may be: no reference.
+fn constant_in(value: Value) -> Option<Value>
+    ensures { result ≡ constant_of_value value }
+{
+    match value {
+        Value::Ref(_) => None,
+        _ => Some(value),
+    }
 }
 
 impl Values {
@@ -41,7 +50,7 @@ impl Values {
         }
     }
 
-    fn find(&self, place: Place) -> Option<Constant>
+    fn find(&self, place: Place) -> Option<Value>
         ensures { result ≡ found place self.now }
     {
         let key = (place.file, place.line, place.col);
@@ -49,17 +58,17 @@ impl Values {
     }
 
     /// The value of the constant whose name stands at a place.
-    pub fn value_at(&self, place: Place) -> Option<Constant>
-        ensures { (known : List Known) → AreValues known self.now → shown result ≡ value_at known place }
+    pub fn value_at(&self, place: Place) -> Option<Value>
+        ensures { (known : List Known) → AreValues known self.now → result ≡ value_at known place }
     {
         self.find(place)
     }
 
     /// The value of a constant, if there is one.
-    pub fn value_of(&self, field: Option<Field>) -> Option<Constant>
-        ensures { (files : List Arena) (known : List Known) → AreValues known self.now → shown result ≡ known_value known (option_map (field_shown files) field) }
+    pub fn value_of(&self, field: Option<Field>) -> Option<Value>
+        ensures { (files : List Arena) (known : List Known) → AreValues known self.now → result ≡ known_value known (option_map (field_shown files) field) }
     {
-        self.value_at(field?.place)
+        constant_in(self.value_at(field?.place)?)
     }
 
     /// Notes what the initial value of the constant at a place comes to.
@@ -73,8 +82,8 @@ impl Values {
     }
 
     /// Adds a value behind the others.
-    pub(crate) fn add(&mut self, place: Place, value: Constant) -> Result<(), NoMemory>
-        ensures { IfOk result (λ none. (known : List Known) → AreValues known self.old → AreValues (known ++ known_as place (Some (constant_shown value))) self.new) }
+    pub(crate) fn add(&mut self, place: Place, value: Value) -> Result<(), NoMemory>
+        ensures { IfOk result (λ none. (known : List Known) → AreValues known self.old → AreValues (known ++ known_as place (Some value)) self.new) }
     {
         if self.find(place).is_some() {
             return Ok(());

@@ -1,10 +1,12 @@
 // What is found of an expression that may be a constant one, and how it follows from what is found of its operands.
 ghost use Rattle.std.specs.Prelude.{◌≡◌, Some};
-ghost use Rattle.kr_classes_operators.specs.Shown.{shown};
+ghost use Rattle.kr_classes_table.specs.Constants.{value_in};
 ghost use Rattle.kr_classes_constants.specs.Outcomes.{binary_outcome, conditional_outcome, known_outcome, note_shown, unary_outcome};
 
 use kr_ast::{BinaryOperator, UnaryOperator};
-use kr_classes_operators::{Constant, binary, unary};
+use kr_classes_operators::{apply, apply_alone};
+use kr_classes_table::OperatorError;
+use kr_value::Value;
 
 /// What is found of an expression.
 #[derive(Clone, Copy)]
@@ -13,23 +15,23 @@ pub(crate) enum Note {
     NotConstant,
     /// It is one, but a zero divisor is met.
     NoValue,
-    Value(Constant),
+    Value(Value),
 }
 
 impl Note {
-    /// Of a constant expression with this value, if any.
-    pub(crate) fn of(value: Option<Constant>) -> Note
-        ensures { note_shown result ≡ Some (shown value) }
+    /// Of a constant expression whose operator gives this.
+    pub(crate) fn of(given: Result<Value, OperatorError>) -> Note
+        ensures { note_shown result ≡ Some (value_in given) }
     {
-        match value {
-            None => Note::NoValue,
-            Some(value) => Note::Value(value),
+        match given {
+            Err(_) => Note::NoValue,
+            Ok(value) => Note::Value(value),
         }
     }
 
     /// Of a name that means a constant with this value, or none.
-    pub(crate) fn of_known(value: Option<Constant>) -> Note
-        ensures { note_shown result ≡ known_outcome (shown value) }
+    pub(crate) fn of_known(value: Option<Value>) -> Note
+        ensures { note_shown result ≡ known_outcome value }
     {
         match value {
             None => Note::NotConstant,
@@ -44,7 +46,7 @@ pub(crate) fn unary_note(operator: UnaryOperator, operand: Note) -> Note
     match operand {
         Note::NotConstant => Note::NotConstant,
         Note::NoValue => Note::NoValue,
-        Note::Value(value) => Note::of(unary(operator, value)),
+        Note::Value(value) => Note::of(apply_alone(operator, value)),
     }
 }
 
@@ -54,9 +56,9 @@ pub(crate) fn binary_note(operator: BinaryOperator, left: Note, right: Note) -> 
 {
     match (operator, left, right) {
         (_, Note::NotConstant, _) | (_, _, Note::NotConstant) => Note::NotConstant,
-        (BinaryOperator::And, Note::Value(Constant::Boolean(false)), _) => left,
-        (BinaryOperator::Or, Note::Value(Constant::Boolean(true)), _) => left,
-        (_, Note::Value(a), Note::Value(b)) => Note::of(binary(operator, a, b)),
+        (BinaryOperator::And, Note::Value(Value::Bool(false)), _) => left,
+        (BinaryOperator::Or, Note::Value(Value::Bool(true)), _) => left,
+        (_, Note::Value(a), Note::Value(b)) => Note::of(apply(operator, a, b)),
         _ => Note::NoValue,
     }
 }
@@ -68,8 +70,8 @@ pub(crate) fn conditional_note(condition: Note, holds: Note, fails: Note) -> Not
         (Note::NotConstant, _, _) | (_, Note::NotConstant, _) | (_, _, Note::NotConstant) => {
             Note::NotConstant
         }
-        (Note::Value(Constant::Boolean(true)), _, _) => holds,
-        (Note::Value(Constant::Boolean(false)), _, _) => fails,
+        (Note::Value(Value::Bool(true)), _, _) => holds,
+        (Note::Value(Value::Bool(false)), _, _) => fails,
         _ => Note::NoValue,
     }
 }

@@ -1,10 +1,13 @@
 -- Between crates: what the operators give, worked by hand from the Java Language Specification 15.15 to 15.24, most of it at the
 -- edges of the ints.
-use Rattle.std.specs.Prelude.{◌≡◌, ℤ, pos, negsuc, true, false, List, [], ◌∷◌, Option, Some, None}
+use Rattle.std.specs.Prelude.{◌≡◌, ℤ, pos, negsuc, true, false, List, [], ◌∷◌, Some, None, Ok, Err}
 use Rattle.kr_ast.specs.declared.node.UnaryOperator.TheVariants.{Plus, Minus, Complement, Not}
 use Rattle.kr_ast.specs.declared.node.BinaryOperator.{BinaryOperator}
 use Rattle.kr_ast.specs.declared.node.BinaryOperator.TheVariants.{Multiply, Divide, Remainder, Add, Subtract, ShiftLeft, ShiftRight, ShiftRightUnsigned, Less, Greater, LessOrEqual, GreaterOrEqual, Equal, NotEqual, BitAnd, BitXor, BitOr, And, Or}
-use Rattle.kr_classes_table.specs.Constants.{ConstantValue, Whole, Truth, Absent, unary_value, of_values, binary_value, chosen}
+use Rattle.kr_value.specs.declared.value.Value.TheVariants.{Int, Bool as Truth, Null, Ref as Reference}
+use Rattle.kr_classes_table.specs.declared.errors.OperatorError.TheVariants.{ZeroDivisor, NotDefined}
+use Rattle.kr_classes_table.specs.Operators.{Applied, apply, apply_alone}
+use Rattle.kr_classes_table.specs.Constants.{binary_value, chosen}
 
 -- -n
 abbrev pub minus_one : ℤ
@@ -16,43 +19,59 @@ least = negsuc 2147483647
 abbrev pub greatest : ℤ
 greatest = pos 2147483647
 
-abbrev pub on_ints : BinaryOperator → ℤ → ℤ → Option ConstantValue
-on_ints o a b = of_values o (Whole a) (Whole b)
+abbrev pub on_ints : BinaryOperator → ℤ → ℤ → Applied
+on_ints o a b = apply o (Int a) (Int b)
 
 -- -5 with 3, 4 with 4, 3 with -5
-abbrev pub compared : BinaryOperator → List (Option ConstantValue)
+abbrev pub compared : BinaryOperator → List Applied
 compared o = on_ints o (negsuc 4) (pos 3) ∷ on_ints o (pos 4) (pos 4) ∷ on_ints o (pos 3) (negsuc 4) ∷ []
 
 -- true with true, true with false, false with true, false with false
-abbrev pub on_truths : BinaryOperator → List (Option ConstantValue)
+abbrev pub on_truths : BinaryOperator → List Applied
 on_truths o =
-    of_values o (Truth true) (Truth true)
-    ∷ of_values o (Truth true) (Truth false)
-    ∷ of_values o (Truth false) (Truth true)
-    ∷ of_values o (Truth false) (Truth false)
+    apply o (Truth true) (Truth true)
+    ∷ apply o (Truth true) (Truth false)
+    ∷ apply o (Truth false) (Truth true)
+    ∷ apply o (Truth false) (Truth false)
     ∷ []
 
-abbrev pub int : ℤ → Option ConstantValue
-int z = Some (Whole z)
+-- null with null, null with an object, an object with null, with itself, with another one
+abbrev pub on_references : BinaryOperator → List Applied
+on_references o =
+    apply o Null Null
+    ∷ apply o Null (Reference 0)
+    ∷ apply o (Reference 0) Null
+    ∷ apply o (Reference 3) (Reference 3)
+    ∷ apply o (Reference 3) (Reference 4)
+    ∷ []
 
-abbrev pub holds : Option ConstantValue
-holds = Some (Truth true)
+abbrev pub int : ℤ → Applied
+int z = Ok (Int z)
 
-abbrev pub fails : Option ConstantValue
-fails = Some (Truth false)
+abbrev pub holds : Applied
+holds = Ok (Truth true)
+
+abbrev pub fails : Applied
+fails = Ok (Truth false)
+
+abbrev pub traps : Applied
+traps = Err ZeroDivisor
+
+abbrev pub undefined : Applied
+undefined = Err NotDefined
 
 pub record WorkedOperators : Type 0 where
   -- one operand
-  pub plus : unary_value Plus (Whole least) ≡ int least
-  pub minus : unary_value Minus (Whole (pos 5)) ≡ int (negsuc 4)
-  pub minus_least : unary_value Minus (Whole least) ≡ int least
-  pub complement : unary_value Complement (Whole (pos 7)) ≡ int (negsuc 7)
-  pub minus_negative : unary_value Minus (Whole (negsuc 4)) ≡ int (pos 5)
-  pub complement_least : unary_value Complement (Whole least) ≡ int greatest
-  pub «not» : unary_value Not (Truth true) ≡ fails
-  pub not_false : unary_value Not (Truth false) ≡ holds
-  pub not_of_int : unary_value Not (Whole (pos 1)) ≡ None
-  pub minus_of_truth : unary_value Minus (Truth true) ≡ None
+  pub plus : apply_alone Plus (Int least) ≡ int least
+  pub minus : apply_alone Minus (Int (pos 5)) ≡ int (negsuc 4)
+  pub minus_least : apply_alone Minus (Int least) ≡ int least
+  pub complement : apply_alone Complement (Int (pos 7)) ≡ int (negsuc 7)
+  pub minus_negative : apply_alone Minus (Int (negsuc 4)) ≡ int (pos 5)
+  pub complement_least : apply_alone Complement (Int least) ≡ int greatest
+  pub «not» : apply_alone Not (Truth true) ≡ fails
+  pub not_false : apply_alone Not (Truth false) ≡ holds
+  pub not_of_int : apply_alone Not (Int (pos 1)) ≡ undefined
+  pub minus_of_truth : apply_alone Minus (Truth true) ≡ undefined
   -- sums and products wrap
   pub sum : on_ints Add (negsuc 6) (pos 3) ≡ int (negsuc 3)
   pub difference : on_ints Subtract (pos 3) (negsuc 6) ≡ int (pos 10)
@@ -69,11 +88,11 @@ pub record WorkedOperators : Type 0 where
   pub divided_by_negative : on_ints Divide (pos 7) (negsuc 1) ≡ int (negsuc 2)
   pub negatives_divided : on_ints Divide (negsuc 6) (negsuc 1) ≡ int (pos 3)
   pub least_divided : on_ints Divide least minus_one ≡ int least
-  pub by_zero : on_ints Divide (pos 1) (pos 0) ≡ None
+  pub by_zero : on_ints Divide (pos 1) (pos 0) ≡ traps
   pub left_over : on_ints Remainder (negsuc 6) (pos 4) ≡ int (negsuc 2)
   pub left_over_by_negative : on_ints Remainder (pos 7) (negsuc 3) ≡ int (pos 3)
   pub least_left_over : on_ints Remainder least minus_one ≡ int (pos 0)
-  pub left_over_by_zero : on_ints Remainder (pos 0) (pos 0) ≡ None
+  pub left_over_by_zero : on_ints Remainder (pos 0) (pos 0) ≡ traps
   -- shifts go by the low five bits of the distance
   pub left_31 : on_ints ShiftLeft (pos 1) (pos 31) ≡ int least
   pub left_32 : on_ints ShiftLeft (pos 1) (pos 32) ≡ int (pos 1)
@@ -107,8 +126,8 @@ pub record WorkedOperators : Type 0 where
   pub either_positive : on_ints BitOr (pos 12) (pos 10) ≡ int (pos 14)
   pub differing : on_ints BitXor (pos 12) (pos 10) ≡ int (pos 6)
   pub differing_negative : on_ints BitXor minus_one greatest ≡ int least
-  pub and_of_ints : on_ints And (pos 1) (pos 1) ≡ None
-  pub or_of_ints : on_ints Or (pos 1) (pos 1) ≡ None
+  pub and_of_ints : on_ints And (pos 1) (pos 1) ≡ undefined
+  pub or_of_ints : on_ints Or (pos 1) (pos 1) ≡ undefined
   -- booleans
   pub truths_equal : on_truths Equal ≡ holds ∷ fails ∷ fails ∷ holds ∷ []
   pub truths_unequal : on_truths NotEqual ≡ fails ∷ holds ∷ holds ∷ fails ∷ []
@@ -117,25 +136,28 @@ pub record WorkedOperators : Type 0 where
   pub truths_either : on_truths BitOr ≡ holds ∷ holds ∷ holds ∷ fails ∷ []
   pub truths_and : on_truths And ≡ holds ∷ fails ∷ fails ∷ fails ∷ []
   pub truths_or : on_truths Or ≡ holds ∷ holds ∷ holds ∷ fails ∷ []
-  pub truths_less : on_truths Less ≡ None ∷ None ∷ None ∷ None ∷ []
-  pub truths_added : on_truths Add ≡ None ∷ None ∷ None ∷ None ∷ []
-  -- null, and operands that don't fit together
-  pub nulls_equal : of_values Equal Absent Absent ≡ holds
-  pub nulls_unequal : of_values NotEqual Absent Absent ≡ fails
-  pub nulls_less : of_values Less Absent Absent ≡ None
-  pub unlike : of_values Equal (Whole (pos 0)) (Truth false) ≡ None
-  pub unlike_null : of_values Equal Absent (Whole (pos 0)) ≡ None
+  pub truths_less : on_truths Less ≡ undefined ∷ undefined ∷ undefined ∷ undefined ∷ []
+  pub truths_added : on_truths Add ≡ undefined ∷ undefined ∷ undefined ∷ undefined ∷ []
+  -- references and null, and operands that don't fit together
+  pub references_equal : on_references Equal ≡ holds ∷ fails ∷ fails ∷ holds ∷ fails ∷ []
+  pub references_unequal : on_references NotEqual ≡ fails ∷ holds ∷ holds ∷ fails ∷ holds ∷ []
+  pub references_less : on_references Less ≡ undefined ∷ undefined ∷ undefined ∷ undefined ∷ undefined ∷ []
+  pub unlike : apply Equal (Int (pos 0)) (Truth false) ≡ undefined
+  pub unlike_null : apply Equal Null (Int (pos 0)) ≡ undefined
+  pub unlike_reference : apply Equal (Int (pos 0)) (Reference 0) ≡ undefined
+  pub divided_truth : apply Divide (Truth true) (Int (pos 0)) ≡ undefined
   -- `&&` and `||` need their right operand only where the left one doesn't settle them; `&` needs both
-  pub and_settled : binary_value And (Some (Truth false)) None ≡ fails
-  pub or_settled : binary_value Or (Some (Truth true)) None ≡ holds
+  pub and_settled : binary_value And (Some (Truth false)) None ≡ Some (Truth false)
+  pub or_settled : binary_value Or (Some (Truth true)) None ≡ Some (Truth true)
   pub and_needed : binary_value And (Some (Truth true)) None ≡ None
-  pub or_needed : binary_value Or (Some (Truth false)) (Some (Truth true)) ≡ holds
-  pub and_right : binary_value And (Some (Truth true)) (Some (Truth false)) ≡ fails
+  pub or_needed : binary_value Or (Some (Truth false)) (Some (Truth true)) ≡ Some (Truth true)
+  pub and_right : binary_value And (Some (Truth true)) (Some (Truth false)) ≡ Some (Truth false)
+  pub none_divided : binary_value Divide (Some (Int (pos 1))) (Some (Int (pos 0))) ≡ None
   pub both_needed : binary_value BitAnd (Some (Truth false)) None ≡ None
   pub left_needed : binary_value Or None (Some (Truth true)) ≡ None
   -- of `?:` only the arm that is chosen counts
-  pub chosen_first : chosen (Some (Truth true)) (int (pos 1)) None ≡ int (pos 1)
-  pub chosen_second : chosen (Some (Truth false)) None (int (pos 2)) ≡ int (pos 2)
-  pub chosen_without : chosen (Some (Truth true)) None (int (pos 2)) ≡ None
-  pub condition_needed : chosen None (int (pos 1)) (int (pos 1)) ≡ None
-  pub condition_of_int : chosen (Some (Whole (pos 1))) (int (pos 1)) (int (pos 1)) ≡ None
+  pub chosen_first : chosen (Some (Truth true)) (Some (Int (pos 1))) None ≡ Some (Int (pos 1))
+  pub chosen_second : chosen (Some (Truth false)) None (Some (Int (pos 2))) ≡ Some (Int (pos 2))
+  pub chosen_without : chosen (Some (Truth true)) None (Some (Int (pos 2))) ≡ None
+  pub condition_needed : chosen None (Some (Int (pos 1))) (Some (Int (pos 1))) ≡ None
+  pub condition_of_int : chosen (Some (Int (pos 1))) (Some (Int (pos 1))) (Some (Int (pos 1))) ≡ None

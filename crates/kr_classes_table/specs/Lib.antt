@@ -4,6 +4,7 @@ pub mod Table
 pub mod Arrays
 pub mod Rules
 pub mod Numbers
+pub mod Operators
 pub mod Constants
 pub mod Laws
 pub mod Ancestors

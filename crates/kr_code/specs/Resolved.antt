@@ -1,6 +1,6 @@
 -- Between crates: when code is that of a program: each node is the resolved form of a tree in its scope, and the tables say what
 -- the program does.
-use Rattle.std.specs.Prelude.{◌≡◌, ℕ, Bool, true, false, List, [], ◌∷◌, length, map, codes, bytes_eq, nat_eq, Option, Some, None, option_and_then, option_map, pos, All, IsSome, flat_map}
+use Rattle.std.specs.Prelude.{◌≡◌, ℕ, Bool, true, false, List, [], ◌∷◌, length, map, codes, bytes_eq, nat_eq, Option, Some, None, option_and_then, pos, All, IsSome, flat_map}
 use Rattle.kr_base.specs.declared.place.Place.{Place}
 use Rattle.kr_ast.specs.declared.node.UnaryOperator.{UnaryOperator}
 use Rattle.kr_ast.specs.declared.node.StepOperator.{StepOperator}
@@ -19,7 +19,6 @@ use Rattle.kr_classes_table.specs.Constants.{constant_of, known_value as constan
 use Rattle.kr_classes_table.specs.Numbers.{Bits32, wrap}
 use Rattle.kr_types_meaning.specs.Scopes.{Scope, LocalName, FieldName, NoName, written, bind_local, after, meant, class_before, static_only, method_meant}
 use Rattle.kr_mean.specs.Program.{Program, default_of, is_of_type, overriding, class_scope, method_scope, constructor_scope, constructor_of, declared_fields, field_position, spot_of_field}
-use Rattle.kr_mean.specs.Operators.{value_of_constant}
 use Rattle.kr_mean.specs.Meaning.{Target, LocalTarget, OwnField, FieldOf, ElementOf, NoTarget, target_of, typed_method, super_method, is_primitive, declaring_locals}
 use Rattle.kr_mean.specs.Code as meaning
 use Rattle.kr_code.specs.declared.code.Code.{Code}
@@ -115,7 +114,7 @@ is_no_expression t = true
 
 -- the constant that a name stands for, where it has a value
 abbrev pub constant_meant : Scope → Option Field → Option Value
-constant_meant s f = option_map value_of_constant (constant_value s.values f)
+constant_meant s f = constant_value s.values f
 
 pub record IsMethod (code : Code) (n : Numbering) (m : Method) (k : ℕ) : Type 0 where
   pub is : n.method k ≡ m

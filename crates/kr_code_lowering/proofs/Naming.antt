@@ -1,5 +1,5 @@
 -- Names and field accesses.
-use Rattle.std.proofs.Common.{◌≡◌, refl, sym, ap, ◌∙◌, ℕ, ◌+◌, ◌<◌, List, length, subst, true, Option, Some, None, ◌^◌, arith}
+use Rattle.std.proofs.Common.{◌≡◌, refl, sym, ap, ◌∙◌, ℕ, ◌+◌, ◌<◌, List, subst, Option, Some, None, ◌^◌, arith}
 use Rattle.std.specs.Prelude.{slice_get}
 use Rattle.std.proofs.lemmas.Option.{get_or_from_slice_get}
 use Rattle.kr_value.specs.declared.value.Value.{Value}
@@ -12,7 +12,7 @@ use Rattle.kr_ast.specs.declared.node.Entry.{Entry}
 use Rattle.kr_ast.specs.declared.node.Node.{Node}
 use Rattle.kr_ast.specs.declared.node.Node.TheVariants as nodes
 use Rattle.kr_classes_table.specs.Constants.{constant_of, values_of}
-use Rattle.kr_types_meaning.specs.Scopes.{Scope, LocalName, FieldName, NoName, class_before, meant}
+use Rattle.kr_types_meaning.specs.Scopes.{Scope, class_before}
 use Rattle.kr_types_meaning.specs.Running.{running}
 use Rattle.kr_types.specs.declared.program.Program.{Program}
 use Rattle.kr_types.specs.declared.program.TypedFile.{TypedFile}

@@ -1,9 +1,8 @@
 -- What lowering reads of what a node means.
-use Rattle.std.proofs.Common.{◌≡◌, refl, sym, ap, ◌∙◌, subst, ℕ, ◌<◌, List, length, true, false}
+use Rattle.std.proofs.Common.{◌≡◌, refl, sym, ap, ◌∙◌, subst, ℕ, ◌<◌, List, length, true}
 use Rattle.std.specs.Prelude.{Option, Some, None, IfSome, option_and_then, option_map, slice_get}
 use Rattle.std.proofs.lemmas.Option.{slice_get-get_or}
 use Rattle.kr_value.specs.declared.value.Value.{Value}
-use Rattle.kr_ast.specs.Tree as trees
 use Rattle.kr_ast.specs.Arena.{name_in, tree_in, tree_of}
 use Rattle.kr_ast.specs.declared.node.Entry.{Entry}
 use Rattle.kr_ast.specs.declared.node.Name.{Name}
@@ -12,11 +11,10 @@ use Rattle.kr_ast.specs.declared.node.Node.TheVariants as nodes
 use Rattle.kr_classes_table.specs.Types.{JavaType, ClassType}
 use Rattle.kr_classes_table.specs.Table.{Table, Field, Method, method_named}
 use Rattle.kr_classes_table.specs.Constants.{Known, constant_of, known_value, values_of}
-use Rattle.kr_types_meaning.specs.Scopes.{Scope, class_before, meant, method_meant, static_only, super_class}
+use Rattle.kr_types_meaning.specs.Scopes.{class_before, meant, method_meant, static_only}
 use Rattle.kr_types_meaning.specs.Typing.{type_of}
-use Rattle.kr_mean.specs.Operators.{value_of_constant}
 use Rattle.kr_mean.specs.Meaning.{field_of_type, method_of_type, super_method, typed_field, typed_method}
-use Rattle.kr_classes_roster.specs.Rosters.{all_fields, all_methods, field_numbered, method_numbered, no_method}
+use Rattle.kr_classes_roster.specs.Rosters.{all_methods, field_numbered, method_numbered, no_method}
 use Rattle.kr_types_resolving.specs.Meanings as meanings
 use Rattle.kr_types_resolving.specs.Shown.{IsMeaningWithin, IsMeant, meaning_shown}
 use Rattle.kr_types_resolving.specs.declared.meaning.Meaning.{Meaning}
@@ -30,7 +28,7 @@ use Rattle.kr_code_lowering.specs.declared.named.Named.TheVariants as named
 use Rattle.kr_code_lowering.specs.Origins.{node_tree}
 use Rattle.kr_code_lowering.specs.Sites.{IsHere, arena_at, scope_at, tree_at}
 use Rattle.kr_code_lowering.specs.Named.{IsNamed}
-use Rattle.kr_code_lowering.specs.Calls.{IsFound, IsOwnCallee, IsStaticCallee}
+use Rattle.kr_code_lowering.specs.Calls.{IsFound, IsOwnCallee}
 use Rattle.kr_code_lowering.specs.Targets.{IsFieldFound}
 use Rattle.kr_code_lowering.proofs.Parts.{tree_is}
 use Rattle.kr_code_lowering.proofs.Naming.{scope_table, scope_values}
@@ -85,11 +83,11 @@ module _ (p : Program) (s : Site) (e : Entry) (at : IsHere p s e) (m : Meaning) 
     pub local_named : (j : ℕ) → m ≡ kept.Local j → IsNamed p (scope_at p s) name (named.Local j)
     local_named j h = local_read (scope_at p s).table name (meant (scope_at p s) name) j (ap (meaning_shown (table p)) (sym h) ∙ read (nodes.Variable x) k)
 
-    pub constant_named : (j : ℕ) (v : Option Value) → m ≡ kept.Constant j → v ≡ option_map value_of_constant (known_value (values_of (table p)) (Some (field_numbered (table p) j))) → IsNamed p (scope_at p s) name (named.Constant v)
+    pub constant_named : (j : ℕ) (v : Option Value) → m ≡ kept.Constant j → v ≡ known_value (values_of (table p)) (Some (field_numbered (table p) j)) → IsNamed p (scope_at p s) name (named.Constant v)
     constant_named j v h w =
         let f = field_numbered (table p) j in
         let r = constant_read (scope_at p s).table name (meant (scope_at p s) name) f (ap (meaning_shown (table p)) (sym h) ∙ read (nodes.Variable x) k) in
-        (f, r.0, r.1, ap (λ (ks : List Known). option_map value_of_constant (known_value ks (Some f))) (scope_values p s.file s.node) ∙ sym w)
+        (f, r.0, r.1, ap (λ (ks : List Known). known_value ks (Some f)) (scope_values p s.file s.node) ∙ sym w)
 
     pub own_named : (j : ℕ) → m ≡ kept.Instance j → IsNamed p (scope_at p s) name (named.Own j)
     own_named j h =

@@ -1,10 +1,9 @@
 // Names and field accesses as expressions.
-ghost use Rattle.std.specs.Prelude.{◌≡◌, ◌∷◌, [], List, ℕ, Some, IfOk, option_map};
+ghost use Rattle.std.specs.Prelude.{◌≡◌, ◌∷◌, [], List, ℕ, Some, IfOk};
 ghost use Rattle.kr_ast.specs.declared.node.Node.TheVariants as nodes;
 ghost use Rattle.kr_ast.specs.Arena.{name_in};
 ghost use Rattle.kr_types_meaning.specs.Scopes.{class_before};
 ghost use Rattle.kr_classes_table.specs.Constants.{constant_of, known_value, values_of};
-ghost use Rattle.kr_mean.specs.Operators.{value_of_constant};
 ghost use Rattle.kr_classes_types.specs.Listed.{IsGrown};
 ghost use Rattle.kr_types.specs.Programs.{IsProgram};
 ghost use Rattle.kr_space_problem.specs.Posed.{table};
@@ -44,7 +43,7 @@ fn class_constant(
     requires program { IsProgram program.now }
     requires here { IsHere program.now site _entry }
     requires node { _entry.node ≡ nodes.FieldAccess _object _name }
-    ensures { (class : ℕ) → class_before (scope_at program.now site) (node_tree program.now site.file _object) ≡ Some class → result ≡ option_map value_of_constant (known_value (values_of (table program.now)) (constant_of (table program.now) (Some class) (name_in (arena_at program.now site).text _name))) }
+    ensures { (class : ℕ) → class_before (scope_at program.now site) (node_tree program.now site.file _object) ≡ Some class → result ≡ known_value (values_of (table program.now)) (constant_of (table program.now) (Some class) (name_in (arena_at program.now site).text _name)) }
 {
     match meaning_at(program, site).constant() {
         None => None,

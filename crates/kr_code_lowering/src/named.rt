@@ -1,11 +1,9 @@
 // What a name means where a node stands.
-ghost use Rattle.std.specs.Prelude.{◌≡◌, ◌<◌, Some, length, option_map};
+ghost use Rattle.std.specs.Prelude.{◌≡◌, ◌<◌, Some, length};
 ghost use Rattle.kr_ast.specs.Arena.{name_in};
 ghost use Rattle.kr_ast.specs.declared.node.Node.TheVariants as nodes;
 ghost use Rattle.kr_classes_table.specs.Constants.{known_value, values_of};
 ghost use Rattle.kr_types_meaning.specs.Scopes.{class_before, value};
-ghost use Rattle.kr_mean.specs.Operators.{value_of_constant};
-ghost use Rattle.kr_classes_operators.specs.Shown.{constant_shown};
 ghost use Rattle.kr_types.specs.Programs.{IsProgram};
 ghost use Rattle.kr_classes_roster.specs.Rosters.{all_fields, field_numbered};
 ghost use Rattle.kr_space_problem.specs.Posed.{table};
@@ -16,7 +14,6 @@ ghost use Rattle.kr_code_lowering.specs.Named.{IsNamed};
 use crate::known::meaning_at;
 use crate::site::Site;
 use kr_ast::{Entry, Name};
-use kr_classes_operators::Constant;
 use kr_classes_table::{ClassId, FieldId};
 use kr_types::Program;
 use kr_types_resolving::Meaning;
@@ -31,31 +28,14 @@ pub(crate) enum Named {
     Nothing,
 }
 
-/// The value of a constant.
-fn value_of(constant: Constant) -> Value
-    ensures { result ≡ value_of_constant (constant_shown constant) }
-{
-    match constant {
-        Constant::Int(number) => Value::Int(number),
-        Constant::Boolean(truth) => Value::Bool(truth),
-        Constant::Null => Value::Null,
-    }
-}
-
 /// The value of a constant by its number among all fields, if it has one.
 pub(crate) fn constant_value(program: &Program, number: FieldId) -> Option<Value>
     requires program { IsProgram program.now }
     requires number { number < length (all_fields (table program.now)) }
-    ensures { result ≡ option_map value_of_constant (known_value (values_of (table program.now)) (Some (field_numbered (table program.now) number))) }
+    ensures { result ≡ known_value (values_of (table program.now)) (Some (field_numbered (table program.now) number)) }
 {
-    match program
-        .table
-        .values
-        .value_of(Some(program.roster.fields[number as usize]))
-    {
-        None => None,
-        Some(constant) => Some(value_of(constant)),
-    }
+    let field = program.roster.fields[number as usize];
+    program.table.values.value_of(Some(field))
 }
 
 /// What a name means.

@@ -5,14 +5,16 @@ use Rattle.kr_base.specs.declared.place.Place.{Place}
 use Rattle.kr_ast.specs.declared.node.UnaryOperator.{UnaryOperator}
 use Rattle.kr_ast.specs.declared.node.UnaryOperator.TheVariants as unaries
 use Rattle.kr_ast.specs.declared.node.BinaryOperator.{BinaryOperator}
-use Rattle.kr_ast.specs.declared.node.BinaryOperator.TheVariants as operators
 use Rattle.kr_ast.specs.Tree as trees
 use Rattle.kr_ast.specs.Tree.{Tree}
 use Rattle.kr_classes_table.specs.Types.{JavaType, IntType, BooleanType, NullType, ClassType, ArrayType, SetType, ListType, InferredType, is_known, is_element, is_void, is_collection, is_reference}
 use Rattle.kr_classes_table.specs.Table.{Field, Method, field_named, method_named, is_subtype, are_related}
 use Rattle.kr_classes_table.specs.Rules.{Fault}
+use Rattle.kr_types_meaning.specs.declared.operators.OperatorKind.{OperatorKind}
+use Rattle.kr_types_meaning.specs.declared.operators.OperatorKind.TheVariants.{Arithmetic, Shift, Comparison, Equality, Bitwise, Logical}
 use Rattle.kr_types_meaning.specs.Scopes.{Scope, Meant, LocalName, FieldName, NoName, value, in_old, meant, method_meant, class_before, super_class}
-use Rattle.kr_types_meaning.specs.Rules.{Typed, Value, Variable, Values, Untyped, Judgement, Fits, Breaks, ask, gives, variable_of, number_rule, this_rule, name_rule, unary_rule, operator_rule, choice_rule, cast_rule, instance_rule, written_rule, assignment_rule, compound_rule, step_rule, field_rule, access_rule, constant_rule, element_rule, result_rule, arguments_rule, call_rule, static_rule, above_rule, super_rule, collection_rule, method_rule, object_call_rule, creation_rule, array_creation_rule, result_value_rule, old_rule, is_code, is_statement, is_ensuring, is_under_minus, is_int, is_boolean, both_int, both_boolean, related_references, arguments_fit, is_variable, is_broken, creation_fits}
+use Rattle.kr_types_meaning.specs.Promotion.{promoted, promoted_alone, is_number, are_numbers}
+use Rattle.kr_types_meaning.specs.Rules.{Typed, Value, Variable, Values, Untyped, Judgement, Fits, Breaks, ask, gives, variable_of, number_rule, this_rule, name_rule, unary_rule, operator_rule, choice_rule, cast_rule, instance_rule, written_rule, assignment_rule, compound_rule, step_rule, field_rule, access_rule, constant_rule, element_rule, result_rule, arguments_rule, call_rule, static_rule, above_rule, super_rule, collection_rule, method_rule, object_call_rule, creation_rule, array_creation_rule, result_value_rule, old_rule, is_code, is_statement, is_ensuring, is_under_minus, is_int, is_boolean, both_boolean, related_references, arguments_fit, is_variable, is_broken, creation_fits, of_promoted, kind_of, kind_rule}
 use Rattle.kr_types_meaning.specs.Typing.{Judged, judge, on_one, on_list, field_of, method_of, operand, judged}
 use Rattle.kr_laws_types.specs.Types.{is_variable_type, is_result_type, is_value_type, AreVariables, HasVariables}
 use Rattle.kr_laws_types.specs.Shapes.{Expression, IsCode}
@@ -134,40 +136,27 @@ number s n = int_asked (nat_lt n 2147483648 || is_under_minus s.role) 6
 this_value : (s : Scope) → Gives (this_rule s)
 this_value s = asked (not s.is_static) 5 (Fits (Value (ClassType s.class))) (λ e. refl)
 
+alone_given : (a : JavaType) (r : ℕ) → Gives (of_promoted (promoted_alone a) r)
+alone_given IntType r = refl
+alone_given _ r = tt
+
+promoted_given : (a b : JavaType) (r : ℕ) → Gives (of_promoted (promoted a b) r)
+promoted_given IntType b r = alone_given b r
+promoted_given _ b r = tt
+
 unary : (o : UnaryOperator) (t : JavaType) → Gives (unary_rule o t)
 unary unaries.Not t = boolean_asked (is_boolean t) 13
-unary unaries.Plus t = int_asked (is_int t) 14
-unary unaries.Minus t = int_asked (is_int t) 14
-unary unaries.Complement t = int_asked (is_int t) 14
+unary unaries.Plus t = alone_given t 14
+unary unaries.Minus t = alone_given t 14
+unary unaries.Complement t = alone_given t 14
 
--- the operators that give the type of an operand take ints and booleans alone
-simple : (a b : JavaType) → ((both_int a b || both_boolean a b) ≡ true) → is_open a ≡ false
-simple (SetType InferredType) b e = absurd (cc (e))
-simple (ListType InferredType) b e = absurd (cc (e))
-simple (SetType _) b e = refl
-simple (ListType _) b e = refl
-simple _ b e = refl
-
-binary : (s : Scope) (o : BinaryOperator) (a b : JavaType) → Gives (operator_rule s o a b)
-binary s operators.BitAnd a b = asked (both_int a b || both_boolean a b) 11 (Fits (Value a)) (simple a b)
-binary s operators.BitXor a b = asked (both_int a b || both_boolean a b) 11 (Fits (Value a)) (simple a b)
-binary s operators.BitOr a b = asked (both_int a b || both_boolean a b) 11 (Fits (Value a)) (simple a b)
-binary s operators.Multiply a b = int_asked (both_int a b) 7
-binary s operators.Divide a b = int_asked (both_int a b) 7
-binary s operators.Remainder a b = int_asked (both_int a b) 7
-binary s operators.Add a b = int_asked (both_int a b) 7
-binary s operators.Subtract a b = int_asked (both_int a b) 7
-binary s operators.ShiftLeft a b = int_asked (both_int a b) 8
-binary s operators.ShiftRight a b = int_asked (both_int a b) 8
-binary s operators.ShiftRightUnsigned a b = int_asked (both_int a b) 8
-binary s operators.Less a b = boolean_asked (both_int a b) 9
-binary s operators.Greater a b = boolean_asked (both_int a b) 9
-binary s operators.LessOrEqual a b = boolean_asked (both_int a b) 9
-binary s operators.GreaterOrEqual a b = boolean_asked (both_int a b) 9
-binary s operators.Equal a b = boolean_asked (both_int a b || both_boolean a b || related_references s a b) 10
-binary s operators.NotEqual a b = boolean_asked (both_int a b || both_boolean a b || related_references s a b) 10
-binary s operators.And a b = boolean_asked (both_boolean a b) 12
-binary s operators.Or a b = boolean_asked (both_boolean a b) 12
+binary : (s : Scope) (o : OperatorKind) (a b : JavaType) → Gives (kind_rule s o a b)
+binary s Arithmetic a b = promoted_given a b 7
+binary s Shift a b = asked (is_number b) 8 (of_promoted (promoted_alone a) 8) (λ e. alone_given a 8)
+binary s Comparison a b = boolean_asked (are_numbers a b) 9
+binary s Equality a b = boolean_asked (are_numbers a b || both_boolean a b || related_references s a b) 10
+binary s Bitwise a b = either (both_boolean a b) (Fits (Value BooleanType)) (of_promoted (promoted a b) 11) refl (promoted_given a b 11)
+binary s Logical a b = boolean_asked (both_boolean a b) 12
 
 choice : (s : Scope) (c a b : JavaType) → is_open a ≡ false → is_open b ≡ false → Gives (choice_rule s c a b)
 choice s c a b h k = asked (is_boolean c && are_related s.table a b) 15 (Fits (Value (if is_subtype s.table a b then b else a))) (λ e. go (is_subtype s.table a b))
@@ -180,7 +169,7 @@ instance : (s : Scope) (from to : JavaType) → Gives (instance_rule s from to)
 instance s from to = boolean_asked (is_element to && related_references s from to) 21
 
 -- a cast gives no collection
-cast_closed : (s : Scope) (to from : JavaType) → (both_int to from || both_boolean to from || (related_references s from to && not (is_collection to) && not (is_collection from))) ≡ true → is_open to ≡ false
+cast_closed : (s : Scope) (to from : JavaType) → (are_numbers to from || both_boolean to from || (related_references s from to && not (is_collection to) && not (is_collection from))) ≡ true → is_open to ≡ false
 cast_closed s (SetType t) from e = absurd (none (related_references s from (SetType t)) (not (is_collection from)) e)
   where
     none : (a b : Bool) → (a && false && b) ≡ true → ⊥
@@ -194,7 +183,7 @@ cast_closed s (ListType t) from e = absurd (none (related_references s from (Lis
 cast_closed s _ from e = refl
 
 cast : (s : Scope) (to from : JavaType) → Gives (cast_rule s to from)
-cast s to from = asked (both_int to from || both_boolean to from || (related_references s from to && not (is_collection to) && not (is_collection from))) 20 (Fits (Value to)) (cast_closed s to from)
+cast s to from = asked (are_numbers to from || both_boolean to from || (related_references s from to && not (is_collection to) && not (is_collection from))) 20 (Fits (Value to)) (cast_closed s to from)
 
 -- a contract writes and creates nothing
 uncoded : (b : Bool) (r : ℕ) (t : JavaType) → b ≡ false → Gives (ask b r (Fits (Value t)))
@@ -211,7 +200,7 @@ compounded : (s : Scope) (o : BinaryOperator) (x : Typed) (to from : JavaType) �
 compounded s o x to from c = asked (not (is_broken (operator_rule s o to from))) 17 (written_rule s x to) (λ e. unwritten s x to c)
 
 stepped : (s : Scope) (x : Typed) (to : JavaType) → is_code s.part ≡ false → Gives (step_rule s x to)
-stepped s x to c = asked (is_int to) 18 (written_rule s x to) (λ e. unwritten s x to c)
+stepped s x to c = asked (is_number to) 18 (written_rule s x to) (λ e. unwritten s x to c)
 
 created : (s : Scope) (t : JavaType) (ts : List JavaType) → is_code s.part ≡ false → Gives (creation_rule s t ts)
 created s t ts c = asked (creation_fits s t ts) 26 (ask (is_code s.part) 39 (Fits (Value t))) (λ e. uncoded (is_code s.part) 39 t c)
@@ -348,7 +337,7 @@ module _ (arrays : List JavaType) (olds : Place → Option JavaType) where
   closed s (trees.ArrayCreation p t e) c k h = judged_closed p _ _ (on_any _ (judged s t).typed (λ u. on_any _ (judged (value s) e).typed (λ n. array_created s u n c)))
   closed s (trees.Unary p o e) c k h = judged_closed p _ _ (on_any _ (judged (operand o s) e).typed (unary o))
   closed s (trees.Step p o e) c k h = judged_closed p _ _ (on_any _ (judged (value s) e).typed (λ t. stepped s (judged (value s) e).typed t c))
-  closed s (trees.Binary p o a b) c k h = judged_closed p _ _ (on_any _ (judged (value s) a).typed (λ t. on_any _ (judged (value s) b).typed (binary s o t)))
+  closed s (trees.Binary p o a b) c k h = judged_closed p _ _ (on_any _ (judged (value s) a).typed (λ t. on_any _ (judged (value s) b).typed (binary s (kind_of o) t)))
   closed s (trees.InstanceOf p e t) c k h = judged_closed p _ _ (on_any _ (judged (value s) e).typed (λ u. on_any _ (judged s t).typed (λ v. instance s u v)))
   closed s (trees.Conditional p x a b) c k h =
       judged_closed p _ _ (on_any _ (judged (value s) x).typed (λ t. on_closed _ (judged (value s) a).typed (closed (value s) a c k h.1) (λ u f. on_closed _ (judged (value s) b).typed (closed (value s) b c k h.2) (λ v g. choice s t u v f g))))

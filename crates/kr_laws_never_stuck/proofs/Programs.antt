@@ -30,14 +30,14 @@ use Rattle.kr_classes_table.specs.Arrays.{array_types_of}
 use Rattle.kr_laws_never_stuck.proofs.Files.{IsGoodAt, class_good_at}
 use Rattle.kr_laws_never_stuck.proofs.Members.{member_of, statements_unbroken, IsGoodMethod, method_good, IsGoodConstructor, constructor_good, none_implied}
 use Rattle.kr_laws_never_stuck.proofs.Initials.{expression_same, IsGoodField, field_good, declaring_constant, IsGoodConstant, constant_good}
-use Rattle.kr_laws_never_stuck.proofs.Evaluated.{IsConstantOf, AreKnown, evaluated_kept, Gives, IsAlone, all_known}
-use Rattle.kr_classes_table.specs.Constants.{ConstantValue, constant_only, constants_in, placed, in_order, evaluated, value_at, known_value, values_of}
+use Rattle.kr_value.specs.declared.value.Value.{Value}
+use Rattle.kr_laws_never_stuck.proofs.Evaluated.{IsConstantOf, constant_kept, AreKnown, evaluated_kept, Gives, IsAlone, all_known}
+use Rattle.kr_classes_table.specs.Constants.{constant_in, constant_only, constants_in, placed, in_order, evaluated, value_at, known_value, values_of}
 use Rattle.kr_classes_table.specs.Rules.{is_earlier}
 use Rattle.kr_laws_types.specs.Types.{HasVariables}
 use Rattle.kr_laws_types.specs.Expressions.{plain, IsTyped}
 use Rattle.kr_laws_types.proofs.Expressions.{is_typed}
 use Rattle.kr_laws_runs.proofs.Respects.{AllOf, all_both}
-use Rattle.kr_mean.specs.Operators.{value_of_constant}
 use Rattle.kr_laws_safety.proofs.Targets.{widened}
 use Rattle.kr_laws_safety.proofs.Creations.{is_nil, nil_is, present}
 use Rattle.kr_laws_never_stuck.proofs.Declared.{one_front}
@@ -212,7 +212,7 @@ module _ (files : List Tree) (arrays : List JavaType) (shapes : AreFiles files) 
       go false n =
           let z = good_constant c d q g i static in
           let x = constant_typed c d q g i static n in
-          widened t follows.below [] x.type g.type (value_of_constant v) (z.fits x.type x.known).0
+          widened t follows.below [] x.type g.type v (z.fits x.type x.known).0
           (evaluated_kept t follows.below known c (inside c g z.final) g.initial x.type v k (refl, refl, refl, refl) x.known (ap (λ (n : ℕ). evaluated t known n g.initial) (sym z.class) ∙ e))
 
   alone : (c : ℕ) (d : Class) → class_at t.classes c ≡ Some d → (g : Field) → IsOneOf g d.fields → IsAlone t follows.below g
@@ -265,7 +265,7 @@ module _ (files : List Tree) (arrays : List JavaType) (shapes : AreFiles files) 
       all_known t follows.below [] fs (λ h v k e. absurd (cc (e))) (all_alone fs fine) (all_give fs fine)
 
   -- the value of a constant
-  constant_value : (c : ℕ) (n : List ℕ) (f : Field) → field_named t c n ≡ Some f → f.is_static ≡ true → (v : ConstantValue) × (known_value program.values (Some f) ≡ Some v) × IsConstantOf t f.type v
+  constant_value : (c : ℕ) (n : List ℕ) (f : Field) → field_named t c n ≡ Some f → f.is_static ≡ true → (v : Value) × (known_value program.values (Some f) ≡ Some v) × IsConstantOf t f.type v
   constant_value c n f q static =
       let part = one_part f (own_fields t) (line_of t c) (found_one (λ (y : Field). bytes_eq y.name n) f (flat_map (own_fields t) (line_of t c)) q).0 in
       let d = own_in part.0 f part.2 in
@@ -278,8 +278,8 @@ module _ (files : List Tree) (arrays : List JavaType) (shapes : AreFiles files) 
           go true m = (good_constant e d p f i static).absent (nil_is f.initial m)
           go false m = let x = constant_typed e d p f i static m in ((good_constant e d p f i static).fits x.type x.known).1
 
-      found : (o : Option ConstantValue) → value_at (values_of t) f.place ≡ o → is_some (value_at (values_of t) f.place) ≡ true → (v : ConstantValue) × (known_value program.values (Some f) ≡ Some v) × IsConstantOf t f.type v
-      found (Some v) e s = (v, e, values_known f v (c, n, q, static) e)
+      found : (o : Option Value) → value_at (values_of t) f.place ≡ o → is_some (value_at (values_of t) f.place) ≡ true → (v : Value) × (known_value program.values (Some f) ≡ Some v) × IsConstantOf t f.type v
+      found (Some v) e s = let i = values_known f v (c, n, q, static) e in (v, ap (λ (x : Option Value). option_and_then constant_in x) e ∙ constant_kept t f.type v i, i)
       found None e s = absurd (cc (ap is_some e, s))
 
   field : (c : ℕ) (n : List ℕ) (f : Field) → field_named t c n ≡ Some f → IsField program c n f

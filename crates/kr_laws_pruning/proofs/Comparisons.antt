@@ -1,11 +1,11 @@
 -- Comparisons of numbers: what the operators on constants say.
-use Rattle.std.proofs.Common.{◌≡◌, ℕ, ◌<◌, ◌≤◌, ◌⊎◌, inl, inr, Bool, true, false, Some, refl, sym, ap, ◌∙◌, arith, subst}
-use Rattle.std.specs.Prelude.{ℤ, pos, negsuc, not, ◌&&◌, int_lt, int_le, nat_lt, ◌%◌}
+use Rattle.std.proofs.Common.{◌≡◌, ℕ, ◌<◌, ◌≤◌, ◌⊎◌, inl, inr, Bool, true, false, refl, sym, ap, ◌∙◌, arith, subst}
+use Rattle.std.specs.Prelude.{ℤ, pos, negsuc, not, ◌&&◌, int_lt, int_le, nat_lt, ◌%◌, Ok}
 use Rattle.std.specs.Ordering.{int_eq}
 use Rattle.kr_ast.specs.declared.node.BinaryOperator.{BinaryOperator}
 use Rattle.kr_ast.specs.declared.node.BinaryOperator.TheVariants.{Less, LessOrEqual, Greater, GreaterOrEqual, Equal, NotEqual}
-use Rattle.kr_value.specs.declared.value.Value.TheVariants.{Int}
-use Rattle.kr_classes_table.specs.Constants.{Truth as TruthConstant, of_wholes, is_equal}
+use Rattle.kr_value.specs.declared.value.Value.TheVariants.{Int, Bool as Truth}
+use Rattle.kr_classes_table.specs.Operators.{of_wholes, is_equal}
 use Rattle.kr_classes_table.specs.Numbers.{Bits32, wrap}
 use Rattle.kr_mean.specs.Operators.{is_comparison, holds_of}
 use Rattle.std.proofs.Math.Dec.{leb}
@@ -55,11 +55,11 @@ small_is n h =
     let l : nat_lt n 2147483648 ≡ true = lt-ltb n 2147483648 (omega (arith, h)) in
     rw (m, l) refl
 
-pub compared : (test : BinaryOperator) (a b : ℤ) → is_comparison test ≡ true → of_wholes Bits32 test a b ≡ Some (TruthConstant (holds_of test (Int a) (Int b)))
+pub compared : (test : BinaryOperator) (a b : ℤ) → is_comparison test ≡ true → of_wholes Bits32 test a b ≡ Ok (Truth (holds_of test (Int a) (Int b)))
 compared Less a b e = refl
 compared Greater a b e = refl
-compared LessOrEqual a b e = ap (λ x. Some (TruthConstant x)) (le_is a b)
-compared GreaterOrEqual a b e = ap (λ x. Some (TruthConstant x)) (le_is b a)
-compared Equal a b e = ap (λ x. Some (TruthConstant x)) (eq_is a b)
-compared NotEqual a b e = ap (λ x. Some (TruthConstant (not x))) (eq_is a b)
+compared LessOrEqual a b e = ap (λ x. Ok (Truth x)) (le_is a b)
+compared GreaterOrEqual a b e = ap (λ x. Ok (Truth x)) (le_is b a)
+compared Equal a b e = ap (λ x. Ok (Truth x)) (eq_is a b)
+compared NotEqual a b e = ap (λ x. Ok (Truth (not x))) (eq_is a b)
 compared _ a b e = absurd (cc (e))

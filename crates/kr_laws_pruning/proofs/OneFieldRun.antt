@@ -9,7 +9,7 @@ use Rattle.kr_mean.specs.declared.kind.Stop.TheVariants.{Stuck}
 use Rattle.kr_mean.specs.Heaps.{distinct, value_at, heap_of, walk}
 use Rattle.kr_ast.specs.declared.node.BinaryOperator.{BinaryOperator}
 use Rattle.kr_ast.specs.declared.node.BinaryOperator.TheVariants.{Less, LessOrEqual, Greater, GreaterOrEqual, Equal, NotEqual}
-use Rattle.kr_mean.specs.Operators.{is_division, constant_result, is_comparison, holds_of, operated}
+use Rattle.kr_mean.specs.Operators.{said, is_comparison, holds_of, operated}
 use Rattle.kr_classes_table.specs.Table.{table_of}
 use Rattle.kr_classes_table.specs.Constants.{values_of}
 use Rattle.kr_types_meaning.specs.Typing.{judged}
@@ -45,7 +45,7 @@ answered test (Int a) (Int b) = Ok (Truth (holds_of test (Int a) (Int b)))
 answered test v w = operated test v w
 
 answers : (test : BinaryOperator) → is_comparison test ≡ true → (v w : Value) → operated test v w ≡ answered test v w
-answers test e (Int a) (Int b) = ap (constant_result (is_division test)) (compared test a b e)
+answers test e (Int a) (Int b) = ap said (compared test a b e)
 answers test e (Int a) (Truth b) = refl
 answers test e (Int a) Null = refl
 answers test e (Int a) (Reference o) = refl

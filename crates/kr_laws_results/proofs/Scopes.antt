@@ -4,13 +4,14 @@ use Rattle.std.specs.Prelude.{◌&&◌, ◌||◌, not, option_and_then, if◌the
 use Rattle.kr_ast.specs.declared.node.UnaryOperator.{UnaryOperator}
 use Rattle.kr_ast.specs.declared.node.UnaryOperator.TheVariants as unaries
 use Rattle.kr_ast.specs.declared.node.BinaryOperator.{BinaryOperator}
-use Rattle.kr_ast.specs.declared.node.BinaryOperator.TheVariants as operators
 use Rattle.kr_ast.specs.Tree as trees
 use Rattle.kr_ast.specs.Tree.{Tree}
 use Rattle.kr_classes_table.specs.Types.{JavaType, ClassType, ArrayType, SetType, ListType}
 use Rattle.kr_classes_table.specs.Table.{Parameter, Method, method_named, constructor_parameters}
+use Rattle.kr_types_meaning.specs.declared.operators.OperatorKind.{OperatorKind}
+use Rattle.kr_types_meaning.specs.declared.operators.OperatorKind.TheVariants.{Arithmetic, Shift, Comparison, Equality, Bitwise, Logical}
 use Rattle.kr_types_meaning.specs.Scopes.{Scope, Meant, LocalName, FieldName, NoName, class_before, super_class}
-use Rattle.kr_types_meaning.specs.Rules.{Typed, Judgement, Fits, Breaks, Value, ask, takes, is_code, is_broken, arguments_fit, result_rule, arguments_rule, call_rule, static_rule, above_rule, super_rule, method_rule, collection_rule, object_call_rule, creation_fits, creation_rule, operator_rule, written_rule, compound_rule, access_rule, name_rule}
+use Rattle.kr_types_meaning.specs.Rules.{Typed, Judgement, Fits, Breaks, Value, ask, takes, is_code, is_broken, arguments_fit, result_rule, arguments_rule, call_rule, static_rule, above_rule, super_rule, method_rule, collection_rule, object_call_rule, creation_fits, creation_rule, operator_rule, written_rule, compound_rule, access_rule, name_rule, kind_of, kind_rule}
 use Rattle.kr_types_meaning.specs.Typing.{operand}
 use Rattle.kr_laws_results.specs.Results.{without_result}
 
@@ -86,26 +87,12 @@ module _ (s : Scope) where
   pub creation_same : (t : JavaType) (ts : List JavaType) → creation_rule there t ts ≡ creation_rule s t ts
   creation_same t ts = ap (λ (x : Bool). ask x 26 (ask (is_code s.part) 39 (Fits (Value t)))) (fits_same t ts)
 
+  kind_same : (o : OperatorKind) (t u : JavaType) → kind_rule there o t u ≡ kind_rule s o t u
+  kind_same Equality t u = refl
+  kind_same _ t u = refl
+
   pub operator_same : (o : BinaryOperator) (t u : JavaType) → operator_rule there o t u ≡ operator_rule s o t u
-  operator_same operators.Equal t u = refl
-  operator_same operators.NotEqual t u = refl
-  operator_same operators.Multiply t u = refl
-  operator_same operators.Divide t u = refl
-  operator_same operators.Remainder t u = refl
-  operator_same operators.Add t u = refl
-  operator_same operators.Subtract t u = refl
-  operator_same operators.ShiftLeft t u = refl
-  operator_same operators.ShiftRight t u = refl
-  operator_same operators.ShiftRightUnsigned t u = refl
-  operator_same operators.Less t u = refl
-  operator_same operators.Greater t u = refl
-  operator_same operators.LessOrEqual t u = refl
-  operator_same operators.GreaterOrEqual t u = refl
-  operator_same operators.BitAnd t u = refl
-  operator_same operators.BitXor t u = refl
-  operator_same operators.BitOr t u = refl
-  operator_same operators.And t u = refl
-  operator_same operators.Or t u = refl
+  operator_same o t u = kind_same (kind_of o) t u
 
   pub compound_same : (o : BinaryOperator) (x : Typed) (t u : JavaType) → compound_rule there o x t u ≡ compound_rule s o x t u
   compound_same o x t u = ap (λ (v : Judgement). ask (not (is_broken v)) 17 (written_rule s x t)) (operator_same o t u)

@@ -1,6 +1,6 @@
 -- Each construct respects whatever relation between runs the steps respect.
 use Rattle.std.proofs.Common.{◌≡◌, ℕ, zero, suc, inl, inr, Bool, true, false, List, [], ◌∷◌, ◌++◌, length, Option, Some, None, refl, subst}
-use Rattle.std.specs.Prelude.{ℤ, pos, flat_map, map, codes, bytes_eq, option_map, option_and_then, option_to_list, if◌then◌else◌}
+use Rattle.std.specs.Prelude.{ℤ, pos, flat_map, map, codes, bytes_eq, option_and_then, option_to_list, if◌then◌else◌}
 use Rattle.kr_base.specs.declared.place.Place.{Place}
 use Rattle.kr_ast.specs.declared.node.BinaryOperator.{BinaryOperator}
 use Rattle.kr_ast.specs.declared.node.BinaryOperator.TheVariants.{And, Or}
@@ -9,13 +9,13 @@ use Rattle.kr_ast.specs.declared.node.StepOperator.{StepOperator}
 use Rattle.kr_ast.specs.Tree as trees
 use Rattle.kr_ast.specs.Tree.{Tree}
 use Rattle.kr_value.specs.declared.value.Value.{Value}
-use Rattle.kr_value.specs.declared.value.Value.TheVariants.{Int, Bool as Truth, Null}
+use Rattle.kr_value.specs.declared.value.Value.TheVariants.{Int, Bool as Truth, Null, Ref as Reference}
 use Rattle.kr_value.specs.declared.object.Class.{Class}
 use Rattle.kr_value.specs.declared.object.Class.TheVariants.{Object, Array, Set, List as ListClass}
 use Rattle.kr_value.specs.declared.object.Spot.TheVariants.{Field as FieldSpot, Length}
 use Rattle.kr_classes_table.specs.Types.{JavaType, IntType, BooleanType, NullType, VoidType, ClassType, ArrayType, SetType, ListType, InferredType, UnknownType, AppliedType, is_void}
 use Rattle.kr_classes_table.specs.Table.{Field, Method, Constructor, items, fields_of, line_of, method_named}
-use Rattle.kr_classes_table.specs.Constants.{ConstantValue, Whole, Truth as TruthConstant, Absent, constant_of, known_value as constant_value}
+use Rattle.kr_classes_table.specs.Constants.{constant_in, constant_of, value_at}
 use Rattle.kr_classes_table.specs.Numbers.{Bits32, wrap}
 use Rattle.kr_types_meaning.specs.Scopes.{Scope, Meant, LocalName, FieldName, NoName, written, after, meant, class_before, static_only, method_meant, bind_local as with_local}
 use Rattle.kr_mean.specs.declared.kind.Kind.TheVariants.{NullPointerException, ClassCastException, NoReturn}
@@ -23,7 +23,7 @@ use Rattle.kr_mean.specs.declared.kind.Stop.{Stop}
 use Rattle.kr_mean.specs.declared.kind.Stop.TheVariants.{Trapped, OutOfFuel, Stuck}
 use Rattle.kr_mean.specs.Program.{Program, default_of, is_of_type, field_position, overriding, class_scope, method_scope, constructor_scope, constructor_of, declared_fields}
 use Rattle.kr_mean.specs.Steps.{Run, say, give, stop, given, not_null, ◌>>=◌, tick, get_this, read_local, declare, assign, get_result, get_old, within, scoped, load, load_at, load_in, load_field, element, class_or_null, class_of, store, store_new, store_element, make, collect}
-use Rattle.kr_mean.specs.Operators.{value_of_constant, operated, operated_alone, step_operator, gives_old}
+use Rattle.kr_mean.specs.Operators.{operated, operated_alone, step_operator, gives_old}
 use Rattle.kr_mean.specs.declared.flow.Flow.{Flow}
 use Rattle.kr_mean.specs.declared.flow.Flow.TheVariants.{Next, Broke, Continued, Left, Gave}
 use Rattle.kr_mean.specs.Meaning.{Parts, Target, LocalTarget, OwnField, FieldOf, ElementOf, NoTarget, Change, then_on, then_round, then_update, returned, completed, choose, values_of, all, updates, condition, rounds, constant, read_name, access, typed_method, run_body, run_method, run_chosen, own_call, called, method_call, super_method, super_arguments, initialised, all_initialised, constructed_by, constructed, create, create_array, target_of, assigned, changed, change_to, compound, change_from, stepped, binary, cast, is_primitive, instance, value_of, initial_value, declared, all_declared, declaring_locals, flow_of, statement, spent, parts_within, eval, exec}
@@ -176,17 +176,19 @@ module _ (program : Program) (MayStore : Field → Type 0) (MayPut : JavaType �
   loads_field : (n : List ℕ) (o o' : Value) → l.R o o' → l.Rel l.R (load_field program n o) (load_field program n o')
   loads_field n o o' r = l.binds _ _ _ _ _ _ (classes_of_ o o' r) (λ c d e. rw e (loads_in o o' n c r))
 
-  constant_same : (c : ConstantValue) → l.R (value_of_constant c) (value_of_constant c)
-  constant_same (Whole z) = l.ints z
-  constant_same (TruthConstant b) = l.truths b
-  constant_same Absent = l.nulls
+  constant_same : (c : Value) → l.Rel l.R (given (constant_in c)) (given (constant_in c))
+  constant_same (Int z) = l.gives_ l.R _ _ (l.ints z)
+  constant_same (Truth b) = l.gives_ l.R _ _ (l.truths b)
+  constant_same Null = l.gives_ l.R _ _ l.nulls
+  constant_same (Reference o) = l.stops l.R Stuck
 
   constants : (s : Scope) (f : Option Field) → l.Rel l.R (constant s f) (constant s f)
-  constants s f = go (constant_value s.values f)
+  constants s None = l.stops l.R Stuck
+  constants s (Some f) = go (value_at s.values f.place)
     where
-      go : (x : Option ConstantValue) → l.Rel l.R (given (option_map value_of_constant x)) (given (option_map value_of_constant x))
+      go : (x : Option Value) → l.Rel l.R (given (option_and_then constant_in x)) (given (option_and_then constant_in x))
       go None = l.stops l.R Stuck
-      go (Some c) = l.gives_ l.R _ _ (constant_same c)
+      go (Some c) = constant_same c
 
   reads_name : (s : Scope) (m : Meant) → l.Rel l.R (read_name program s m) (read_name program s m)
   reads_name s (LocalName k t) = l.reads_local k

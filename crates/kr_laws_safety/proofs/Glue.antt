@@ -9,7 +9,8 @@ use Rattle.kr_classes_table.specs.Rules.{Fault}
 use Rattle.kr_classes_table.specs.Table.{Table, is_subtype}
 use Rattle.kr_types_meaning.specs.Scopes.{Scope}
 use Rattle.kr_types_meaning.specs.Rules as rules
-use Rattle.kr_types_meaning.specs.Rules.{Typed, Values, Untyped, Judgement, Fits, Breaks, ask, is_int, is_boolean, is_statement}
+use Rattle.kr_types_meaning.specs.Promotion.{promoted_alone}
+use Rattle.kr_types_meaning.specs.Rules.{Typed, Values, Untyped, Judgement, Fits, Breaks, ask, is_int, is_boolean, is_statement, of_promoted}
 use Rattle.kr_types_meaning.specs.Typing.{Judged, judge, on_one, on_two, judged, type_in}
 use Rattle.kr_mean.specs.Program.{Program}
 use Rattle.kr_mean.specs.Steps.{Run, ◌>>=◌}
@@ -129,6 +130,11 @@ ruled_plainly b (Fits (rules.Variable u)) t h r = absurd (cc (h.0))
 ruled_plainly b (Fits (Values ts)) t h r = absurd h
 ruled_plainly b (Fits Untyped) t h r = absurd (cc (r.2, ap type_in (fits_inside Untyped r.0 r.1)))
 ruled_plainly b (Breaks n) t h r = absurd (cc (r.1))
+
+-- an operand that is promoted alone
+pub ruled_alone : (a t : JavaType) (r : ℕ) → Ruled (of_promoted (promoted_alone a) r) t → (a ≡ IntType) × (IntType ≡ t)
+ruled_alone IntType t r h = (refl, ruled_value IntType t h)
+ruled_alone _ t r h = absurd (cc (h.1))
 
 pub int_is : (a : JavaType) → is_int a ≡ true → a ≡ IntType
 int_is a e = same_type a IntType e

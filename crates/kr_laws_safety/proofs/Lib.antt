@@ -1,3 +1,4 @@
+pub mod Promoted
 pub mod Targets
 pub mod Glue
 pub mod Scoping

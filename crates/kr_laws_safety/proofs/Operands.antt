@@ -1,6 +1,6 @@
 -- Expressions whose parts are operands: literals, names, fields, elements, operators, casts and tests of classes.
 use Rattle.std.proofs.Common.{◌≡◌, ℕ, Bool, true, false, List, [], ◌∷◌, ◌++◌, Option, Some, None, refl, sym, ap, ◌∙◌, subst}
-use Rattle.std.specs.Prelude.{pos, ◌||◌, not, bytes_eq, codes, if◌then◌else◌, option_and_then, option_map}
+use Rattle.std.specs.Prelude.{pos, ◌||◌, not, bytes_eq, codes, if◌then◌else◌, option_and_then}
 use Rattle.kr_base.specs.declared.place.Place.{Place}
 use Rattle.kr_ast.specs.declared.node.UnaryOperator.{UnaryOperator}
 use Rattle.kr_ast.specs.declared.node.UnaryOperator.TheVariants as unaries
@@ -13,16 +13,17 @@ use Rattle.kr_value.specs.declared.value.Value.{Value}
 use Rattle.kr_value.specs.declared.value.Value.TheVariants.{Int, Bool as Truth, Null}
 use Rattle.kr_classes_table.specs.Types.{JavaType, IntType, BooleanType, NullType, ClassType, ArrayType, SetType, ListType, UnknownType, AppliedType, is_void, is_known, is_reference}
 use Rattle.kr_classes_table.specs.Table.{Field, class_or, class_named, applied, field_named, is_subtype}
-use Rattle.kr_classes_table.specs.Constants.{ConstantValue, constant_only, constant_of, field_meant, known_value as constant_value}
+use Rattle.kr_classes_table.specs.Constants.{constant_only, constant_of, field_meant, known_value as constant_value}
 use Rattle.kr_classes_table.specs.Numbers.{Bits32, wrap}
 use Rattle.kr_types_meaning.specs.Scopes.{Scope, Meant, LocalName, FieldName, NoName, value, under_minus, in_old, written, meant, class_before}
 use Rattle.kr_types_meaning.specs.Rules as rules
-use Rattle.kr_types_meaning.specs.Rules.{Typed, Untyped, Judgement, Fits, Breaks, ask, gives, both_int, both_boolean, related_references, number_rule, this_rule, name_rule, unary_rule, operator_rule, choice_rule, cast_rule, instance_rule, field_rule, access_rule, constant_rule, element_rule, result_value_rule, old_rule}
+use Rattle.kr_types_meaning.specs.Promotion.{are_numbers}
+use Rattle.kr_types_meaning.specs.Rules.{Typed, Untyped, Judgement, Fits, Breaks, ask, gives, both_boolean, related_references, number_rule, this_rule, name_rule, unary_rule, operator_rule, choice_rule, cast_rule, instance_rule, field_rule, access_rule, constant_rule, element_rule, result_value_rule, old_rule}
 use Rattle.kr_types_meaning.specs.Typing.{judge, on_one, on_two, field_of, judged, type_in}
 use Rattle.kr_types_meaning.proofs.Types.{types_law}
 use Rattle.kr_mean.specs.Program.{Program}
 use Rattle.kr_mean.specs.Steps.{Run, say, give, given, ◌>>=◌, get_this, load_field}
-use Rattle.kr_mean.specs.Operators.{value_of_constant, operated, operated_alone}
+use Rattle.kr_mean.specs.Operators.{operated, operated_alone}
 use Rattle.kr_mean.specs.Meaning.{Parts, constant, read_name, access, binary, is_primitive, value_of}
 use Rattle.kr_laws_safety.specs.Fits.{IsOf}
 use Rattle.kr_laws_safety.specs.Triples.{Fixed, Safe, Gives}
@@ -39,50 +40,34 @@ use Rattle.kr_laws_types.proofs.Expressions.{written_shaped}
 use Rattle.kr_laws_safety.specs.Typed.{IsField, IsTypedProgram}
 use Rattle.kr_laws_safety.specs.Claims.{this_of, types_of, is_target, GivesAs, IsScope, Coded, PartsSafe}
 use Rattle.kr_laws_safety.proofs.Targets.{and_true, not_true, assignable_itself, Used, used}
-use Rattle.kr_laws_safety.proofs.Glue.{Ruled, front_none, back_none, below_none, ruled, ruled_one, ruled_two, ruled_ask, same_types, ruled_value, ruled_variable, ruled_gives, ruled_varies, ruled_plainly, int_is, boolean_is, safe_next, safe_as, settled, typed_at, has_variables}
+use Rattle.kr_laws_safety.proofs.Glue.{Ruled, ruled_alone, front_none, back_none, below_none, ruled, ruled_one, ruled_two, ruled_ask, same_types, ruled_value, ruled_variable, ruled_gives, ruled_varies, ruled_plainly, int_is, boolean_is, safe_next, safe_as, settled, typed_at, has_variables}
 use Rattle.kr_laws_safety.proofs.Scoping.{meant_is, field_found, class_plain}
 use Rattle.kr_laws_safety.proofs.Classes.{safe_length_named}
 
 -- two operands, where both are looked at
 both_operands : (o : BinaryOperator) (m n : Run Value) → is_junction o ≡ false → binary o m n ≡ (m >>= (λ v. n >>= (λ w. say (operated o v w))))
-both_operands operators.Multiply m n j = refl
-both_operands operators.Divide m n j = refl
-both_operands operators.Remainder m n j = refl
-both_operands operators.Add m n j = refl
-both_operands operators.Subtract m n j = refl
-both_operands operators.ShiftLeft m n j = refl
-both_operands operators.ShiftRight m n j = refl
-both_operands operators.ShiftRightUnsigned m n j = refl
-both_operands operators.Less m n j = refl
-both_operands operators.Greater m n j = refl
-both_operands operators.LessOrEqual m n j = refl
-both_operands operators.GreaterOrEqual m n j = refl
-both_operands operators.Equal m n j = refl
-both_operands operators.NotEqual m n j = refl
-both_operands operators.BitAnd m n j = refl
-both_operands operators.BitXor m n j = refl
-both_operands operators.BitOr m n j = refl
 both_operands operators.And m n j = absurd (cc (j))
 both_operands operators.Or m n j = absurd (cc (j))
+both_operands _ m n j = refl
 
 -- ---- types in casts
 
 -- a type that is written by a name, with an argument or as an array's is no primitive one
-named_reference : (c : Option ℕ) (o n : List ℕ) (f : JavaType) → (both_int (class_or c (UnknownType o n)) f || both_boolean (class_or c (UnknownType o n)) f) ≡ false
+named_reference : (c : Option ℕ) (o n : List ℕ) (f : JavaType) → (are_numbers (class_or c (UnknownType o n)) f || both_boolean (class_or c (UnknownType o n)) f) ≡ false
 named_reference (Some c) o n f = refl
 named_reference None o n f = refl
 
-applied_reference : (h t f : JavaType) → (both_int (applied h t) f || both_boolean (applied h t) f) ≡ false
+applied_reference : (h t f : JavaType) → (are_numbers (applied h t) f || both_boolean (applied h t) f) ≡ false
 applied_reference (UnknownType [] n) t f = go (bytes_eq n (codes "HashSet")) (bytes_eq n (codes "LinkedList"))
   where
-    go : (b c : Bool) → (both_int (if b then SetType t else if c then ListType t else AppliedType (UnknownType [] n) t) f || both_boolean (if b then SetType t else if c then ListType t else AppliedType (UnknownType [] n) t) f) ≡ false
+    go : (b c : Bool) → (are_numbers (if b then SetType t else if c then ListType t else AppliedType (UnknownType [] n) t) f || both_boolean (if b then SetType t else if c then ListType t else AppliedType (UnknownType [] n) t) f) ≡ false
     go true c = refl
     go false true = refl
     go false false = refl
 applied_reference (UnknownType (o ∷ os) n) t f = refl
 applied_reference _ t f = refl
 
-pub written_reference : (s : Scope) (t : Tree) (f : JavaType) → IsWritten t → is_primitive t ≡ false → (both_int (written s t) f || both_boolean (written s t) f) ≡ false
+pub written_reference : (s : Scope) (t : Tree) (f : JavaType) → IsWritten t → is_primitive t ≡ false → (are_numbers (written s t) f || both_boolean (written s t) f) ≡ false
 written_reference s (trees.PrimitiveType p k) f h e = absurd (cc (e))
 written_reference s (trees.NamedType p n) f h e = named_reference (class_named s.table.headings (trees.NamedType p n)) [] n f
 written_reference s (trees.QualifiedType p o n) f h e = named_reference (class_named s.table.headings (trees.QualifiedType p o n)) o n f
@@ -156,8 +141,8 @@ module _ (program : Program) (fixed : Fixed) (facts : IsTypedProgram program) (p
   pub safe_constant : (s : Scope) (types : List JavaType) (c : ℕ) (n : List ℕ) (f : Field) → s.values ≡ program.values → IsField program c n f → f.is_static ≡ true → Safe program fixed types (this_of s) (types_of s.locals) (constant (plain s) (Some f)) (Gives program (types_of s.locals) f.type)
   safe_constant s types c n f e h b =
       let v = h.constant b in
-      subst (λ (x : Option ConstantValue). Safe program fixed types (this_of s) (types_of s.locals) (given (option_map value_of_constant x)) (Gives program (types_of s.locals) f.type)) (sym (ap (λ vs. constant_value vs (Some f)) e ∙ v.1))
-      (safe_give program fixed types (this_of s) (types_of s.locals) (value_of_constant v.0) _ (refl, value_more program.table [] types f.type (value_of_constant v.0) (types, refl) v.2))
+      subst (λ (x : Option Value). Safe program fixed types (this_of s) (types_of s.locals) (given x) (Gives program (types_of s.locals) f.type)) (sym (ap (λ vs. constant_value vs (Some f)) e ∙ v.1))
+      (safe_give program fixed types (this_of s) (types_of s.locals) v.0 _ (refl, value_more program.table [] types f.type v.0 (types, refl) v.2))
 
   pub name_read : (s : Scope) (n : List ℕ) (types : List JavaType) (t : JavaType) → Ruled (name_rule (settled program fixed s) (meant (settled program fixed s) n)) t
       → Safe program fixed types (this_of s) (types_of s.locals) (read_name program (plain (settled program fixed s)) (meant (settled program fixed s) n)) (Gives program (types_of s.locals) t)
@@ -283,14 +268,14 @@ module _ (program : Program) (fixed : Fixed) (facts : IsTypedProgram program) (p
       (safe_next program fixed types (this_of w) (types_of w.locals) (p.value (plain w) e) _ _ _ (part_as w e k h below types x.type x.known is.0 is.1)
       (λ more v y i. safe_operated_alone program fixed more (this_of w) (types_of w.locals) o x.type t v (ruled_plainly false (unary_rule o x.type) t (unary_fine (record w { role = Rattle.kr_types_meaning.specs.Scopes.AsValue }) (subst HasVariables (sym k.0) (has_variables program fixed facts)) o x.type) rule) i))
     where
-      int_target : (c : JavaType) → rules.is_int c ≡ true → (is_target c ≡ true) × (is_void c ≡ false)
-      int_target c e = subst (λ (z : JavaType). (is_target z ≡ true) × (is_void z ≡ false)) (sym (int_is c e)) (refl, refl)
+      int_target : (c : JavaType) → c ≡ IntType → (is_target c ≡ true) × (is_void c ≡ false)
+      int_target c e = subst (λ (z : JavaType). (is_target z ≡ true) × (is_void z ≡ false)) (sym e) (refl, refl)
 
       unary_is : (o : UnaryOperator) (c t : JavaType) → Ruled (unary_rule o c) t → (is_target c ≡ true) × (is_void c ≡ false)
       unary_is unaries.Not c t r = subst (λ (z : JavaType). (is_target z ≡ true) × (is_void z ≡ false)) (sym (boolean_is c (ruled_ask (rules.is_boolean c) 13 (Fits (rules.Value BooleanType)) t r).0)) (refl, refl)
-      unary_is unaries.Plus c t r = int_target c (ruled_ask (rules.is_int c) 14 (Fits (rules.Value IntType)) t r).0
-      unary_is unaries.Minus c t r = int_target c (ruled_ask (rules.is_int c) 14 (Fits (rules.Value IntType)) t r).0
-      unary_is unaries.Complement c t r = int_target c (ruled_ask (rules.is_int c) 14 (Fits (rules.Value IntType)) t r).0
+      unary_is unaries.Plus c t r = int_target c (ruled_alone c t 14 r).0
+      unary_is unaries.Minus c t r = int_target c (ruled_alone c t 14 r).0
+      unary_is unaries.Complement c t r = int_target c (ruled_alone c t 14 r).0
 
   pub unary : (s : Scope) (pl : Place) (o : UnaryOperator) (e : Tree) → IsScope program fixed s → Coded program fixed (Expression false) s e → (judged s (trees.Unary pl o e)).faults ≡ [] → Goal s (trees.Unary pl o e)
   unfolding judged

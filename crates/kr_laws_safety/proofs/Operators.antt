@@ -13,23 +13,26 @@ use Rattle.kr_value.specs.declared.object.Class.TheVariants.{Array}
 use Rattle.kr_value.specs.Heaps.{object_in}
 use Rattle.kr_classes_table.specs.Types.{JavaType, IntType, BooleanType, VoidType, ArrayType, is_same, is_reference}
 use Rattle.kr_classes_table.specs.Table.{Table, is_subtype}
-use Rattle.kr_classes_table.specs.Constants.{Whole, is_zero}
+use Rattle.kr_classes_table.specs.declared.errors.OperatorError.TheVariants.{ZeroDivisor}
+use Rattle.kr_classes_table.specs.Operators.{is_zero}
 use Rattle.kr_classes_table.specs.Numbers.{Width, Bits32, whole_of}
 use Rattle.kr_classes_table.specs.Arrays.{array_number_from, array_number}
 use Rattle.kr_types_meaning.specs.Scopes.{Scope}
 use Rattle.kr_types_meaning.specs.Rules as rules
-use Rattle.kr_types_meaning.specs.Rules.{Typed, Judgement, Fits, Breaks, ask, is_int, is_boolean, both_int, both_boolean, related_references, operator_rule, unary_rule}
+use Rattle.kr_types_meaning.specs.Promotion.{promoted, promoted_alone, is_number, are_numbers}
+use Rattle.kr_types_meaning.specs.Rules.{Typed, Judgement, Fits, Breaks, ask, is_boolean, both_boolean, related_references, operator_rule, unary_rule, of_promoted, shift_rule, bit_rule}
 use Rattle.kr_mean.specs.declared.kind.Stop.{Stop}
 use Rattle.kr_mean.specs.declared.kind.Stop.TheVariants.{Trapped, OutOfFuel, Stuck}
 use Rattle.kr_mean.specs.Program.{Program, default_of, is_array_of}
 use Rattle.kr_mean.specs.Steps.{State, Run, say, stop}
-use Rattle.kr_mean.specs.Operators.{is_division, operated, operated_alone}
+use Rattle.kr_mean.specs.Operators.{said as ended, operated, operated_alone}
 use Rattle.kr_mean.specs.Meaning.{make_array, create_array}
 use Rattle.kr_mean.specs.declared.kind.Kind.TheVariants.{ArrayTooLong}
 use Rattle.kr_laws_safety.specs.Fits.{IsWithin, IsOf, IsHeapOf, type_at}
 use Rattle.kr_laws_safety.specs.Triples.{Fixed, IsStateOf, Fine, Safe, Gives}
 use Rattle.kr_laws_safety.specs.Steps.{is_junction}
 use Rattle.kr_laws_slots.proofs.Spaces.{some_is}
+use Rattle.kr_laws_safety.proofs.Promoted.{alone_is, numbers_are}
 use Rattle.kr_laws_safety.proofs.Heaps.{value_more, extends_self, object_found, all_replicate, same_type}
 use Rattle.kr_laws_safety.proofs.Vectors.{type_same}
 use Rattle.kr_laws_safety.proofs.Steps.{IsObjectType, Assigned, object_type, type_known, no_int, safe_make, safe_map}
@@ -65,7 +68,7 @@ on_ints And = None
 on_ints Or = None
 on_ints o = Some IntType
 
-divided : (b : Bool) (n : ℕ) → Good IntType (Rattle.kr_mean.specs.Operators.constant_result true (if b then None else Some (Whole (whole_of Bits32 n))))
+divided : (b : Bool) (n : ℕ) → Good IntType (ended (if b then Err ZeroDivisor else Ok (Int (whole_of Bits32 n))))
 divided true n = tt
 divided false n = whole_good n
 
@@ -74,25 +77,17 @@ OnInts None r = Unit {0}
 OnInts (Some t) r = Good t r
 
 pub ints_good : (o : BinaryOperator) (x y : ℤ) → OnInts (on_ints o) (operated o (Int x) (Int y))
-ints_good Multiply x y = whole_good _
 ints_good Divide x y = divided (is_zero y) _
 ints_good Remainder x y = divided (is_zero y) _
-ints_good Add x y = whole_good _
-ints_good Subtract x y = whole_good _
-ints_good ShiftLeft x y = whole_good _
-ints_good ShiftRight x y = whole_good _
-ints_good ShiftRightUnsigned x y = whole_good _
 ints_good Less x y = λ table types. refl
 ints_good Greater x y = λ table types. refl
 ints_good LessOrEqual x y = λ table types. refl
 ints_good GreaterOrEqual x y = λ table types. refl
 ints_good Equal x y = λ table types. refl
 ints_good NotEqual x y = λ table types. refl
-ints_good BitAnd x y = whole_good _
-ints_good BitXor x y = whole_good _
-ints_good BitOr x y = whole_good _
 ints_good And x y = tt
 ints_good Or x y = tt
+ints_good _ x y = whole_good _
 
 -- ---- booleans
 
@@ -114,20 +109,7 @@ booleans_good NotEqual x y = λ table types. refl
 booleans_good BitAnd x y = λ table types. refl
 booleans_good BitXor x y = λ table types. refl
 booleans_good BitOr x y = λ table types. refl
-booleans_good Multiply x y = tt
-booleans_good Divide x y = tt
-booleans_good Remainder x y = tt
-booleans_good Add x y = tt
-booleans_good Subtract x y = tt
-booleans_good ShiftLeft x y = tt
-booleans_good ShiftRight x y = tt
-booleans_good ShiftRightUnsigned x y = tt
-booleans_good Less x y = tt
-booleans_good Greater x y = tt
-booleans_good LessOrEqual x y = tt
-booleans_good GreaterOrEqual x y = tt
-booleans_good And x y = tt
-booleans_good Or x y = tt
+booleans_good _ x y = tt
 
 -- ---- what the rules ask
 
@@ -156,63 +138,79 @@ pub data Use (o : BinaryOperator) (a b t : JavaType) : Type 0 where
   booleans : a ≡ BooleanType → b ≡ BooleanType → on_booleans o ≡ true → t ≡ BooleanType → Use o a b t
   references : is_reference a ≡ true → is_reference b ≡ true → (o ≡ Equal) ⊎ (o ≡ NotEqual) → t ≡ BooleanType → Use o a b t
 
-both_ints : (a b : JavaType) → both_int a b ≡ true → (a ≡ IntType) × (b ≡ IntType)
-both_ints a b e = let r = and_holds (is_int a) (is_int b) e in (same_type a IntType r.0, same_type b IntType r.1)
-
 both_booleans : (a b : JavaType) → both_boolean a b ≡ true → (a ≡ BooleanType) × (b ≡ BooleanType)
 both_booleans a b e = let r = and_holds (is_boolean a) (is_boolean b) e in (same_type a BooleanType r.0, same_type b BooleanType r.1)
 
-only_ints : (s : Scope) (o : BinaryOperator) (a b t u : JavaType) (r : ℕ) → on_ints o ≡ Some u → ask (both_int a b) r (Fits (rules.Value u)) ≡ Fits (rules.Value t) → Use o a b t
+only_ints : (s : Scope) (o : BinaryOperator) (a b t u : JavaType) (r : ℕ) → on_ints o ≡ Some u → ask (are_numbers a b) r (Fits (rules.Value u)) ≡ Fits (rules.Value t) → Use o a b t
 only_ints s o a b t u r q e =
-    let h = ask_holds (both_int a b) r (Fits (rules.Value u)) (rules.Value t) e in
-    let x = both_ints a b h.0 in
+    let h = ask_holds (are_numbers a b) r (Fits (rules.Value u)) (rules.Value t) e in
+    let x = numbers_are a b h.0 in
     ints x.0 x.1 (q ∙ ap (λ (y : JavaType). Some y) (same_fits u t h.1))
 
--- of a bit operator
-bits : (s : Scope) (o : BinaryOperator) (a b t : JavaType) → on_ints o ≡ Some IntType → on_booleans o ≡ true → ask (both_int a b || both_boolean a b) 11 (Fits (rules.Value a)) ≡ Fits (rules.Value t) → Use o a b t
-bits s o a b t q p e =
-    let h = ask_holds (both_int a b || both_boolean a b) 11 (Fits (rules.Value a)) (rules.Value t) e in
-    go (same_fits a t h.1) (or_holds (both_int a b) (both_boolean a b) h.0)
+-- of an operator that promotes both operands
+numbers : (o : BinaryOperator) (a b t : JavaType) (r : ℕ) → on_ints o ≡ Some IntType → of_promoted (promoted a b) r ≡ Fits (rules.Value t) → Use o a b t
+numbers o IntType b t r q e = right b e
   where
-    go : a ≡ t → (both_int a b ≡ true) ⊎ (both_boolean a b ≡ true) → Use o a b t
-    go f (inl i) = let x = both_ints a b i in ints x.0 x.1 (q ∙ ap (λ (y : JavaType). Some y) (sym x.0 ∙ f))
-    go f (inr i) = let x = both_booleans a b i in booleans x.0 x.1 p (sym f ∙ x.0)
+    right : (b : JavaType) → of_promoted (promoted_alone b) r ≡ Fits (rules.Value t) → Use o IntType b t
+    right IntType e = ints refl refl (q ∙ ap (λ (y : JavaType). Some y) (same_fits IntType t e))
+    right _ e = absurd (cc (e))
+numbers o _ b t r q e = absurd (cc (e))
+
+-- of a shift, which promotes each alone
+shifted : (o : BinaryOperator) (a b t : JavaType) → on_ints o ≡ Some IntType → shift_rule a b ≡ Fits (rules.Value t) → Use o a b t
+shifted o IntType b t q e =
+    let h = ask_holds (is_number b) 8 (Fits (rules.Value IntType)) (rules.Value t) e in
+    ints refl (alone_is b h.0) (q ∙ ap (λ (y : JavaType). Some y) (same_fits IntType t h.1))
+shifted o _ b t q e = absurd (cc ((ask_holds (is_number b) 8 (Breaks 8) (rules.Value t) e).1))
+
+-- of one operand
+alone_fits : (a t : JavaType) (r : ℕ) → of_promoted (promoted_alone a) r ≡ Fits (rules.Value t) → (a ≡ IntType) × (IntType ≡ t)
+alone_fits IntType t r e = (refl, same_fits IntType t e)
+alone_fits _ t r e = absurd (cc (e))
+
+-- of a bit operator
+bits : (o : BinaryOperator) (a b t : JavaType) → on_ints o ≡ Some IntType → on_booleans o ≡ true → bit_rule a b ≡ Fits (rules.Value t) → Use o a b t
+bits o a b t q p e = go (both_boolean a b) refl e
+  where
+    go : (n : Bool) → both_boolean a b ≡ n → (if n then Fits (rules.Value BooleanType) else of_promoted (promoted a b) 11) ≡ Fits (rules.Value t) → Use o a b t
+    go true i f = let x = both_booleans a b i in booleans x.0 x.1 p (sym (same_fits BooleanType t f))
+    go false i f = numbers o a b t 11 q f
 
 -- of `==` and `!=`
-equals : (s : Scope) (o : BinaryOperator) (a b t : JavaType) → on_ints o ≡ Some BooleanType → on_booleans o ≡ true → (o ≡ Equal) ⊎ (o ≡ NotEqual) → ask (both_int a b || both_boolean a b || related_references s a b) 10 (Fits (rules.Value BooleanType)) ≡ Fits (rules.Value t) → Use o a b t
+equals : (s : Scope) (o : BinaryOperator) (a b t : JavaType) → on_ints o ≡ Some BooleanType → on_booleans o ≡ true → (o ≡ Equal) ⊎ (o ≡ NotEqual) → ask (are_numbers a b || both_boolean a b || related_references s a b) 10 (Fits (rules.Value BooleanType)) ≡ Fits (rules.Value t) → Use o a b t
 equals s o a b t q p k e =
-    let h = ask_holds (both_int a b || both_boolean a b || related_references s a b) 10 (Fits (rules.Value BooleanType)) (rules.Value t) e in
-    go (same_fits BooleanType t h.1) (or_holds (both_int a b || both_boolean a b) (related_references s a b) h.0)
+    let h = ask_holds (are_numbers a b || both_boolean a b || related_references s a b) 10 (Fits (rules.Value BooleanType)) (rules.Value t) e in
+    go (same_fits BooleanType t h.1) (or_holds (are_numbers a b || both_boolean a b) (related_references s a b) h.0)
   where
-    plain : BooleanType ≡ t → (both_int a b ≡ true) ⊎ (both_boolean a b ≡ true) → Use o a b t
-    plain f (inl i) = let x = both_ints a b i in ints x.0 x.1 (q ∙ ap (λ (y : JavaType). Some y) f)
+    plain : BooleanType ≡ t → (are_numbers a b ≡ true) ⊎ (both_boolean a b ≡ true) → Use o a b t
+    plain f (inl i) = let x = numbers_are a b i in ints x.0 x.1 (q ∙ ap (λ (y : JavaType). Some y) f)
     plain f (inr i) = let x = both_booleans a b i in booleans x.0 x.1 p (sym f)
 
-    go : BooleanType ≡ t → ((both_int a b || both_boolean a b) ≡ true) ⊎ (related_references s a b ≡ true) → Use o a b t
-    go f (inl i) = plain f (or_holds (both_int a b) (both_boolean a b) i)
+    go : BooleanType ≡ t → ((are_numbers a b || both_boolean a b) ≡ true) ⊎ (related_references s a b ≡ true) → Use o a b t
+    go f (inl i) = plain f (or_holds (are_numbers a b) (both_boolean a b) i)
     go f (inr i) =
         let x = and_holds (is_reference a && is_reference b) (Rattle.kr_classes_table.specs.Table.are_related s.table a b) i in
         let y = and_holds (is_reference a) (is_reference b) x.0 in
         references y.0 y.1 k (sym f)
 
 pub used : (s : Scope) (o : BinaryOperator) (a b t : JavaType) → is_junction o ≡ false → operator_rule s o a b ≡ Fits (rules.Value t) → Use o a b t
-used s Multiply a b t j e = only_ints s Multiply a b t IntType 7 refl e
-used s Divide a b t j e = only_ints s Divide a b t IntType 7 refl e
-used s Remainder a b t j e = only_ints s Remainder a b t IntType 7 refl e
-used s Add a b t j e = only_ints s Add a b t IntType 7 refl e
-used s Subtract a b t j e = only_ints s Subtract a b t IntType 7 refl e
-used s ShiftLeft a b t j e = only_ints s ShiftLeft a b t IntType 8 refl e
-used s ShiftRight a b t j e = only_ints s ShiftRight a b t IntType 8 refl e
-used s ShiftRightUnsigned a b t j e = only_ints s ShiftRightUnsigned a b t IntType 8 refl e
+used s Multiply a b t j e = numbers Multiply a b t 7 refl e
+used s Divide a b t j e = numbers Divide a b t 7 refl e
+used s Remainder a b t j e = numbers Remainder a b t 7 refl e
+used s Add a b t j e = numbers Add a b t 7 refl e
+used s Subtract a b t j e = numbers Subtract a b t 7 refl e
+used s ShiftLeft a b t j e = shifted ShiftLeft a b t refl e
+used s ShiftRight a b t j e = shifted ShiftRight a b t refl e
+used s ShiftRightUnsigned a b t j e = shifted ShiftRightUnsigned a b t refl e
 used s Less a b t j e = only_ints s Less a b t BooleanType 9 refl e
 used s Greater a b t j e = only_ints s Greater a b t BooleanType 9 refl e
 used s LessOrEqual a b t j e = only_ints s LessOrEqual a b t BooleanType 9 refl e
 used s GreaterOrEqual a b t j e = only_ints s GreaterOrEqual a b t BooleanType 9 refl e
 used s Equal a b t j e = equals s Equal a b t refl refl (inl refl) e
 used s NotEqual a b t j e = equals s NotEqual a b t refl refl (inr refl) e
-used s BitAnd a b t j e = bits s BitAnd a b t refl refl e
-used s BitXor a b t j e = bits s BitXor a b t refl refl e
-used s BitOr a b t j e = bits s BitOr a b t refl refl e
+used s BitAnd a b t j e = bits BitAnd a b t refl refl e
+used s BitXor a b t j e = bits BitXor a b t refl refl e
+used s BitOr a b t j e = bits BitOr a b t refl refl e
 used s And a b t j e = absurd (cc (j))
 used s Or a b t j e = absurd (cc (j))
 
@@ -296,10 +294,10 @@ module _ (program : Program) (fixed : Fixed) where
   pub safe_operated_alone : (types : List JavaType) (this : Option ℕ) (ls : List JavaType) (o : UnaryOperator) (a t : JavaType) (v : Value) → unary_rule o a ≡ Fits (rules.Value t) → IsOf program.table types a v → Safe program fixed types this ls (say (operated_alone o v)) (Gives program ls t)
   safe_operated_alone types this ls o a t v e i = record { by = λ state h. said types this ls t (operated_alone o v) state h (go o state h e) }
     where
-      int : (state : State) → IsStateOf program fixed types this ls state → ask (is_int a) 14 (Fits (rules.Value IntType)) ≡ Fits (rules.Value t) → ((z : ℤ) × (v ≡ Int z)) × (IntType ≡ t)
+      int : (state : State) → IsStateOf program fixed types this ls state → of_promoted (promoted_alone a) 14 ≡ Fits (rules.Value t) → ((z : ℤ) × (v ≡ Int z)) × (IntType ≡ t)
       int state h e =
-          let r = ask_holds (is_int a) 14 (Fits (rules.Value IntType)) (rules.Value t) e in
-          (int_known types state v h.heap (subst (λ (y : JavaType). IsOf program.table types y v) (same_type a IntType r.0) i), same_fits IntType t r.1)
+          let r = alone_fits a t 14 e in
+          (int_known types state v h.heap (subst (λ (y : JavaType). IsOf program.table types y v) r.0 i), r.1)
 
       go : (o : UnaryOperator) (state : State) → IsStateOf program fixed types this ls state → unary_rule o a ≡ Fits (rules.Value t) → Good t (operated_alone o v)
       go Plus state h e = let r = int state h e in subst (λ (y : JavaType). Good y (operated_alone Plus v)) r.1 (rw r.0.1 (whole_good _))

@@ -8,7 +8,8 @@ use Rattle.kr_classes_table.specs.Types.{JavaType, IntType, BooleanType, ArrayTy
 use Rattle.kr_classes_table.specs.Table.{is_subtype, are_related}
 use Rattle.kr_types_meaning.specs.Scopes.{Scope, value, in_old, written}
 use Rattle.kr_types_meaning.specs.Rules as rules
-use Rattle.kr_types_meaning.specs.Rules.{Typed, Untyped, Judgement, Fits, Breaks, ask, gives, both_int, both_boolean, related_references, is_ensuring, choice_rule, cast_rule, instance_rule, array_creation_rule, result_value_rule, old_rule}
+use Rattle.kr_types_meaning.specs.Promotion.{are_numbers}
+use Rattle.kr_types_meaning.specs.Rules.{Typed, Untyped, Judgement, Fits, Breaks, ask, gives, both_boolean, related_references, is_ensuring, choice_rule, cast_rule, instance_rule, array_creation_rule, result_value_rule, old_rule}
 use Rattle.kr_types_meaning.specs.Typing.{on_one, on_two, judged, type_in}
 use Rattle.kr_mean.specs.Program.{Program}
 use Rattle.kr_mean.specs.Steps.{give, ◌>>=◌, class_or_null}
@@ -24,6 +25,7 @@ use Rattle.kr_laws_types.proofs.Expressions.{written_variable}
 use Rattle.kr_laws_safety.specs.Typed.{IsTypedProgram}
 use Rattle.kr_laws_safety.specs.Claims.{this_of, types_of, is_target, IsScope, Coded, PartsSafe}
 use Rattle.kr_laws_safety.proofs.Targets.{and_true, or_true, not_true, default_is, assignable_through, used}
+use Rattle.kr_laws_safety.proofs.Promoted.{numbers_are}
 use Rattle.kr_laws_safety.proofs.Glue.{front_none, back_none, below_none, ruled, ruled_as, ruled_two, ruled_ask, ruled_value, ruled_gives, on_type, int_is, boolean_is, safe_next, safe_as, settled, typed_at}
 use Rattle.kr_laws_safety.proofs.Scoping.{type_plain}
 use Rattle.kr_laws_safety.proofs.Classes.{safe_cast, safe_instance}
@@ -33,11 +35,11 @@ module _ (program : Program) (fixed : Fixed) (facts : IsTypedProgram program) (p
   -- ---- casts
 
   -- between primitive types a cast changes nothing
-  primitive_is : (s : Scope) (to from : JavaType) → (both_int to from || both_boolean to from) ≡ true → (from ≡ to) × (is_target to ≡ true) × (is_void to ≡ false)
-  primitive_is s to from e = go (or_true (both_int to from) (both_boolean to from) e)
+  primitive_is : (s : Scope) (to from : JavaType) → (are_numbers to from || both_boolean to from) ≡ true → (from ≡ to) × (is_target to ≡ true) × (is_void to ≡ false)
+  primitive_is s to from e = go (or_true (are_numbers to from) (both_boolean to from) e)
     where
-      go : (both_int to from ≡ true) ⊎ (both_boolean to from ≡ true) → (from ≡ to) × (is_target to ≡ true) × (is_void to ≡ false)
-      go (inl i) = let h = and_true (rules.is_int to) (rules.is_int from) i in (int_is from h.1 ∙ sym (int_is to h.0), ap is_target (int_is to h.0), ap is_void (int_is to h.0))
+      go : (are_numbers to from ≡ true) ⊎ (both_boolean to from ≡ true) → (from ≡ to) × (is_target to ≡ true) × (is_void to ≡ false)
+      go (inl i) = let h = numbers_are to from i in (h.1 ∙ sym h.0, ap is_target h.0, ap is_void h.0)
       go (inr i) = let h = and_true (rules.is_boolean to) (rules.is_boolean from) i in (boolean_is from h.1 ∙ sym (boolean_is to h.0), ap is_target (boolean_is to h.0), ap is_void (boolean_is to h.0))
 
   references_are : (s : Scope) (to from : JavaType) → (related_references s from to && not (is_collection to) && not (is_collection from)) ≡ true → (is_reference from ≡ true) × (is_reference to ≡ true)
@@ -55,15 +57,15 @@ module _ (program : Program) (fixed : Fixed) (facts : IsTypedProgram program) (p
       let x = typed_at program fixed facts (value s) e k h back in
       let to = written_variable s w i (front_none (judged s w).faults (judged (value s) e).faults below) in
       let rule = ruled_two pl (cast_rule s) (judged s w) (judged (value s) e) to.0 x.type t to.1 x.known f r in
-      let asked = ruled_ask ((both_int to.0 x.type || both_boolean to.0 x.type) || (related_references s x.type to.0 && not (is_collection to.0) && not (is_collection x.type))) 20 (Fits (rules.Value to.0)) t rule in
+      let asked = ruled_ask ((are_numbers to.0 x.type || both_boolean to.0 x.type) || (related_references s x.type to.0 && not (is_collection to.0) && not (is_collection x.type))) 20 (Fits (rules.Value to.0)) t rule in
       let is = ruled_value to.0 t asked.1 in
-      safe_as program fixed facts.below types (this_of s) (types_of s.locals) _ t u a (go to.0 (written_is s w to.0 i to.1) x.type x.known x.kind back is (or_true (both_int to.0 x.type || both_boolean to.0 x.type) _ asked.0) (is_primitive w) refl)
+      safe_as program fixed facts.below types (this_of s) (types_of s.locals) _ t u a (go to.0 (written_is s w to.0 i to.1) x.type x.known x.kind back is (or_true (are_numbers to.0 x.type || both_boolean to.0 x.type) _ asked.0) (is_primitive w) refl)
     where
       Cast : Bool → Type 0
       Cast b = Safe program fixed types (this_of s) (types_of s.locals) (if b then p.value (plain s) e else (p.value (plain s) e >>= (λ v. class_or_null v >>= cast program (written s w) v))) (Gives program (types_of s.locals) t)
 
       go : (to : JavaType) → to ≡ written s w → (from : JavaType) → type_in (judged (value s) e).typed ≡ Some from → is_value_type from ≡ true → (judged (value s) e).faults ≡ [] → to ≡ t
-          → ((both_int to from || both_boolean to from) ≡ true) ⊎ ((related_references s from to && not (is_collection to) && not (is_collection from)) ≡ true) → (b : Bool) → is_primitive w ≡ b → Cast b
+          → ((are_numbers to from || both_boolean to from) ≡ true) ⊎ ((related_references s from to && not (is_collection to) && not (is_collection from)) ≡ true) → (b : Bool) → is_primitive w ≡ b → Cast b
       go to ew from rx vx back is (inl z) true b =
           let y = primitive_is s to from z in
           subst (λ (n : JavaType). Safe program fixed types (this_of s) (types_of s.locals) (p.value (plain s) e) (Gives program (types_of s.locals) n)) is
@@ -71,7 +73,7 @@ module _ (program : Program) (fixed : Fixed) (facts : IsTypedProgram program) (p
       go to ew from rx vx back is (inr z) true b =
           let y = references_are s to from z in
           absurd (cc (ap is_reference ew ∙ primitive_plain s w i b, y.1))
-      go to ew from rx vx back is (inl z) false b = absurd (cc (ap (λ (n : JavaType). both_int n from || both_boolean n from) ew ∙ written_reference s w from i b, z))
+      go to ew from rx vx back is (inl z) false b = absurd (cc (ap (λ (n : JavaType). are_numbers n from || both_boolean n from) ew ∙ written_reference s w from i b, z))
       go to ew from rx vx back is (inr z) false b =
           let y = references_are s to from z in
           let ux = used program.table from vx in

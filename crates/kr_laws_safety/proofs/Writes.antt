@@ -10,12 +10,13 @@ use Rattle.kr_ast.specs.Tree as trees
 use Rattle.kr_ast.specs.Tree.{Tree}
 use Rattle.kr_value.specs.declared.value.Value.{Value}
 use Rattle.kr_value.specs.declared.value.Value.TheVariants.{Int}
-use Rattle.kr_classes_table.specs.Types.{JavaType, IntType, ClassType, ArrayType, is_void, is_known}
+use Rattle.kr_classes_table.specs.Types.{BooleanType, JavaType, IntType, ClassType, ArrayType, is_void, is_known}
 use Rattle.kr_classes_table.specs.Table.{Field, field_named, is_below, is_subtype}
 use Rattle.kr_classes_table.specs.Constants.{field_meant}
 use Rattle.kr_types_meaning.specs.Scopes.{Scope, Meant, LocalName, FieldName, NoName, value, meant, class_before}
 use Rattle.kr_types_meaning.specs.Rules as rules
-use Rattle.kr_types_meaning.specs.Rules.{Typed, Untyped, Judgement, Fits, Breaks, ask, gives, both_int, both_boolean, is_variable, is_broken, name_rule, operator_rule, assignment_rule, compound_rule, step_rule, written_rule, field_rule, access_rule, constant_rule, element_rule}
+use Rattle.kr_types_meaning.specs.Promotion.{promoted, promoted_alone, is_number}
+use Rattle.kr_types_meaning.specs.Rules.{Typed, Untyped, Judgement, Fits, Breaks, ask, gives, both_boolean, is_variable, is_broken, name_rule, operator_rule, assignment_rule, compound_rule, step_rule, written_rule, field_rule, access_rule, constant_rule, element_rule, of_promoted, shift_rule, bit_rule}
 use Rattle.kr_types_meaning.specs.Typing.{judge, on_one, on_two, field_of, judged, type_in, type_of}
 use Rattle.kr_mean.specs.Program.{Program}
 use Rattle.kr_mean.specs.Steps.{Run, say, get_this, read_local, assign, load_field, element, store, store_element}
@@ -34,35 +35,52 @@ use Rattle.kr_laws_types.specs.Expressions.{plain, is_place}
 use Rattle.kr_laws_safety.specs.Typed.{IsTypedProgram}
 use Rattle.kr_laws_safety.specs.Claims.{this_of, types_of, is_target, IsScope, Coded, PartsSafe}
 use Rattle.kr_laws_safety.proofs.Targets.{and_true, not_true, variable_target, variable_not_void}
-use Rattle.kr_laws_safety.proofs.Glue.{Ruled, front_none, back_none, below_none, ruled, ruled_one, ruled_two, ruled_ask, ruled_value, ruled_variable, ruled_varies, on_type, int_is, safe_next, safe_keep, safe_as, settled, typed_at}
+use Rattle.kr_laws_safety.proofs.Promoted.{alone_is}
+use Rattle.kr_laws_safety.proofs.Glue.{Ruled, front_none, back_none, below_none, ruled, ruled_one, ruled_two, ruled_ask, ruled_value, ruled_variable, ruled_varies, on_type, int_is, boolean_is, safe_next, safe_keep, safe_as, settled, typed_at}
 use Rattle.kr_laws_safety.proofs.Scoping.{IsMeant, meant_is, field_found, type_plain}
 use Rattle.kr_laws_safety.proofs.Operands.{Goal, part_as, safe_here, field_ruled}
 
 -- ---- operators that give what they are assigned to
 
-int_kept : (s : Scope) (a b : JavaType) (r : ℕ) → not (is_broken (ask (both_int a b) r (Fits (rules.Value IntType)))) ≡ true → ask (both_int a b) r (Fits (rules.Value IntType)) ≡ Fits (rules.Value a)
-int_kept s a b r e = go (both_int a b) refl e
+numbers_kept : (a b : JavaType) (r : ℕ) → not (is_broken (of_promoted (promoted a b) r)) ≡ true → of_promoted (promoted a b) r ≡ Fits (rules.Value a)
+numbers_kept IntType b r e = right b e
   where
-    go : (n : Bool) → both_int a b ≡ n → not (is_broken (ask n r (Fits (rules.Value IntType)))) ≡ true → ask n r (Fits (rules.Value IntType)) ≡ Fits (rules.Value a)
-    go true h e = ap (λ (t : JavaType). Fits (rules.Value t)) (sym (int_is a (and_true (rules.is_int a) (rules.is_int b) h).0))
-    go false h e = absurd (cc (e))
+    right : (b : JavaType) → not (is_broken (of_promoted (promoted_alone b) r)) ≡ true → of_promoted (promoted_alone b) r ≡ Fits (rules.Value IntType)
+    right IntType e = refl
+    right _ e = absurd (cc (e))
+numbers_kept _ b r e = absurd (cc (e))
 
-bits_kept : (n : Bool) (a : JavaType) (r : ℕ) → not (is_broken (ask n r (Fits (rules.Value a)))) ≡ true → ask n r (Fits (rules.Value a)) ≡ Fits (rules.Value a)
-bits_kept true a r e = refl
-bits_kept false a r e = absurd (cc (e))
+shift_kept : (a b : JavaType) → not (is_broken (shift_rule a b)) ≡ true → shift_rule a b ≡ Fits (rules.Value a)
+shift_kept a b e = go (is_number b) e
+  where
+    left : (a : JavaType) → not (is_broken (of_promoted (promoted_alone a) 8)) ≡ true → of_promoted (promoted_alone a) 8 ≡ Fits (rules.Value a)
+    left IntType e = refl
+    left _ e = absurd (cc (e))
+
+    go : (n : Bool) → not (is_broken (ask n 8 (of_promoted (promoted_alone a) 8))) ≡ true → ask n 8 (of_promoted (promoted_alone a) 8) ≡ Fits (rules.Value a)
+    go true e = left a e
+    go false e = absurd (cc (e))
+
+bits_kept : (a b : JavaType) → not (is_broken (bit_rule a b)) ≡ true → bit_rule a b ≡ Fits (rules.Value a)
+bits_kept a b e = go (both_boolean a b) refl e
+  where
+    go : (n : Bool) → both_boolean a b ≡ n → not (is_broken (if n then Fits (rules.Value BooleanType) else of_promoted (promoted a b) 11)) ≡ true
+        → (if n then Fits (rules.Value BooleanType) else of_promoted (promoted a b) 11) ≡ Fits (rules.Value a)
+    go true i e = ap (λ (t : JavaType). Fits (rules.Value t)) (sym (boolean_is a (and_true (rules.is_boolean a) (rules.is_boolean b) i).0))
+    go false i e = numbers_kept a b 11 e
 
 compound_gives : (s : Scope) (o : BinaryOperator) (a b : JavaType) → is_compound o ≡ true → not (is_broken (operator_rule s o a b)) ≡ true → operator_rule s o a b ≡ Fits (rules.Value a)
-compound_gives s operators.Multiply a b c e = int_kept s a b 7 e
-compound_gives s operators.Divide a b c e = int_kept s a b 7 e
-compound_gives s operators.Remainder a b c e = int_kept s a b 7 e
-compound_gives s operators.Add a b c e = int_kept s a b 7 e
-compound_gives s operators.Subtract a b c e = int_kept s a b 7 e
-compound_gives s operators.ShiftLeft a b c e = int_kept s a b 8 e
-compound_gives s operators.ShiftRight a b c e = int_kept s a b 8 e
-compound_gives s operators.ShiftRightUnsigned a b c e = int_kept s a b 8 e
-compound_gives s operators.BitAnd a b c e = bits_kept (both_int a b || both_boolean a b) a 11 e
-compound_gives s operators.BitXor a b c e = bits_kept (both_int a b || both_boolean a b) a 11 e
-compound_gives s operators.BitOr a b c e = bits_kept (both_int a b || both_boolean a b) a 11 e
+compound_gives s operators.Multiply a b c e = numbers_kept a b 7 e
+compound_gives s operators.Divide a b c e = numbers_kept a b 7 e
+compound_gives s operators.Remainder a b c e = numbers_kept a b 7 e
+compound_gives s operators.Add a b c e = numbers_kept a b 7 e
+compound_gives s operators.Subtract a b c e = numbers_kept a b 7 e
+compound_gives s operators.ShiftLeft a b c e = shift_kept a b e
+compound_gives s operators.ShiftRight a b c e = shift_kept a b e
+compound_gives s operators.ShiftRightUnsigned a b c e = shift_kept a b e
+compound_gives s operators.BitAnd a b c e = bits_kept a b e
+compound_gives s operators.BitXor a b c e = bits_kept a b e
+compound_gives s operators.BitOr a b c e = bits_kept a b e
 compound_gives s _ a b c e = absurd (cc (c))
 
 compound_plain : (o : BinaryOperator) → is_compound o ≡ true → is_junction o ≡ false
@@ -318,10 +336,10 @@ module _ (program : Program) (fixed : Fixed) (facts : IsTypedProgram program) (p
       let below = below_none pl (on_one (step_rule S jb.typed) jb.typed) jb.faults f in
       let x = typed_at program fixed facts (value S) b k h below in
       let rule = ruled_one pl (step_rule S jb.typed) jb x.type t x.known f r in
-      let asked = ruled_ask (rules.is_int x.type) 18 (written_rule S jb.typed x.type) t rule in
+      let asked = ruled_ask (is_number x.type) 18 (written_rule S jb.typed x.type) t rule in
       let is = written_is S jb.typed x.type t asked.1 in
       let place = x.variable is.0 in
-      let int = int_is x.type asked.0 in
+      let int = alone_is x.type asked.0 in
       let writes = subst (λ (n : JavaType). Writes S n (target_of (plain S) b)) int (target_writes s b x.type k h below x.known is.0 place.0) in
       safe_as program fixed facts.below types (this_of s) (types_of s.locals) _ IntType u (subst (λ (n : JavaType). is_subtype program.table n u ≡ true) (sym is.1 ∙ int) a)
       (change S IntType (target_of (plain S) b) k writes (stepped o)

@@ -4,17 +4,17 @@ use Rattle.std.specs.Prelude.{◌≡◌, ℕ, true, false, List, [], ◌∷◌, 
 use Rattle.kr_base.specs.declared.place.Place.{Place}
 use Rattle.kr_ast.specs.Tree as trees
 use Rattle.kr_ast.specs.Tree.{Tree}
+use Rattle.kr_value.specs.declared.value.Value.{Value}
 use Rattle.kr_value.specs.declared.object.Class.TheVariants.{Object}
 use Rattle.kr_classes_table.specs.Types.{JavaType}
 use Rattle.kr_classes_table.specs.Table.{Table, Field, Parameter, Method, Constructor, super_of, line_of, is_below, is_subtype, field_named, method_named, constructor_parameters}
-use Rattle.kr_classes_table.specs.Constants.{ConstantValue, known_value}
+use Rattle.kr_classes_table.specs.Constants.{known_value}
 use Rattle.kr_types_meaning.specs.Scopes.{Scope, after, super_parameters}
 use Rattle.kr_types_meaning.specs.Typing.{judged, type_in}
 use Rattle.kr_laws_types.specs.Types.{is_variable_type, is_result_type}
 use Rattle.kr_laws_types.specs.Shapes.{Expression, Expressions, Statement, IsCode}
 use Rattle.kr_laws_types.specs.Expressions.{plain}
 use Rattle.kr_mean.specs.Program.{Program, overriding, class_scope, method_scope, constructor_scope, constructor_of, declared_fields}
-use Rattle.kr_mean.specs.Operators.{value_of_constant}
 use Rattle.kr_laws_safety.specs.Fits.{IsOf}
 use Rattle.kr_laws_safety.specs.Steps.{HasField}
 
@@ -40,7 +40,7 @@ pub record IsField (program : Program) (c : ℕ) (n : List ℕ) (f : Field) : Ty
   pub type : is_variable_type f.type ≡ true
   pub below : is_below program.table c f.class ≡ true
   pub instance : f.is_static ≡ false → HasField program c f.name f.type
-  pub constant : f.is_static ≡ true → (v : ConstantValue) × (known_value program.values (Some f) ≡ Some v) × IsOf program.table [] f.type (value_of_constant v)
+  pub constant : f.is_static ≡ true → (v : Value) × (known_value program.values (Some f) ≡ Some v) × IsOf program.table [] f.type v
 
 pub record IsMethod (program : Program) (m : Method) : Type 0 where
   pub parameters : AreAllVariables (types_in m.parameters)

@@ -6,8 +6,8 @@ use Rattle.std.proofs.lemmas.List.{append-nil, get_or-set_same, get_or-set_other
 use Rattle.std.proofs.lemmas.Bool.{ltb-true, lt-ltb, le-ltb, eq-eqb, eqb-true, cases_lt, cases_eq}
 use Rattle.kr_base.specs.declared.place.Place.{Place}
 use Rattle.kr_ast.specs.declared.node.BinaryOperator.{BinaryOperator}
-use Rattle.kr_ast.specs.declared.node.BinaryOperator.TheVariants.{Equal, NotEqual}
 use Rattle.kr_ast.specs.declared.node.UnaryOperator.{UnaryOperator}
+use Rattle.kr_ast.specs.declared.node.UnaryOperator.TheVariants.{Not}
 use Rattle.kr_ast.specs.Tree.{Tree}
 use Rattle.kr_value.specs.declared.value.Value.{Value}
 use Rattle.kr_value.specs.declared.value.Value.TheVariants.{Int, Bool as Truth, Null, Ref as Reference}
@@ -19,8 +19,11 @@ use Rattle.kr_value.specs.Heaps.{HeapObject, no_object, object_in, has_spot_of, 
 use Rattle.kr_classes_table.specs.Types.{JavaType, IntType, BooleanType, NullType, VoidType, ClassType, ArrayType, SetType, ListType, InferredType, UnknownType, AppliedType}
 use Rattle.kr_classes_table.specs.Table.{Field as FieldOf, Method}
 use Rattle.kr_classes_table.specs.Arrays.{array_number}
-use Rattle.kr_classes_table.specs.Constants.{ConstantValue, Whole, Truth as TruthConstant, Absent, of_wholes, of_booleans, unary_value, is_at_place}
+use Rattle.kr_classes_table.specs.Constants.{is_at_place}
 use Rattle.kr_classes_table.specs.Numbers.{Bits32}
+use Rattle.kr_classes_table.specs.declared.errors.OperatorError.TheVariants.{ZeroDivisor, NotDefined}
+use Rattle.kr_classes_table.specs.Operators.{Applied, of_wholes, of_booleans, of_references, apply_alone}
+use Rattle.kr_laws_slots.proofs.Plain.{IsPlain, wholes_plain, booleans_plain, references_plain, alone_plain}
 use Rattle.kr_types_meaning.specs.Scopes.{Scope}
 use Rattle.kr_mean.specs.declared.kind.Kind.{Kind}
 use Rattle.kr_mean.specs.declared.kind.Kind.TheVariants.{NegativeArraySizeException, ArrayTooLong}
@@ -30,7 +33,7 @@ use Rattle.kr_mean.specs.Program.{Program, default_of, spot_of_field, is_array_o
 use Rattle.kr_mean.specs.Places.{SlotPlace, This, Parameter, At}
 use Rattle.kr_mean.specs.Collections.{is_same_value, has_member, without, Collected, gives, added_once, add, remove_first, is_collection, is_empty, called_with, called_alone, called_on, collected}
 use Rattle.kr_mean.specs.Steps.{Local, Old, State, Outcome, Run, say, stop, go_on, bind, ◌>>=◌, given, tick, tick_at, get_result, old_at, get_old, local_at, place_reads, local_given, read_local, plain_local, declare, assign_if, assign, back_to, entered, within, scoped, load_if, load, index_within, element_read, element_if, element, class_or_null, put, store_at, store, store_new, store_index, store_element_if, store_element, make, collected_said, collect_as, collect}
-use Rattle.kr_mean.specs.Operators.{value_of_constant, is_division, constant_result, of_references, operated, operated_alone}
+use Rattle.kr_mean.specs.Operators.{said, operated, operated_alone}
 use Rattle.kr_mean.specs.Meaning.{choose, make_array, create_array, parts_within, run_method, eval, value}
 use Rattle.kr_mean.specs.Code.{Node, code, code_of_method}
 use Rattle.kr_laws_runs.proofs.Respects.{Any, Same, Each, OnOption, AllOf, Logic, IsCode, evals, parts_alike, runs_method}
@@ -683,67 +686,47 @@ module _ (program : Program) (st : Setting) where
 
   same_same : (v w : Value) → is_same_value (renamed_value st.name v) (renamed_value st.name w) ≡ is_same_value v w
   same_same (Reference o) (Reference p) = one_name o p
-  same_same (Reference o) (Int n) = refl
-  same_same (Reference o) (Truth b) = refl
-  same_same (Reference o) Null = refl
-  same_same (Int m) (Reference p) = refl
+  same_same (Reference o) _ = refl
   same_same (Int m) (Int n) = refl
-  same_same (Int m) (Truth b) = refl
-  same_same (Int m) Null = refl
-  same_same (Truth true) (Reference p) = refl
-  same_same (Truth true) (Int n) = refl
+  same_same (Int m) _ = refl
   same_same (Truth true) (Truth b) = refl
-  same_same (Truth true) Null = refl
-  same_same (Truth false) (Reference p) = refl
-  same_same (Truth false) (Int n) = refl
+  same_same (Truth true) _ = refl
   same_same (Truth false) (Truth b) = refl
-  same_same (Truth false) Null = refl
-  same_same Null (Reference p) = refl
-  same_same Null (Int n) = refl
-  same_same Null (Truth b) = refl
+  same_same (Truth false) _ = refl
   same_same Null Null = refl
+  same_same Null _ = refl
 
-  constant_like : (c : ConstantValue) → Related (value_of_constant c) (value_of_constant c)
-  constant_like (Whole z) = (refl, tt)
-  constant_like (TruthConstant b) = (refl, tt)
-  constant_like Absent = (refl, tt)
+  -- an operator that gives no reference
+  applied_like : (r : Applied) → IsPlain r → SaidLike Related (said r) (said r)
+  applied_like (Ok (Int z)) h = (refl, tt)
+  applied_like (Ok (Truth b)) h = (refl, tt)
+  applied_like (Ok Null) h = (refl, tt)
+  applied_like (Ok (Reference o)) h = absurd h
+  applied_like (Err ZeroDivisor) h = refl
+  applied_like (Err NotDefined) h = refl
 
-  constant_result_like : (b : Bool) (x : Option ConstantValue) → SaidLike Related (constant_result b x) (constant_result b x)
-  constant_result_like b (Some c) = constant_like c
-  constant_result_like true None = refl
-  constant_result_like false None = refl
-
-  references_like : (o : BinaryOperator) (b : Bool) → SaidLike Related (of_references o b) (of_references o b)
-  references_like Equal b = (refl, tt)
-  references_like NotEqual b = (refl, tt)
-  references_like _ b = refl
+  references_like : (o : BinaryOperator) (b : Bool) → SaidLike Related (said (of_references o b)) (said (of_references o b))
+  references_like o b = applied_like (of_references o b) (references_plain o b)
 
   operated_like : (o : BinaryOperator) (v w : Value) → SaidLike Related (operated o v w) (operated o (renamed_value st.name v) (renamed_value st.name w))
-  operated_like o (Int m) (Int n) = constant_result_like (is_division o) (of_wholes Bits32 o m n)
-  operated_like o (Truth a) (Truth b) = constant_result_like false (of_booleans o a b)
+  operated_like o (Int m) (Int n) = applied_like (of_wholes Bits32 o m n) (wholes_plain o m n)
+  operated_like o (Truth a) (Truth b) = applied_like (of_booleans o a b) (booleans_plain o a b)
   operated_like o Null Null = references_like o true
   operated_like o Null (Reference p) = references_like o false
   operated_like o (Reference p) Null = references_like o false
-  operated_like o (Reference p) (Reference q) = subst (λ (b : Bool). SaidLike Related (of_references o (is_same_value (Reference p) (Reference q))) (of_references o b)) (sym (one_name p q)) (references_like o (nat_eq p q))
-  operated_like o (Int m) (Truth b) = refl
-  operated_like o (Int m) Null = refl
-  operated_like o (Int m) (Reference p) = refl
-  operated_like o (Truth a) (Int n) = refl
-  operated_like o (Truth a) Null = refl
-  operated_like o (Truth a) (Reference p) = refl
-  operated_like o Null (Int n) = refl
-  operated_like o Null (Truth b) = refl
-  operated_like o (Reference p) (Int n) = refl
-  operated_like o (Reference p) (Truth b) = refl
+  operated_like o (Reference p) (Reference q) = subst (λ (b : Bool). SaidLike Related (said (of_references o (nat_eq p q))) (said (of_references o b))) (sym (one_name p q)) (references_like o (nat_eq p q))
+  operated_like o _ _ = refl
 
   operates : (o : BinaryOperator) (v v' w w' : Value) → Related v v' → Related w w' → Goes Related (say (operated o v w)) (say (operated o v' w'))
   operates o v v' w w' r q = rw (r.0, q.0) (say_like Related (operated o v w) (operated o (renamed_value st.name v) (renamed_value st.name w)) (operated_like o v w))
 
   alone_like : (o : UnaryOperator) (v : Value) → SaidLike Related (operated_alone o v) (operated_alone o (renamed_value st.name v))
-  alone_like o (Int m) = constant_result_like false (unary_value o (Whole m))
-  alone_like o (Truth b) = constant_result_like false (unary_value o (TruthConstant b))
-  alone_like o Null = refl
-  alone_like o (Reference p) = refl
+  alone_like o (Int m) = applied_like (apply_alone o (Int m)) (alone_plain o (Int m))
+  alone_like o (Truth b) = applied_like (apply_alone o (Truth b)) (alone_plain o (Truth b))
+  alone_like Not Null = refl
+  alone_like _ Null = refl
+  alone_like Not (Reference p) = refl
+  alone_like _ (Reference p) = refl
 
   operates_alone : (o : UnaryOperator) (v v' : Value) → Related v v' → Goes Related (say (operated_alone o v)) (say (operated_alone o v'))
   operates_alone o v v' r = rw r.0 (say_like Related (operated_alone o v) (operated_alone o (renamed_value st.name v)) (alone_like o v))

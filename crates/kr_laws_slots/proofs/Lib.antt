@@ -2,6 +2,7 @@ pub mod CutOrder
 pub mod Membership
 pub mod Numbers
 pub mod Renamed
+pub mod Plain
 pub mod Goes
 pub mod Numbering
 pub mod Spaces

@@ -8,7 +8,6 @@ use Rattle.kr_value.specs.declared.object.Spot.{Spot}
 use Rattle.kr_value.specs.declared.object.Spot.TheVariants.{Field, Length, Element}
 use Rattle.kr_mean.specs.Places.{SlotPlace, This, Parameter, At}
 use Rattle.kr_mean.specs.Problem.{DomainObject, upto}
-use Rattle.kr_mean.specs.Heaps.{is_same_object}
 use Rattle.kr_mean.specs.Space.{Space, IsVector, IsRenaming, IsRenamed, IsRenamedSlot, IsRenamedIndex, IsSameSpot, renamed_object, renamed_owner}
 use Rattle.kr_mean.specs.Blocks.{IsSpace, IsBlock, on_slot, on_index}
 use Rattle.kr_mean.specs.Readings.{AllBelow}

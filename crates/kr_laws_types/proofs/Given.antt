@@ -4,13 +4,15 @@ use Rattle.std.specs.Prelude.{◌&&◌, ◌||◌, not, bytes_eq, codes, option_a
 use Rattle.kr_ast.specs.declared.node.UnaryOperator.{UnaryOperator}
 use Rattle.kr_ast.specs.declared.node.UnaryOperator.TheVariants as unaries
 use Rattle.kr_ast.specs.declared.node.BinaryOperator.{BinaryOperator}
-use Rattle.kr_ast.specs.declared.node.BinaryOperator.TheVariants as operators
 use Rattle.kr_classes_table.specs.Types.{JavaType, IntType, BooleanType, NullType, VoidType, ClassType, ArrayType, SetType, ListType, InferredType, UnknownType, AppliedType, is_known, is_element, is_void}
 use Rattle.kr_classes_table.specs.Table.{Field, Method, field_named, method_named, is_assignable, are_related}
 use Rattle.kr_classes_table.specs.Constants.{constant_only, or_else, outer_class, field_meant}
+use Rattle.kr_types_meaning.specs.declared.operators.OperatorKind.{OperatorKind}
+use Rattle.kr_types_meaning.specs.declared.operators.OperatorKind.TheVariants.{Arithmetic, Shift, Comparison, Equality, Bitwise, Logical}
 use Rattle.kr_types_meaning.specs.Scopes.{Scope, Local, LocalName, meant_by, meant, static_only, method_meant, super_class}
 use Rattle.kr_types_meaning.specs.Rules as rules
-use Rattle.kr_types_meaning.specs.Rules.{Typed, Value, Variable, Values, Untyped, Judgement, Fits, Breaks, ask, gives, typed_as, variable_of, number_rule, this_rule, name_rule, unary_rule, operator_rule, choice_rule, cast_rule, instance_rule, written_rule, is_broken, assignment_rule, compound_rule, step_rule, field_rule, access_rule, constant_rule, element_rule, result_rule, arguments_rule, call_rule, static_rule, above_rule, super_rule, plain_call_rule, member_call_rule, collection_rule, method_rule, object_call_rule, creation_fits, creation_rule, array_creation_rule, result_value_rule, old_rule, is_statement}
+use Rattle.kr_types_meaning.specs.Promotion.{promoted, promoted_alone, is_number}
+use Rattle.kr_types_meaning.specs.Rules.{Typed, Value, Variable, Values, Untyped, Judgement, Fits, Breaks, ask, gives, typed_as, variable_of, number_rule, this_rule, name_rule, unary_rule, operator_rule, choice_rule, cast_rule, instance_rule, written_rule, is_broken, assignment_rule, compound_rule, step_rule, field_rule, access_rule, constant_rule, element_rule, result_rule, arguments_rule, call_rule, static_rule, above_rule, super_rule, plain_call_rule, member_call_rule, collection_rule, method_rule, object_call_rule, creation_fits, creation_rule, array_creation_rule, result_value_rule, old_rule, is_statement, of_promoted, both_boolean, kind_of, kind_rule}
 use Rattle.kr_laws_types.specs.Types.{is_variable_type, is_result_type, is_inferred, is_value_type, is_expression_type, AreVariables, HasVariables}
 
 -- ---- what is known of a node
@@ -101,6 +103,15 @@ good_int place b = value_expression b IntType refl
 
 good_boolean : (place b : Bool) → Fine place b (Fits (Value BooleanType))
 good_boolean place b = value_expression b BooleanType refl
+
+-- a number's type is that of an expression
+fine_alone : (b : Bool) (a : JavaType) (r : ℕ) → Fine false b (of_promoted (promoted_alone a) r)
+fine_alone b IntType r = good_int false b
+fine_alone b _ r = tt
+
+fine_promoted : (b : Bool) (a c : JavaType) (r : ℕ) → Fine false b (of_promoted (promoted a c) r)
+fine_promoted b IntType c r = fine_alone b c r
+fine_promoted b _ c r = tt
 
 good_known : (place b : Bool) (t : JavaType) → is_expression_type b t ≡ true → Fine place b (gives t)
 good_known place b t e = go (is_known t)
@@ -270,32 +281,22 @@ module _ (s : Scope) (has : HasVariables s.table) where
   object_call_fine n (ListType t) ts h = collection_fine true t n ts h
   object_call_fine n _ ts h = tt
 
+  kind_fine : (o : OperatorKind) (a b : JavaType) → FineHere false (kind_rule s o a b)
+  kind_fine Arithmetic a b = fine_promoted (is_statement s.role) a b 7
+  kind_fine Shift a b = fine_ask false (is_statement s.role) _ 8 (of_promoted (promoted_alone a) 8) (λ q. fine_alone (is_statement s.role) a 8)
+  kind_fine Comparison a b = fine_ask false (is_statement s.role) _ 9 (Fits (Value BooleanType)) (λ q. good_boolean false (is_statement s.role))
+  kind_fine Equality a b = fine_ask false (is_statement s.role) _ 10 (Fits (Value BooleanType)) (λ q. good_boolean false (is_statement s.role))
+  kind_fine Bitwise a b = fine_if false (is_statement s.role) (both_boolean a b) (Fits (Value BooleanType)) (of_promoted (promoted a b) 11) (good_boolean false (is_statement s.role)) (fine_promoted (is_statement s.role) a b 11)
+  kind_fine Logical a b = fine_ask false (is_statement s.role) _ 12 (Fits (Value BooleanType)) (λ q. good_boolean false (is_statement s.role))
+
   pub operator_fine : (o : BinaryOperator) (a b : JavaType) → is_value_type a ≡ true → FineHere false (operator_rule s o a b)
-  operator_fine operators.Multiply a b h = fine_ask false (is_statement s.role) _ 7 (Fits (Value IntType)) (λ q. good_int false (is_statement s.role))
-  operator_fine operators.Divide a b h = fine_ask false (is_statement s.role) _ 7 (Fits (Value IntType)) (λ q. good_int false (is_statement s.role))
-  operator_fine operators.Remainder a b h = fine_ask false (is_statement s.role) _ 7 (Fits (Value IntType)) (λ q. good_int false (is_statement s.role))
-  operator_fine operators.Add a b h = fine_ask false (is_statement s.role) _ 7 (Fits (Value IntType)) (λ q. good_int false (is_statement s.role))
-  operator_fine operators.Subtract a b h = fine_ask false (is_statement s.role) _ 7 (Fits (Value IntType)) (λ q. good_int false (is_statement s.role))
-  operator_fine operators.ShiftLeft a b h = fine_ask false (is_statement s.role) _ 8 (Fits (Value IntType)) (λ q. good_int false (is_statement s.role))
-  operator_fine operators.ShiftRight a b h = fine_ask false (is_statement s.role) _ 8 (Fits (Value IntType)) (λ q. good_int false (is_statement s.role))
-  operator_fine operators.ShiftRightUnsigned a b h = fine_ask false (is_statement s.role) _ 8 (Fits (Value IntType)) (λ q. good_int false (is_statement s.role))
-  operator_fine operators.Less a b h = fine_ask false (is_statement s.role) _ 9 (Fits (Value BooleanType)) (λ q. good_boolean false (is_statement s.role))
-  operator_fine operators.Greater a b h = fine_ask false (is_statement s.role) _ 9 (Fits (Value BooleanType)) (λ q. good_boolean false (is_statement s.role))
-  operator_fine operators.LessOrEqual a b h = fine_ask false (is_statement s.role) _ 9 (Fits (Value BooleanType)) (λ q. good_boolean false (is_statement s.role))
-  operator_fine operators.GreaterOrEqual a b h = fine_ask false (is_statement s.role) _ 9 (Fits (Value BooleanType)) (λ q. good_boolean false (is_statement s.role))
-  operator_fine operators.Equal a b h = fine_ask false (is_statement s.role) _ 10 (Fits (Value BooleanType)) (λ q. good_boolean false (is_statement s.role))
-  operator_fine operators.NotEqual a b h = fine_ask false (is_statement s.role) _ 10 (Fits (Value BooleanType)) (λ q. good_boolean false (is_statement s.role))
-  operator_fine operators.BitAnd a b h = fine_ask false (is_statement s.role) _ 11 (Fits (Value a)) (λ q. good_value false (is_statement s.role) a h)
-  operator_fine operators.BitXor a b h = fine_ask false (is_statement s.role) _ 11 (Fits (Value a)) (λ q. good_value false (is_statement s.role) a h)
-  operator_fine operators.BitOr a b h = fine_ask false (is_statement s.role) _ 11 (Fits (Value a)) (λ q. good_value false (is_statement s.role) a h)
-  operator_fine operators.And a b h = fine_ask false (is_statement s.role) _ 12 (Fits (Value BooleanType)) (λ q. good_boolean false (is_statement s.role))
-  operator_fine operators.Or a b h = fine_ask false (is_statement s.role) _ 12 (Fits (Value BooleanType)) (λ q. good_boolean false (is_statement s.role))
+  operator_fine o a b h = kind_fine (kind_of o) a b
 
   pub unary_fine : (o : UnaryOperator) (t : JavaType) → FineHere false (unary_rule o t)
   unary_fine unaries.Not t = fine_ask false (is_statement s.role) (rules.is_boolean t) 13 (Fits (Value BooleanType)) (λ q. good_boolean false (is_statement s.role))
-  unary_fine unaries.Plus t = fine_ask false (is_statement s.role) (rules.is_int t) 14 (Fits (Value IntType)) (λ q. good_int false (is_statement s.role))
-  unary_fine unaries.Minus t = fine_ask false (is_statement s.role) (rules.is_int t) 14 (Fits (Value IntType)) (λ q. good_int false (is_statement s.role))
-  unary_fine unaries.Complement t = fine_ask false (is_statement s.role) (rules.is_int t) 14 (Fits (Value IntType)) (λ q. good_int false (is_statement s.role))
+  unary_fine unaries.Plus t = fine_alone (is_statement s.role) t 14
+  unary_fine unaries.Minus t = fine_alone (is_statement s.role) t 14
+  unary_fine unaries.Complement t = fine_alone (is_statement s.role) t 14
 
   pub element_fine : (t i : JavaType) → is_value_type t ≡ true → FineHere true (element_rule t i)
   element_fine (ArrayType t) i h = fine_ask true (is_statement s.role) (rules.is_int i) 23 (Fits (Variable t)) (λ q. (refl, h))
@@ -311,7 +312,7 @@ module _ (s : Scope) (has : HasVariables s.table) where
   compound_fine o x t u h = fine_ask false (is_statement s.role) (not (is_broken (operator_rule s o t u))) 17 _ (λ q. written_fine x t h)
 
   pub step_fine : (x : Typed) (t : JavaType) → is_value_type t ≡ true → FineHere false (step_rule s x t)
-  step_fine x t h = fine_ask false (is_statement s.role) (rules.is_int t) 18 _ (λ q. written_fine x t h)
+  step_fine x t h = fine_ask false (is_statement s.role) (is_number t) 18 _ (λ q. written_fine x t h)
 
   pub choice_fine : (c a b : JavaType) → is_value_type a ≡ true → is_value_type b ≡ true → FineHere false (choice_rule s c a b)
   choice_fine c a b h k = fine_ask false (is_statement s.role) (rules.is_boolean c && are_related s.table a b) 15 _ (λ q. value_expression (is_statement s.role) _ (go (is_assignable s.table a b)))

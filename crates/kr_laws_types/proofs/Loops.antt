@@ -5,15 +5,16 @@ use Rattle.kr_base.specs.declared.place.Place.{Place}
 use Rattle.kr_ast.specs.declared.node.UnaryOperator.{UnaryOperator}
 use Rattle.kr_ast.specs.declared.node.UnaryOperator.TheVariants as unaries
 use Rattle.kr_ast.specs.declared.node.BinaryOperator.{BinaryOperator}
-use Rattle.kr_ast.specs.declared.node.BinaryOperator.TheVariants as operators
 use Rattle.kr_ast.specs.Tree as trees
 use Rattle.kr_ast.specs.Tree.{Tree}
 use Rattle.kr_classes_table.specs.Types.{JavaType, IntType, BooleanType, NullType, VoidType, ClassType, ArrayType, SetType, ListType, InferredType, UnknownType, AppliedType, is_known}
 use Rattle.kr_classes_table.specs.Rules.{Fault}
 use Rattle.kr_classes_table.specs.Table.{Parameter, Method, applied, method_named, constructor_parameters}
 use Rattle.kr_classes_table.specs.Constants.{value_at}
+use Rattle.kr_types_meaning.specs.declared.operators.OperatorKind.{OperatorKind}
+use Rattle.kr_types_meaning.specs.declared.operators.OperatorKind.TheVariants.{Arithmetic, Shift, Comparison, Equality, Bitwise, Logical}
 use Rattle.kr_types_meaning.specs.Scopes.{Scope, Declaring, Locals, Fields, Constants, Role, AsValue, in_class, in_old, in_contract, Requiring, Ensuring, bind_local, bind_as, declaring, static_if, field_kind, after, value, statement, under_minus, in_loop, written, class_before, meant, method_meant, super_class}
-use Rattle.kr_types_meaning.specs.Rules.{Typed, Value, Variable, Values, Untyped, Judgement, Fits, Breaks, fine, ask, takes, arguments_fit, type_rule, array_rule, element_rule, result_rule, arguments_rule, call_rule, static_rule, above_rule, super_rule, method_rule, object_call_rule, creation_fits, creation_rule, array_creation_rule, unary_rule, operator_rule, choice_rule, cast_rule, instance_rule, is_broken, written_rule, assignment_rule, compound_rule, step_rule, access_rule, constant_rule, old_rule, contract_rule, condition_rule, return_rule, jump_rule, declaration_rule, initial_fits, is_new, is_simple, parameter_rule, super_constructor_rule, implied_rule}
+use Rattle.kr_types_meaning.specs.Rules.{Typed, Value, Variable, Values, Untyped, Judgement, Fits, Breaks, fine, ask, takes, arguments_fit, type_rule, array_rule, element_rule, result_rule, arguments_rule, call_rule, static_rule, above_rule, super_rule, method_rule, object_call_rule, creation_fits, creation_rule, array_creation_rule, unary_rule, operator_rule, choice_rule, cast_rule, instance_rule, is_broken, written_rule, assignment_rule, compound_rule, step_rule, access_rule, constant_rule, old_rule, contract_rule, condition_rule, return_rule, jump_rule, declaration_rule, initial_fits, is_new, is_simple, parameter_rule, super_constructor_rule, implied_rule, kind_of, kind_rule}
 use Rattle.kr_types_meaning.specs.Typing.{Judged, judge, on_one, on_two, on_list, on_maybe, leaf, joined, field_of, method_of, operand, judged, type_in}
 use Rattle.kr_types_meaning.specs.Running.{locals_only, local_type, elsewhere, running}
 use Rattle.kr_laws_types.specs.Running.{AreSame, IsSameRunning}
@@ -174,26 +175,12 @@ module _ (b : Bool) (s : Scope) where
   creation_same : (t : JavaType) (ts : List JavaType) → creation_rule (elsewhere b s) t ts ≡ creation_rule s t ts
   creation_same t ts = ap (λ (x : Bool). ask x 26 (ask (Rattle.kr_types_meaning.specs.Rules.is_code s.part) 39 (Fits (Value t)))) (fits_same t ts)
 
+  kind_same : (o : OperatorKind) (t u : JavaType) → kind_rule (elsewhere b s) o t u ≡ kind_rule s o t u
+  kind_same Equality t u = refl
+  kind_same _ t u = refl
+
   operator_same : (o : BinaryOperator) (t u : JavaType) → operator_rule (elsewhere b s) o t u ≡ operator_rule s o t u
-  operator_same operators.Multiply t u = refl
-  operator_same operators.Divide t u = refl
-  operator_same operators.Remainder t u = refl
-  operator_same operators.Add t u = refl
-  operator_same operators.Subtract t u = refl
-  operator_same operators.ShiftLeft t u = refl
-  operator_same operators.ShiftRight t u = refl
-  operator_same operators.ShiftRightUnsigned t u = refl
-  operator_same operators.Less t u = refl
-  operator_same operators.Greater t u = refl
-  operator_same operators.LessOrEqual t u = refl
-  operator_same operators.GreaterOrEqual t u = refl
-  operator_same operators.Equal t u = refl
-  operator_same operators.NotEqual t u = refl
-  operator_same operators.BitAnd t u = refl
-  operator_same operators.BitXor t u = refl
-  operator_same operators.BitOr t u = refl
-  operator_same operators.And t u = refl
-  operator_same operators.Or t u = refl
+  operator_same o t u = kind_same (kind_of o) t u
 
   compound_same : (o : BinaryOperator) (x : Typed) (t u : JavaType) → compound_rule (elsewhere b s) o x t u ≡ compound_rule s o x t u
   compound_same o x t u = ap (λ (v : Judgement). ask (not (is_broken v)) 17 (written_rule s x t)) (operator_same o t u)

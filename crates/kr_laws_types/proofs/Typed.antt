@@ -4,16 +4,17 @@ use Rattle.std.specs.Prelude.{◌&&◌, ◌||◌, not, nat_lt, bytes_eq, codes, 
 use Rattle.kr_base.specs.declared.place.Place.{Place}
 use Rattle.kr_ast.specs.declared.node.UnaryOperator.{UnaryOperator}
 use Rattle.kr_ast.specs.declared.node.UnaryOperator.TheVariants as unaries
-use Rattle.kr_ast.specs.declared.node.BinaryOperator.{BinaryOperator}
-use Rattle.kr_ast.specs.declared.node.BinaryOperator.TheVariants as operators
 use Rattle.kr_ast.specs.Tree as trees
 use Rattle.kr_ast.specs.Tree.{Tree}
 use Rattle.kr_classes_table.specs.Types.{JavaType, IntType, BooleanType, NullType, VoidType, ClassType, ArrayType, SetType, ListType, InferredType, UnknownType, AppliedType, is_known, is_element, is_void}
 use Rattle.kr_classes_table.specs.Rules.{Fault}
 use Rattle.kr_classes_table.specs.Table.{Table, Field, Method, applied, field_named, method_named, is_assignable}
 use Rattle.kr_classes_table.specs.Constants.{constant_only, or_else, outer_class, field_meant}
+use Rattle.kr_types_meaning.specs.declared.operators.OperatorKind.{OperatorKind}
+use Rattle.kr_types_meaning.specs.declared.operators.OperatorKind.TheVariants.{Arithmetic, Shift, Comparison, Equality, Bitwise, Logical}
 use Rattle.kr_types_meaning.specs.Scopes.{Scope, Local, Meant, LocalName, FieldName, NoName, written, value, in_old, under_minus, meant_by, field_or_none, meant, class_before, static_only, method_meant, super_class}
-use Rattle.kr_types_meaning.specs.Rules.{Typed, Value, Variable, Values, Untyped, Judgement, Fits, Breaks, ask, gives, typed_as, variable_of, type_rule, diamond_rule, array_rule, number_rule, this_rule, name_rule, unary_rule, operator_rule, choice_rule, cast_rule, instance_rule, written_rule, is_broken, assignment_rule, compound_rule, step_rule, field_rule, access_rule, constant_rule, element_rule, result_rule, arguments_rule, call_rule, static_rule, above_rule, super_rule, plain_call_rule, member_call_rule, collection_rule, method_rule, object_call_rule, creation_rule, array_creation_rule, result_value_rule, old_rule}
+use Rattle.kr_types_meaning.specs.Promotion.{promoted, promoted_alone, is_number}
+use Rattle.kr_types_meaning.specs.Rules.{Typed, Value, Variable, Values, Untyped, Judgement, Fits, Breaks, ask, gives, typed_as, variable_of, type_rule, diamond_rule, array_rule, number_rule, this_rule, name_rule, unary_rule, operator_rule, choice_rule, cast_rule, instance_rule, written_rule, is_broken, assignment_rule, compound_rule, step_rule, field_rule, access_rule, constant_rule, element_rule, result_rule, arguments_rule, call_rule, static_rule, above_rule, super_rule, plain_call_rule, member_call_rule, collection_rule, method_rule, object_call_rule, creation_rule, array_creation_rule, result_value_rule, old_rule, of_promoted, both_boolean, kind_of, kind_rule}
 use Rattle.kr_types_meaning.specs.Typing.{Judged, judge, on_one, on_two, on_list, joined, field_of, method_of, operand, judged, type_in}
 use Rattle.kr_laws_shapes.specs.Expressions.{IsWritten, IsCreated, Shaped}
 use Rattle.kr_laws_types.specs.Typed.{AreKnown, AreTypesKnown}
@@ -44,6 +45,10 @@ gives_none r = record { type = λ x e. absurd (cc (e)) }
 gives_ask : (b : Bool) (r : ℕ) (v : Judgement) → Gives v → Gives (ask b r v)
 gives_ask true r v h = h
 gives_ask false r v h = gives_none r
+
+gives_promoted : (t : Option JavaType) (r : ℕ) → Gives (of_promoted t r)
+gives_promoted (Some t) r = gives_value t
+gives_promoted None r = gives_none r
 
 gives_if : (b : Bool) (v w : Judgement) → Gives v → Gives w → Gives (if b then v else w)
 gives_if true v w h k = h
@@ -254,35 +259,22 @@ module _ (s : Scope) (known : AreTypesKnown s.table) where
   object_call_gives n (ListType t) ts = collection_gives true t n ts
   object_call_gives n _ ts = gives_none 24
 
-  operator_gives : (o : BinaryOperator) (a b : JavaType) → Gives (operator_rule s o a b)
-  operator_gives operators.Multiply a b = gives_ask _ 7 (Fits (Value IntType)) (gives_value IntType)
-  operator_gives operators.Divide a b = gives_ask _ 7 (Fits (Value IntType)) (gives_value IntType)
-  operator_gives operators.Remainder a b = gives_ask _ 7 (Fits (Value IntType)) (gives_value IntType)
-  operator_gives operators.Add a b = gives_ask _ 7 (Fits (Value IntType)) (gives_value IntType)
-  operator_gives operators.Subtract a b = gives_ask _ 7 (Fits (Value IntType)) (gives_value IntType)
-  operator_gives operators.ShiftLeft a b = gives_ask _ 8 (Fits (Value IntType)) (gives_value IntType)
-  operator_gives operators.ShiftRight a b = gives_ask _ 8 (Fits (Value IntType)) (gives_value IntType)
-  operator_gives operators.ShiftRightUnsigned a b = gives_ask _ 8 (Fits (Value IntType)) (gives_value IntType)
-  operator_gives operators.Less a b = gives_ask _ 9 (Fits (Value BooleanType)) (gives_value BooleanType)
-  operator_gives operators.Greater a b = gives_ask _ 9 (Fits (Value BooleanType)) (gives_value BooleanType)
-  operator_gives operators.LessOrEqual a b = gives_ask _ 9 (Fits (Value BooleanType)) (gives_value BooleanType)
-  operator_gives operators.GreaterOrEqual a b = gives_ask _ 9 (Fits (Value BooleanType)) (gives_value BooleanType)
-  operator_gives operators.Equal a b = gives_ask _ 10 (Fits (Value BooleanType)) (gives_value BooleanType)
-  operator_gives operators.NotEqual a b = gives_ask _ 10 (Fits (Value BooleanType)) (gives_value BooleanType)
-  operator_gives operators.BitAnd a b = gives_ask _ 11 (Fits (Value a)) (gives_value a)
-  operator_gives operators.BitXor a b = gives_ask _ 11 (Fits (Value a)) (gives_value a)
-  operator_gives operators.BitOr a b = gives_ask _ 11 (Fits (Value a)) (gives_value a)
-  operator_gives operators.And a b = gives_ask _ 12 (Fits (Value BooleanType)) (gives_value BooleanType)
-  operator_gives operators.Or a b = gives_ask _ 12 (Fits (Value BooleanType)) (gives_value BooleanType)
+  kind_gives : (o : OperatorKind) (a b : JavaType) → Gives (kind_rule s o a b)
+  kind_gives Arithmetic a b = gives_promoted (promoted a b) 7
+  kind_gives Shift a b = gives_ask _ 8 (of_promoted (promoted_alone a) 8) (gives_promoted (promoted_alone a) 8)
+  kind_gives Comparison a b = gives_ask _ 9 (Fits (Value BooleanType)) (gives_value BooleanType)
+  kind_gives Equality a b = gives_ask _ 10 (Fits (Value BooleanType)) (gives_value BooleanType)
+  kind_gives Bitwise a b = gives_if (both_boolean a b) (Fits (Value BooleanType)) (of_promoted (promoted a b) 11) (gives_value BooleanType) (gives_promoted (promoted a b) 11)
+  kind_gives Logical a b = gives_ask _ 12 (Fits (Value BooleanType)) (gives_value BooleanType)
 
   written_gives : (x : Typed) (t : JavaType) → Gives (written_rule s x t)
   written_gives x t = gives_ask (Rattle.kr_types_meaning.specs.Rules.is_variable x) 19 _ (gives_ask (Rattle.kr_types_meaning.specs.Rules.is_code s.part) 39 (Fits (Value t)) (gives_value t))
 
 unary_gives : (o : UnaryOperator) (t : JavaType) → Gives (unary_rule o t)
 unary_gives unaries.Not t = gives_ask (Rattle.kr_types_meaning.specs.Rules.is_boolean t) 13 (Fits (Value BooleanType)) (gives_value BooleanType)
-unary_gives unaries.Plus t = gives_ask (Rattle.kr_types_meaning.specs.Rules.is_int t) 14 (Fits (Value IntType)) (gives_value IntType)
-unary_gives unaries.Minus t = gives_ask (Rattle.kr_types_meaning.specs.Rules.is_int t) 14 (Fits (Value IntType)) (gives_value IntType)
-unary_gives unaries.Complement t = gives_ask (Rattle.kr_types_meaning.specs.Rules.is_int t) 14 (Fits (Value IntType)) (gives_value IntType)
+unary_gives unaries.Plus t = gives_promoted (promoted_alone t) 14
+unary_gives unaries.Minus t = gives_promoted (promoted_alone t) 14
+unary_gives unaries.Complement t = gives_promoted (promoted_alone t) 14
 
 element_gives : (t i : JavaType) → Gives (element_rule t i)
 element_gives (ArrayType t) i = gives_ask (Rattle.kr_types_meaning.specs.Rules.is_int i) 23 (Fits (Variable t)) (gives_variable t)
@@ -395,8 +387,8 @@ typed false s (trees.ObjectCreation p t es) k h f =
 typed false s (trees.ArrayCreation p t e) k h f =
     two_type p (array_creation_rule s) (judged s t) (judged (value s) e) (λ u r. gives_ask (Rattle.kr_types_meaning.specs.Rules.is_int r) 27 _ (gives_ask (Rattle.kr_types_meaning.specs.Rules.is_code s.part) 39 (Fits (Value (ArrayType u))) (gives_value (ArrayType u)))) (written_type s t h.0) (λ g. typed false (value s) e (known_part s k) h.1 g) f
 typed false s (trees.Unary p o e) k h f = one_type p (unary_rule o) (judged (operand o s) e) (unary_gives o) (λ g. typed false (operand o s) e (known_operand o s k) h g) f
-typed false s (trees.Step p o e) k h f = one_type p (step_rule s (judged (value s) e).typed) (judged (value s) e) (λ t. gives_ask (Rattle.kr_types_meaning.specs.Rules.is_int t) 18 _ (written_gives s k.table (judged (value s) e).typed t)) (λ g. typed false (value s) e (known_part s k) h g) f
-typed false s (trees.Binary p o a b) k h f = two_type p (operator_rule s o) (judged (value s) a) (judged (value s) b) (operator_gives s k.table o) (λ g. typed false (value s) a (known_part s k) h.0 g) (λ g. typed false (value s) b (known_part s k) h.1 g) f
+typed false s (trees.Step p o e) k h f = one_type p (step_rule s (judged (value s) e).typed) (judged (value s) e) (λ t. gives_ask (is_number t) 18 _ (written_gives s k.table (judged (value s) e).typed t)) (λ g. typed false (value s) e (known_part s k) h g) f
+typed false s (trees.Binary p o a b) k h f = two_type p (operator_rule s o) (judged (value s) a) (judged (value s) b) (kind_gives s k.table (kind_of o)) (λ g. typed false (value s) a (known_part s k) h.0 g) (λ g. typed false (value s) b (known_part s k) h.1 g) f
 typed false s (trees.InstanceOf p e t) k h f =
     two_type p (instance_rule s) (judged (value s) e) (judged s t) (λ u r. gives_ask (is_element r && Rattle.kr_types_meaning.specs.Rules.related_references s u r) 21 (Fits (Value BooleanType)) (gives_value BooleanType)) (λ g. typed false (value s) e (known_part s k) h.0 g) (written_type s t h.1) f
 typed false s (trees.Conditional p c a b) k h f =

@@ -1,7 +1,7 @@
 -- To be believed: what expressions and statements do (the Java Language Specification, 15 and 14). Each node takes one unit of
 -- fuel before all else; what only holds others together takes none: a list, and the group of a declaration. The scope says what
 -- names and types mean where a node stands; the locals are the scope's, by their numbers.
-use Rattle.std.specs.Prelude.{ℕ, zero, suc, Bool, true, false, List, [], ◌∷◌, length, map, replicate, Option, Some, None, option_and_then, option_map, pos, negsuc, nat_lt, if◌then◌else◌}
+use Rattle.std.specs.Prelude.{ℕ, zero, suc, Bool, true, false, List, [], ◌∷◌, length, map, replicate, Option, Some, None, option_and_then, pos, negsuc, nat_lt, if◌then◌else◌}
 use Rattle.kr_ast.specs.declared.node.BinaryOperator.{BinaryOperator}
 use Rattle.kr_ast.specs.declared.node.BinaryOperator.TheVariants.{And, Or}
 use Rattle.kr_ast.specs.declared.node.StepOperator.{StepOperator}
@@ -24,7 +24,7 @@ use Rattle.kr_mean.specs.declared.kind.Kind.TheVariants.{NegativeArraySizeExcept
 use Rattle.kr_mean.specs.declared.kind.Stop.TheVariants.{Trapped, OutOfFuel, Stuck}
 use Rattle.kr_mean.specs.Program.{Program, default_of, is_of_type, overriding, class_scope, method_scope, constructor_scope, constructor_of, declared_fields}
 use Rattle.kr_mean.specs.Steps.{Run, say, give, stop, given, ◌>>=◌, ◌>>◌, tick, get_this, read_local, declare, assign, get_result, get_old, within, scoped, load_field, element, class_or_null, class_of, store, store_new, store_element, make, collect}
-use Rattle.kr_mean.specs.Operators.{value_of_constant, operated, operated_alone, step_operator, gives_old}
+use Rattle.kr_mean.specs.Operators.{operated, operated_alone, step_operator, gives_old}
 
 -- ---- where statements lead
 
@@ -104,7 +104,7 @@ rounds (suc n) test body = do
 -- ---- names
 
 abbrev pub constant : Scope → Option Field → Run Value
-constant s f = given (option_map value_of_constant (constant_value s.values f))
+constant s f = given (constant_value s.values f)
 
 -- a local; a constant; a field of `this` (6.5.6.1)
 abbrev pub read_name : Program → Scope → Meant → Run Value

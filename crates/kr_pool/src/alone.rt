@@ -1,6 +1,7 @@
 // The caller alone at a desk.
-ghost use Rattle.std.specs.Prelude.{◌≡◌, IfOk, IfSome};
+ghost use Rattle.std.specs.Prelude.{◌≡◌, IfOk, IfSome, ◌+◌, ◌≤◌};
 ghost use Rattle.kr_core.specs.Rows.{drained};
+ghost use Rattle.kr_pool_desk.specs.Draining.{rows_kept};
 ghost use Rattle.kr_pool_desk.specs.Leasing.{IsLeaseOf};
 
 use crate::scanning::scan_part;
@@ -26,6 +27,7 @@ pub fn scan_one<R: Drop, N: Run<R>, S: Survey<Row = R>>(
     ensures made { S.made survey.now scratch.new }
     ensures number { seat.new.number ≡ seat.old.number }
     ensures drained { drained desk.new.0.log ≡ drained desk.old.0.log }
+    ensures row { rows_kept desk.new.0 ≤ rows_kept desk.old.0 + 1 }
 {
     let part = match scan_part(survey, scratch, &lease, 1) {
         Err(why) => return Err(why),

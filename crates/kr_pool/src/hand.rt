@@ -1,5 +1,7 @@
-// What a worker has at hand: its seat, and what a full board left with it.
-ghost use Rattle.std.specs.Prelude.{◌≡◌, ◌≤◌, length, IfOk};
+// What a worker has at hand: its seat, what a full board left with it, and the lease under which it goes on.
+ghost use Rattle.std.specs.Prelude.{◌≡◌, ◌≤◌, true, length, IfOk, map, reverse};
+ghost use Rattle.kr_base.specs.Bounds.{less};
+ghost use Rattle.kr_base.specs.declared.span.Bound.TheVariants.{At};
 ghost use Rattle.kr_board.specs.Parts.{IsPart};
 
 use kr_base::NoMemory;
@@ -63,26 +65,62 @@ impl<R, N: Run<R>> Kept<R, N> {
     {
         self.lease.seat
     }
+
+    /// The number of the lease's segment.
+    pub fn segment(&self) -> u64
+        ensures { result ≡ self.now.0.segment }
+    {
+        self.lease.segment
+    }
+
+    /// How many rows the part has.
+    pub fn rows(&self) -> u64
+        ensures { result ≡ length self.now.1.rows }
+    {
+        self.part.rows.len() as u64
+    }
 }
 
-/// A worker's seat, and what it kept.
+/// A lease under which something is left.
+#[derive(Drop)]
+pub struct Open {
+    pub lease: Lease,
+    pub ghost ahead: { less (At lease.mark) lease.upto ≡ true },
+}
+
+/// A worker's seat, what it kept, and the lease under which it goes on, if it has one between two parts.
 #[derive(Drop)]
 pub struct Hand<R, N: Run<R>> {
     pub seat: Seat<N>,
     pub kept: Option<Kept<R, N>>,
+    pub open: Option<Open>,
 }
 
-/// The same seats, with nothing kept.
+impl<R, N: Run<R>> Hand<R, N> {
+    /// A seat, with nothing kept.
+    pub fn new(seat: Seat<N>) -> Self
+        ensures { result.seat ≡ seat }
+    {
+        Hand {
+            seat,
+            kept: None,
+            open: None,
+        }
+    }
+}
+
+/// The seats from the last to the first, with nothing kept.
 pub fn hands_of<R: Drop, N: Run<R>>(
     alloc: Global,
     seats: Vec<Seat<N>>,
 ) -> Result<Vec<Hand<R, N>>, NoMemory>
-    ensures { IfOk result (λ hands. length hands.items ≡ length seats.items) }
+    ensures count { IfOk result (λ hands. length hands.items ≡ length seats.items) }
+    ensures seats { IfOk result (λ hands. reverse (map (λ h. h.seat) hands.items) ≡ seats.items) }
 {
     let mut hands = Vec::new(alloc);
     let mut seats = seats;
     while let Some(seat) = seats.pop() {
-        hands.push(Hand { seat, kept: None })?;
+        hands.push(Hand::new(seat))?;
     }
     Ok(hands)
 }

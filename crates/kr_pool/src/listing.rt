@@ -1,5 +1,5 @@
 // A span listed by many workers.
-ghost use Rattle.std.specs.Prelude.{◌≡◌, ◌<◌, ◌≤◌, [], true, false, IfOk, OnOk, OnErr};
+ghost use Rattle.std.specs.Prelude.{◌≡◌, ◌<◌, ◌≤◌, [], true, false, None, IfOk, OnOk, OnErr};
 ghost use Rattle.kr_base.specs.declared.span.Bound.TheVariants.{At};
 ghost use Rattle.kr_base.specs.Bounds.{less};
 ghost use Rattle.kr_core.specs.Openings.{AreInside, opening};
@@ -12,7 +12,8 @@ ghost use Rattle.kr_pool_desk.specs.Traces.{Finishes, IsTrace};
 
 use crate::alone::scan_one;
 use crate::hand::{Hand, hands_of};
-use crate::working::round;
+use crate::leading::{Leading, scratch_for};
+use crate::working::{Round, work_all};
 use kr_base::{Cut, NoMemory, Span};
 use kr_board::{Board, Lease, Logged, Taken};
 use kr_io::Gate;
@@ -23,7 +24,7 @@ use std::alloc::Global;
 use std::marker::Brand;
 use std::sync::Wait;
 use std::sync::ledger::{Blank, Ledger};
-use std::thread::Threads;
+use std::thread::{Threads, join_mut};
 
 // Scans one entry at a time and reports it, under a lease and the next ones, until a segment is done.
 fn follow_alone<R: Drop, N: Run<R>, S: Survey<Row = R>, W: Wait>(
@@ -118,6 +119,81 @@ fn finish<R: Drop, N: Run<R>, S: Survey<Row = R>, W: Wait>(
     }
 }
 
+// The caller leads a round, without draining: its seat works until it finds nothing more to do.
+fn lead_on<R: Drop, N: Run<R>, D: Ledger, S: Survey<Row = R>, G: Gate, W: Wait>(
+    rt: &W,
+    shared: &Shared<R, N, D>,
+    survey: &S,
+    hand: &mut Hand<R, N>,
+    gate: &G,
+)
+    requires survey { S.all survey.now ≡ N.all }
+{
+    let mut scratch = scratch_for(survey, hand);
+    let mut leading = Leading::start();
+    for _ in rt.forever() {
+        let has_worked = leading.step(rt, shared, survey, &mut scratch, hand, gate);
+        if !has_worked && !leading.watch(rt, shared) {
+            break;
+        }
+    }
+    shared.end_round(rt);
+}
+
+// All seats work, the caller's in this thread.
+fn join_all<
+    R: Drop + Send,
+    N: Run<R> + Send + Sync,
+    D: Ledger + Send + Sync,
+    S: Survey<Row = R> + Sync,
+    G: Gate + Sync,
+    W: Threads + Wait + Sync,
+>(round: &Round<'_, R, N, D, S, G, W>, lead: &mut Hand<R, N>, others: &mut [Hand<R, N>])
+    requires survey { S.all round.now.survey.now ≡ N.all }
+{
+    join_mut(
+        round.rt,
+        &mut ||
+            requires { S.all round.now.survey.now ≡ N.all }
+        { work_all(round.rt, round.shared, round.survey, others, round.gate) },
+        &mut ||
+            requires { S.all round.now.survey.now ≡ N.all }
+        { lead_on(round.rt, round.shared, round.survey, lead, round.gate) },
+    );
+}
+
+// One round: all seats work, or the caller's alone.
+fn work_together<
+    R: Drop + Send,
+    N: Run<R> + Send + Sync,
+    D: Ledger + Send + Sync,
+    S: Survey<Row = R> + Sync,
+    G: Gate + Sync,
+    W: Threads + Wait + Sync,
+>(
+    rt: &W,
+    shared: &Shared<R, N, D>,
+    survey: &S,
+    lead: &mut Hand<R, N>,
+    others: &mut [Hand<R, N>],
+    gate: &G,
+)
+    requires survey { S.all survey.now ≡ N.all }
+{
+    shared.lead(rt);
+    if others.is_empty() {
+        lead_on(rt, shared, survey, lead, gate);
+    } else {
+        let round = Round {
+            rt,
+            shared,
+            survey,
+            gate,
+        };
+        join_all(&round, lead, others);
+    }
+}
+
 // The same for a run that a type names.
 fn list_on<
     R: Drop + Send,
@@ -146,18 +222,25 @@ fn list_on<
     requires cuts { cuts.now ≡ N.cuts }
     requires inside { AreInside cuts.now span }
     requires opening { N.opening ≡ [] }
+    requires window { N.window ≡ None }
     ensures listing { IfOk result (λ logged. Lists (listed_in N.all N.span) logged.listing) }
     ensures log { IfOk result (λ logged. Finishes N.all (opening N.span N.cuts) N.workers logged.log.items) }
 {
     survey.ascends();
     let board = Board::new(alloc, survey, span, cuts)?;
-    let (shared, seats, mut tap) = Shared::<R, N, D>::start(alloc, board, workers, blank, tap)?;
-    let mut hands = hands_of::<R, N>(alloc, seats)?;
-    round(rt, &shared, survey, hands.as_mut_slice(), gate, u64::MAX);
-    match hands.pop() {
-        Some(Hand { seat, kept: _ }) => finish(rt, survey, shared.into_desk(&mut tap), seat),
-        None => unreachable!(),
-    }
+    let (shared, mut seats, mut tap) = Shared::<R, N, D>::start(alloc, board, workers, blank, tap)?;
+    let Some(seat) = seats.pop() else {
+        unreachable!()
+    };
+    let mut others = hands_of::<R, N>(alloc, seats)?;
+    let mut lead = Hand::new(seat);
+    work_together(rt, &shared, survey, &mut lead, others.as_mut_slice(), gate);
+    let Hand {
+        seat,
+        kept: _,
+        open: _,
+    } = lead;
+    finish(rt, survey, shared.into_desk(&mut tap), seat)
 }
 
 /// The listing of a span, by so many workers in threads of their own: rows, number of entries and spent key are those of

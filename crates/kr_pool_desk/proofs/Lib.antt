@@ -8,3 +8,5 @@ pub mod Leased
 pub mod Cuts
 pub mod Honest
 pub mod Alike
+pub mod Laid
+pub mod Keeping

@@ -1,5 +1,5 @@
 -- The rows in front are the next ones of the span.
-use Rattle.std.proofs.Common.{◌≡◌, ℕ, ◌+◌, List, [], ◌∷◌, ◌++◌, Bool, true, false, ◌&&◌, cond, length, take, drop, refl, sym, ap, ◌∙◌, subst, arith, Option, Some, None, append_assoc, length-append, length-drop, ◌≤◌}
+use Rattle.std.proofs.Common.{◌≡◌, ℕ, ◌+◌, List, [], ◌∷◌, ◌++◌, Bool, true, false, cond, length, take, drop, refl, sym, ap, ◌∙◌, subst, arith, Option, Some, None, append_assoc, length-append, length-drop, ◌≤◌}
 use Rattle.std.specs.Prelude.{if◌then◌else◌}
 use Rattle.std.specs.List.{flat_map, list_all, sum_by}
 use Rattle.std.proofs.lemmas.List.{append-nil, drop_at, take_at}
@@ -10,7 +10,7 @@ use Rattle.kr_base.specs.declared.span.Span.{Span}
 use Rattle.kr_base.specs.declared.entry.Entry.{Entry}
 use Rattle.kr_base.specs.Bounds.{less}
 use Rattle.kr_base.specs.Entries.{Ascends, is_spent, within, through_spent, entries_in, NoneSpent}
-use Rattle.kr_base.proofs.Bounds.{irreflexive, not_above}
+use Rattle.kr_base.proofs.Bounds.{not_above}
 use Rattle.kr_base.proofs.Spans.{through_append}
 use Rattle.kr_survey.specs.Scans.{rows_of}
 use Rattle.kr_survey.specs.Joins.{joined}
@@ -21,9 +21,9 @@ use Rattle.kr_core.specs.declared.event.Reply.{Reply}
 use Rattle.kr_survey.specs.declared.part.Listing.{Listing}
 use Rattle.kr_core.specs.States.{State, capped, is_closed}
 use Rattle.kr_core.specs.Steps.{left}
-use Rattle.kr_core.specs.Openings.{AreInside, opening, end_of}
+use Rattle.kr_core.specs.Openings.{AreInside}
 use Rattle.kr_core.specs.Beside.{fronts, emptied, Others, Measures}
-use Rattle.kr_core.specs.Counts.{EndsSpent, IsSpentFlag, Counts, counted}
+use Rattle.kr_core.specs.Counts.{EndsSpent, IsSpentFlag, Counts}
 use Rattle.kr_core.specs.Rows.{drained}
 use Rattle.kr_core.proofs.Spent.{within-append, within-none, through_ends}
 use Rattle.kr_core.proofs.Chains.{Chain}

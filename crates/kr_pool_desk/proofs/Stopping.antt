@@ -1,12 +1,11 @@
 -- A board that is stopped.
-use Rattle.std.proofs.Common.{◌≡◌, ℕ, List, [], ◌∷◌, ◌++◌, Bool, true, false, ◌&&◌, not, refl, sym, ap, ◌∙◌, subst, Option, Some, None}
+use Rattle.std.proofs.Common.{◌≡◌, ℕ, List, [], ◌∷◌, Bool, true, false, ◌&&◌, not, refl, sym, ap, ◌∙◌, subst}
 use Rattle.std.specs.List.{list_all}
 use Rattle.kr_base.specs.declared.span.Bound.{Bound}
 use Rattle.kr_base.specs.declared.span.Bound.TheVariants.{At, End}
 use Rattle.kr_base.specs.declared.span.Span.{Span}
 use Rattle.kr_base.specs.declared.entry.Entry.{Entry}
 use Rattle.kr_base.specs.Bounds.{less}
-use Rattle.kr_base.proofs.Bounds.{irreflexive, connected}
 use Rattle.kr_core.specs.declared.segment.Segment.{Segment}
 use Rattle.kr_core.specs.declared.event.Event.{Event}
 use Rattle.kr_core.specs.declared.event.Event.TheVariants.{StopAt}
@@ -21,8 +20,9 @@ use Rattle.kr_core.proofs.Ends.{kept_law}
 use Rattle.kr_board.specs.Held.{Held}
 use Rattle.kr_board.specs.Boards.{IsBoardOf, Adds}
 use Rattle.kr_board.specs.Closing.{all_closed, mark_in, first_mark}
-use Rattle.kr_pool_desk.specs.Runs.{are_shared, IsRun}
+use Rattle.kr_pool_desk.specs.Runs.{IsRun}
 use Rattle.kr_pool_desk.specs.Traces.{are_by, Finishes}
+use Rattle.kr_pool_desk.specs.Stops.{IsStopped}
 use Rattle.kr_pool_desk.proofs.Honest.{runs_from_honest}
 use Rattle.kr_pool_desk.proofs.Whole.{by_stopped}
 
@@ -89,3 +89,7 @@ stop_finishes all span cuts ops workers calls old new mark reply rows log k adds
   seats = ap (λ (l : List Event). are_by workers l) (is ∙ adds.logged) ∙ by_stopped workers old.log mark k.grown.shared;
   closed = none_left old new mark reply rows adds;
 }
+
+-- its log is the board's, with the stop behind it
+pub stopped_log : {R : Type 0} (old new : Held R) (mark : List ℕ) (reply : Reply) (rows : List R) (log : List Event) → At mark ≡ first_mark old.core → Adds old (StopAt mark) reply rows new → log ≡ new.log → IsStopped old log
+stopped_log old new mark reply rows log at adds is = record { mark = mark; mark_is = at; log_is = is ∙ adds.logged }

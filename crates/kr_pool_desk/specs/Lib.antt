@@ -4,3 +4,5 @@ pub mod Draining
 pub mod Leasing
 pub mod Cutting
 pub mod Traces
+pub mod Laying
+pub mod Stops

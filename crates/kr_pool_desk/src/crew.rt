@@ -1,5 +1,5 @@
 // Which run it is that workers share.
-ghost use Rattle.std.specs.Prelude.{List, ℕ, []};
+ghost use Rattle.std.specs.Prelude.{List, ℕ, [], Option, None};
 ghost use Rattle.kr_base.specs.declared.span.Bound.TheVariants.{End};
 ghost use Rattle.kr_base.specs.declared.span.Span.{Span};
 ghost use Rattle.kr_base.specs.declared.entry.Entry.{Entry};
@@ -17,7 +17,7 @@ impl Crew for Brand {
     ghost workers = { 0 };
 }
 
-/// Of which entries, span and cuts, and with which log at its start.
+/// Of which entries, span and cuts, with which log at its start, and how many rows may be kept, if there is a bound.
 pub trait Run<R>: Crew {
     ghost all: { List (Entry R) };
 
@@ -26,6 +26,8 @@ pub trait Run<R>: Crew {
     ghost cuts: { List (List ℕ) };
 
     ghost opening: { List Event };
+
+    ghost window: { Option ℕ };
 }
 
 impl<R> Run<R> for Brand {
@@ -36,4 +38,6 @@ impl<R> Run<R> for Brand {
     ghost cuts = { [] };
 
     ghost opening = { [] };
+
+    ghost window = { None };
 }

@@ -1,18 +1,30 @@
 // A board with the count of its calls.
-ghost use Rattle.std.specs.Prelude.{◌≡◌, ◌+◌, ◌<◌, ◌≤◌, true, false, length, take, drop, IfOk, IfErr, IfSome, IfNone, OnOk, OnErr};
+ghost use Rattle.std.specs.Prelude.{◌≡◌, ◌+◌, ◌<◌, ◌≤◌, ◌↔◌, [], Some, None, true, false, length, take, drop, IfOk, IfErr, IfSome, IfNone, OnOk, OnErr};
 ghost use Rattle.kr_base.specs.declared.span.Bound.TheVariants.{At};
 ghost use Rattle.kr_base.specs.Bounds.{less};
 ghost use Rattle.kr_base.specs.Entries.{Ascends};
+ghost use Rattle.kr_core.specs.declared.event.Event.TheVariants.{Drain, GiveUp, Steal};
+ghost use Rattle.kr_core.specs.declared.event.Reply.TheVariants.{Lease as Leased, Noted};
+ghost use Rattle.kr_core.specs.Counts.{AllClosed};
 ghost use Rattle.kr_core.specs.Openings.{AreInside, opening};
 ghost use Rattle.kr_core.specs.Rows.{drained};
+ghost use Rattle.kr_core.specs.States.{segment_of};
+ghost use Rattle.kr_core.specs.Steps.{may_give_up};
 ghost use Rattle.kr_survey.specs.Scans.{rows_of};
-ghost use Rattle.kr_board.specs.Boards.{IsBoardOf};
-ghost use Rattle.kr_board.specs.Closing.{all_closed};
+ghost use Rattle.kr_board.specs.Boards.{IsBoardOf, Adds};
+ghost use Rattle.kr_board.specs.Closing.{all_closed, front_rows};
 ghost use Rattle.kr_board.specs.Parts.{IsPart};
+ghost use Rattle.kr_board.specs.Releasing.{IsReleased, given_up};
+ghost use Rattle.kr_board.specs.Reporting.{IsRefusal, refusal, report_event, reply_of as report_reply};
+ghost use Rattle.kr_board.specs.Splitting.{split_of};
+ghost use Rattle.kr_board.specs.Taking.{IsLater, take_event, reply_of as take_reply};
+ghost use Rattle.kr_board.specs.declared.board.taking.Taken.TheVariants.{Later, Finished};
 ghost use Rattle.kr_board.specs.declared.board.releasing.GivenUp.TheVariants.{Released, Gone};
 ghost use Rattle.kr_pool_desk.specs.Runs.{IsRun, are_shared};
 ghost use Rattle.kr_pool_desk.specs.Leasing.{IsLeaseOf, Takes, Reports};
-ghost use Rattle.kr_pool_desk.specs.Draining.{last_rows};
+ghost use Rattle.kr_pool_desk.specs.Draining.{last_rows, rows_kept};
+ghost use Rattle.kr_pool_desk.specs.Laying.{LaysOut};
+ghost use Rattle.kr_pool_desk.specs.Stops.{IsStopped};
 ghost use Rattle.kr_pool_desk.specs.Listings.{listed_in, ListsFrom};
 ghost use Rattle.kr_pool_desk.specs.Traces.{Finishes};
 
@@ -23,21 +35,15 @@ use kr_survey::{Part, Rows};
 use std::marker::Model;
 use std::sync::ledger::{Book, Share};
 
-/// A segment behind the foremost that holds more than this part of the window is left for one nearer to the front.
-const SHARES: u64 = 12;
-
-/// The window is nearly full where less than this part of it is left.
-const NEARLY: u64 = 8;
-
 /// A board, and the book of the calls that were logged at it. Contracts see both.
 #[derive(Drop)]
 pub struct Desk<R, N: Run<R>> {
-    board: Board<R>,
+    pub(crate) board: Board<R>,
     calls: Book<N>,
 }
 
 impl<R, N: Run<R>> Model for Desk<R, N> {
-    ghost use Rattle.std.specs.Prelude.{ℕ};
+    ghost use Rattle.std.specs.Prelude.{◌≡◌, ℕ};
     ghost use Rattle.kr_board.specs.Held.{Held};
     ghost use Rattle.kr_pool_desk.specs.Runs.{IsRun};
 
@@ -45,7 +51,7 @@ impl<R, N: Run<R>> Model for Desk<R, N> {
 
     ghost view = { λ d. (d.board, d.calls.total) };
 
-    ghost invariant = { λ d. IsRun N.all N.span N.cuts N.opening N.workers d.board d.calls.total };
+    ghost invariant = { λ d. IsRun N.all N.span N.cuts N.opening N.workers d.board d.calls.total × (d.board.window ≡ N.window) };
 }
 
 // The rows that the last event took out.
@@ -67,6 +73,7 @@ impl<R: Drop, N: Run<R>> Desk<R, N> {
         requires board { IsBoardOf N.all N.span N.cuts board }
         requires opening { board.log ≡ N.opening }
         requires shared { are_shared N.workers N.opening ≡ true }
+        requires window { board.window ≡ N.window }
         requires none { calls.total ≡ 0 }
         ensures { result.0 ≡ board }
     {
@@ -86,6 +93,7 @@ impl<R: Drop, N: Run<R>> Desk<R, N> {
         ensures listing { IfOk result (λ logged. ListsFrom (drained self.0.log) (listed_in N.all N.span) logged.listing) }
         ensures log { IfOk result (λ logged. Finishes N.all (opening N.span N.cuts) N.workers logged.log.items) }
         ensures unstopped { IfOk result (λ logged. are_shared N.workers logged.log.items ≡ true) }
+        ensures own { IfOk result (λ logged. logged.log.items ≡ self.0.log) }
         ensures unfinished { OnErr result (all_closed self.0.core ≡ false) }
         ensures back { IfErr result (λ desk. desk.0 ≡ self.0) }
     {
@@ -100,6 +108,7 @@ impl<R: Drop, N: Run<R>> Desk<R, N> {
     pub fn stop(self) -> Result<Vec<Event>, NoMemory>
         requires unfinished { all_closed self.0.core ≡ false }
         ensures log { IfOk result (λ log. Finishes N.all (opening N.span N.cuts) N.workers log.items) }
+        ensures own { IfOk result (λ log. IsStopped self.0 log.items) }
     {
         let Desk {
             mut board,
@@ -118,6 +127,9 @@ impl<R: Drop, N: Run<R>> Desk<R, N> {
     pub fn drain(&mut self, calls: &mut Share<N>) -> Result<(Rows<R>, bool), NoMemory>
         requires part { 0 < calls.old.parts }
         ensures rows { IfOk result (λ r. r.0 ≡ take (length r.0) (drop (drained self.old.0.log) (rows_of (listed_in N.all N.span)))) }
+        ensures front { IfOk result (λ r. r.0 ≡ front_rows self.old.0) }
+        ensures event { IfOk result (λ r. Adds self.old.0 (Drain (length r.0)) Noted [] self.new.0) }
+        ensures kept { IfOk result (λ r. rows_kept self.new.0 + length r.0 ≤ rows_kept self.old.0) }
         ensures drained { IfOk result (λ r. drained self.new.0.log ≡ drained self.old.0.log + length r.0) }
         ensures counted { IfOk result (λ r. last_rows self.new.0.log ≡ length r.0) }
         ensures finished { IfOk result (λ r. r.1 ≡ all_closed self.new.0.core) }
@@ -145,6 +157,8 @@ impl<R: Drop, N: Run<R>> Desk<R, N> {
     /// Every lease is given back, which counts for this share.
     pub fn release_all(&mut self, calls: &mut Share<N>)
         requires part { 0 < calls.old.parts }
+        ensures released { IsReleased self.old.0 self.new.0 }
+        ensures counted { calls.new.amount ≡ calls.old.amount + length (given_up self.old.0.core.segments) }
         ensures drained { drained self.new.0.log ≡ drained self.old.0.log }
         ensures parts { calls.new.parts ≡ calls.old.parts }
     {
@@ -168,6 +182,11 @@ impl<R: Drop, N: Run<R>> Desk<R, N> {
         requires part { 0 < calls.old.parts }
         requires below { seat < N.workers }
         ensures lease { IfOk result (Takes seat) }
+        ensures event { IfOk result (λ taken. Adds self.old.0 (take_event seat self.old.0.core) (take_reply taken) [] self.new.0) }
+        ensures later { IfOk result (λ taken. (taken ≡ Later) ↔ IsLater self.old.0.core) }
+        ensures finished { IfOk result (λ taken. (taken ≡ Finished) ↔ AllClosed self.old.0.core) }
+        ensures kept { rows_kept self.new.0 ≤ rows_kept self.old.0 }
+        ensures unchanged { OnErr result (self.new.0 ≡ self.old.0) }
         ensures drained { drained self.new.0.log ≡ drained self.old.0.log }
         ensures counted { OnOk result (calls.new.amount ≡ calls.old.amount + 1) }
         ensures uncounted { OnErr result (calls.new.amount ≡ calls.old.amount) }
@@ -196,6 +215,10 @@ impl<R: Drop, N: Run<R>> Desk<R, N> {
         requires honest { IsPart N.all lease.mark part }
         requires few { length part.rows ≤ 256 }
         ensures lease { IfOk result (Reports seat lease part) }
+        ensures refusal { IfOk result (IsRefusal (refusal self.old.0 lease part)) }
+        ensures event { IfOk result (λ reported. Adds self.old.0 (report_event self.old.0 lease part) (report_reply reported) part.rows self.new.0) }
+        ensures kept { rows_kept self.new.0 ≤ rows_kept self.old.0 + length part.rows }
+        ensures unchanged { OnErr result (self.new.0 ≡ self.old.0) }
         ensures drained { drained self.new.0.log ≡ drained self.old.0.log }
         ensures back { IfErr result (λ refused. (refused.lease ≡ lease) × (refused.part ≡ part)) }
         ensures counted { OnOk result (calls.new.amount ≡ calls.old.amount + 1) }
@@ -212,16 +235,6 @@ impl<R: Drop, N: Run<R>> Desk<R, N> {
         }
     }
 
-    /// Whether some seat holds a segment.
-    pub fn has_owned(&self) -> bool {
-        for segment in self.board.segments() {
-            if segment.is_owned() {
-                return true;
-            }
-        }
-        false
-    }
-
     /// A seat steals from itself what is behind a cut, if there is one.
     pub fn split(
         &mut self,
@@ -233,6 +246,12 @@ impl<R: Drop, N: Run<R>> Desk<R, N> {
         requires below { seat < N.workers }
         requires lease { lease.now.seat ≡ seat }
         ensures seat { IfOk result (λ rest. IfSome rest (λ r. r.seat ≡ seat)) }
+        ensures cut { IfOk result (λ rest. IfSome rest (λ r. split_of self.old.0.core lease.now ≡ Some r.mark)) }
+        ensures event { IfOk result (λ rest. IfSome rest (λ r. Adds self.old.0 (Steal seat lease.now.segment r.mark self.old.0.core.next) (Leased r) [] self.new.0)) }
+        ensures no_cut { IfOk result (λ rest. IfNone rest (split_of self.old.0.core lease.now ≡ None)) }
+        ensures none { IfOk result (λ rest. IfNone rest (self.new.0 ≡ self.old.0)) }
+        ensures unchanged { OnErr result (self.new.0 ≡ self.old.0) }
+        ensures owned { IfOk result (λ rest. IfSome rest (λ r. may_give_up seat (segment_of r.segment self.new.0.core.segments) ≡ true)) }
         ensures drained { drained self.new.0.log ≡ drained self.old.0.log }
         ensures ahead { IfOk result (λ rest. IfSome rest (λ r. less (At lease.now.mark) (At r.mark) ≡ true)) }
         ensures counted { IfOk result (λ rest. IfSome rest (λ r. calls.new.amount ≡ calls.old.amount + 1)) }
@@ -250,86 +269,13 @@ impl<R: Drop, N: Run<R>> Desk<R, N> {
         }
     }
 
-    // Whether this is the first segment that isn't closed.
-    fn is_foremost(&self, number: u64) -> bool {
-        for segment in self.board.segments() {
-            if !segment.is_closed() {
-                return segment.number == number;
-            }
-        }
-        false
-    }
-
-    // How many rows a segment behind the foremost may hold before its seat looks for one nearer to the front.
-    fn is_over_share(&self, rows: u64) -> bool {
-        match self.board.window() {
-            None => false,
-            Some(window) => rows > window / SHARES,
-        }
-    }
-
-    // Whether the first free segment, if there is one, is the foremost or holds few rows.
-    fn has_takeable(&self) -> bool {
-        for segment in self.board.segments() {
-            if segment.has_remainder() && !segment.is_owned() {
-                return !self.is_over_share(segment.rows) || self.is_foremost(segment.number);
-            }
-        }
-        false
-    }
-
-    /// Whether a take leads to a lease that was nobody's and is near enough to the front, or to the end.
-    pub fn may_take(&self) -> bool {
-        self.has_takeable() || !self.has_owned()
-    }
-
-    /// Whether a seat that goes on under this lease gives it up, for one nearer to the front.
-    pub fn is_far(&self, lease: &Lease) -> bool {
-        for segment in self.board.segments() {
-            if segment.number == lease.segment {
-                return self.is_over_share(segment.rows) && !self.is_foremost(lease.segment);
-            }
-        }
-        false
-    }
-
-    /// Whether the rows kept fill the window, and the front isn't free without rows.
-    pub fn is_at_window(&self) -> bool {
-        match self.board.window() {
-            None => false,
-            Some(window) => self.board.rows_kept() >= window && !self.has_free_front(),
-        }
-    }
-
-    // Whether the first segment is free and has no rows.
-    fn has_free_front(&self) -> bool {
-        match self.board.segments().first() {
-            None => false,
-            Some(first) => first.rows == 0 && first.has_remainder() && !first.is_owned(),
-        }
-    }
-
-    // Whether the rows kept fill nearly all of the window.
-    fn is_nearly_full(&self) -> bool {
-        match self.board.window() {
-            None => false,
-            Some(window) => self.board.rows_kept() >= window - window / NEARLY,
-        }
-    }
-
-    // Whether the rest of this lease is wanted now: nothing else can be taken, and there is room for its rows.
-    fn is_rest_wanted(&self, lease: &Lease) -> bool {
-        !self.has_takeable()
-            && !self.is_at_window()
-            && (!self.is_nearly_full() || self.is_foremost(lease.segment))
-    }
-
     // A seat cuts what it has left, and gives the rest up. The lease under which it goes on, and whether there was a cut.
     fn cut_off(&mut self, seat: u32, lease: Lease, calls: &mut Share<N>) -> (Lease, bool)
         requires part { 0 < calls.old.parts }
         requires below { seat < N.workers }
         requires lease { IsLeaseOf seat lease }
         ensures lease { IsLeaseOf seat result.0 }
+        ensures laid { LaysOut 1 self.old.0 lease self.new.0 result.0 result.1 }
         ensures drained { drained self.new.0.log ≡ drained self.old.0.log }
         ensures parts { calls.new.parts ≡ calls.old.parts }
     {
@@ -359,6 +305,7 @@ impl<R: Drop, N: Run<R>> Desk<R, N> {
         requires below { seat < N.workers }
         requires lease { IsLeaseOf seat lease }
         ensures lease { IsLeaseOf seat result.0 }
+        ensures laid { LaysOut 3 self.old.0 lease self.new.0 result.0 result.1 }
         ensures drained { drained self.new.0.log ≡ drained self.old.0.log }
         ensures parts { calls.new.parts ≡ calls.old.parts }
     {
@@ -384,6 +331,10 @@ impl<R: Drop, N: Run<R>> Desk<R, N> {
         requires lease { lease.now.seat ≡ seat }
         ensures released { result ≡ Released → calls.new.amount ≡ calls.old.amount + 1 }
         ensures gone { result ≡ Gone → calls.new.amount ≡ calls.old.amount }
+        ensures unowned { (result ≡ Gone) ↔ (may_give_up seat (segment_of lease.now.segment self.old.0.core.segments) ≡ false) }
+        ensures event { result ≡ Released → Adds self.old.0 (GiveUp seat lease.now.segment) Noted [] self.new.0 }
+        ensures unchanged { result ≡ Gone → self.new.0 ≡ self.old.0 }
+        ensures kept { self.new.0.kept ≡ self.old.0.kept }
         ensures drained { drained self.new.0.log ≡ drained self.old.0.log }
         ensures parts { calls.new.parts ≡ calls.old.parts }
     {

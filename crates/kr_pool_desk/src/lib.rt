@@ -5,6 +5,7 @@
 mod crew;
 mod cutting;
 mod desk;
+mod room;
 
 pub use crew::{Crew, Run};
 pub use cutting::cuts_for;

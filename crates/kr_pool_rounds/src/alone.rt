@@ -1,11 +1,13 @@
 // The caller alone at what workers left.
-ghost use Rattle.std.specs.Prelude.{◌≡◌, ◌+◌, true, false, length, take, drop, IfOk, IfErr, OnErr};
+ghost use Rattle.std.specs.Prelude.{◌≡◌, ◌+◌, true, false, length, take, drop, IfOk, IfErr, OnErr, ◌≤◌};
 ghost use Rattle.kr_survey.specs.Scans.{rows_of};
 ghost use Rattle.kr_core.specs.Openings.{opening};
 ghost use Rattle.kr_core.specs.Rows.{drained};
 ghost use Rattle.kr_board.specs.Closing.{all_closed};
+ghost use Rattle.kr_pool_desk.specs.Draining.{rows_kept};
 ghost use Rattle.kr_pool_desk.specs.Listings.{listed_in, ListsFrom};
 ghost use Rattle.kr_pool_desk.specs.Runs.{are_shared};
+ghost use Rattle.kr_pool_desk.specs.Stops.{IsStopped};
 ghost use Rattle.kr_pool_desk.specs.Traces.{Finishes};
 
 use kr_base::NoMemory;
@@ -47,6 +49,7 @@ impl<R: Drop, N: Run<R>> Alone<R, N> {
         requires made { S.made survey.now scratch.old }
         ensures made { S.made survey.now scratch.new }
         ensures drained { drained self.new.log ≡ drained self.old.log }
+        ensures row { rows_kept self.new ≤ rows_kept self.old + 1 }
     {
         self.desk.release_all(&mut self.seat.calls);
         match self.desk.take(self.seat.number, &mut self.seat.calls) {
@@ -75,6 +78,7 @@ impl<R: Drop, N: Run<R>> Alone<R, N> {
         ensures rows { IfOk result (λ r. r.0 ≡ take (length r.0) (drop (drained self.old.log) (rows_of (listed_in N.all N.span)))) }
         ensures given { IfOk result (λ r. drained self.new.log ≡ drained self.old.log + length r.0) }
         ensures last { IfOk result (λ r. r.1 ≡ true → drained self.new.log ≡ length (rows_of (listed_in N.all N.span))) }
+        ensures row { IfOk result (λ r. rows_kept self.new + length r.0 ≤ rows_kept self.old + 1) }
         ensures refused { OnErr result (drained self.new.log ≡ drained self.old.log) }
     {
         match self.step(survey, scratch) {
@@ -89,6 +93,7 @@ impl<R: Drop, N: Run<R>> Alone<R, N> {
         ensures listing { IfOk result (λ logged. ListsFrom (drained self.log) (listed_in N.all N.span) logged.listing) }
         ensures log { IfOk result (λ logged. Finishes N.all (opening N.span N.cuts) N.workers logged.log.items) }
         ensures unstopped { IfOk result (λ logged. are_shared N.workers logged.log.items ≡ true) }
+        ensures own { IfOk result (λ logged. logged.log.items ≡ self.log) }
         ensures back { IfErr result (λ alone. alone ≡ self) }
         ensures unfinished { OnErr result (all_closed self.core ≡ false) }
     {
@@ -103,6 +108,7 @@ impl<R: Drop, N: Run<R>> Alone<R, N> {
     pub fn stop(self) -> Result<Vec<Event>, NoMemory>
         requires unfinished { all_closed self.core ≡ false }
         ensures log { IfOk result (λ log. Finishes N.all (opening N.span N.cuts) N.workers log.items) }
+        ensures own { IfOk result (λ log. IsStopped self log.items) }
     {
         let Alone { desk, seat: _ } = self;
         desk.stop()

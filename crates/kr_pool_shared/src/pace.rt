@@ -1,11 +1,22 @@
 // Who is in a round and who waits, and when a rest is laid out. No contract names any of it.
 
-/// How many seats are in a round, and how many of them wait; how many reports came since a rest was laid out, and how many
-/// have to; whether there is news for those that wait.
+/// How often the caller waits in vain, one time after another, before it ends a round in which nobody works; and before it ends
+/// one that some seat hasn't begun: it may be that no thread was started for it.
+const VAIN: u32 = 8;
+
+const UNBEGUN: u32 = 400;
+
+/// How many seats there are, how many of them began a round, how many are in it, how many of these wait for work, and how many for
+/// room; how often the caller waited in vain; how many reports came since a rest was laid out, and how many have to; whether there
+/// is news for those that wait.
 #[derive(Drop)]
 pub struct Pace {
+    seats: u32,
+    begun: u32,
     present: u32,
     waiting: u32,
+    held: u32,
+    vain: u32,
     since: u32,
     patience: u32,
     news: bool,
@@ -23,19 +34,30 @@ fn longer(patience: u32) -> u32 {
 }
 
 impl Pace {
-    pub fn start() -> Pace {
+    pub fn start(seats: u32) -> Pace {
         Pace {
+            seats,
+            begun: 0,
             present: 0,
             waiting: 0,
+            held: 0,
+            vain: 0,
             since: 0,
             patience: 0,
             news: false,
         }
     }
 
-    /// A seat begins a round. One that hasn't begun isn't counted: it may be that no thread was started for it, and that the
-    /// caller works at it behind the others.
+    /// The caller begins a round, with its own seat.
+    pub fn lead(&mut self) {
+        self.begun = 0;
+        self.vain = 0;
+        self.enter();
+    }
+
+    /// A seat begins the round.
     pub fn enter(&mut self) {
+        self.begun = self.begun.saturating_add(1);
         self.present = self.present.saturating_add(1);
     }
 
@@ -45,17 +67,55 @@ impl Pace {
         self.news = true;
     }
 
-    /// A seat begins to wait, but not where all others of the round left or wait. Whether it does.
-    pub fn begin_wait(&mut self) -> bool {
-        if self.waiting.saturating_add(1) >= self.present {
-            return false;
-        }
-        self.waiting += 1;
-        true
+    /// A seat waits for work.
+    pub fn begin_wait(&mut self) {
+        self.waiting = self.waiting.saturating_add(1);
     }
 
     pub fn end_wait(&mut self) {
         self.waiting = self.waiting.saturating_sub(1);
+    }
+
+    /// A seat waits for room for its part.
+    pub fn begin_hold(&mut self) {
+        self.held = self.held.saturating_add(1);
+    }
+
+    pub fn end_hold(&mut self) {
+        self.held = self.held.saturating_sub(1);
+    }
+
+    /// Whether a seat waits for room.
+    pub fn is_held(&self) -> bool {
+        self.held > 0
+    }
+
+    // Whether the caller is alone in a round that all seats began.
+    fn is_alone(&self) -> bool {
+        self.present <= 1 && self.begun >= self.seats
+    }
+
+    // Whether all seats in the round but the caller's wait.
+    fn is_idle(&self) -> bool {
+        self.waiting.saturating_add(self.held).saturating_add(1) >= self.present
+    }
+
+    /// The caller finds nothing to do. Whether it waits, since another seat works, or may do so soon.
+    pub fn is_worth_waiting(&mut self) -> bool {
+        if self.is_alone() {
+            return false;
+        }
+        if !self.is_idle() {
+            self.vain = 0;
+            return true;
+        }
+        self.vain = self.vain.saturating_add(1);
+        self.vain
+            <= if self.begun < self.seats {
+                UNBEGUN
+            } else {
+                VAIN
+            }
     }
 
     pub fn tell(&mut self) {
@@ -71,6 +131,7 @@ impl Pace {
 
     /// A report came, behind which its seat goes on. Whether it should lay out a rest.
     pub fn wants_rest(&mut self, has_cut: bool) -> bool {
+        self.vain = 0;
         self.since = self.since.saturating_add(1);
         if has_cut {
             self.patience = 0;
@@ -87,6 +148,7 @@ impl Pace {
     /// A report came, behind which its seat doesn't go on. Where it had just laid out a rest and little was left, the next
     /// one waits longer.
     pub fn ended(&mut self, has_cut: bool, tried: u64) {
+        self.vain = 0;
         self.since = self.since.saturating_add(1);
         self.news = true;
         if has_cut {

@@ -9,7 +9,7 @@ ghost use Rattle.kr_board.specs.Parts.{IsPart};
 ghost use Rattle.kr_pool_desk.specs.Runs.{IsRun, IsGrown, are_shared};
 ghost use Rattle.kr_pool_desk.specs.Leasing.{IsLeaseOf, Reports};
 ghost use Rattle.kr_pool_desk.specs.Listings.{listed_in};
-ghost use Rattle.kr_pool_shared.specs.Seats.{calls_of};
+ghost use Rattle.kr_pool_shared.specs.Seats.{calls_of, numbers_below, numbers_of};
 
 use crate::seat::Seat;
 use crate::table::Table;
@@ -20,43 +20,35 @@ use kr_survey::{Part, Rows};
 use std::alloc::Global;
 use std::sync::atomic::{AtomicU64, Ordering};
 use std::sync::ledger::{Blank, Ledger, Share};
-use std::sync::{Condvar, Mutex, Wait};
+use std::sync::{Condvar, Mutex, MutexGuard, Wait};
 use std::thread;
 use std::time::Duration;
-
-/// How often a seat that began waits for the others to begin, and how many microseconds at most each time.
-const WAITS: u32 = 8;
-
-const WAIT: u64 = 2500;
 
 /// How often a seat that waits looks whether there is news, before it sleeps.
 const PEEKS: u32 = 1000;
 
-/// How often seats wait in vain for the others to begin, one after another, before none waits any more.
-const MISSES: u64 = 4;
+/// How many microseconds the caller sleeps at most where it finds nothing to do.
+const WATCH: u64 = 2500;
 
-/// A board under its lock, how often a seat began a round, how many seats there are, how often one waited in vain until all
-/// have begun, and how often there was news. Who waits for news is woken where a rest is laid out, a segment is done, a lease is
-/// given back, or a seat leaves.
+/// A board under its lock, how often there was news for those that wait, and whether the round is over. Who waits is woken where a
+/// rest is laid out, a segment is done, a lease is given back, rows are drained, a seat leaves, or the caller ends the round.
 #[derive(Drop)]
 pub struct Shared<R, N: Run<R>, D: Ledger> {
     table: Mutex<Table<R, N, D>>,
     freed: Condvar,
-    started: Condvar,
-    begun: AtomicU64,
-    seats: u64,
-    missed: AtomicU64,
     changes: AtomicU64,
+    over: AtomicU64,
 }
 
 // A seat for each worker, which share the ledger's parts.
-#[tactic(auto, using(crate::proofs::Seating::calls_of_append))]
+#[tactic(auto, using(crate::proofs::Seating::calls_of_append, crate::proofs::Seating::numbers_append, crate::proofs::Seating::numbers_more, crate::proofs::Seating::numbers_last))]
 fn seats_for<N: Crew>(alloc: Global, workers: u32, all: Share<N>) -> Result<Vec<Seat<N>>, NoMemory>
     requires parts { all.parts ≡ workers }
     requires amount { all.amount ≡ 0 }
     requires workers { N.workers ≡ workers }
     requires some { 0 < workers }
     ensures count { IfOk result (λ seats. length seats.items ≡ workers) }
+    ensures numbers { IfOk result (λ seats. numbers_of seats.items ≡ numbers_below workers) }
     ensures none { IfOk result (λ seats. calls_of seats.items ≡ 0) }
 {
     let mut all = all;
@@ -95,26 +87,25 @@ impl<R: Drop, N: Run<R>, D: Ledger> Shared<R, N, D> {
         requires ascends { Ascends N.all }
         requires inside { AreInside N.cuts N.span }
         requires board { IsBoardOf N.all N.span N.cuts board }
+        requires window { board.window ≡ N.window }
         requires opening { board.log ≡ N.opening }
         requires shared { are_shared N.workers N.opening ≡ true }
         requires undrained { drained N.opening ≡ 0 }
         ensures count { IfOk result (λ r. length r.1.items ≡ workers) }
+        ensures numbers { IfOk result (λ r. numbers_of r.1.items ≡ numbers_below workers) }
         ensures none { IfOk result (λ r. calls_of r.1.items ≡ 0) }
         ensures tap { IfOk result (λ r. (r.2.parts ≡ D.parts) × (r.2.amount ≡ 0)) }
     {
         let (calls, all) = blank.open::<N>();
         let (rows, whole) = tap.open::<D>();
         let seats = seats_for(alloc, workers, all)?;
-        let table = Mutex::new(Table::new(Desk::new(board, calls), rows));
+        let table = Mutex::new(Table::new(Desk::new(board, calls), rows, workers));
         Ok((
             Shared {
                 table,
                 freed: Condvar::new(),
-                started: Condvar::new(),
-                begun: AtomicU64::new(0),
-                seats: u64::from(workers),
-                missed: AtomicU64::new(0),
                 changes: AtomicU64::new(0),
+                over: AtomicU64::new(1),
             },
             seats,
             whole,
@@ -130,11 +121,8 @@ impl<R: Drop, N: Run<R>, D: Ledger> Shared<R, N, D> {
         let Shared {
             table,
             freed: _,
-            started: _,
-            begun: _,
-            seats: _,
-            missed: _,
             changes: _,
+            over: _,
         } = self;
         table.into_inner().into_desk(tap)
     }
@@ -156,41 +144,31 @@ impl<R: Drop, N: Run<R>, D: Ledger> Shared<R, N, D> {
         ensures parts { tap.new.parts ≡ tap.old.parts }
         ensures number { seat.new.number ≡ seat.old.number }
     {
-        self.table.lock(rt).drain(seat, tap)
+        let drained = self.table.lock(rt).drain(seat, tap);
+        self.tell();
+        drained
     }
 
-    /// A seat begins a round. The last one to begin wakes those that wait for it.
+    /// The caller begins a round: its seat works, and it drains, while the others work.
+    pub fn lead<W: Wait>(&self, rt: &W) {
+        self.over.store(0, Ordering::SeqCst);
+        self.table.lock(rt).lead();
+    }
+
+    /// The caller ends the round: the others leave it.
+    pub fn end_round<W: Wait>(&self, rt: &W) {
+        self.over.store(1, Ordering::SeqCst);
+        self.leave(rt);
+    }
+
+    /// Whether no round is led. A seat gives its lease up then.
+    pub fn is_over(&self) -> bool {
+        self.over.load(Ordering::SeqCst) != 0
+    }
+
+    /// A seat begins the round.
     pub fn enter<W: Wait>(&self, rt: &W) {
-        self.begun.fetch_add(1, Ordering::SeqCst);
         self.table.lock(rt).enter();
-        if self.have_all_begun() {
-            self.started.notify_all();
-        }
-    }
-
-    // Whether all seats have begun the round.
-    fn have_all_begun(&self) -> bool {
-        self.seats == 0 || self.begun.load(Ordering::SeqCst) % self.seats == 0
-    }
-
-    /// Waits until all seats have begun the round, but not for long: it may be that no thread was started for one. A seat that
-    /// found nothing free before the others have begun would leave the round. And it sleeps: a thread begins on the processor of
-    /// who started it, and where that one goes on, it waits there for milliseconds beside processors that are idle.
-    pub fn await_others<W: Wait>(&self, rt: &W) {
-        if self.missed.load(Ordering::SeqCst) >= MISSES {
-            return;
-        }
-        for waits in 0..WAITS {
-            let seen = self.started.notifications();
-            if self.have_all_begun() {
-                if waits > 0 {
-                    self.missed.store(0, Ordering::SeqCst);
-                }
-                return;
-            }
-            self.started.sleep(rt, seen, Duration::from_micros(WAIT));
-        }
-        self.missed.fetch_add(1, Ordering::SeqCst);
     }
 
     /// A seat leaves the round.
@@ -205,10 +183,15 @@ impl<R: Drop, N: Run<R>, D: Ledger> Shared<R, N, D> {
         self.freed.notify_all();
     }
 
+    /// How often there was news.
+    pub fn changes(&self) -> u64 {
+        self.changes.load(Ordering::SeqCst)
+    }
+
     // Whether there was no news for a while: who sleeps is woken late, so a seat that waits looks first.
     fn is_quiet(&self, seen: u64) -> bool {
         for _ in 0..PEEKS {
-            if self.changes.load(Ordering::SeqCst) != seen {
+            if self.changes() != seen {
                 return false;
             }
             thread::yield_now();
@@ -216,8 +199,25 @@ impl<R: Drop, N: Run<R>, D: Ledger> Shared<R, N, D> {
         true
     }
 
-    /// A lease for the seat; or none where nothing is left, where the window is full, or where all others of the round left
-    /// or wait. It waits while others work and leave nothing over.
+    // The table, let go until there may be news: a seat looks a while, and where it did so before in vain it sleeps.
+    fn pause<'t, W: Wait>(
+        &'t self,
+        rt: &W,
+        table: MutexGuard<'t, Table<R, N, D>>,
+        quiet: &mut bool,
+    ) -> MutexGuard<'t, Table<R, N, D>> {
+        if *quiet {
+            *quiet = false;
+            return self.freed.wait(rt, table);
+        }
+        let seen = self.changes();
+        drop(table);
+        *quiet = self.is_quiet(seen);
+        self.table.lock(rt)
+    }
+
+    /// A lease for the seat; or none where nothing is left, or the round is over. It waits while others work and leave nothing
+    /// over, or the window is full.
     pub fn take<W: Wait>(&self, rt: &W, seat: &mut Seat<N>) -> Result<Option<Lease>, NoMemory>
         ensures lease { IfOk result (λ taken. IfSome taken (IsLeaseOf seat.new.number)) }
         ensures number { seat.new.number ≡ seat.old.number }
@@ -225,10 +225,10 @@ impl<R: Drop, N: Run<R>, D: Ledger> Shared<R, N, D> {
         let mut quiet = false;
         let mut table = self.table.lock(rt);
         for _ in rt.forever() {
-            if table.is_at_window() {
+            if self.is_over() {
                 return Ok(None);
             }
-            if table.may_take() {
+            if table.has_work() {
                 match table.take(seat) {
                     Err(refused) => return Err(refused),
                     Ok(Taken::Lease(lease)) => return Ok(Some(lease)),
@@ -236,21 +236,73 @@ impl<R: Drop, N: Run<R>, D: Ledger> Shared<R, N, D> {
                     Ok(Taken::Later) => {}
                 }
             }
-            if !table.begin_wait() {
-                return Ok(None);
-            }
-            if quiet {
-                table = self.freed.wait(rt, table);
-                quiet = false;
-            } else {
-                let seen = self.changes.load(Ordering::SeqCst);
-                drop(table);
-                quiet = self.is_quiet(seen);
-                table = self.table.lock(rt);
-            }
+            table.begin_wait();
+            table = self.pause(rt, table, &mut quiet);
             table.end_wait();
         }
         unreachable!()
+    }
+
+    /// A lease for the seat, if one can be taken now.
+    pub fn take_now<W: Wait>(&self, rt: &W, seat: &mut Seat<N>) -> Result<Option<Lease>, NoMemory>
+        ensures lease { IfOk result (λ taken. IfSome taken (IsLeaseOf seat.new.number)) }
+        ensures number { seat.new.number ≡ seat.old.number }
+    {
+        let mut table = self.table.lock(rt);
+        if !table.has_work() {
+            return Ok(None);
+        }
+        match table.take(seat) {
+            Err(refused) => Err(refused),
+            Ok(Taken::Lease(lease)) => Ok(Some(lease)),
+            Ok(Taken::Finished) => Ok(None),
+            Ok(Taken::Later) => Ok(None),
+        }
+    }
+
+    /// Whether a part of so many rows of this segment has room at the board, and leaves some to the foremost segment.
+    pub fn has_room<W: Wait>(&self, rt: &W, segment: u64, rows: u64) -> bool {
+        self.table.lock(rt).has_room(segment, rows)
+    }
+
+    /// Waits until a part has room, or the round is over. Whether it has.
+    pub fn await_room<W: Wait>(&self, rt: &W, segment: u64, rows: u64) -> bool {
+        let mut quiet = false;
+        let mut table = self.table.lock(rt);
+        for _ in rt.forever() {
+            if self.is_over() {
+                return false;
+            }
+            if table.has_room(segment, rows) {
+                return true;
+            }
+            table.begin_hold();
+            table = self.pause(rt, table, &mut quiet);
+            table.end_hold();
+        }
+        unreachable!()
+    }
+
+    /// Whether the caller should drain now: there are rows, or nothing is left; and it is late, a seat waits for room, or there
+    /// are many.
+    pub fn is_due<W: Wait>(&self, rt: &W, is_late: bool) -> bool {
+        self.table.lock(rt).is_due(is_late)
+    }
+
+    /// The caller, which finds nothing to do, waits a while for news behind what it saw. Not where nothing is left, or where it was
+    /// alone, or no seat worked for some such whiles: then it should end the round.
+    pub fn watch<W: Wait>(&self, rt: &W, seen: u64) -> bool {
+        if !self.table.lock(rt).begin_watch() {
+            return false;
+        }
+        if self.is_quiet(seen) {
+            let heard = self.freed.notifications();
+            if self.changes() == seen {
+                self.freed.sleep(rt, heard, Duration::from_micros(WATCH));
+            }
+        }
+        self.table.lock(rt).end_wait();
+        true
     }
 
     /// A part of the run's entries, reported. Those that wait look again where there is news for them.

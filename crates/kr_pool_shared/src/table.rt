@@ -1,14 +1,22 @@
 // The desk as it lies under the lock, with the count of the rows drained.
-ghost use Rattle.std.specs.Prelude.{◌≡◌, ◌+◌, ◌<◌, ◌≤◌, true, length, take, drop, IfOk, IfErr, OnErr};
+ghost use Rattle.std.specs.Prelude.{◌≡◌, ◌+◌, ◌<◌, ◌≤◌, true, length, take, drop, IfOk, IfErr, OnErr, ◌↔◌, ◌++◌, ◌∷◌, []};
 ghost use Rattle.kr_base.specs.Entries.{Ascends};
 ghost use Rattle.kr_survey.specs.Scans.{rows_of};
 ghost use Rattle.kr_core.specs.Openings.{AreInside};
 ghost use Rattle.kr_core.specs.Rows.{drained};
-ghost use Rattle.kr_board.specs.Boards.{IsBoardOf};
+ghost use Rattle.kr_core.specs.Counts.{AllClosed};
+ghost use Rattle.kr_core.specs.declared.event.Event.TheVariants.{Drain};
+ghost use Rattle.kr_core.specs.declared.event.Reply.TheVariants.{Noted};
+ghost use Rattle.kr_board.specs.Boards.{IsBoardOf, Adds};
+ghost use Rattle.kr_board.specs.Closing.{front_rows};
 ghost use Rattle.kr_board.specs.Parts.{IsPart};
+ghost use Rattle.kr_board.specs.Reporting.{report_event};
+ghost use Rattle.kr_board.specs.Taking.{IsLater, take_event, reply_of as take_reply};
+ghost use Rattle.kr_board.specs.declared.board.taking.Taken.TheVariants.{Later, Finished};
 ghost use Rattle.kr_pool_desk.specs.Runs.{are_shared};
 ghost use Rattle.kr_pool_desk.specs.Leasing.{IsLeaseOf, Takes, Reports};
 ghost use Rattle.kr_pool_desk.specs.Listings.{listed_in};
+ghost use Rattle.kr_pool_shared.specs.Tables.{GivesUp, Grows};
 
 use crate::pace::Pace;
 use crate::seat::Seat;
@@ -19,7 +27,8 @@ use kr_survey::{Part, Rows};
 use std::marker::Model;
 use std::sync::ledger::{Book, Ledger, Share};
 
-/// A desk, the book of the rows drained from it, and the pace of the seats. Contracts see how many rows were drained.
+/// A desk, the book of the rows drained from it, and the pace of the seats. Contracts see the board, and how many rows were
+/// drained.
 #[derive(Drop)]
 pub struct Table<R, N: Run<R>, D: Ledger> {
     desk: Desk<R, N>,
@@ -29,31 +38,34 @@ pub struct Table<R, N: Run<R>, D: Ledger> {
 
 impl<R, N: Run<R>, D: Ledger> Model for Table<R, N, D> {
     ghost use Rattle.std.specs.Prelude.{ℕ, ◌≡◌};
+    ghost use Rattle.kr_board.specs.Held.{Held};
     ghost use Rattle.kr_core.specs.Rows.{drained};
 
-    ghost Value = { ℕ };
+    ghost Value = { Held R × ℕ };
 
-    ghost view = { λ t. t.rows.total };
+    ghost view = { λ t. (t.desk.0, t.rows.total) };
 
     ghost invariant = { λ t. drained t.desk.0.log ≡ t.rows.total };
 }
 
 impl<R: Drop, N: Run<R>, D: Ledger> Table<R, N, D> {
     /// A desk, of which no row was drained yet.
-    pub fn new(desk: Desk<R, N>, rows: Book<D>) -> Self
+    pub fn new(desk: Desk<R, N>, rows: Book<D>, seats: u32) -> Self
         requires none { rows.total ≡ 0 }
         requires undrained { drained desk.0.log ≡ 0 }
+        ensures { result.0 ≡ desk.0 }
     {
         Table {
             desk,
             rows,
-            pace: Pace::start(),
+            pace: Pace::start(seats),
         }
     }
 
     /// The desk again. As many rows were drained as the whole share counts.
     pub fn into_desk(self, tap: &mut Share<D>) -> Desk<R, N>
         requires whole { tap.old.parts ≡ D.parts }
+        ensures desk { result.0 ≡ self.0 }
         ensures drained { drained result.0.log ≡ tap.old.amount }
         ensures tap { (tap.new.amount ≡ tap.old.amount) × (tap.new.parts ≡ tap.old.parts) }
     {
@@ -75,6 +87,8 @@ impl<R: Drop, N: Run<R>, D: Ledger> Table<R, N, D> {
         requires whole { tap.old.parts ≡ D.parts }
         requires some { 0 < tap.old.parts }
         ensures rows { IfOk result (λ r. r.0 ≡ take (length r.0) (drop tap.old.amount (rows_of (listed_in N.all N.span)))) }
+        ensures front { IfOk result (λ r. r.0 ≡ front_rows self.old.0) }
+        ensures event { IfOk result (λ r. Adds self.old.0 (Drain (length r.0)) Noted [] self.new.0) }
         ensures counted { IfOk result (λ r. tap.new.amount ≡ tap.old.amount + length r.0) }
         ensures last { IfOk result (λ r. r.1 ≡ true → tap.new.amount ≡ length (rows_of (listed_in N.all N.span))) }
         ensures uncounted { OnErr result (tap.new.amount ≡ tap.old.amount) }
@@ -95,6 +109,10 @@ impl<R: Drop, N: Run<R>, D: Ledger> Table<R, N, D> {
     /// A lease for the seat.
     pub fn take(&mut self, seat: &mut Seat<N>) -> Result<Taken, NoMemory>
         ensures lease { IfOk result (Takes seat.old.number) }
+        ensures event { IfOk result (λ taken. Adds self.old.0 (take_event seat.old.number self.old.0.core) (take_reply taken) [] self.new.0) }
+        ensures later { IfOk result (λ taken. (taken ≡ Later) ↔ IsLater self.old.0.core) }
+        ensures finished { IfOk result (λ taken. (taken ≡ Finished) ↔ AllClosed self.old.0.core) }
+        ensures unchanged { OnErr result (self.new.0 ≡ self.old.0) }
         ensures number { seat.new.number ≡ seat.old.number }
     {
         self.desk.take(seat.number, &mut seat.calls)
@@ -112,6 +130,8 @@ impl<R: Drop, N: Run<R>, D: Ledger> Table<R, N, D> {
         requires honest { IsPart N.all lease.mark part }
         requires few { length part.rows ≤ 256 }
         ensures lease { IfOk result (Reports seat.old.number lease part) }
+        ensures first { IfOk result (λ _. Grows (self.old.0.log ++ report_event self.old.0 lease part ∷ []) self.new.0.log) }
+        ensures unchanged { OnErr result (self.new.0 ≡ self.old.0) }
         ensures back { IfErr result (λ refused. (refused.lease ≡ lease) × (refused.part ≡ part)) }
         ensures number { seat.new.number ≡ seat.old.number }
     {
@@ -138,6 +158,7 @@ impl<R: Drop, N: Run<R>, D: Ledger> Table<R, N, D> {
     fn go_on(&mut self, lease: Lease, seat: &mut Seat<N>) -> Lease
         requires lease { IsLeaseOf seat.old.number lease }
         ensures lease { IsLeaseOf seat.old.number result }
+        ensures grown { Grows self.old.0.log self.new.0.log }
         ensures number { seat.new.number ≡ seat.old.number }
     {
         let wanted = self.pace.wants_rest(seat.cut);
@@ -157,19 +178,39 @@ impl<R: Drop, N: Run<R>, D: Ledger> Table<R, N, D> {
     pub fn give_up(&mut self, lease: &Lease, seat: &mut Seat<N>)
         requires lease { lease.now.seat ≡ seat.old.number }
         ensures number { seat.new.number ≡ seat.old.number }
+        ensures given { GivesUp seat.old.number lease.now.segment self.old.0 self.new.0 }
     {
         self.desk.give_up(seat.number, lease, &mut seat.calls);
         self.pace.tell();
     }
 
-    /// Whether a seat that wants a lease leaves instead, since the window is full.
-    pub fn is_at_window(&self) -> bool {
-        self.desk.is_at_window()
+    /// Whether a take leads to a lease that was nobody's, near enough to the front, or to the end, and there is room.
+    pub fn has_work(&self) -> bool {
+        !self.desk.is_at_window() && self.desk.may_take()
     }
 
-    /// Whether a take leads to a lease that was nobody's, or to the end.
-    pub fn may_take(&self) -> bool {
-        self.desk.may_take()
+    /// Whether a part of so many rows of this segment has room.
+    pub fn has_room(&self, segment: u64, rows: u64) -> bool {
+        self.desk.has_room(segment, rows)
+    }
+
+    /// Whether rows should be drained now: there are some, or nothing is left; and it is late, a seat waits for room, or there are
+    /// many.
+    pub fn is_due(&self, is_late: bool) -> bool {
+        self.desk.is_drainable() && (is_late || self.pace.is_held() || self.desk.has_much())
+    }
+
+    /// The caller finds nothing to do. Whether it begins to wait: something is left, and another seat works, or may do so soon.
+    pub fn begin_watch(&mut self) -> bool {
+        if self.desk.is_finished() || !self.pace.is_worth_waiting() {
+            return false;
+        }
+        self.pace.begin_wait();
+        true
+    }
+
+    pub fn lead(&mut self) {
+        self.pace.lead();
     }
 
     pub fn enter(&mut self) {
@@ -180,12 +221,20 @@ impl<R: Drop, N: Run<R>, D: Ledger> Table<R, N, D> {
         self.pace.leave();
     }
 
-    pub fn begin_wait(&mut self) -> bool {
-        self.pace.begin_wait()
+    pub fn begin_wait(&mut self) {
+        self.pace.begin_wait();
     }
 
     pub fn end_wait(&mut self) {
         self.pace.end_wait();
+    }
+
+    pub fn begin_hold(&mut self) {
+        self.pace.begin_hold();
+    }
+
+    pub fn end_hold(&mut self) {
+        self.pace.end_hold();
     }
 
     /// Whether those that wait should look again.

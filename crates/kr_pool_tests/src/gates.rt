@@ -40,6 +40,35 @@ impl Gate for Meeting {
     }
 }
 
+/// Each worker's first pass returns only when so many first passes have begun: none waits while a segment is free.
+#[derive(Drop)]
+pub(crate) struct Gathering {
+    pub(crate) workers: u64,
+    pub(crate) begun: AtomicU64,
+    pub(crate) missed: AtomicU64,
+}
+
+/// Nobody has passed yet.
+pub(crate) fn gathering_of(workers: u64) -> Gathering {
+    Gathering {
+        workers,
+        begun: AtomicU64::new(0),
+        missed: AtomicU64::new(0),
+    }
+}
+
+impl Gate for Gathering {
+    fn pass(&self, _worker: u32, turn: u64) {
+        if turn != 0 {
+            return;
+        }
+        self.begun.fetch_add(1, Ordering::SeqCst);
+        if !comes_to(&self.begun, self.workers) {
+            self.missed.fetch_add(1, Ordering::SeqCst);
+        }
+    }
+}
+
 /// Lets others run for a number of turns that differs from pass to pass, and sleeps at some passes.
 #[derive(Drop)]
 pub(crate) struct Unruly<'c, C: Clock> {

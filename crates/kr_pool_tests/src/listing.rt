@@ -1,7 +1,7 @@
 // Listings by many workers, held against the keys.
 ghost use Rattle.std.specs.Prelude.{◌≡◌, ◌<◌, ◌≤◌};
 
-use crate::gates::{Unruly, gate_for};
+use crate::gates::{Unruly, gate_for, gathering_of};
 use crate::surveys::{below_one, keys, looked_at};
 use kr_base::{Cut, NoMemory};
 use kr_board::Event;
@@ -110,6 +110,26 @@ fn met<W: Threads + Wait + Sync + Abort>(
     Ok(is_listing(&listing, 4, 4) && passed > 0 && gate.alone.load(Ordering::SeqCst) == 0)
 }
 
+// Whether all of so many workers have a segment at once, where each has one to begin with.
+fn gathered<W: Threads + Wait + Sync + Abort>(
+    rt: &W,
+    alloc: Global,
+    workers: u32,
+) -> Result<bool, NoMemory> {
+    let survey = keys(rt, alloc, 600, 2000)?;
+    let gate = gathering_of(u64::from(workers));
+    let listing = list(rt, alloc, &survey, workers, &gate)?;
+    Ok(is_listing(&listing, 600, 600) && gate.missed.load(Ordering::SeqCst) == 0)
+}
+
+#[test]
+fn nobody_waits_where_work_is_free(rt: HostRuntime) -> Result<(), Fail> {
+    for workers in [2, 4, 8, 64] {
+        assert!(rt; gathered(&rt, rt.alloc(), workers)?, "{workers}");
+    }
+    Ok(())
+}
+
 #[test]
 fn two_at_once(rt: HostRuntime) -> Result<(), Fail> {
     assert!(rt; together(&rt, rt.alloc())?, "scans");
@@ -118,9 +138,10 @@ fn two_at_once(rt: HostRuntime) -> Result<(), Fail> {
     Ok(())
 }
 
-// Whether these are the events of one worker over four keys: it takes, reports, and looks.
+// Whether these are the events of one worker over four keys: it takes, reports, looks where its segment is done, and once more
+// before it ends.
 fn is_alone(log: &[Event]) -> bool {
-    log.len() == 3
+    log.len() == 4
         && matches!(
             log[0],
             Event::Take {
@@ -140,6 +161,7 @@ fn is_alone(log: &[Event]) -> bool {
             }
         )
         && matches!(log[2], Event::Look { seat: 0 })
+        && matches!(log[3], Event::Look { seat: 0 })
 }
 
 // Whether the listing of four keys by one worker has that log.

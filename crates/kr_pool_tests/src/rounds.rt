@@ -1,14 +1,14 @@
 // Spans listed in rounds, held against the keys.
-ghost use Rattle.std.specs.Prelude.{◌≡◌, ◌<◌, ◌≤◌, [], IfOk};
+ghost use Rattle.std.specs.Prelude.{◌≡◌, ◌<◌, ◌≤◌, [], Some, IfOk};
 ghost use Rattle.kr_core.specs.Openings.{AreInside};
 
-use crate::gates::Unruly;
+use crate::gates::{Unruly, gathering_of};
 use crate::listing::{after, numbered};
 use crate::surveys::{below_one, keys, looked_at};
 use kr_base::{Cut, NoMemory, Span};
-use kr_pool::{Gate, OpenGate, Run};
+use kr_pool::{Gate, Hand, Leading, OpenGate, Round, Run, Shared, work_all};
 use kr_pool_desk::cuts_for;
-use kr_pool_rounds::{Alone, Rounds};
+use kr_pool_rounds::{Alone, Lead, Rounds};
 use kr_survey::{Rows, Survey};
 use std::alloc::Global;
 use std::marker::Brand;
@@ -17,7 +17,7 @@ use std::sync::Wait;
 use std::sync::atomic::Ordering;
 use std::sync::ledger::{Blank, Ledger};
 use std::test::Fail;
-use std::thread::Threads;
+use std::thread::{Threads, join_mut};
 use std::time::Clock;
 
 /// What was handed out: the number behind the last row's, if the rows were the valid keys in order; how many entries were
@@ -77,8 +77,111 @@ fn finish<N: Run<Cut>, S: Survey<Row = Cut>, W: Wait>(
     unreachable!()
 }
 
-// Rounds until the rows were the last, every seat is marked, or one is and there was no row.
+// What came of one round: the number behind the last row's, how many rows came, and whether they were the last.
+#[derive(Drop)]
+struct Came {
+    next: Option<u32>,
+    count: usize,
+    last: bool,
+}
+
+// The caller's part of a round: its seat works, and the next rows are drained.
+fn lead_round<
+    N: Run<Cut> + Send + Sync,
+    D: Ledger + Send + Sync,
+    S: Survey<Row = Cut>,
+    G: Gate,
+    W: Wait,
+>(
+    rt: &W,
+    survey: &S,
+    shared: &Shared<Cut, N, D>,
+    lead: &mut Lead<Cut, N, D>,
+    gate: &G,
+    next: Option<u32>,
+) -> Result<Came, NoMemory>
+    requires survey { S.all survey.now ≡ N.all }
+{
+    let mut came = Came {
+        next,
+        count: 0,
+        last: false,
+    };
+    let mut scratch = lead.scratch(survey);
+    let mut leading = Leading::start();
+    for _ in rt.forever() {
+        let has_worked = lead.step(rt, shared, survey, &mut scratch, &mut leading, gate);
+        if leading.is_due(rt, shared, has_worked) {
+            let (rows, last) = match lead.drain(rt, shared) {
+                Err(why) => return Err(why),
+                Ok(drained) => drained,
+            };
+            let (number, count) = counted(&rows, came.next);
+            came.next = number;
+            came.count = came.count.saturating_add(count);
+            if last {
+                came.last = true;
+                return Ok(came);
+            }
+        } else if !has_worked && !leading.watch(rt, shared) {
+            return Ok(came);
+        }
+    }
+    unreachable!()
+}
+
+// The caller's part of a round, which it ends.
+fn end_led<
+    N: Run<Cut> + Send + Sync,
+    D: Ledger + Send + Sync,
+    S: Survey<Row = Cut>,
+    G: Gate,
+    W: Wait,
+>(
+    rt: &W,
+    survey: &S,
+    shared: &Shared<Cut, N, D>,
+    lead: &mut Lead<Cut, N, D>,
+    gate: &G,
+    next: Option<u32>,
+) -> Result<Came, NoMemory>
+    requires survey { S.all survey.now ≡ N.all }
+{
+    let came = lead_round(rt, survey, shared, lead, gate, next);
+    shared.end_round(rt);
+    came
+}
+
+// One round of all seats.
 fn go_round<
+    N: Run<Cut> + Send + Sync,
+    D: Ledger + Send + Sync,
+    S: Survey<Row = Cut> + Sync,
+    G: Gate + Sync,
+    W: Threads + Wait + Sync,
+>(
+    round: &Round<'_, Cut, N, D, S, G, W>,
+    lead: &mut Lead<Cut, N, D>,
+    others: &mut [Hand<Cut, N>],
+    next: Option<u32>,
+) -> Result<Came, NoMemory>
+    requires survey { S.all round.now.survey.now ≡ N.all }
+{
+    round.shared.lead(round.rt);
+    let (_, came) = join_mut(
+        round.rt,
+        &mut ||
+            requires { S.all round.now.survey.now ≡ N.all }
+        { work_all(round.rt, round.shared, round.survey, others, round.gate) },
+        &mut || -> Result<Came, NoMemory>
+            requires { S.all round.now.survey.now ≡ N.all }
+        { end_led(round.rt, round.survey, round.shared, lead, round.gate, next) },
+    );
+    came
+}
+
+// Rounds until the rows were the last, every seat is marked, or one is and there was no row.
+fn go_rounds<
     N: Run<Cut> + Send + Sync,
     D: Ledger + Send + Sync,
     S: Survey<Row = Cut> + Sync,
@@ -96,12 +199,23 @@ fn go_round<
     let mut passed: u64 = 0;
     for _ in rt.forever() {
         passed = passed.saturating_add(1);
-        match rounds.next(rt, survey, gate) {
+        let Rounds {
+            shared,
+            lead,
+            others,
+        } = rounds;
+        let round = Round {
+            rt,
+            shared,
+            survey,
+            gate,
+        };
+        match go_round(&round, lead, others.as_mut_slice(), next) {
             Err(why) => return Err(why),
-            Ok((rows, last)) => {
-                let (number, count) = counted(&rows, next);
-                next = number;
-                if last || rounds.all_marked() || (count == 0 && rounds.any_marked()) {
+            Ok(came) => {
+                next = came.next;
+                let stuck = came.count == 0 && rounds.any_marked();
+                if came.last || rounds.all_marked() || stuck {
                     return Ok((next, passed));
                 }
             }
@@ -132,7 +246,7 @@ fn hand_out<
     requires tap { (tap.name ≡ D.name) × (tap.parts ≡ D.parts) × (tap.parts ≡ 1) }
     requires workers { (N.parts ≡ workers) × (N.workers ≡ workers) }
     requires some { 0 < workers }
-    requires window { (0 < window) × (window ≤ 65536) }
+    requires window { (0 < window) × (window ≤ 65536) × (N.window ≡ Some window) }
     requires survey { S.all survey.now ≡ N.all }
     requires span { span ≡ N.span }
     requires cuts { cuts.now ≡ N.cuts }
@@ -142,7 +256,7 @@ fn hand_out<
     let mut rounds = Rounds::<Cut, N, D>::start(
         alloc, survey, span, cuts, workers, window, calls, tap,
     )?;
-    match go_round(rt, survey, &mut rounds, gate) {
+    match go_rounds(rt, survey, &mut rounds, gate) {
         Err(why) => Err(why),
         Ok((next, passed)) => finish(rt, survey, rounds.into_alone(), next, passed),
     }
@@ -256,6 +370,32 @@ fn unruly_rounds_from_42(rt: HostRuntime) -> Result<(), Fail> {
 #[test]
 fn unruly_rounds_from_63(rt: HostRuntime) -> Result<(), Fail> {
     Ok(all_handed(&rt, rt.alloc(), 63)?)
+}
+
+// Whether all of so many workers have a segment at once, where each has one to begin with and there is a window.
+fn gathered<W: Threads + Wait + Sync + Abort>(
+    rt: &W,
+    alloc: Global,
+    workers: u32,
+    window: u64,
+) -> Result<bool, NoMemory> {
+    let survey = keys(rt, alloc, 600, 2000)?;
+    let gate = gathering_of(u64::from(workers));
+    let handed = make_handed(rt, alloc, &survey, workers, window, &gate)?;
+    let all = handed.next == Some(after(600)) && handed.tried == 600;
+    Ok(all && gate.missed.load(Ordering::SeqCst) == 0)
+}
+
+#[test]
+fn nobody_waits_in_a_round(rt: HostRuntime) -> Result<(), Fail> {
+    for workers in [2, 4, 8] {
+        assert!(rt; gathered(&rt, rt.alloc(), workers, 1)?, "{workers}, 1");
+        assert!(rt;
+            gathered(&rt, rt.alloc(), workers, 4096)?,
+            "{workers}, 4096"
+        );
+    }
+    Ok(())
 }
 
 // Four keys by so many workers, where so many scans are refused memory: whether those were handed out.

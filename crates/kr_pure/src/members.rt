@@ -38,6 +38,7 @@ pub(crate) fn method_node(
 }
 
 /// Adds the bodies of methods.
+#[inline(always)]
 pub(crate) fn add_bodies(
     program: &Program,
     roster: &Roster,

@@ -93,8 +93,8 @@ fn touches_domain(
     is_counted(class, layout.count(domain)) && touches(types, members, arrays, touch, class)
 }
 
-/// Whether some candidates of a problem with so many class domains are touched, where the program has these array types.
-pub fn touches_some(
+/// Whether some candidates of a problem with so many class domains are touched by something.
+fn touches_one(
     types: &Types,
     members: &Members,
     arrays: &[u32],
@@ -113,4 +113,24 @@ pub fn touches_some(
         }
     }
     false
+}
+
+/// Whether some candidates of a problem with so many class domains are touched, where the program has these array types.
+pub fn touches_some(
+    types: &Types,
+    members: &Members,
+    arrays: &[u32],
+    layout: &Layout,
+    domains: u32,
+    touch: Touch,
+) -> bool
+    requires domains { domains ≡ length layout.now.domains }
+    requires arrays { All (λ t. t < count types.now) arrays.now }
+    requires touch { IsTouchWithin types.now touch }
+    ensures { (files : List Arena) (program : mean.Program) → AreMembers files members.now → program.table ≡ table_in files → program.arrays ≡ map (type_at types.now) arrays.now → result ≡ spec.touches_some program types.now touch layout.now.domains }
+{
+    match touch {
+        Touch::Nothing => false,
+        _ => touches_one(types, members, arrays, layout, domains, touch),
+    }
 }

@@ -4,6 +4,7 @@ ghost use Rattle.kr_board.specs.Closing.{all_closed};
 ghost use Rattle.kr_core.specs.Openings.{opening};
 ghost use Rattle.kr_core.specs.Rows.{drained};
 ghost use Rattle.kr_pool_desk.specs.Listings.{listed_in};
+ghost use Rattle.kr_pool_desk.specs.Stops.{IsStopped};
 ghost use Rattle.kr_pool_desk.specs.Traces.{Finishes};
 ghost use Rattle.kr_report_lines.specs.Lines.{lines_answer};
 ghost use Rattle.kr_report_lines.specs.declared.row_line.RowLine.{RowLine};
@@ -74,6 +75,7 @@ pub(crate) fn put_more<N: Run<RowLine> + Send + Sync, K: Sink>(
     requires more { progress.now.more ≡ true }
     ensures ends { PutsRest K.taken K.faults (entries_answer mode.now (listed_in N.all N.span)) (rows_of (listed_in N.all N.span)) (drained alone.log) progress.now out.old out.new result }
     ensures log { IfOk result (λ ended. Finishes N.all (opening N.span N.cuts) N.workers ended.log.items) }
+    ensures own { IfOk result (λ ended. IsStopped alone ended.log.items) }
     ensures beyond { (limit : _) (start : K) → HasPut K.taken K.faults limit (take (drained alone.log) (rows_of (listed_in N.all N.span))) progress.now start out.old → StopsBeyond N.workers limit (rows_of (listed_in N.all N.span)) result }
 {
     match alone.stop() {

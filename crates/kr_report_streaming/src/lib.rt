@@ -1,5 +1,5 @@
-//! The lines of a survey, put as workers find them: in rounds, each of all workers and then of the caller, who puts what stands
-//! next.
+//! The lines of a survey, put as workers find them: in rounds of all workers, of which the caller is one, who puts what stands next
+//! between two parts of its own.
 #![tactic(auto)]
 
 mod alone;

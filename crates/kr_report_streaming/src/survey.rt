@@ -1,5 +1,5 @@
 // A survey of lines, put in rounds.
-ghost use Rattle.std.specs.Prelude.{◌≡◌, ◌<◌, ◌≤◌, [], IfOk};
+ghost use Rattle.std.specs.Prelude.{◌≡◌, ◌<◌, ◌≤◌, [], Some, IfOk};
 ghost use Rattle.kr_core.specs.Openings.{AreInside, opening};
 ghost use Rattle.kr_pool_desk.specs.Listings.{listed_in};
 ghost use Rattle.kr_pool_desk.specs.Traces.{Finishes, IsTrace};
@@ -41,7 +41,7 @@ fn put_begun<
     gate: &G,
     out: &mut K,
 ) -> Result<Ended, Halt>
-    requires none { rounds ≡ 0 }
+    requires none { rounds.lead.0 ≡ 0 }
     requires survey { S.all survey.now ≡ N.all }
     ensures ends { PutsAnswer K.taken K.faults (entries_answer mode.now (listed_in N.all N.span) limit) out.old out.new result }
     ensures log { IfOk result (λ ended. Finishes N.all (opening N.span N.cuts) N.workers ended.log.items) }
@@ -82,7 +82,7 @@ fn put_on<
     requires tap { (tap.name ≡ D.name) × (tap.parts ≡ D.parts) × (tap.parts ≡ 1) }
     requires workers { (N.parts ≡ workers) × (N.workers ≡ workers) }
     requires some { 0 < workers }
-    requires window { (0 < window) × (window ≤ 65536) }
+    requires window { (0 < window) × (window ≤ 65536) × (N.window ≡ Some window) }
     requires survey { S.all survey.now ≡ N.all }
     requires span { span ≡ N.span }
     requires cuts { cuts.now ≡ N.cuts }

@@ -50,7 +50,7 @@ unfolding type_fault
 all_faults files = ap (λ ts. least (flat_map (tree_faults files) ts)) (sym (take_all (length files) (map root files) (omega (arith, length-map files root))))
 
 -- a file more at the end
-got_push : {A : Type 0} (xs : List A) (y : A) (k : ℕ) (x : A) → slice_get (xs ++ y ∷ []) k ≡ Some x → (slice_get xs k ≡ Some x) ⊎ ((k ≡ length xs) × (y ≡ x))
+pub got_push : {A : Type 0} (xs : List A) (y : A) (k : ℕ) (x : A) → slice_get (xs ++ y ∷ []) k ≡ Some x → (slice_get xs k ≡ Some x) ⊎ ((k ≡ length xs) × (y ≡ x))
 got_push [] y zero x e = inr (refl, (cc))
 got_push [] y (suc k) x e = absurd (cc)
 got_push (z ∷ zs) y zero x e = inl e

@@ -32,16 +32,13 @@ use Rattle.kr_types_expressions.specs.Notes.{AreNotesWithin, shown_notes}
 use Rattle.kr_types_expressions.proofs.Notes.{notes_same, shown_before, within_none}
 use Rattle.kr_types.specs.declared.site.Site.{Site}
 use Rattle.kr_types.specs.declared.site.Spot.{Spot}
+use Rattle.kr_types.specs.declared.group.Bare.{Bare}
+use Rattle.kr_types.specs.declared.group.Bare.TheVariants as bares
+use Rattle.kr_types.specs.Kinds.{IsContract, IsLeaf, IsOfBare, IsOperation, IsReturned, IsTest, IsType, IsWrite}
 use Rattle.kr_types.specs.declared.notes.Noted.{Noted}
-use Rattle.kr_types.specs.Sites.{AreKept, AreMeant, AreNoted, IsInside, IsMeantBy, IsNoteOf, IsSite, IsSpot, object_noted, scope_here, scope_of, tree_there}
+use Rattle.kr_types.specs.Sites.{AreKept, AreMeant, AreNoted, IsInside, IsMeantBy, IsNoteOf, IsSite, IsSpot, IsSpotNote, object_noted, scope_here, scope_of, tree_there}
+use Rattle.kr_types.proofs.Faults.{got_push}
 use Rattle.kr_types.proofs.Passing.{noted_more, parts_below, some_entry}
-
--- an item of a longer list
-got_push : {A : Type 0} (xs : List A) (y : A) (k : ℕ) (x : A) → slice_get (xs ++ y ∷ []) k ≡ Some x → (slice_get xs k ≡ Some x) ⊎ ((k ≡ length xs) × (y ≡ x))
-got_push [] y zero x e = inr (refl, (cc))
-got_push [] y (suc k) x e = absurd (cc)
-got_push (z ∷ zs) y zero x e = inl e
-got_push (z ∷ zs) y (suc k) x e = elim (got_push zs y k x e) [ inl l ↦ inl l | inr r ↦ inr (omega (arith, r.0), r.1) ]
 
 object_near : (ns ms : List noting.Note) (i : ℕ) (n : Node) → ((k : ℕ) → k < i → noting.note_at ns k ≡ noting.note_at ms k) → AreBelow i (parts n) → object_noted ns n ≡ object_noted ms n
 object_near ns ms i (nodes.FieldAccess a x) h b = ap (λ (y : noting.Note). type_in y.typed) (h a b.0)
@@ -163,53 +160,63 @@ of_no_kind s ns i p n tree v f c m u j = record {
   shown = nothing_said (scope_of s i) (tree_there s).text (tree_in (tree_there s)) p n (object_noted ns n) v f c m u j ∙ sym (ap (λ (t : Tree). meanings.meaning_by (scope_of s i) t (object_noted ns n)) tree);
 }
 
+-- a node of kinds that mean nothing
+pub of_other : (s : Site) (ns : List noting.Note) (i : ℕ) (p : Place) (n : Node) → tree_in (tree_there s) i ≡ tree_of (tree_there s).text (tree_in (tree_there s)) p n → (K : Node → Type 0) → K n → ((x : Name) → K (nodes.Variable x) → ⊥)
+    → ((a : ℕ) (x : Name) → K (nodes.FieldAccess a x) → ⊥) → ((x : Name) (b : ℕ) → K (nodes.Call x b) → ⊥) → ((a : ℕ) (x : Name) (b : ℕ) → K (nodes.MethodCall a x b) → ⊥) → ((x : Name) (b : ℕ) → K (nodes.SuperCall x b) → ⊥)
+    → ((a b : ℕ) → K (nodes.ObjectCreation a b) → ⊥) → IsMeantBy s ns i n Nothing
+of_other s ns i p n tree K k v f c m u j =
+    of_no_kind s ns i p n tree (λ x e. v x (subst K e k)) (λ a x e. f a x (subst K e k)) (λ x b e. c x b (subst K e k)) (λ a x b e. m a x b (subst K e k)) (λ x b e. u x b (subst K e k)) (λ a b e. j a b (subst K e k))
+
+-- a node for which nothing is looked up
+pub unmeant : (s : Site) (ns : List noting.Note) (i : ℕ) (p : Place) (n : Node) → tree_in (tree_there s) i ≡ tree_of (tree_there s).text (tree_in (tree_there s)) p n → (b : Bare) → IsOfBare b n → IsMeantBy s ns i n Nothing
+unmeant s ns i p n tree bares.Type k = of_other s ns i p n tree IsType k (λ x h. h) (λ a x h. h) (λ x b h. h) (λ a x b h. h) (λ x b h. h) (λ a b h. h)
+unmeant s ns i p n tree bares.Leaf k = of_other s ns i p n tree IsLeaf k (λ x h. h) (λ a x h. h) (λ x b h. h) (λ a x b h. h) (λ x b h. h) (λ a b h. h)
+unmeant s ns i p n tree bares.Operation k = of_other s ns i p n tree IsOperation k (λ x h. h) (λ a x h. h) (λ x b h. h) (λ a x b h. h) (λ x b h. h) (λ a b h. h)
+unmeant s ns i p n tree bares.Write k = of_other s ns i p n tree IsWrite k (λ x h. h) (λ a x h. h) (λ x b h. h) (λ a x b h. h) (λ x b h. h) (λ a b h. h)
+unmeant s ns i p n tree bares.Contract k = of_other s ns i p n tree IsContract k (λ x h. h) (λ a x h. h) (λ x b h. h) (λ a x b h. h) (λ x b h. h) (λ a b h. h)
+unmeant s ns i p n tree bares.Returned k = of_other s ns i p n tree IsReturned k (λ x h. h) (λ a x h. h) (λ x b h. h) (λ a x b h. h) (λ x b h. h) (λ a b h. h)
+unmeant s ns i p n tree bares.Test k = of_other s ns i p n tree IsTest k (λ x h. h) (λ a x h. h) (λ x b h. h) (λ a x b h. h) (λ x b h. h) (λ a b h. h)
+
 -- ---- a node more
 
-module _ (s : Site) (b : TypeList) (ns : List Note) (at : ℕ) (entry e : Entry) (here : slice_get (tree_there s).entries at ≡ Some entry) (is : slice_get (tree_there s).entries at ≡ Some e) (count : at ≡ length ns) where
-  same_entry : entry ≡ e
-  same_entry = let both : Some entry ≡ Some e = sym here ∙ is in cc
-
-  note_said : (w : Within) (m : Note) → w ≡ slice_index_or s.scopes.now.within.items at nowhere → IsNoteOf s b ns (length ns) (scope_here s w) entry.place entry.node m → IsNoteOf s b ns at (scope_of s at) e.place e.node m
-  note_said w m k h =
-      subst (λ (x : Entry). IsNoteOf s b ns at (scope_of s at) x.place x.node m) same_entry
-      (subst (λ (v : Within). IsNoteOf s b ns at (scope_here s v) entry.place entry.node m) k
-      (subst (λ (j : ℕ). IsNoteOf s b ns j (scope_here s w) entry.place entry.node m) (sym count) h))
-
-  meaning_said : (shown : List noting.Note) (x : Meaning) → IsMeantBy s shown at entry.node x → IsMeantBy s shown (length ns) e.node x
-  meaning_said shown x h = subst (λ (j : ℕ). IsMeantBy s shown j e.node x) count (subst (λ (y : Entry). IsMeantBy s shown at y.node x) same_entry h)
-
 -- as its entry says
-pub spot_is : (s : Site) (n at : ℕ) (a : Arena) (e : Entry) (w : Within) (class : ℕ) → a ≡ tree_there s → n ≡ at → at < length (tree_there s).entries → w ≡ slice_index_or s.scopes.now.within.items at nowhere → (scope_here s w).class ≡ class
-    → tree_in a at ≡ tree_of a.text (tree_in a) e.place e.node → ArePartsFrom a.entries at 0 (parts e.node) → AreNamesIn a.text (names e.node) → IsSpot s n (record { at = at; place = e.place; here = w; class = class; node = e.node })
-spot_is s n at a e w class is count lt here inside tree stands named =
+pub spot_is : (s : Site) (n at : ℕ) (a : Arena) (e : Entry) → a ≡ tree_there s → n ≡ at → at < length (tree_there s).entries → slice_get a.entries at ≡ Some e
+    → tree_in a at ≡ tree_of a.text (tree_in a) e.place e.node → ArePartsFrom a.entries at 0 (parts e.node) → AreNamesIn a.text (names e.node) → IsSpot s n (record { at = at; place = e.place; node = e.node })
+spot_is s n at a e is count lt here tree stands named =
     let parts_there = subst (λ (t : Arena). ArePartsFrom t.entries at 0 (parts e.node)) is stands in
     record {
       count = count;
       within = lt;
-      here = here;
-      class = inside;
+      entry = λ x h. let both : Some e ≡ Some x = sym here ∙ (ap (λ (t : Arena). slice_get t.entries at) is ∙ h) in let same : e ≡ x = cc in (ap (λ (y : Entry). y.place) (sym same), ap (λ (y : Entry). y.node) (sym same));
       tree = subst (λ (t : Arena). tree_in t at ≡ tree_of t.text (tree_in t) e.place e.node) is tree;
       stands = parts_there;
       parts = subst (λ (k : ℕ). AreBelow k (parts e.node)) (sym count) (parts_below (tree_there s).entries at 0 (parts e.node) parts_there);
       names = subst (λ (t : Arena). AreNamesIn t.text (names e.node)) is named;
     }
 
-pub class_is : (s : Site) (n : ℕ) (x : Spot) → IsSpot s n x → (scope_of s x.at).class ≡ x.class
-class_is s n x h = ap (λ (w : Within). (scope_here s w).class) (sym h.here) ∙ h.class
+module _ (s : Site) (a b : TypeList) (k j : Noted) (m : Note) (x : Meaning) (spot : Spot) (h : IsSpot s (length k.notes) spot) where
+  note_said : (e : Entry) → slice_get (tree_there s).entries spot.at ≡ Some e → IsSpotNote s b k.notes spot m → IsNoteOf s b k.notes spot.at (scope_of s spot.at) e.place e.node m
+  note_said e is made =
+      subst (λ (n : Node). IsNoteOf s b k.notes spot.at (scope_of s spot.at) e.place n m) (sym (h.entry e is).1)
+      (subst (λ (p : Place). IsNoteOf s b k.notes spot.at (scope_of s spot.at) p spot.node m) (sym (h.entry e is).0)
+      (subst (λ (i : ℕ). IsNoteOf s b k.notes i (scope_of s spot.at) spot.place spot.node m) h.count made))
 
-pub kept_more : (s : Site) (a b : TypeList) (k j : Noted) (m : Note) (x : Meaning) (at : ℕ) (entry : Entry) (w : Within) → IsForest (tree_there s).text (tree_there s).entries → AreKept s a k → Extends a b → at ≡ length k.notes → at < length (tree_there s).entries
-    → slice_get (tree_there s).entries at ≡ Some entry → w ≡ slice_index_or s.scopes.now.within.items at nowhere → IsNoteOf s b k.notes (length k.notes) (scope_here s w) entry.place entry.node m → IsMeantBy s (shown_notes a k.notes) at entry.node x
-    → j.notes ≡ k.notes ++ m ∷ [] → j.meanings.items ≡ k.meanings.items ++ x ∷ [] → IsInside s j.inside → AreKept s b j
-kept_more s a b k j m x at entry w forest kept grown count lt here is noted meant notes items inside = record {
-  noted = subst (λ (ns : List Note). AreNoted s b ns) (sym notes)
-      (noted_more s a b k.notes k.notes m at forest kept.noted grown (sym count) refl lt (λ e z. note_said s b k.notes at entry e here z count w m is noted));
-  meant = subst (λ (ns : List Note). AreMeant s b ns j.meanings.items) (sym notes)
-      (subst (λ (ms : List Meaning). AreMeant s b (k.notes ++ m ∷ []) ms) (sym items)
-      (meant_more s a b k.notes m forest kept.noted.within grown k.meanings.items x kept.count kept.meant
-      (λ e z. meaning_said s b k.notes at entry e here (ap (slice_get (tree_there s).entries) count ∙ z) count (shown_notes a k.notes) x meant)));
-  count = omega (arith, ap length items, ap length notes, length-append k.meanings.items (x ∷ []), length-append k.notes (m ∷ []), kept.count);
-  inside = inside;
-}
+  meaning_said : (shown : List noting.Note) (e : Entry) → slice_get (tree_there s).entries (length k.notes) ≡ Some e → IsMeantBy s shown spot.at spot.node x → IsMeantBy s shown (length k.notes) e.node x
+  meaning_said shown e is made =
+      subst (λ (i : ℕ). IsMeantBy s shown i e.node x) (sym h.count)
+      (subst (λ (n : Node). IsMeantBy s shown spot.at n x) (sym (h.entry e (ap (slice_get (tree_there s).entries) (sym h.count) ∙ is)).1) made)
+
+  pub kept_more : IsForest (tree_there s).text (tree_there s).entries → AreKept s a k → Extends a b → IsSpotNote s b k.notes spot m → IsMeantBy s (shown_notes a k.notes) spot.at spot.node x
+      → j.notes ≡ k.notes ++ m ∷ [] → j.meanings.items ≡ k.meanings.items ++ x ∷ [] → IsInside s j.inside → AreKept s b j
+  kept_more forest kept grown noted meant notes items inside = record {
+    noted = subst (λ (ns : List Note). AreNoted s b ns) (sym notes)
+        (noted_more s a b k.notes k.notes m spot.at forest kept.noted grown h.count refl h.within (λ e z. note_said e z noted));
+    meant = subst (λ (ns : List Note). AreMeant s b ns j.meanings.items) (sym notes)
+        (subst (λ (ms : List Meaning). AreMeant s b (k.notes ++ m ∷ []) ms) (sym items)
+        (meant_more s a b k.notes m forest kept.noted.within grown k.meanings.items x kept.count kept.meant (λ e z. meaning_said (shown_notes a k.notes) e z meant)));
+    count = omega (arith, ap length items, ap length notes, length-append k.meanings.items (x ∷ []), length-append k.notes (m ∷ []), kept.count);
+    inside = inside;
+  }
 
 -- ---- the method that a call means, where its note is made
 

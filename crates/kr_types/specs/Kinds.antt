@@ -1,6 +1,10 @@
 -- Between crates: kinds of nodes whose notes are made in one place.
 use Rattle.kr_ast.specs.declared.node.Node.{Node}
 use Rattle.kr_ast.specs.declared.node.Node.TheVariants as nodes
+use Rattle.kr_types.specs.declared.group.Bare.{Bare}
+use Rattle.kr_types.specs.declared.group.Bare.TheVariants as bares
+use Rattle.kr_types.specs.declared.group.Named.{Named}
+use Rattle.kr_types.specs.declared.group.Named.TheVariants as nameds
 use Rattle.kr_types.specs.declared.group.Group.{Group}
 use Rattle.kr_types.specs.declared.group.Group.TheVariants as groups
 
@@ -115,18 +119,24 @@ IsDeclaration (nodes.Class n a b) = Unit {0}
 IsDeclaration (nodes.Constructor a b c) = Unit {0}
 IsDeclaration _ = ⊥
 
+abbrev pub IsOfBare : Bare → Node → Type 0
+IsOfBare bares.Type n = IsType n
+IsOfBare bares.Leaf n = IsLeaf n
+IsOfBare bares.Operation n = IsOperation n
+IsOfBare bares.Write n = IsWrite n
+IsOfBare bares.Contract n = IsContract n
+IsOfBare bares.Returned n = IsReturned n
+IsOfBare bares.Test n = IsTest n
+
+abbrev pub IsOfNamed : Named → Node → Type 0
+IsOfNamed nameds.Name n = IsNamed n
+IsOfNamed nameds.Growing n = IsGrowing n
+IsOfNamed nameds.Access n = IsAccess n
+IsOfNamed nameds.Call n = IsCall n
+IsOfNamed nameds.Declaration n = IsDeclaration n
+
 abbrev pub IsOfGroup : Group → Node → Type 0
 IsOfGroup groups.Link n = IsList n
-IsOfGroup groups.Type n = IsType n
-IsOfGroup groups.Leaf n = IsLeaf n
-IsOfGroup groups.Name n = IsNamed n
-IsOfGroup groups.Growing n = IsGrowing n
-IsOfGroup groups.Operation n = IsOperation n
-IsOfGroup groups.Access n = IsAccess n
-IsOfGroup groups.Call n = IsCall n
-IsOfGroup groups.Write n = IsWrite n
-IsOfGroup groups.Contract n = IsContract n
-IsOfGroup groups.Returned n = IsReturned n
-IsOfGroup groups.Test n = IsTest n
 IsOfGroup groups.Plain n = IsPlain n
-IsOfGroup groups.Declaration n = IsDeclaration n
+IsOfGroup (groups.Bare k) n = IsOfBare k n
+IsOfGroup (groups.Named k) n = IsOfNamed k n

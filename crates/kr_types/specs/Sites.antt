@@ -1,5 +1,5 @@
 -- Between crates: what the notes of a file's nodes are made from, and what each note says.
-use Rattle.std.specs.Prelude.{◌≡◌, ℕ, ◌<◌, List, length, Option, Some, None, slice_get, slice_index_or}
+use Rattle.std.specs.Prelude.{◌≡◌, ℕ, ◌<◌, List, length, Option, Some, None, slice_get}
 use Rattle.kr_base.specs.declared.place.Place.{Place}
 use Rattle.kr_ast.specs.declared.node.Node.{Node}
 use Rattle.kr_ast.specs.declared.node.Node.TheVariants as nodes
@@ -11,7 +11,7 @@ use Rattle.kr_types_meaning.specs.Scopes.{Scope, class_before}
 use Rattle.kr_types_meaning.specs.Typing.{type_in}
 use Rattle.kr_types_scopes.specs.declared.within.Within.{Within}
 use Rattle.kr_types_scopes.specs.Settings.{class_there, scope_in}
-use Rattle.kr_types_scopes.specs.Scoped.{AreScopes, nowhere, scope_at}
+use Rattle.kr_types_scopes.specs.Scoped.{AreScopes, scope_at}
 use Rattle.kr_types_meaning.specs.Noting as noting
 use Rattle.kr_classes_names.specs.Shown.{AreHeads}
 use Rattle.kr_ast.specs.Files.{file_at}
@@ -73,8 +73,7 @@ pub record IsNoteOf (s : Site) (l : TypeList) (ns : List Note) (i : ℕ) (here :
 pub record IsSpot (s : Site) (n : ℕ) (x : Spot) : Type 0 where
   pub count : n ≡ x.at
   pub within : x.at < length (tree_there s).entries
-  pub here : x.here ≡ slice_index_or s.scopes.now.within.items x.at nowhere
-  pub class : (scope_here s x.here).class ≡ x.class
+  pub entry : (e : Entry) → slice_get (tree_there s).entries x.at ≡ Some e → (e.place ≡ x.place) × (e.node ≡ x.node)
   pub tree : tree_in (tree_there s) x.at ≡ tree_of (tree_there s).text (tree_in (tree_there s)) x.place x.node
   pub stands : ArePartsFrom (tree_there s).entries x.at 0 (parts x.node)
   pub parts : AreBelow n (parts x.node)
@@ -82,7 +81,7 @@ pub record IsSpot (s : Site) (n : ℕ) (x : Spot) : Type 0 where
 
 -- the note of such a node
 abbrev pub IsSpotNote : Site → TypeList → List Note → Spot → Note → Type 0
-IsSpotNote s l ns x made = IsNoteOf s l ns (length ns) (scope_here s x.here) x.place x.node made
+IsSpotNote s l ns x made = IsNoteOf s l ns (length ns) (scope_of s x.at) x.place x.node made
 
 -- the notes of the first nodes of the file: each follows from those of its parts
 pub record AreNoted (s : Site) (l : TypeList) (ns : List Note) : Type 0 where

@@ -1,12 +1,13 @@
 // Notes of calls without a dot but `super.`, and of creations of objects.
-ghost use Rattle.std.specs.Prelude.{length, IfOk};
+ghost use Rattle.std.specs.Prelude.{◌≡◌, length, IfOk};
 ghost use Rattle.kr_types_expressions.specs.Notes.{AreNotesWithin, shown_notes};
-ghost use Rattle.kr_types.specs.Sites.{IsMeantBy, IsSite, IsSpot, IsSpotNote};
+ghost use Rattle.kr_types.specs.Sites.{IsMeantBy, IsSite, IsSpot, IsSpotNote, scope_of};
 ghost use Rattle.kr_types.specs.Kinds.{IsCall};
 
 use crate::site::{Site, Spot, part_note};
 use kr_ast::Node;
 use kr_base::NoMemory;
+use kr_classes_table::ClassId;
 use kr_classes_types::Types;
 use kr_types_expressions::{
     NoteList, call_note, constructor_call_note, creation_note, super_call_note,
@@ -22,11 +23,13 @@ pub(crate) fn call_group_note(
     types: &Types,
     notes: &NoteList,
     spot: Spot,
+    class: ClassId,
     meaning: Meaning,
 ) -> Result<Note, NoMemory>
     requires site { IsSite site.now types.now }
     requires notes { AreNotesWithin types.now notes.now }
     requires spot { IsSpot site.now (length notes.now) spot }
+    requires class { (scope_of site.now spot.at).class ≡ class }
     requires kind { IsCall spot.node }
     requires meant { IsMeantBy site.now (shown_notes types.now notes.now) spot.at spot.node meaning }
     ensures { IfOk result (λ note. IsSpotNote site.now types.now notes.now spot note) }
@@ -42,7 +45,7 @@ pub(crate) fn call_group_note(
             alloc,
             &classes,
             notes,
-            spot.here,
+            site.here(spot.at),
             spot.place,
             site.method_at(meaning.method()),
             part_note(types, notes, arguments),
@@ -51,7 +54,7 @@ pub(crate) fn call_group_note(
             alloc,
             &classes,
             notes,
-            spot.here,
+            site.here(spot.at),
             spot.place,
             site.method_at(meaning.super_method()),
             part_note(types, notes, arguments),
@@ -60,15 +63,15 @@ pub(crate) fn call_group_note(
             alloc,
             &classes,
             notes,
-            spot.here,
+            site.here(spot.at),
             spot.place,
-            spot.class,
+            class,
             part_note(types, notes, arguments),
         ),
         Node::ObjectCreation { class, arguments } => {
             let x = part_note(types, notes, class);
             let y = part_note(types, notes, arguments);
-            creation_note(alloc, &classes, notes, spot.here, spot.place, x, y)
+            creation_note(alloc, &classes, notes, site.here(spot.at), spot.place, x, y)
         }
         _ => Ok(plain(None)),
     }

@@ -21,15 +21,15 @@ pub(crate) fn line_note(site: &Site<'_>, types: &Types, notes: &NoteList, spot: 
     match spot.node {
         Node::Old { operand } => {
             let x = part_note(types, notes, operand);
-            old_note(types, site.members, spot.here, spot.place, x)
+            old_note(types, site.members, site.here(spot.at), spot.place, x)
         }
         Node::Requires { condition } => {
             let x = part_note(types, notes, condition);
-            contract_note(types, site.members, spot.here, spot.place, x)
+            contract_note(types, site.members, site.here(spot.at), spot.place, x)
         }
         Node::Ensures { condition } => {
             let x = part_note(types, notes, condition);
-            contract_note(types, site.members, spot.here, spot.place, x)
+            contract_note(types, site.members, site.here(spot.at), spot.place, x)
         }
         _ => plain(None),
     }

@@ -38,7 +38,7 @@ pub(crate) fn access_note(
     match spot.node {
         Node::FieldAccess { object, name } => Ok(field_note(
             &classes,
-            spot.here,
+            site.here(spot.at),
             spot.place,
             site.tree().name(name),
             before,
@@ -55,7 +55,7 @@ pub(crate) fn access_note(
                 alloc,
                 &classes,
                 notes,
-                spot.here,
+                site.here(spot.at),
                 spot.place,
                 site.tree().name(name),
                 before,

@@ -3,34 +3,46 @@ ghost use Rattle.kr_types.specs.Kinds.{IsOfGroup};
 
 use kr_ast::Node;
 
-/// What a node is, by what its note is made from.
+/// A node for which nothing is looked up, by what its note is made from.
 #[derive(Clone, Copy)]
-pub(crate) enum Group {
-    /// a list, or what is absent
-    Link,
+pub(crate) enum Bare {
     Type,
     /// literals, jumps and the empty statement
     Leaf,
-    /// a name that is used or declared
-    Name,
-    /// a type may be new
-    Growing,
     /// a value is made from those of the parts
     Operation,
-    /// it stands behind a dot
-    Access,
-    /// a method of the class or of an ancestor is called, or a constructor
-    Call,
     Write,
     Contract,
     /// `return` and `\result`
     Returned,
     /// a statement with a condition
     Test,
-    /// there is no rule but those of the parts
-    Plain,
+}
+
+/// A node that means something, or for which its class is looked up.
+#[derive(Clone, Copy)]
+pub(crate) enum Named {
+    /// a name that is used or declared
+    Name,
+    /// a type may be new
+    Growing,
+    /// it stands behind a dot
+    Access,
+    /// a method of the class or of an ancestor is called, or a constructor
+    Call,
     /// a class or a constructor
     Declaration,
+}
+
+/// What a node is.
+#[derive(Clone, Copy)]
+pub(crate) enum Group {
+    /// a list, or what is absent
+    Link,
+    /// there is no rule but those of the parts
+    Plain,
+    Bare(Bare),
+    Named(Named),
 }
 
 /// The group of a node.
@@ -44,41 +56,45 @@ pub(crate) fn group_of(node: Node) -> Group
         | Node::QualifiedType { .. }
         | Node::GenericType { .. }
         | Node::DiamondType { .. }
-        | Node::ArrayType { .. } => Group::Type,
+        | Node::ArrayType { .. } => Group::Bare(Bare::Type),
         Node::Number { .. }
         | Node::Truth { .. }
         | Node::Null
         | Node::Break
         | Node::Continue
-        | Node::Empty => Group::Leaf,
-        Node::Variable { .. } | Node::Declarator { .. } | Node::Parameter { .. } => Group::Name,
-        Node::This | Node::ArrayCreation { .. } => Group::Growing,
+        | Node::Empty => Group::Bare(Bare::Leaf),
+        Node::Variable { .. } | Node::Declarator { .. } | Node::Parameter { .. } => Group::Named(
+            Named::Name,
+        ),
+        Node::This | Node::ArrayCreation { .. } => Group::Named(Named::Growing),
         Node::Unary { .. }
         | Node::Binary { .. }
         | Node::InstanceOf { .. }
         | Node::Cast { .. }
         | Node::Conditional { .. }
-        | Node::ArrayAccess { .. } => Group::Operation,
-        Node::FieldAccess { .. } | Node::MethodCall { .. } => Group::Access,
+        | Node::ArrayAccess { .. } => Group::Bare(Bare::Operation),
+        Node::FieldAccess { .. } | Node::MethodCall { .. } => Group::Named(Named::Access),
         Node::Call { .. }
         | Node::SuperCall { .. }
         | Node::ConstructorCall { .. }
-        | Node::ObjectCreation { .. } => Group::Call,
+        | Node::ObjectCreation { .. } => Group::Named(Named::Call),
         Node::Step { .. } | Node::Assignment { .. } | Node::CompoundAssignment { .. } =>
-            Group::Write,
-        Node::Old { .. } | Node::Requires { .. } | Node::Ensures { .. } => Group::Contract,
-        Node::Result | Node::Return { .. } => Group::Returned,
+            Group::Bare(Bare::Write),
+        Node::Old { .. } | Node::Requires { .. } | Node::Ensures { .. } => Group::Bare(
+            Bare::Contract,
+        ),
+        Node::Result | Node::Return { .. } => Group::Bare(Bare::Returned),
         Node::IfThen { .. }
         | Node::IfElse { .. }
         | Node::While { .. }
         | Node::Do { .. }
-        | Node::For { .. } => Group::Test,
+        | Node::For { .. } => Group::Bare(Bare::Test),
         Node::Block { .. }
         | Node::ExpressionStatement { .. }
         | Node::Local { .. }
         | Node::Field { .. }
         | Node::Method { .. }
         | Node::Signature { .. } => Group::Plain,
-        Node::Class { .. } | Node::Constructor { .. } => Group::Declaration,
+        Node::Class { .. } | Node::Constructor { .. } => Group::Named(Named::Declaration),
     }
 }

@@ -16,6 +16,7 @@ use kr_types_expressions::{NoteList, absent_note, list_note};
 use kr_types_judging::{Note, plain};
 
 /// The note of a list, or of what is absent, wherever it stands.
+#[inline(always)]
 pub(crate) fn link_note(types: &Types, notes: &NoteList, node: Node) -> Note
     requires notes { AreNotesWithin types.now notes.now }
     requires parts { AreBelow (length notes.now) (parts node) }

@@ -73,11 +73,13 @@ pub(crate) fn node_meaning(
     types: &Types,
     noted: &Noted,
     spot: Spot,
+    class: ClassId,
     before: Option<ClassId>,
 ) -> Result<Meaning, NoMemory>
     requires site { IsSite site.now types.now }
     requires kept { AreKept site.now types.now noted.now }
     requires spot { IsSpot site.now (length noted.now.notes) spot }
+    requires class { (scope_of site.now spot.at).class ≡ class }
     requires before { IsBefore site.now spot.at spot.node before }
     ensures { IfOk result (λ m. IsMeantBy site.now (shown_notes types.now noted.now.notes) spot.at spot.node m) }
 {
@@ -93,20 +95,20 @@ pub(crate) fn node_meaning(
             site.scopes,
             site.file,
             spot.at,
-            spot.class,
+            class,
             site.tree().name(name),
         ),
         Node::FieldAccess { object, name } => {
             let object = object_type(types, noted, object);
             Ok(field_behind(&classes, types, before, object, site.tree().name(name)))
         }
-        Node::Call { name, .. } => Ok(call_meaning(&classes, spot.class, site.tree().name(name))),
+        Node::Call { name, .. } => Ok(call_meaning(&classes, class, site.tree().name(name))),
         Node::MethodCall { object, name, .. } => {
             let object = object_type(types, noted, object);
             Ok(method_behind(&classes, types, before, object, site.tree().name(name)))
         }
         Node::SuperCall { name, .. } => {
-            Ok(super_meaning(&classes, spot.class, site.tree().name(name)))
+            Ok(super_meaning(&classes, class, site.tree().name(name)))
         }
         Node::ObjectCreation { class, .. } => {
             let created = type_of_node(site.trees, types, site.numbers, site.file, Some(class));

@@ -1,21 +1,20 @@
 // The note of a node of any kind.
-ghost use Rattle.std.specs.Prelude.{IfOk, length};
+ghost use Rattle.std.specs.Prelude.{◌≡◌, IfOk, length};
 ghost use Rattle.kr_classes_types.specs.Types.{Extends};
 ghost use Rattle.kr_types_expressions.specs.Notes.{AreNotesWithin, shown_notes};
-ghost use Rattle.kr_types.specs.Sites.{IsBefore, IsMeantBy, IsSite, IsSpot, IsSpotNote};
+ghost use Rattle.kr_types.specs.Kinds.{IsOfBare, IsOfNamed};
+ghost use Rattle.kr_types.specs.Sites.{IsBefore, IsMeantBy, IsSite, IsSpot, IsSpotNote, scope_of};
 
 use crate::calls::call_group_note;
 use crate::classes::declaration_note;
 use crate::conditions::test_note;
 use crate::contracts::line_note;
 use crate::dots::access_note;
-use crate::group::{Group, group_of};
+use crate::group::{Bare, Named};
 use crate::growing::growing_note;
 use crate::leaves::leaf_note;
-use crate::lists::link_note;
 use crate::names::name_note;
 use crate::operations::operation_note;
-use crate::plain::plain_note;
 use crate::results::returned_note;
 use crate::site::{Site, Spot};
 use crate::types::type_note;
@@ -28,38 +27,59 @@ use kr_types_judging::Note;
 use kr_types_resolving::Meaning;
 use std::alloc::Global;
 
-/// The note of a node, behind the notes of the nodes before it.
-pub(crate) fn node_note(
+/// The note of a node for which nothing is looked up, behind the notes of the nodes before it.
+pub(crate) fn bare_note(
+    site: &Site<'_>,
+    types: &mut Types,
+    notes: &NoteList,
+    kind: Bare,
+    spot: Spot,
+) -> Result<Note, NoMemory>
+    requires site { IsSite site.now types.old }
+    requires notes { AreNotesWithin types.old notes.now }
+    requires kind { IsOfBare kind spot.node }
+    requires spot { IsSpot site.now (length notes.now) spot }
+    ensures extends { Extends types.old types.new }
+    ensures note { IfOk result (λ note. IsSpotNote site.now types.new notes.now spot note) }
+{
+    match kind {
+        Bare::Type => type_note(site, types, notes, spot),
+        Bare::Leaf => Ok(leaf_note(site, types, spot)),
+        Bare::Operation => Ok(operation_note(site, types, notes, spot)),
+        Bare::Write => Ok(write_note(site, types, notes, spot)),
+        Bare::Contract => Ok(line_note(site, types, notes, spot)),
+        Bare::Returned => Ok(returned_note(site, types, notes, spot)),
+        Bare::Test => Ok(test_note(site, types, notes, spot)),
+    }
+}
+
+/// The note of another node, in the code of a class, behind the notes of the nodes before it.
+pub(crate) fn named_note(
     alloc: Global,
     site: &Site<'_>,
     types: &mut Types,
     notes: &NoteList,
+    kind: Named,
     spot: Spot,
+    class: ClassId,
     before: Option<ClassId>,
     meaning: Meaning,
 ) -> Result<Note, NoMemory>
     requires site { IsSite site.now types.old }
     requires notes { AreNotesWithin types.old notes.now }
+    requires kind { IsOfNamed kind spot.node }
     requires spot { IsSpot site.now (length notes.now) spot }
+    requires class { (scope_of site.now spot.at).class ≡ class }
     requires before { IsBefore site.now spot.at spot.node before }
     requires meant { IsMeantBy site.now (shown_notes types.old notes.now) spot.at spot.node meaning }
     ensures extends { Extends types.old types.new }
     ensures note { IfOk result (λ note. IsSpotNote site.now types.new notes.now spot note) }
 {
-    match group_of(spot.node) {
-        Group::Link => Ok(link_note(types, notes, spot.node)),
-        Group::Type => type_note(site, types, notes, spot),
-        Group::Leaf => Ok(leaf_note(site, types, spot)),
-        Group::Name => Ok(name_note(site, types, notes, spot)),
-        Group::Growing => growing_note(site, types, notes, spot),
-        Group::Operation => Ok(operation_note(site, types, notes, spot)),
-        Group::Access => access_note(alloc, site, types, notes, spot, before),
-        Group::Call => call_group_note(alloc, site, types, notes, spot, meaning),
-        Group::Write => Ok(write_note(site, types, notes, spot)),
-        Group::Contract => Ok(line_note(site, types, notes, spot)),
-        Group::Returned => Ok(returned_note(site, types, notes, spot)),
-        Group::Test => Ok(test_note(site, types, notes, spot)),
-        Group::Plain => Ok(plain_note(site, types, notes, spot)),
-        Group::Declaration => Ok(declaration_note(site, types, notes, spot)),
+    match kind {
+        Named::Name => Ok(name_note(site, types, notes, spot, class)),
+        Named::Growing => growing_note(site, types, notes, spot, class),
+        Named::Access => access_note(alloc, site, types, notes, spot, before),
+        Named::Call => call_group_note(alloc, site, types, notes, spot, class, meaning),
+        Named::Declaration => Ok(declaration_note(site, types, notes, spot, class)),
     }
 }

@@ -7,15 +7,21 @@ ghost use Rattle.kr_classes_types.specs.Types.{Extends};
 ghost use Rattle.kr_types_expressions.specs.Notes.{AreNotesWithin, shown_notes};
 ghost use Rattle.kr_classes_members.specs.Shown.{table_in};
 ghost use Rattle.kr_types_scopes.specs.Settings.{Setting, class_there};
+ghost use Rattle.kr_types_resolving.specs.declared.meaning.Meaning.TheVariants.{Nothing};
 ghost use Rattle.kr_types_resolving.specs.Shown.{IsMeant, meaning_at};
-ghost use Rattle.kr_types.specs.Sites.{AreKept, IsSite, scope_of, tree_there};
+ghost use Rattle.kr_types.specs.Kinds.{IsOfBare, IsOfNamed};
+ghost use Rattle.kr_types.specs.Sites.{AreKept, IsMeantBy, IsSite, IsSpot, IsSpotNote, scope_of, tree_there};
 
+use crate::group::{Bare, Group, Named, group_of};
+use crate::lists::link_note;
 use crate::meanings::{class_before, node_meaning};
-use crate::nodes::node_note;
+use crate::nodes::{bare_note, named_note};
+use crate::plain::plain_note;
 use crate::site::{Inside, Site, Spot};
 use kr_base::NoMemory;
 use kr_classes_types::Types;
 use kr_types_expressions::NoteList;
+use kr_types_judging::Note;
 use kr_types_resolving::Meaning;
 use std::alloc::Global;
 
@@ -47,7 +53,93 @@ impl Noted {
     }
 }
 
-/// Keeps what a node means, and its note.
+/// Keeps the note of a node that means nothing.
+#[inline(always)]
+fn add_note(
+    _site: &Site<'_>,
+    _types: &Types,
+    noted: &mut Noted,
+    _spot: Spot,
+    note: Note,
+) -> Result<(), NoMemory>
+    requires kept { AreKept _site.now _types.now noted.old }
+    requires forest { IsForest (tree_there _site.now).text (tree_there _site.now).entries }
+    requires spot { IsSpot _site.now (length noted.old.notes) _spot }
+    requires note { IsSpotNote _site.now _types.now noted.old.notes _spot note }
+    requires nothing { IsMeantBy _site.now (shown_notes _types.now noted.old.notes) _spot.at _spot.node Nothing }
+    ensures kept { OnOk result (AreKept _site.now _types.now noted.new) }
+    ensures count { OnOk result (length noted.new.notes ≡ _spot.at + 1) }
+{
+    noted.notes.push(note)?;
+    noted.meanings.push(Meaning::Nothing)?;
+    Ok(())
+}
+
+/// Keeps the note of a node for which nothing is looked up.
+#[inline(always)]
+fn add_bare(
+    site: &Site<'_>,
+    types: &mut Types,
+    noted: &mut Noted,
+    kind: Bare,
+    spot: Spot,
+) -> Result<(), NoMemory>
+    requires site { IsSite site.now types.old }
+    requires kept { AreKept site.now types.old noted.old }
+    requires forest { IsForest (tree_there site.now).text (tree_there site.now).entries }
+    requires kind { IsOfBare kind spot.node }
+    requires spot { IsSpot site.now (length noted.old.notes) spot }
+    ensures extends { Extends types.old types.new }
+    ensures kept { OnOk result (AreKept site.now types.new noted.new) }
+    ensures count { OnOk result (length noted.new.notes ≡ spot.at + 1) }
+{
+    let note = bare_note(site, types, &noted.notes, kind, spot)?;
+    noted.notes.push(note)?;
+    noted.meanings.push(Meaning::Nothing)?;
+    Ok(())
+}
+
+/// Keeps what another node means, and its note.
+#[inline(never)]
+fn add_named(
+    alloc: Global,
+    site: &Site<'_>,
+    types: &mut Types,
+    noted: &mut Noted,
+    kind: Named,
+    spot: Spot,
+) -> Result<(), NoMemory>
+    requires site { IsSite site.now types.old }
+    requires kept { AreKept site.now types.old noted.old }
+    requires forest { IsForest (tree_there site.now).text (tree_there site.now).entries }
+    requires kind { IsOfNamed kind spot.node }
+    requires spot { IsSpot site.now (length noted.old.notes) spot }
+    ensures extends { Extends types.old types.new }
+    ensures kept { OnOk result (AreKept site.now types.new noted.new) }
+    ensures count { OnOk result (length noted.new.notes ≡ spot.at + 1) }
+{
+    let inside = site.inside(noted.inside, site.here(spot.at));
+    let class = inside.class;
+    let before = class_before(site, types, noted, spot);
+    let meaning = node_meaning(site, types, noted, spot, class, before)?;
+    let note = named_note(
+        alloc,
+        site,
+        types,
+        &noted.notes,
+        kind,
+        spot,
+        class,
+        before,
+        meaning,
+    )?;
+    noted.notes.push(note)?;
+    noted.meanings.push(meaning)?;
+    noted.inside = inside;
+    Ok(())
+}
+
+/// Keeps what a node means, and its note. Lists, and nodes that have but their parts, take the shortest way.
 fn add_node(
     alloc: Global,
     site: &Site<'_>,
@@ -64,23 +156,19 @@ fn add_node(
     ensures kept { OnOk result (AreKept site.now types.new noted.new) }
     ensures count { OnOk result (length noted.new.notes ≡ at + 1) }
 {
-    let entry = site.tree().entry(at);
-    let here = site.here(at);
-    let inside = site.inside(noted.inside, here);
-    let spot = Spot {
-        at,
-        place: entry.place,
-        here,
-        class: inside.class,
-        node: entry.node,
-    };
-    let before = class_before(site, types, noted, spot);
-    let meaning = node_meaning(site, types, noted, spot, before)?;
-    let note = node_note(alloc, site, types, &noted.notes, spot, before, meaning)?;
-    noted.notes.push(note)?;
-    noted.meanings.push(meaning)?;
-    noted.inside = inside;
-    Ok(())
+    let spot = site.spot(at);
+    match group_of(spot.node) {
+        Group::Link => {
+            let note = link_note(types, &noted.notes, spot.node);
+            add_note(site, types, noted, spot, note)
+        }
+        Group::Plain => {
+            let note = plain_note(site, types, &noted.notes, spot);
+            add_note(site, types, noted, spot, note)
+        }
+        Group::Bare(kind) => add_bare(site, types, noted, kind, spot),
+        Group::Named(kind) => add_named(alloc, site, types, noted, kind, site.spot(at)),
+    }
 }
 
 /// What is kept of all nodes of a file.

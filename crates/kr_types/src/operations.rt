@@ -32,17 +32,25 @@ pub(crate) fn operation_note(site: &Site<'_>, types: &Types, notes: &NoteList, s
         } => {
             let x = part_note(types, notes, left);
             let y = part_note(types, notes, right);
-            binary_note(types, site.members, spot.here, spot.place, operator, x, y)
+            binary_note(
+                types,
+                site.members,
+                site.here(spot.at),
+                spot.place,
+                operator,
+                x,
+                y,
+            )
         }
         Node::InstanceOf { operand, tested } => {
             let x = part_note(types, notes, operand);
             let y = part_note(types, notes, tested);
-            instance_note(types, site.members, spot.here, spot.place, x, y)
+            instance_note(types, site.members, site.here(spot.at), spot.place, x, y)
         }
         Node::Cast { target, operand } => {
             let x = part_note(types, notes, target);
             let y = part_note(types, notes, operand);
-            cast_note(types, site.members, spot.here, spot.place, x, y)
+            cast_note(types, site.members, site.here(spot.at), spot.place, x, y)
         }
         Node::Conditional {
             condition,
@@ -52,7 +60,7 @@ pub(crate) fn operation_note(site: &Site<'_>, types: &Types, notes: &NoteList, s
             let x = part_note(types, notes, condition);
             let y = part_note(types, notes, holds);
             let z = part_note(types, notes, fails);
-            choice_note(types, site.members, spot.here, spot.place, x, y, z)
+            choice_note(types, site.members, site.here(spot.at), spot.place, x, y, z)
         }
         Node::ArrayAccess { array, index } => {
             let x = part_note(types, notes, array);

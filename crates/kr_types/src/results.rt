@@ -26,11 +26,11 @@ pub(crate) fn returned_note(site: &Site<'_>, types: &Types, notes: &NoteList, sp
         node_types: site.numbers,
     };
     match spot.node {
-        Node::Result => result_note(&classes, site.file, spot.here, spot.place),
+        Node::Result => result_note(&classes, site.file, site.here(spot.at), spot.place),
         Node::Return { value } => return_note(
             &classes,
             site.file,
-            spot.here,
+            site.here(spot.at),
             spot.place,
             part_note(types, notes, value),
         ),

@@ -10,7 +10,7 @@ ghost use Rattle.kr_types_judging.specs.Shown.{IsNoteWithin, note_shown};
 ghost use Rattle.kr_types_expressions.specs.Links.{IsLinked};
 ghost use Rattle.kr_types_expressions.specs.Notes.{AreNotesWithin, IsRestBelow, shown_notes, typed_in};
 ghost use Rattle.kr_types.specs.Programs.{setting_in};
-ghost use Rattle.kr_types.specs.Sites.{IsInside, scope_here, tree_there};
+ghost use Rattle.kr_types.specs.Sites.{IsInside, scope_here, IsSpot, tree_there};
 
 use kr_ast::{Node, Tree, tree_of};
 use kr_base::Place;
@@ -24,13 +24,11 @@ use kr_types_expressions::{NoteList, class_of};
 use kr_types_judging::Note;
 use kr_types_scopes::{Scopes, Within};
 
-/// A node of the file: its number, where it is, its scope and the class whose code it is in.
+/// A node of the file: its number, and where it is.
 #[derive(Clone, Copy)]
 pub(crate) struct Spot {
     pub(crate) at: u32,
     pub(crate) place: Place,
-    pub(crate) here: Within,
-    pub(crate) class: ClassId,
     pub(crate) node: Node,
 }
 
@@ -75,6 +73,20 @@ impl<'a> Site<'a> {
         ensures { result.now ≡ tree_there self.now }
     {
         tree_of(self.trees, self.file)
+    }
+
+    /// A node by its number.
+    pub(crate) fn spot(&self, at: u32) -> Spot
+        requires file { self.now.file < length self.now.trees.now }
+        requires at { at < length (tree_there self.now).entries }
+        ensures { IsSpot self.now at result }
+    {
+        let entry = self.tree().entry(at);
+        Spot {
+            at,
+            place: entry.place,
+            node: entry.node,
+        }
     }
 
     /// The scope of a node.
@@ -137,6 +149,7 @@ impl<'a> Site<'a> {
 }
 
 /// What is kept of a part.
+#[inline(always)]
 pub(crate) fn part_note(types: &Types, notes: &NoteList, part: u32) -> Note
     requires notes { AreNotesWithin types.now notes.now }
     requires part { part < length notes.now }

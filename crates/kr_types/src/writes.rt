@@ -22,12 +22,12 @@ pub(crate) fn write_note(site: &Site<'_>, types: &Types, notes: &NoteList, spot:
     match spot.node {
         Node::Step { target, .. } => {
             let x = part_note(types, notes, target);
-            step_note(types, site.members, spot.here, spot.place, x)
+            step_note(types, site.members, site.here(spot.at), spot.place, x)
         }
         Node::Assignment { target, value } => {
             let x = part_note(types, notes, target);
             let y = part_note(types, notes, value);
-            assignment_note(types, site.members, spot.here, spot.place, x, y)
+            assignment_note(types, site.members, site.here(spot.at), spot.place, x, y)
         }
         Node::CompoundAssignment {
             operator,
@@ -36,7 +36,15 @@ pub(crate) fn write_note(site: &Site<'_>, types: &Types, notes: &NoteList, spot:
         } => {
             let x = part_note(types, notes, target);
             let y = part_note(types, notes, value);
-            compound_note(types, site.members, spot.here, spot.place, operator, x, y)
+            compound_note(
+                types,
+                site.members,
+                site.here(spot.at),
+                spot.place,
+                operator,
+                x,
+                y,
+            )
         }
         _ => plain(None),
     }

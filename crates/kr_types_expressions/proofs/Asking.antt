@@ -1,12 +1,13 @@
 -- The definition asks likewise.
-use Rattle.std.proofs.Common.{◌≡◌, ◌∙◌, refl, ap, List}
-use Rattle.std.specs.Prelude.{Option, Some, None}
+use Rattle.std.proofs.Common.{◌≡◌, ◌∙◌, refl, sym, ap, ℕ, List, map, Vec, Global}
+use Rattle.std.specs.Prelude.{Option, Some, None, option_map}
 use Rattle.kr_base.specs.declared.place.Place.{Place}
 use Rattle.kr_classes_table.specs.Rules.{Fault, sooner}
 use Rattle.kr_classes_table.specs.Types.{JavaType}
+use Rattle.kr_classes_types.specs.Types.{TypeList, type_at}
 use Rattle.kr_types_meaning.specs.Rules.{Typed, Untyped, Value, Variable, Values, Judgement}
 use Rattle.kr_types_meaning.specs.Typing.{on_list, on_one, on_two, type_in}
-use Rattle.kr_types_meaning.specs.Noting.{Note, concluded, list, one_and_list}
+use Rattle.kr_types_meaning.specs.Noting.{Note, concluded, list, one, one_and_list, two}
 use Rattle.kr_types_expressions.specs.Parts.{values_in, with_list, with_one, with_one_and_list, with_two, with_three}
 
 pub asks_one : (f : JavaType → Judgement) (x : Typed) → with_one f (type_in x) ≡ on_one f x
@@ -54,13 +55,33 @@ asks_one_and_list f (Values ts) y = refl
 asks_one_and_list f (Value a) y = first_and_list f a (values_in y) ∙ asks_list (f a) y
 asks_one_and_list f (Variable a) y = first_and_list f a (values_in y) ∙ asks_list (f a) y
 
--- ---- what is concluded of a node with a list
+-- ---- what a rule says where the parts have types
 
-pub concludes_list : (p : Place) (f : List JavaType → Judgement) (x n : Note) (v : Judgement) (o : Option (List JavaType)) → n ≡ concluded p v x.least → v ≡ with_list f o → o ≡ values_in x.typed → n ≡ list p f x
-concludes_list p f x n v o is says given = is ∙ ap (λ (w : Judgement). concluded p w x.least) (says ∙ ap (with_list f) given ∙ asks_list f x.typed)
+pub there_one : {v : Judgement} {i : ℕ} {a : Option ℕ} (l : TypeList) (f : JavaType → Judgement) → a ≡ Some i → v ≡ f (type_at l i) → v ≡ with_one f (option_map (type_at l) a)
+there_one l f is says = says ∙ ap (λ o. with_one f (option_map (type_at l) o)) (sym is)
 
-pub concludes_one_and_list : (p : Place) (f : JavaType → List JavaType → Judgement) (x y n : Note) (v : Judgement) (a : Option JavaType) (o : Option (List JavaType)) (least : Option Fault) → n ≡ concluded p v least → v ≡ with_one_and_list f a o → a ≡ type_in x.typed → o ≡ values_in y.typed → least ≡ sooner x.least y.least
-    → n ≡ one_and_list p f x y
-concludes_one_and_list p f x y n v a o least is says first given below =
+pub there_two : {v : Judgement} {i j : ℕ} {a b : Option ℕ} (l : TypeList) (f : JavaType → JavaType → Judgement) → a ≡ Some i → b ≡ Some j → v ≡ f (type_at l i) (type_at l j) → v ≡ with_two f (option_map (type_at l) a) (option_map (type_at l) b)
+there_two {i = i} {b = b} l f first second says =
+    says ∙ ap (λ o. with_two f (Some (type_at l i)) (option_map (type_at l) o)) (sym second) ∙ ap (λ o. with_two f (option_map (type_at l) o) (option_map (type_at l) b)) (sym first)
+
+pub there_list : {v : Judgement} {ns : List ℕ} {is : Vec ℕ Global} {a : Option (Vec ℕ Global)} (l : TypeList) (f : List JavaType → Judgement) → a ≡ Some is → ns ≡ is.items → v ≡ f (map (type_at l) ns) → v ≡ with_list f (option_map (λ ts. map (type_at l) ts.items) a)
+there_list l f given same says = says ∙ ap (λ ns. f (map (type_at l) ns)) same ∙ ap (λ o. with_list f (option_map (λ ts. map (type_at l) ts.items) o)) (sym given)
+
+-- ---- what is concluded of a node with these parts
+
+pub concludes_one : {n : Note} {v : Judgement} {a : Option JavaType} (p : Place) (f : JavaType → Judgement) (x : Note) → v ≡ with_one f a → a ≡ type_in x.typed → n ≡ concluded p v x.least → n ≡ one p f x
+concludes_one p f x says first is = is ∙ ap (λ (w : Judgement). concluded p w x.least) (says ∙ ap (with_one f) first ∙ asks_one f x.typed)
+
+pub concludes_two : {n : Note} {v : Judgement} {a b : Option JavaType} {least : Option Fault} (p : Place) (f : JavaType → JavaType → Judgement) (x y : Note) → v ≡ with_two f a b → a ≡ type_in x.typed → b ≡ type_in y.typed → least ≡ sooner x.least y.least → n ≡ concluded p v least → n ≡ two p f x y
+concludes_two {b = b} {least = least} p f x y says first second below is =
+    is ∙ ap (λ (w : Judgement). concluded p w least) (says ∙ ap (λ o. with_two f o b) first ∙ ap (with_two f (type_in x.typed)) second ∙ asks_two f x.typed y.typed)
+    ∙ ap (concluded p (on_two f x.typed y.typed)) below
+
+pub concludes_list : {n : Note} {v : Judgement} {o : Option (List JavaType)} (p : Place) (f : List JavaType → Judgement) (x : Note) → v ≡ with_list f o → o ≡ values_in x.typed → n ≡ concluded p v x.least → n ≡ list p f x
+concludes_list p f x says given is = is ∙ ap (λ (w : Judgement). concluded p w x.least) (says ∙ ap (with_list f) given ∙ asks_list f x.typed)
+
+pub concludes_one_and_list : {n : Note} {v : Judgement} {a : Option JavaType} {o : Option (List JavaType)} {least : Option Fault} (p : Place) (f : JavaType → List JavaType → Judgement) (x y : Note) → v ≡ with_one_and_list f a o → a ≡ type_in x.typed → o ≡ values_in y.typed → least ≡ sooner x.least y.least
+    → n ≡ concluded p v least → n ≡ one_and_list p f x y
+concludes_one_and_list {o = o} {least = least} p f x y says first given below is =
     is ∙ ap (λ (w : Judgement). concluded p w least) (says ∙ ap (λ b. with_one_and_list f b o) first ∙ ap (with_one_and_list f (type_in x.typed)) given ∙ asks_one_and_list f x.typed y.typed)
     ∙ ap (concluded p (on_one (λ a. on_list (f a) y.typed) x.typed)) below

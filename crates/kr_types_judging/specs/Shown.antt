@@ -4,6 +4,7 @@ use Rattle.kr_ast.specs.Arena.{Arena}
 use Rattle.kr_classes_table.specs.Types.{JavaType, is_collection, is_known, is_reference, is_void}
 use Rattle.kr_classes_table.specs.Table.{Table, are_related, is_assignable}
 use Rattle.kr_classes_table.specs.Rules as table
+use Rattle.kr_types_meaning.specs.Promotion.{are_numbers}
 use Rattle.kr_types_meaning.specs.Rules as rules
 use Rattle.kr_types_meaning.specs.Scopes.{Scope}
 use Rattle.kr_types_meaning.specs.Typing.{joined}
@@ -85,10 +86,10 @@ abbrev pub are_related_references : Table → JavaType → JavaType → Bool
 are_related_references t a b = is_reference a && is_reference b && are_related t a b
 
 abbrev pub are_comparable : Table → JavaType → JavaType → Bool
-are_comparable t a b = rules.both_int a b || rules.both_boolean a b || are_related_references t a b
+are_comparable t a b = are_numbers a b || rules.both_boolean a b || are_related_references t a b
 
 abbrev pub cast_fits : Table → JavaType → JavaType → Bool
-cast_fits t to from = rules.both_int to from || rules.both_boolean to from || (are_related_references t from to && not (is_collection to) && not (is_collection from))
+cast_fits t to from = are_numbers to from || rules.both_boolean to from || (are_related_references t from to && not (is_collection to) && not (is_collection from))
 
 -- an initial value, if there is one, goes into what is declared
 abbrev pub initial_goes_into : Table → JavaType → Option JavaType → Bool

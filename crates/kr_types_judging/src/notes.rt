@@ -41,6 +41,7 @@ fn is_before(f: Fault, g: Fault) -> bool
 }
 
 /// The first of two.
+#[inline(always)]
 pub fn earlier(a: Option<Fault>, b: Option<Fault>) -> Option<Fault>
     ensures { least_shown result ≡ sooner (least_shown a) (least_shown b) }
 {

@@ -1,19 +1,21 @@
 // Rules on types, literals, `this` and operators: T1, T5 to T15, T20, T21.
-ghost use Rattle.std.specs.Prelude.{◌≡◌, ◌<◌};
+ghost use Rattle.std.specs.Prelude.{◌≡◌, ◌<◌, IfSome, option_map};
 ghost use Rattle.kr_types_meaning.specs.Rules as rules;
 ghost use Rattle.kr_classes_types.specs.Types.{count, type_at};
+ghost use Rattle.kr_types_judging.specs.Numbers.{rule_number};
 ghost use Rattle.kr_types_judging.specs.Shown.{IsVerdictWithin, Says, verdict_shown};
 
 use crate::known::Judgement;
 use crate::relations::{
-    are_comparable, both_boolean, both_int, cast_fits, choice_fits, instance_fits, is_boolean,
-    is_int, wider,
+    are_comparable, are_numbers, both_boolean, cast_fits, choice_fits, instance_fits, is_boolean,
+    is_number, promoted, promoted_alone, wider,
 };
 use crate::rules::TypingRule;
 use kr_ast::{BinaryOperator, UnaryOperator};
 use kr_classes_members::Members;
 use kr_classes_table::TypeId;
 use kr_classes_types::{TypeForm, Types};
+use kr_types_meaning::OperatorKind;
 use kr_types_scopes::{Role, Within};
 
 /// T1: the type's names are known, and it has the argument that it takes.
@@ -70,16 +72,111 @@ pub fn unary_rule(types: &Types, operator: UnaryOperator, a: TypeId) -> Judgemen
             TypingRule::Negation,
             types.boolean(),
         ),
-        UnaryOperator::Plus => Judgement::value_if(is_int(types, a), TypingRule::Sign, types.int()),
-        UnaryOperator::Minus => Judgement::value_if(
-            is_int(types, a),
-            TypingRule::Sign,
-            types.int(),
+        UnaryOperator::Plus | UnaryOperator::Minus | UnaryOperator::Complement => {
+            of_promoted(types, promoted_alone(types, a), TypingRule::Sign)
+        }
+    }
+}
+
+/// A value of the type to which operands are promoted.
+fn of_promoted(types: &Types, promoted: Option<TypeId>, rule: TypingRule) -> Judgement
+    requires { IfSome promoted (λ n. n < count types.now) }
+    ensures within { IsVerdictWithin types.now result }
+    ensures says { verdict_shown types.now result ≡ rules.of_promoted (option_map (type_at types.now) promoted) (rule_number rule) }
+{
+    match promoted {
+        Some(number) => Judgement::value(number),
+        None => Judgement::Breaks(rule),
+    }
+}
+
+/// T8: each operand is promoted alone, and the left one's type is given.
+fn shift_rule(types: &Types, a: TypeId, b: TypeId) -> Judgement
+    requires first { a < count types.now }
+    requires second { b < count types.now }
+    ensures within { IsVerdictWithin types.now result }
+    ensures says { verdict_shown types.now result ≡ rules.shift_rule (type_at types.now a) (type_at types.now b) }
+{
+    if is_number(types, b) {
+        of_promoted(types, promoted_alone(types, a), TypingRule::Shift)
+    } else {
+        Judgement::Breaks(TypingRule::Shift)
+    }
+}
+
+/// T11: booleans, or numbers.
+fn bit_rule(types: &Types, a: TypeId, b: TypeId) -> Judgement
+    requires first { a < count types.now }
+    requires second { b < count types.now }
+    ensures within { IsVerdictWithin types.now result }
+    ensures says { verdict_shown types.now result ≡ rules.bit_rule (type_at types.now a) (type_at types.now b) }
+{
+    if both_boolean(types, a, b) {
+        Judgement::value(types.boolean())
+    } else {
+        of_promoted(types, promoted(types, a, b), TypingRule::Bitwise)
+    }
+}
+
+/// Which operators follow one rule.
+fn kind_of(operator: BinaryOperator) -> OperatorKind
+    ensures { result ≡ rules.kind_of operator }
+{
+    match operator {
+        BinaryOperator::Multiply
+        | BinaryOperator::Divide
+        | BinaryOperator::Remainder
+        | BinaryOperator::Add
+        | BinaryOperator::Subtract => OperatorKind::Arithmetic,
+        BinaryOperator::ShiftLeft
+        | BinaryOperator::ShiftRight
+        | BinaryOperator::ShiftRightUnsigned => OperatorKind::Shift,
+        BinaryOperator::Less
+        | BinaryOperator::Greater
+        | BinaryOperator::LessOrEqual
+        | BinaryOperator::GreaterOrEqual => OperatorKind::Comparison,
+        BinaryOperator::Equal | BinaryOperator::NotEqual => OperatorKind::Equality,
+        BinaryOperator::BitAnd | BinaryOperator::BitXor | BinaryOperator::BitOr => {
+            OperatorKind::Bitwise
+        }
+        BinaryOperator::And | BinaryOperator::Or => OperatorKind::Logical,
+    }
+}
+
+/// T7 to T12.
+fn kind_rule(
+    types: &Types,
+    members: &Members,
+    here: Within,
+    kind: OperatorKind,
+    a: TypeId,
+    b: TypeId,
+) -> Judgement
+    requires first { a < count types.now }
+    requires second { b < count types.now }
+    ensures within { IsVerdictWithin types.now result }
+    ensures says { Says members.now types.now here result (λ s. rules.kind_rule s kind (type_at types.now a) (type_at types.now b)) }
+{
+    match kind {
+        OperatorKind::Arithmetic => {
+            of_promoted(types, promoted(types, a, b), TypingRule::Arithmetic)
+        }
+        OperatorKind::Shift => shift_rule(types, a, b),
+        OperatorKind::Comparison => Judgement::value_if(
+            are_numbers(types, a, b),
+            TypingRule::Comparison,
+            types.boolean(),
         ),
-        UnaryOperator::Complement => Judgement::value_if(
-            is_int(types, a),
-            TypingRule::Sign,
-            types.int(),
+        OperatorKind::Equality => Judgement::value_if(
+            are_comparable(types, members, a, b),
+            TypingRule::Equality,
+            types.boolean(),
+        ),
+        OperatorKind::Bitwise => bit_rule(types, a, b),
+        OperatorKind::Logical => Judgement::value_if(
+            both_boolean(types, a, b),
+            TypingRule::Logical,
+            types.boolean(),
         ),
     }
 }
@@ -98,115 +195,7 @@ pub fn operator_rule(
     ensures within { IsVerdictWithin types.now result }
     ensures says { Says members.now types.now here result (λ s. rules.operator_rule s operator (type_at types.now a) (type_at types.now b)) }
 {
-    match operator {
-        BinaryOperator::Multiply => Judgement::value_if(
-            both_int(types, a, b),
-            TypingRule::Arithmetic,
-            types.int(),
-        ),
-        BinaryOperator::Divide => Judgement::value_if(
-            both_int(types, a, b),
-            TypingRule::Arithmetic,
-            types.int(),
-        ),
-        BinaryOperator::Remainder => Judgement::value_if(
-            both_int(types, a, b),
-            TypingRule::Arithmetic,
-            types.int(),
-        ),
-        BinaryOperator::Add => Judgement::value_if(
-            both_int(types, a, b),
-            TypingRule::Arithmetic,
-            types.int(),
-        ),
-        BinaryOperator::Subtract => Judgement::value_if(
-            both_int(types, a, b),
-            TypingRule::Arithmetic,
-            types.int(),
-        ),
-        BinaryOperator::ShiftLeft => Judgement::value_if(
-            both_int(types, a, b),
-            TypingRule::Shift,
-            types.int(),
-        ),
-        BinaryOperator::ShiftRight => Judgement::value_if(
-            both_int(types, a, b),
-            TypingRule::Shift,
-            types.int(),
-        ),
-        BinaryOperator::ShiftRightUnsigned => {
-            Judgement::value_if(both_int(types, a, b), TypingRule::Shift, types.int())
-        }
-        BinaryOperator::Less => Judgement::value_if(
-            both_int(types, a, b),
-            TypingRule::Comparison,
-            types.boolean(),
-        ),
-        BinaryOperator::Greater => Judgement::value_if(
-            both_int(types, a, b),
-            TypingRule::Comparison,
-            types.boolean(),
-        ),
-        BinaryOperator::LessOrEqual => {
-            Judgement::value_if(
-                both_int(types, a, b),
-                TypingRule::Comparison,
-                types.boolean(),
-            )
-        }
-        BinaryOperator::GreaterOrEqual => {
-            Judgement::value_if(
-                both_int(types, a, b),
-                TypingRule::Comparison,
-                types.boolean(),
-            )
-        }
-        BinaryOperator::Equal => {
-            Judgement::value_if(
-                are_comparable(types, members, a, b),
-                TypingRule::Equality,
-                types.boolean(),
-            )
-        }
-        BinaryOperator::NotEqual => {
-            Judgement::value_if(
-                are_comparable(types, members, a, b),
-                TypingRule::Equality,
-                types.boolean(),
-            )
-        }
-        BinaryOperator::BitAnd => {
-            Judgement::value_if(
-                both_int(types, a, b) || both_boolean(types, a, b),
-                TypingRule::Bitwise,
-                a,
-            )
-        }
-        BinaryOperator::BitXor => {
-            Judgement::value_if(
-                both_int(types, a, b) || both_boolean(types, a, b),
-                TypingRule::Bitwise,
-                a,
-            )
-        }
-        BinaryOperator::BitOr => {
-            Judgement::value_if(
-                both_int(types, a, b) || both_boolean(types, a, b),
-                TypingRule::Bitwise,
-                a,
-            )
-        }
-        BinaryOperator::And => Judgement::value_if(
-            both_boolean(types, a, b),
-            TypingRule::Logical,
-            types.boolean(),
-        ),
-        BinaryOperator::Or => Judgement::value_if(
-            both_boolean(types, a, b),
-            TypingRule::Logical,
-            types.boolean(),
-        ),
-    }
+    kind_rule(types, members, here, kind_of(operator), a, b)
 }
 
 /// T15: a boolean, and arms that are equal or related; the type is the one that is assigned to.
@@ -228,7 +217,7 @@ pub fn choice_rule(
     Judgement::value_if(fits, TypingRule::Conditional, wider(types, members, a, b))
 }
 
-/// T20: int to int, boolean to boolean, or related references that are no collections.
+/// T20: number to number, boolean to boolean, or related references that are no collections.
 pub fn cast_rule(
     types: &Types,
     members: &Members,

@@ -1,8 +1,9 @@
 // Which types go into which (Java Language Specification 5).
-ghost use Rattle.std.specs.Prelude.{◌≡◌, ◌<◌, ◌&&◌, not, List, if◌then◌else◌};
+ghost use Rattle.std.specs.Prelude.{◌≡◌, ◌<◌, ◌&&◌, not, IfSome, List, option_map, if◌then◌else◌};
 ghost use Rattle.kr_ast.specs.Arena.{Arena};
 ghost use Rattle.kr_classes_table.specs.Types.{ClassType, SetType, ListType, InferredType, is_collection, is_element, is_same, is_void};
 ghost use Rattle.kr_classes_table.specs.Table as table;
+ghost use Rattle.kr_types_meaning.specs.Promotion as promotion;
 ghost use Rattle.kr_types_meaning.specs.Rules as rules;
 ghost use Rattle.kr_classes_members.specs.Shown.{table_in};
 ghost use Rattle.kr_classes_members.specs.Kept.{AreMembers};
@@ -134,13 +135,52 @@ pub(crate) fn related_references(types: &Types, members: &Members, a: TypeId, b:
     types.is_reference(a) && types.is_reference(b) && are_related(types, members, a, b)
 }
 
-/// Whether both are `int`.
-pub(crate) fn both_int(types: &Types, a: TypeId, b: TypeId) -> bool
+/// The type to which an operand is promoted, if it is a number's.
+pub(crate) fn promoted_alone(types: &Types, number: TypeId) -> Option<TypeId>
+    requires { number < count types.now }
+    ensures within { IfSome result (λ n. n < count types.now) }
+    ensures is { option_map (type_at types.now) result ≡ promotion.promoted_alone (type_at types.now number) }
+{
+    match types.form(number) {
+        TypeForm::Int => Some(number),
+        _ => None,
+    }
+}
+
+/// The type to which two operands are promoted, if they are numbers'.
+pub(crate) fn promoted(types: &Types, a: TypeId, b: TypeId) -> Option<TypeId>
     requires first { a < count types.now }
     requires second { b < count types.now }
-    ensures { result ≡ rules.both_int (type_at types.now a) (type_at types.now b) }
+    ensures within { IfSome result (λ n. n < count types.now) }
+    ensures is { option_map (type_at types.now) result ≡ promotion.promoted (type_at types.now a) (type_at types.now b) }
 {
-    is_int(types, a) && is_int(types, b)
+    match types.form(a) {
+        TypeForm::Int => promoted_alone(types, b),
+        _ => None,
+    }
+}
+
+/// Whether it is a number's.
+pub(crate) fn is_number(types: &Types, number: TypeId) -> bool
+    requires { number < count types.now }
+    ensures { result ≡ promotion.is_number (type_at types.now number) }
+{
+    match types.form(number) {
+        TypeForm::Int => true,
+        _ => false,
+    }
+}
+
+/// Whether both are numbers'.
+pub(crate) fn are_numbers(types: &Types, a: TypeId, b: TypeId) -> bool
+    requires first { a < count types.now }
+    requires second { b < count types.now }
+    ensures { result ≡ promotion.are_numbers (type_at types.now a) (type_at types.now b) }
+{
+    match types.form(a) {
+        TypeForm::Int => is_number(types, b),
+        _ => false,
+    }
 }
 
 /// Whether both are `boolean`.
@@ -152,13 +192,15 @@ pub(crate) fn both_boolean(types: &Types, a: TypeId, b: TypeId) -> bool
     is_boolean(types, a) && is_boolean(types, b)
 }
 
-/// Whether they may be compared by `==`: both int, both boolean, or related references.
+/// Whether they may be compared by `==`: both numbers, both boolean, or related references.
 pub(crate) fn are_comparable(types: &Types, members: &Members, a: TypeId, b: TypeId) -> bool
     requires first { a < count types.now }
     requires second { b < count types.now }
     ensures { (files : List Arena) → AreMembers files members.now → result ≡ are_comparable (table_in files) (type_at types.now a) (type_at types.now b) }
 {
-    both_int(types, a, b) || both_boolean(types, a, b) || related_references(types, members, a, b)
+    are_numbers(types, a, b)
+        || both_boolean(types, a, b)
+        || related_references(types, members, a, b)
 }
 
 /// Whether neither is a collection.
@@ -170,13 +212,13 @@ fn no_collections(types: &Types, a: TypeId, b: TypeId) -> bool
     !types.is_collection(a) && !types.is_collection(b)
 }
 
-/// Whether a value of a type may be cast: int to int, boolean to boolean, or related references that are no collections.
+/// Whether a value of a type may be cast: number to number, boolean to boolean, or related references that are no collections.
 pub(crate) fn cast_fits(types: &Types, members: &Members, to: TypeId, from: TypeId) -> bool
     requires to { to < count types.now }
     requires from { from < count types.now }
     ensures { (files : List Arena) → AreMembers files members.now → result ≡ cast_fits (table_in files) (type_at types.now to) (type_at types.now from) }
 {
-    both_int(types, to, from)
+    are_numbers(types, to, from)
         || both_boolean(types, to, from)
         || (related_references(types, members, from, to) && no_collections(types, to, from))
 }

@@ -7,7 +7,7 @@ ghost use Rattle.kr_types_judging.specs.Shown.{IsVerdictWithin, Says, typed_show
 
 use crate::known::{Judgement, Typed};
 use crate::operators::operator_rule;
-use crate::relations::{is_assignable, is_int};
+use crate::relations::{is_assignable, is_number};
 use crate::rules::TypingRule;
 use kr_ast::BinaryOperator;
 use kr_classes_members::Members;
@@ -122,7 +122,7 @@ pub fn step_rule(
     ensures says { Says members.now types.now here result (λ s. rules.step_rule s (typed_shown types.now target) (type_at types.now to)) }
 {
     Judgement::ask(
-        is_int(types, to),
+        is_number(types, to),
         TypingRule::Step,
         written_rule(types, members, here, target, to),
     )

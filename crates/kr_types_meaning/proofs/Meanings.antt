@@ -9,7 +9,8 @@ use Rattle.kr_classes_table.specs.Table.{table_of, class_at, ancestors, fields_o
 use Rattle.kr_classes_table.specs.Nodes.{nodes}
 use Rattle.kr_classes_table.specs.Arrays.{array_types_of, array_number}
 use Rattle.kr_classes_table.specs.Rules.{C6, class_fault}
-use Rattle.kr_classes_table.specs.Constants.{Whole, Truth, is_constant, evaluated, values_of}
+use Rattle.kr_value.specs.declared.value.Value.TheVariants.{Int as Whole, Bool as Truth}
+use Rattle.kr_classes_table.specs.Constants.{is_constant, evaluated, values_of}
 use Rattle.kr_types_meaning.specs.Scopes.{under_minus, LocalName, NoName, meant, meant_by, class_before, method_meant}
 use Rattle.kr_types_meaning.specs.Typing.{judged, type_of, type_fault, refusal, IsWellTyped}
 use Rattle.kr_types_meaning.specs.Texts.{at, list_of, class_rule_at, type_rule_at}

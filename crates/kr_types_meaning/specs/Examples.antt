@@ -9,7 +9,8 @@ use Rattle.kr_ast.specs.Tree.{Tree, Nil, Cons}
 use Rattle.kr_types_meaning.specs.Texts.{at, list_of, class_rule_at, type_rule_at, fault_at}
 use Rattle.kr_types_meaning.specs.Typing.{refusal, type_faults}
 use Rattle.kr_classes_table.specs.Table.{table_of}
-use Rattle.kr_classes_table.specs.Constants.{Whole, Truth as Holds, values_of}
+use Rattle.kr_value.specs.declared.value.Value.TheVariants.{Int as Whole, Bool as Holds}
+use Rattle.kr_classes_table.specs.Constants.{values_of}
 
 -- class A { } class A { }
 abbrev pub c1_two : List Tree

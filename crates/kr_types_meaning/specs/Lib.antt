@@ -1,6 +1,7 @@
 pub mod Handing
 pub mod Scopes
 pub mod Running
+pub mod Promotion
 pub mod Rules
 pub mod Typing
 pub mod Noting

@@ -12,7 +12,8 @@ use Rattle.kr_classes_table.specs.Table.{Table, Class, table_of, class_at, ances
 use Rattle.kr_classes_table.specs.Rules.{C6}
 use Rattle.kr_classes_table.specs.Nodes.{nodes}
 use Rattle.kr_classes_table.specs.Arrays.{array_types_of, array_number}
-use Rattle.kr_classes_table.specs.Constants.{Whole, Truth, values_of}
+use Rattle.kr_value.specs.declared.value.Value.TheVariants.{Int as Whole, Bool as Truth}
+use Rattle.kr_classes_table.specs.Constants.{values_of}
 use Rattle.kr_types_meaning.specs.Scopes.{Scope, LocalName, NoName, scope_of, under_minus, meant, meant_by, class_before, bind_local, method_meant}
 use Rattle.kr_types_meaning.specs.Typing.{type_of, refusal, IsWellTyped}
 use Rattle.kr_types_meaning.specs.Texts.{at, list_of, class_rule_at, type_rule_at}

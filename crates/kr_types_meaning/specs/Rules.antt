@@ -9,6 +9,9 @@ use Rattle.kr_ast.specs.declared.node.BinaryOperator.TheVariants.{Multiply, Divi
 use Rattle.kr_classes_table.specs.Types.{JavaType, IntType, BooleanType, ClassType, ArrayType, SetType, ListType, AppliedType, is_same, is_void, is_collection, is_element, is_reference, is_known}
 use Rattle.kr_classes_table.specs.Table.{Field, Parameter, Method, field_named, method_named, constructor_parameters, is_assignable, are_related}
 use Rattle.kr_classes_table.specs.Constants.{value_at}
+use Rattle.kr_types_meaning.specs.declared.operators.OperatorKind.{OperatorKind}
+use Rattle.kr_types_meaning.specs.declared.operators.OperatorKind.TheVariants.{Arithmetic, Shift, Comparison, Equality, Bitwise, Logical}
+use Rattle.kr_types_meaning.specs.Promotion.{promoted, promoted_alone, is_number, are_numbers}
 use Rattle.kr_types_meaning.specs.Scopes.{Scope, Role, AsStatement, UnderMinus, Part, Code, Ensuring, Declaring, Locals, Fields, Constants, Meant, LocalName, FieldName, NoName, meant, super_class, super_parameters}
 
 -- ---- what is known of a node
@@ -53,9 +56,6 @@ is_int t = is_same t IntType
 
 abbrev pub is_boolean : JavaType → Bool
 is_boolean t = is_same t BooleanType
-
-abbrev pub both_int : JavaType → JavaType → Bool
-both_int a b = is_int a && is_int b
 
 abbrev pub both_boolean : JavaType → JavaType → Bool
 both_boolean a b = is_boolean a && is_boolean b
@@ -121,43 +121,68 @@ name_rule s (LocalName k t) = Fits (variable_of t)
 name_rule s (FieldName f) = if f.is_static then gives f.type else ask (not s.is_static) 5 (Fits (variable_of f.type))
 name_rule s NoName = Breaks 3
 
+-- a value of the type to which operands are promoted
+abbrev pub of_promoted : Option JavaType → ℕ → Judgement
+of_promoted (Some t) r = Fits (Value t)
+of_promoted None r = Breaks r
+
+abbrev pub boolean_if : Bool → ℕ → Judgement
+boolean_if test r = ask test r (Fits (Value BooleanType))
+
 -- T13, T14
 abbrev pub unary_rule : UnaryOperator → JavaType → Judgement
-unary_rule Not a = ask (is_boolean a) 13 (Fits (Value BooleanType))
-unary_rule o a = ask (is_int a) 14 (Fits (Value IntType))
+unary_rule Not a = boolean_if (is_boolean a) 13
+unary_rule o a = of_promoted (promoted_alone a) 14
 
-abbrev pub of_ints : Bool → ℕ → JavaType → Judgement
-of_ints test r t = ask test r (Fits (Value t))
+-- T8: each operand is promoted alone, and the left one's type is given (15.19)
+abbrev pub shift_rule : JavaType → JavaType → Judgement
+shift_rule a b = ask (is_number b) 8 (of_promoted (promoted_alone a) 8)
+
+-- T11: booleans, or numbers (15.22)
+abbrev pub bit_rule : JavaType → JavaType → Judgement
+bit_rule a b = if both_boolean a b then Fits (Value BooleanType) else of_promoted (promoted a b) 11
+
+-- the operators of each rule
+abbrev pub kind_of : BinaryOperator → OperatorKind
+kind_of Multiply = Arithmetic
+kind_of Divide = Arithmetic
+kind_of Remainder = Arithmetic
+kind_of Add = Arithmetic
+kind_of Subtract = Arithmetic
+kind_of ShiftLeft = Shift
+kind_of ShiftRight = Shift
+kind_of ShiftRightUnsigned = Shift
+kind_of Less = Comparison
+kind_of Greater = Comparison
+kind_of LessOrEqual = Comparison
+kind_of GreaterOrEqual = Comparison
+kind_of Equal = Equality
+kind_of NotEqual = Equality
+kind_of BitAnd = Bitwise
+kind_of BitXor = Bitwise
+kind_of BitOr = Bitwise
+kind_of And = Logical
+kind_of Or = Logical
 
 -- T7 to T12
+abbrev pub kind_rule : Scope → OperatorKind → JavaType → JavaType → Judgement
+kind_rule s Arithmetic a b = of_promoted (promoted a b) 7
+kind_rule s Shift a b = shift_rule a b
+kind_rule s Comparison a b = boolean_if (are_numbers a b) 9
+kind_rule s Equality a b = boolean_if (are_numbers a b || both_boolean a b || related_references s a b) 10
+kind_rule s Bitwise a b = bit_rule a b
+kind_rule s Logical a b = boolean_if (both_boolean a b) 12
+
 abbrev pub operator_rule : Scope → BinaryOperator → JavaType → JavaType → Judgement
-operator_rule s Multiply a b = of_ints (both_int a b) 7 IntType
-operator_rule s Divide a b = of_ints (both_int a b) 7 IntType
-operator_rule s Remainder a b = of_ints (both_int a b) 7 IntType
-operator_rule s Add a b = of_ints (both_int a b) 7 IntType
-operator_rule s Subtract a b = of_ints (both_int a b) 7 IntType
-operator_rule s ShiftLeft a b = of_ints (both_int a b) 8 IntType
-operator_rule s ShiftRight a b = of_ints (both_int a b) 8 IntType
-operator_rule s ShiftRightUnsigned a b = of_ints (both_int a b) 8 IntType
-operator_rule s Less a b = of_ints (both_int a b) 9 BooleanType
-operator_rule s Greater a b = of_ints (both_int a b) 9 BooleanType
-operator_rule s LessOrEqual a b = of_ints (both_int a b) 9 BooleanType
-operator_rule s GreaterOrEqual a b = of_ints (both_int a b) 9 BooleanType
-operator_rule s Equal a b = of_ints (both_int a b || both_boolean a b || related_references s a b) 10 BooleanType
-operator_rule s NotEqual a b = of_ints (both_int a b || both_boolean a b || related_references s a b) 10 BooleanType
-operator_rule s BitAnd a b = of_ints (both_int a b || both_boolean a b) 11 a
-operator_rule s BitXor a b = of_ints (both_int a b || both_boolean a b) 11 a
-operator_rule s BitOr a b = of_ints (both_int a b || both_boolean a b) 11 a
-operator_rule s And a b = of_ints (both_boolean a b) 12 BooleanType
-operator_rule s Or a b = of_ints (both_boolean a b) 12 BooleanType
+operator_rule s o a b = kind_rule s (kind_of o) a b
 
 -- T15: a boolean, and arms that are equal or related; the type is the one that is assigned to
 abbrev pub choice_rule : Scope → JavaType → JavaType → JavaType → Judgement
 choice_rule s c a b = ask (is_boolean c && are_related s.table a b) 15 (Fits (Value (if is_assignable s.table a b then b else a)))
 
--- T20: int to int, boolean to boolean, or related references that are no collections
+-- T20: number to number, boolean to boolean, or related references that are no collections
 abbrev pub cast_rule : Scope → JavaType → JavaType → Judgement
-cast_rule s to from = ask (both_int to from || both_boolean to from || (related_references s from to && not (is_collection to) && not (is_collection from))) 20 (Fits (Value to))
+cast_rule s to from = ask (are_numbers to from || both_boolean to from || (related_references s from to && not (is_collection to) && not (is_collection from))) 20 (Fits (Value to))
 
 -- T21: a reference, and a related class or array type
 abbrev pub instance_rule : Scope → JavaType → JavaType → Judgement
@@ -187,7 +212,7 @@ compound_rule s o target to from = ask (not (is_broken (operator_rule s o to fro
 
 -- T18
 abbrev pub step_rule : Scope → Typed → JavaType → Judgement
-step_rule s target to = ask (is_int to) 18 (written_rule s target to)
+step_rule s target to = ask (is_number to) 18 (written_rule s target to)
 
 -- ---- parts of objects and arrays
 

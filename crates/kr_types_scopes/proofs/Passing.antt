@@ -63,18 +63,17 @@ module _ (tree : Arena) (i : ℕ) (e : Entry) (h : IsEntryThere tree i e) (bs : 
         same = λ t v. sym (ap (after (scope_in (setting t v tree) bs from)) (tree_is (nodes.Cons a b) is));
       }
 
-  pub passed_local : (a b : ℕ) (w : Within) → e.node ≡ nodes.Local a b → w ≡ record from { declaring = declarings.Locals; declared = Some a }
-      → IsPassed tree bs bs from (tasks.Pass i) before (tasks.Pass b ∷ before) w
-  passed_local a b w is made =
+  pub passed_local : (a b : ℕ) → e.node ≡ nodes.Local a b → IsPassed tree bs bs from (tasks.Pass i) before (tasks.Pass b ∷ before) (record from { declaring = declarings.Locals; declared = Some a })
+  passed_local a b is =
       let p = parts_are (nodes.Local a b) is in
-      rw made (record {
+      record {
         own = tasks.Pass b ∷ [];
         tasks_are = refl;
         within = (omega (arith, p.1.0.below, h.within), tt);
         light = omega (arith, size_is (nodes.Local a b) is);
         step = stay (record from { declaring = declarings.Locals; declared = Some a }) top;
         same = λ t v. sym (ap (after (scope_in (setting t v tree) bs from)) (tree_is (nodes.Local a b) is));
-      })
+      }
 
   pub passed_signature : (a b c : ℕ) → e.node ≡ nodes.Signature a b c → IsPassed tree bs bs from (tasks.Pass i) before (tasks.Pass b ∷ tasks.SetResult a ∷ before) from
   passed_signature a b c is =
@@ -123,17 +122,15 @@ module _ (tree : Arena) (i : ℕ) (e : Entry) (h : IsEntryThere tree i e) (bs : 
       → bind_local (name_in tree.text x) (type_there (setting t v tree) (Some a)) (scope_in (setting t v tree) bs from) ≡ after (scope_in (setting t v tree) bs from) (tree_in tree i)
   parameter_is a x is t v = sym (ap (after (scope_in (setting t v tree) bs from)) (tree_is (nodes.Parameter a x) is))
 
-pub passed_result : (tree : Arena) (bs : List Binding) (from : Within) (before : List Task) → IsChain bs → from.top ≤ length bs → (r : ℕ) (w : Within) → w ≡ record from { result = Some r }
-    → IsPassed tree bs bs from (tasks.SetResult r) before before w
-passed_result tree bs from before chain top r w made =
-    rw made (record {
-      own = [];
-      tasks_are = refl;
-      within = tt;
-      light = omega arith;
-      step = step_same tree bs (record from { result = Some r }) (λ g. scope_in g bs (record from { result = Some r })) chain top (λ t v. refl);
-      same = λ t v. refl;
-    })
+pub passed_result : (tree : Arena) (bs : List Binding) (from : Within) (before : List Task) → IsChain bs → from.top ≤ length bs → (r : ℕ) → IsPassed tree bs bs from (tasks.SetResult r) before before (record from { result = Some r })
+passed_result tree bs from before chain top r = record {
+  own = [];
+  tasks_are = refl;
+  within = tt;
+  light = omega arith;
+  step = step_same tree bs (record from { result = Some r }) (λ g. scope_in g bs (record from { result = Some r })) chain top (λ t v. refl);
+  same = λ t v. refl;
+}
 
 -- how far it has come
 pub record IsUnderWay (tree : Arena) (old bs : List Binding) (scope from : Within) (node : ℕ) (ts : List Task) : Type 0 where

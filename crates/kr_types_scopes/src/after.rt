@@ -1,5 +1,5 @@
 // The scope behind a node: what it declares is in scope for what follows.
-ghost use Rattle.std.specs.Prelude.{◌≡◌, ◌≤◌, ◌<◌, [], length, IfOk};
+ghost use Rattle.std.specs.Prelude.{◌≡◌, ◌≤◌, ◌<◌, [], length, OnOk};
 ghost use Rattle.kr_ast.specs.Arena.{tree_in};
 ghost use Rattle.kr_types_meaning.specs.Scopes.{after};
 ghost use Rattle.kr_types_scopes.specs.Settings.{IsChain, scope_in};
@@ -17,26 +17,28 @@ fn pass_node(
     tree: &Tree,
     bindings: &mut Vec<Binding>,
     tasks: &mut Tasks,
-    from: Within,
+    here: &mut Within,
     node: u32,
-) -> Result<Within, NoMemory>
+) -> Result<(), NoMemory>
     requires at { node < length tree.now.entries }
-    requires top { from.top ≤ length bindings.old.items }
+    requires top { here.old.top ≤ length bindings.old.items }
     requires chain { IsChain bindings.old.items }
-    ensures { IfOk result (IsPassed tree.now bindings.old.items bindings.new.items from (Pass node) tasks.old tasks.new) }
+    ensures { OnOk result (IsPassed tree.now bindings.old.items bindings.new.items here.old (Pass node) tasks.old tasks.new here.new) }
 {
     match tree.entry(node).node {
         Node::Cons { first, rest } => {
             tasks.push(Task::Pass(rest))?;
             tasks.push(Task::Pass(first))?;
-            Ok(from)
+            Ok(())
         }
         Node::Local {
             declared,
             declarators,
         } => {
+            here.declaring = Declaring::Locals;
+            here.declared = Some(declared);
             tasks.push(Task::Pass(declarators))?;
-            Ok(from.with_declared(Declaring::Locals, declared))
+            Ok(())
         }
         Node::Signature {
             result,
@@ -45,11 +47,11 @@ fn pass_node(
         } => {
             tasks.push(Task::SetResult(result))?;
             tasks.push(Task::Pass(parameters))?;
-            Ok(from)
+            Ok(())
         }
-        Node::Declarator { name, .. } => bind_declared(tree, bindings, from, name),
-        Node::Parameter { declared, name } => bind(tree, bindings, from, name, Some(declared)),
-        _ => Ok(from),
+        Node::Declarator { name, .. } => bind_declared(tree, bindings, here, name),
+        Node::Parameter { declared, name } => bind(tree, bindings, here, name, Some(declared)),
+        _ => Ok(()),
     }
 }
 
@@ -58,40 +60,66 @@ fn pass(
     tree: &Tree,
     bindings: &mut Vec<Binding>,
     tasks: &mut Tasks,
-    from: Within,
+    here: &mut Within,
     task: Task,
-) -> Result<Within, NoMemory>
+) -> Result<(), NoMemory>
     requires at { node_of task < length tree.now.entries }
-    requires top { from.top ≤ length bindings.old.items }
+    requires top { here.old.top ≤ length bindings.old.items }
     requires chain { IsChain bindings.old.items }
-    ensures { IfOk result (IsPassed tree.now bindings.old.items bindings.new.items from task tasks.old tasks.new) }
+    ensures { OnOk result (IsPassed tree.now bindings.old.items bindings.new.items here.old task tasks.old tasks.new here.new) }
 {
     match task {
-        Task::Pass(node) => pass_node(tree, bindings, tasks, from, node),
-        Task::SetResult(result) => Ok(from.with_result(result)),
+        Task::Pass(node) => pass_node(tree, bindings, tasks, here, node),
+        Task::SetResult(result) => {
+            here.result = Some(result);
+            Ok(())
+        }
     }
 }
 
-/// The scope behind a node.
+/// Makes a scope the one behind a node, part by part.
+fn walk(
+    tree: &Tree,
+    bindings: &mut Vec<Binding>,
+    tasks: &mut Tasks,
+    here: &mut Within,
+    node: u32,
+) -> Result<(), NoMemory>
+    requires at { node < length tree.now.entries }
+    requires top { here.old.top ≤ length bindings.old.items }
+    requires chain { IsChain bindings.old.items }
+    requires none { tasks.old ≡ [] }
+    ensures made { OnOk result (IsStep tree.now bindings.old.items bindings.new.items here.new (λ g. after (scope_in g bindings.old.items here.old) (tree_in g.tree node))) }
+    ensures none { OnOk result (tasks.new ≡ []) }
+{
+    pass_node(tree, bindings, tasks, here, node)?;
+    while let Some(task) = tasks.pop() {
+        pass(tree, bindings, tasks, here, task)?;
+    }
+    Ok(())
+}
+
+/// Makes a scope the one behind a node: most nodes leave it as it is.
 pub fn after(
     tree: &Tree,
     bindings: &mut Vec<Binding>,
     tasks: &mut Tasks,
-    from: Within,
+    here: &mut Within,
     node: u32,
-) -> Result<Within, NoMemory>
+) -> Result<(), NoMemory>
     requires at { node < length tree.now.entries }
-    requires top { from.top ≤ length bindings.old.items }
+    requires top { here.old.top ≤ length bindings.old.items }
     requires chain { IsChain bindings.old.items }
     requires none { tasks.old ≡ [] }
-    ensures made { IfOk result (λ w. IsStep tree.now bindings.old.items bindings.new.items w (λ g. after (scope_in g bindings.old.items from) (tree_in g.tree node))) }
-    ensures none { IfOk result (λ w. tasks.new ≡ []) }
+    ensures made { OnOk result (IsStep tree.now bindings.old.items bindings.new.items here.new (λ g. after (scope_in g bindings.old.items here.old) (tree_in g.tree node))) }
+    ensures none { OnOk result (tasks.new ≡ []) }
 {
-    let mut scope = from;
-    tasks.push(Task::Pass(node))?;
-    while let Some(task) = tasks.pop() {
-        let next = pass(tree, bindings, tasks, scope, task)?;
-        scope = next;
+    match tree.entry(node).node {
+        Node::Cons { .. } => walk(tree, bindings, tasks, here, node),
+        Node::Local { .. } => walk(tree, bindings, tasks, here, node),
+        Node::Signature { .. } => walk(tree, bindings, tasks, here, node),
+        Node::Declarator { .. } => walk(tree, bindings, tasks, here, node),
+        Node::Parameter { .. } => walk(tree, bindings, tasks, here, node),
+        _ => Ok(()),
     }
-    Ok(scope)
 }

@@ -9,7 +9,7 @@ ghost use Rattle.kr_types_scopes.specs.declared.within.Binding.{Binding};
 ghost use Rattle.kr_types_scopes.specs.declared.change.Change.TheVariants.{DeclaresFields};
 ghost use Rattle.kr_types_scopes.specs.Changes.{first_change, operand_change, rest_change, changed};
 
-use crate::{Declaring, Part, Within};
+use crate::{Declaring, Part, Role, Within};
 use kr_ast::{Node, UnaryOperator};
 
 /// What is different in the scope of a part.
@@ -114,33 +114,46 @@ fn field_kind(is_static: bool, is_final: bool) -> Declaring
     }
 }
 
-/// The scope of a field's declarators.
-fn of_field(up: Within, is_static: bool, is_final: bool, declared: u32) -> Within
-    ensures top { result.top ≡ up.top }
-    ensures scope { (t : Table) (v : List Known) (a : Arena) (bs : List Binding) → scope_in (setting t v a) bs result ≡ changed (setting t v a) 0 (scope_in (setting t v a) bs up) (DeclaresFields is_static is_final declared) }
+/// Makes a scope that of a field's declarators.
+fn declare_fields(here: &mut Within, is_static: bool, is_final: bool, declared: u32)
+    ensures top { here.new.top ≡ here.old.top }
+    ensures scope { (t : Table) (v : List Known) (a : Arena) (bs : List Binding) → scope_in (setting t v a) bs here.new ≡ changed (setting t v a) 0 (scope_in (setting t v a) bs here.old) (DeclaresFields is_static is_final declared) }
 {
-    let kind = field_kind(is_static, is_final);
-    up.with_declared(kind, declared).static_if(is_static)
+    here.declaring = field_kind(is_static, is_final);
+    here.declared = Some(declared);
+    here.is_static = is_static;
 }
 
-/// The scope with a change, of a part of the node at an index.
-pub fn apply(up: Within, at: u32, change: Change) -> Within
-    ensures top { result.top ≤ up.top }
-    ensures scope { (t : Table) (v : List Known) (a : Arena) (bs : List Binding) → scope_in (setting t v a) bs result ≡ changed (setting t v a) at (scope_in (setting t v a) bs up) change }
+/// Makes a change to a scope, for a part of the node at an index.
+pub fn apply(here: &mut Within, at: u32, change: Change)
+    ensures top { here.new.top ≤ here.old.top }
+    ensures scope { (t : Table) (v : List Known) (a : Arena) (bs : List Binding) → scope_in (setting t v a) bs here.new ≡ changed (setting t v a) at (scope_in (setting t v a) bs here.old) change }
 {
     match change {
-        Change::Same => up,
-        Change::Value => up.value(),
-        Change::Statement => up.statement(),
-        Change::UnderMinus => up.under_minus(),
-        Change::InLoop => up.in_loop(),
-        Change::InOld => up.in_old(),
-        Change::Requiring => up.in_contract(Part::Requiring),
-        Change::Ensuring => up.in_contract(Part::Ensuring),
-        Change::DeclaresLocals(declared) => up.with_declared(Declaring::Locals, declared),
-        Change::DeclaresFields(is_static, is_final, declared) => {
-            of_field(up, is_static, is_final, declared)
+        Change::Same => {}
+        Change::Value => here.role = Role::AsValue,
+        Change::Statement => here.role = Role::AsStatement,
+        Change::UnderMinus => here.role = Role::UnderMinus,
+        Change::InLoop => here.is_in_loop = true,
+        Change::InOld => {
+            here.is_in_old = true;
+            here.role = Role::AsValue;
         }
-        Change::InClass => Within::in_class(at),
+        Change::Requiring => {
+            here.part = Part::Requiring;
+            here.role = Role::AsValue;
+        }
+        Change::Ensuring => {
+            here.part = Part::Ensuring;
+            here.role = Role::AsValue;
+        }
+        Change::DeclaresLocals(declared) => {
+            here.declaring = Declaring::Locals;
+            here.declared = Some(declared);
+        }
+        Change::DeclaresFields(is_static, is_final, declared) => {
+            declare_fields(here, is_static, is_final, declared)
+        }
+        Change::InClass => *here = Within::in_class(at),
     }
 }

@@ -1,5 +1,5 @@
 // The scopes of all nodes of a tree, from the last to the first: each from that of the node that it is a part of.
-ghost use Rattle.std.specs.Prelude.{◌≡◌, ℕ, ◌+◌, ◌≤◌, ◌<◌, [], length, slice_get, slice_index_or, Some, IfOk, IfSome, IfNone};
+ghost use Rattle.std.specs.Prelude.{◌≡◌, ℕ, ◌+◌, ◌≤◌, ◌<◌, [], length, slice_get, slice_index_or, Some, IfOk, IfSome, IfNone, OnOk};
 ghost use Rattle.kr_ast.specs.Arena.{IsArena};
 ghost use Rattle.kr_types_scopes.specs.Settings.{IsChain};
 ghost use Rattle.kr_types_scopes.specs.Scoped.{nowhere, AreScopes, IsHanded};
@@ -27,20 +27,21 @@ fn from_above(
     within: &Vec<Within>,
     bindings: &mut Vec<Binding>,
     tasks: &mut Tasks,
+    here: &mut Within,
     at: u32,
-) -> Result<Within, NoMemory>
+) -> Result<(), NoMemory>
     requires arena { IsArena tree.now.text tree.now.entries }
     requires at { at + 1 < length tree.now.entries }
     requires long { length within.now.items ≡ length tree.now.entries }
     requires tops { (k : ℕ) → (slice_index_or within.now.items k nowhere).top ≤ length bindings.old.items }
     requires chain { IsChain bindings.old.items }
     requires none { tasks.old ≡ [] }
-    ensures made { IfOk result (IsHanded tree.now bindings.old.items bindings.new.items within.now.items at) }
-    ensures none { IfOk result (λ w. tasks.new ≡ []) }
+    ensures made { OnOk result (IsHanded tree.now bindings.old.items bindings.new.items within.now.items at here.new) }
+    ensures none { OnOk result (tasks.new ≡ []) }
 {
     let entry = tree.entry(at);
-    let up = within[entry.parent as usize];
-    hand_on(tree, bindings, tasks, up, entry.parent, entry.position)
+    *here = within[entry.parent as usize];
+    hand_on(tree, bindings, tasks, here, entry.parent, entry.position)
 }
 
 impl Scopes {
@@ -55,7 +56,8 @@ impl Scopes {
         let mut at = nodes - 1;
         while at > 0 {
             at -= 1;
-            let here = from_above(tree, &within, &mut bindings, &mut tasks, at)?;
+            let mut here = Within::outside();
+            from_above(tree, &within, &mut bindings, &mut tasks, &mut here, at)?;
             within[at as usize] = here;
         }
         Ok(Scopes { bindings, within })

@@ -1,8 +1,5 @@
 // What is kept of a scope.
-ghost use Rattle.std.specs.Prelude.{◌≡◌, true, false, None, Some};
-ghost use Rattle.kr_types_scopes.specs.declared.within.Part.TheVariants.{Code};
-ghost use Rattle.kr_types_scopes.specs.declared.within.Role.TheVariants.{AsValue, AsStatement, UnderMinus};
-ghost use Rattle.kr_types_scopes.specs.declared.within.Declaring.TheVariants.{Fields};
+ghost use Rattle.std.specs.Prelude.{◌≡◌, None, Some};
 ghost use Rattle.kr_types_scopes.specs.Scoped.{nowhere};
 
 use kr_ast::Name;
@@ -82,90 +79,6 @@ impl Within {
     {
         let mut made = Within::outside();
         made.class = Some(class);
-        made
-    }
-
-    /// Likewise, where it stands for a value.
-    pub fn value(self) -> Within
-        ensures { result ≡ record self { role = AsValue } }
-    {
-        let mut made = self;
-        made.role = Role::AsValue;
-        made
-    }
-
-    /// Likewise, where it stands for a statement.
-    pub(crate) fn statement(self) -> Within
-        ensures { result ≡ record self { role = AsStatement } }
-    {
-        let mut made = self;
-        made.role = Role::AsStatement;
-        made
-    }
-
-    /// Likewise, under a unary minus.
-    pub(crate) fn under_minus(self) -> Within
-        ensures { result ≡ record self { role = UnderMinus } }
-    {
-        let mut made = self;
-        made.role = Role::UnderMinus;
-        made
-    }
-
-    /// Likewise, in a loop.
-    pub(crate) fn in_loop(self) -> Within
-        ensures { result ≡ record self { is_in_loop = true } }
-    {
-        let mut made = self;
-        made.is_in_loop = true;
-        made
-    }
-
-    /// Likewise, in `\old(..)`.
-    pub(crate) fn in_old(self) -> Within
-        ensures { result ≡ record self { is_in_old = true; role = AsValue } }
-    {
-        let mut made = self;
-        made.is_in_old = true;
-        made.role = Role::AsValue;
-        made
-    }
-
-    /// Likewise, in a contract of this kind.
-    pub(crate) fn in_contract(self, part: Part) -> Within
-        ensures { result ≡ record self { part = part; role = AsValue } }
-    {
-        let mut made = self;
-        made.part = part;
-        made.role = Role::AsValue;
-        made
-    }
-
-    /// Likewise, in static code or not.
-    pub(crate) fn static_if(self, is_static: bool) -> Within
-        ensures { result ≡ record self { is_static = is_static } }
-    {
-        let mut made = self;
-        made.is_static = is_static;
-        made
-    }
-
-    /// Likewise, of a method with this result type.
-    pub(crate) fn with_result(self, result_type: u32) -> Within
-        ensures { result ≡ record self { result = Some result_type } }
-    {
-        let mut made = self;
-        made.result = Some(result_type);
-        made
-    }
-
-    /// Likewise, where declarators declare this, of the type of a node.
-    pub(crate) fn with_declared(self, declaring: Declaring, declared: u32) -> Within
-        ensures { result ≡ record self { declaring = declaring; declared = Some declared } }
-    {
-        let mut made = self;
-        made.declaring = declaring;
-        made.declared = Some(declared);
         made
     }
 }

@@ -2,8 +2,6 @@
 use Rattle.std.proofs.Common.{◌≡◌, ◌∙◌, refl, ap, ℕ, List, Bool}
 use Rattle.std.specs.Prelude.{Option, Some, None, is_some, if◌then◌else◌, ◌&&◌}
 use Rattle.kr_base.specs.declared.place.Place.{Place}
-use Rattle.kr_classes_operators.specs.declared.constant.Constant.{Constant}
-use Rattle.kr_classes_operators.specs.Shown.{shown}
 use Rattle.kr_classes_table.specs.Types.{JavaType, is_known}
 use Rattle.kr_classes_table.specs.Table.{Table}
 use Rattle.kr_classes_table.specs.Constants.{value_at}
@@ -38,7 +36,3 @@ said_likewise t o v d e x y new old has had said a b f g =
     ∙ ap (λ (w : JavaType). with_maybe (declares t e w new has) o) b
     ∙ ap (λ (w : Bool). with_maybe (declares t e y w has) o) f
     ∙ ap (λ (w : Bool). with_maybe (declares t e y old w) o) g
-
-pub some_shown : (o : Option Constant) → is_some (shown o) ≡ is_some o
-some_shown None = refl
-some_shown (Some k) = refl

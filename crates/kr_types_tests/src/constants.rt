@@ -7,7 +7,7 @@ use kr_base::{NoMemory, Place};
 use kr_classes_constants::Values;
 use kr_classes_members::Members;
 use kr_classes_names::Heads;
-use kr_classes_operators::Constant;
+use kr_value::Value;
 use std::alloc::Global;
 
 fn place(file: u32, col: u32) -> Place {
@@ -16,9 +16,9 @@ fn place(file: u32, col: u32) -> Place {
 
 fn values_fit(values: &Values, members: &Members) -> bool {
     let half = members.field_meant(0, b"VALUE");
-    values.value_at(place(0, 31)) == Some(Constant::Int(3))
+    values.value_at(place(0, 31)) == Some(Value::Int(3))
         && values.value_at(place(1, 31)).is_none()
-        && values.value_of(half) == Some(Constant::Int(3))
+        && values.value_of(half) == Some(Value::Int(3))
 }
 
 /// The half of 7, and 7 by 0.

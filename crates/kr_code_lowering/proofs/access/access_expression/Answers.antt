@@ -1,12 +1,11 @@
 use Rattle.std.proofs.Common.{◌≡◌, sym, ap, ◌∙◌, subst, ℕ, List, Some, arith}
-use Rattle.std.specs.Prelude.{slice_get, option_map}
+use Rattle.std.specs.Prelude.{slice_get}
 use Rattle.kr_ast.specs.Tree.{Tree}
 use Rattle.kr_ast.specs.Arena.{name_in}
 use Rattle.kr_ast.specs.declared.node.Node.TheVariants.{FieldAccess}
 use Rattle.kr_classes_table.specs.Table.{Table}
 use Rattle.kr_classes_table.specs.Constants.{Known, constant_of, known_value, values_of}
 use Rattle.kr_types_meaning.specs.Handing.{handed}
-use Rattle.kr_mean.specs.Operators.{value_of_constant}
 use Rattle.kr_space_problem.specs.Posed.{table}
 use Rattle.kr_code_lowering.specs.Sites.{Resolves, arena_at, scope_at}
 use Rattle.kr_code_lowering.proofs.Parts.{part_scope, small_number, tree_is}
@@ -35,7 +34,7 @@ returns-in-Some-clause-resolves c = λ arrays links.
     let k = c.in-Some.field-0 in
     let x = name_in (arena_at p s).text c.args.name in
     let class = sym c.class_before.ensures ∙ c.in-Some.is in
-    let same = ap (λ (ks : List Known). option_map value_of_constant (known_value ks (constant_of (scope_at p s).table (Some k) x))) v ∙ (ap (λ (w : Table). option_map value_of_constant (known_value (values_of (table p)) (constant_of w (Some k) x))) t ∙ sym (c.class_constant.ensures k class)) in
+    let same = ap (λ (ks : List Known). known_value ks (constant_of (scope_at p s).table (Some k) x)) v ∙ (ap (λ (w : Table). known_value (values_of (table p)) (constant_of w (Some k) x)) t ∙ sym (c.class_constant.ensures k class)) in
     subst (Resolves p arrays s c.args.names.now links) (sym c.literal.ensures) (class_constant_resolves p c.requires.program arrays s c.args.entry c.args.object c.args.name c.requires.here c.requires.node c.args.names.now links k c.class_constant.result class same)
 
 pub returns-in_ok-number-in-None-clause-resolves : goal.returns-in_ok-number-in-None-clause-resolves

@@ -2,7 +2,6 @@ use Rattle.std.proofs.Common.{sym, ap, ◌∙◌, subst, ℕ, ◌<◌, length}
 use Rattle.std.specs.Prelude.{Option, IfSome, option_map}
 use Rattle.kr_classes_table.specs.Table.{Field}
 use Rattle.kr_classes_table.specs.Constants.{known_value, values_of}
-use Rattle.kr_mean.specs.Operators.{value_of_constant}
 use Rattle.kr_classes_roster.specs.Rosters.{all_fields, field_numbered}
 use Rattle.kr_space_problem.specs.Posed.{table}
 use Rattle.kr_code_lowering.proofs.Read.{constant_found}
@@ -17,7 +16,7 @@ pub returns-in-None : goal.returns-in-None
 returns-in-None c = λ class before.
     let p = c.args.program.now in
     let t = table p in
-    ap (λ (o : Option Field). option_map value_of_constant (known_value (values_of t) o))
+    ap (λ (o : Option Field). known_value (values_of t) o)
     (sym (ap (option_map (field_numbered t)) c.in-None.is) ∙ (c.constant.ensures.shown t ∙ constant_found p c.args.site c.args._entry c.requires.here c.meaning_at.result c.meaning_at.ensures c.args._object c.args._name c.requires.node class before))
 
 pub returns-in-Some : goal.returns-in-Some
@@ -25,5 +24,5 @@ returns-in-Some c = λ class before.
     let p = c.args.program.now in
     let t = table p in
     c.constant_value.ensures
-    ∙ ap (λ (o : Option Field). option_map value_of_constant (known_value (values_of t) o))
+    ∙ ap (λ (o : Option Field). known_value (values_of t) o)
     (sym (ap (option_map (field_numbered t)) c.in-Some.is) ∙ (c.constant.ensures.shown t ∙ constant_found p c.args.site c.args._entry c.requires.here c.meaning_at.result c.meaning_at.ensures c.args._object c.args._name c.requires.node class before))

@@ -1,4 +1,4 @@
-use Rattle.std.proofs.Common.{sym, ap, ◌∙◌}
+use Rattle.std.proofs.Common.{ap, ◌∙◌}
 use Rattle.kr_types_meaning.specs.Scopes.{Scope, class_before}
 use Rattle.kr_types_resolving.specs.Meanings.{class_meant, object_type}
 use Rattle.kr_types_resolving.proofs.Before.{before_meant, before_value}

@@ -1,4 +1,4 @@
-use Rattle.std.proofs.Common.{subst, ◌<◌, length}
+use Rattle.std.proofs.Common.{subst}
 use Rattle.kr_types_resolving.specs.Shown.{IsMeaningWithin}
 use Rattle.kr_space_problem.specs.Posed.{table}
 use Rattle.kr_code_lowering.proofs.Read.{constant_named, local_named, nothing_named, own_named}

@@ -1,8 +1,8 @@
-use Rattle.std.proofs.Common.{[]}
+use Rattle.std.proofs.Common.{[], None}
 use Rattle.kr_pool.proofs.listing.list_traced.Given as goal
 
 abbrev pub ghosts-list_on-N-Run : goal.ghosts-list_on-N-Run
-ghosts-list_on-N-Run g a = record { all = g.S.Survey.all a.survey.now; span = a.span; cuts = a.cuts.now; opening = [] }
+ghosts-list_on-N-Run g a = record { all = g.S.Survey.all a.survey.now; span = a.span; cuts = a.cuts.now; opening = []; window = None }
 
 abbrev pub ghosts-list_on-N-Crew : goal.ghosts-list_on-N-Crew
 ghosts-list_on-N-Crew g a = record { workers = a.workers }

@@ -1,8 +1,8 @@
-use Rattle.std.proofs.Common.{[]}
+use Rattle.std.proofs.Common.{[], Some}
 use Rattle.kr_pool_tests.proofs.rounds.make_handed.Given as goal
 
 abbrev pub ghosts-hand_out-N-Run : goal.ghosts-hand_out-N-Run
-ghosts-hand_out-N-Run g a = record { all = g.S.Survey.all a.survey.now; span = a.span; cuts = a.cuts.now; opening = [] }
+ghosts-hand_out-N-Run g a = record { all = g.S.Survey.all a.survey.now; span = a.span; cuts = a.cuts.now; opening = []; window = Some a.window }
 
 abbrev pub ghosts-hand_out-N-Crew : goal.ghosts-hand_out-N-Crew
 ghosts-hand_out-N-Crew g a = record { workers = a.workers }

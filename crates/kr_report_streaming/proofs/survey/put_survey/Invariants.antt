@@ -1,8 +1,8 @@
-use Rattle.std.proofs.Common.{[]}
+use Rattle.std.proofs.Common.{[], Some}
 use Rattle.kr_report_streaming.proofs.survey.put_survey.Given as goal
 
 abbrev pub ghosts-put_on-N-Run : goal.ghosts-put_on-N-Run
-ghosts-put_on-N-Run g a = record { all = g.S.Survey.all a.survey.now; span = a.span; cuts = a.cuts.now; opening = [] }
+ghosts-put_on-N-Run g a = record { all = g.S.Survey.all a.survey.now; span = a.span; cuts = a.cuts.now; opening = []; window = Some a.window }
 
 abbrev pub ghosts-put_on-N-Crew : goal.ghosts-put_on-N-Crew
 ghosts-put_on-N-Crew g a = record { workers = a.workers }

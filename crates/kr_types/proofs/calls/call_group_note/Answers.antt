@@ -1,4 +1,4 @@
-use Rattle.std.proofs.Common.{refl, ap, ◌∙◌, length}
+use Rattle.std.proofs.Common.{refl, ap, ◌∙◌}
 use Rattle.std.specs.Prelude.{Option}
 use Rattle.kr_ast.specs.Arena.{name_in}
 use Rattle.kr_classes_table.specs.Table.{Method}
@@ -6,11 +6,12 @@ use Rattle.kr_classes_members.specs.Shown.{table_in}
 use Rattle.kr_types_meaning.specs.Rules as rules
 use Rattle.kr_types_meaning.specs.Scopes.{method_meant}
 use Rattle.kr_types_meaning.specs.Noting as noting
+use Rattle.kr_types_scopes.specs.declared.within.Within.{Within}
 use Rattle.kr_types_judging.specs.Shown.{note_shown}
 use Rattle.kr_types_expressions.specs.Notes.{shown_notes, typed_in}
 use Rattle.kr_types.specs.Programs.{setting_in}
 use Rattle.kr_types.specs.Sites.{scope_here, tree_there}
-use Rattle.kr_types.proofs.Making.{made_if}
+use Rattle.kr_types.proofs.Making.{of_if}
 use Rattle.kr_types.proofs.Meant.{own_found, super_found}
 use Rattle.kr_types.proofs.calls.call_group_note.Goals as goal
 
@@ -25,52 +26,49 @@ returns-in-Call c =
     let s = c.args.site.now in
     let l = c.args.types.now in
     let ns = c.args.notes.now in
-    let look = typed_in l ns in
-    let here = scope_here s c.args.spot.here in
     let p = c.args.spot.place in
-    let t = table_in s.trees.now in
+    let w = c.here.result in
     let n = name_in (tree_there s).text c.in-Call.name in
-    let found = c.method_at.ensures.shown ∙ (c.method.ensures.shown t ∙ own_found s (shown_notes l ns) c.args.spot.at p c.args.spot.node c.args.spot.here c.args.meaning c.requires.spot.tree c.requires.spot.here c.requires.meant c.in-Call.name c.in-Call.arguments c.in-Call.is) in
-    made_if c.call_note.result _ s l ns (length ns) here p _ _ c.in-Call.is c.call_note.ensures.within c.call_note.ensures.no_rest c.call_note.ensures.shown
+    let found = c.method_at.ensures.shown ∙ (c.method.ensures.shown (table_in s.trees.now) ∙ own_found s (shown_notes l ns) c.args.spot.at p c.args.spot.node w c.args.meaning c.requires.spot.tree c.here.ensures c.requires.meant c.in-Call.name c.in-Call.arguments c.in-Call.is) in
+    of_if s l ns c.args.spot c.call_note.result _ (λ v. noting.list p (rules.call_rule v (method_meant v n)) (noting.note_at (shown_notes l ns) c.in-Call.arguments)) _ _ c.here.ensures c.in-Call.is c.call_note.ensures.within c.call_note.ensures.no_rest c.call_note.ensures.shown
     (λ made h. h (setting_in s.trees.now s.file) s.scopes.now.bindings.items refl
-    ∙ ap (λ (m : Option Method). noting.list p (rules.call_rule here m) (note_shown l look c.part_note.result)) found
-    ∙ ap (λ (x : noting.Note). noting.list p (rules.call_rule here (method_meant here n)) x) c.part_note.ensures.shown)
+    ∙ ap (λ (m : Option Method). noting.list p (rules.call_rule (scope_here s w) m) (note_shown l (typed_in l ns) c.part_note.result)) found
+    ∙ ap (noting.list p (rules.call_rule (scope_here s w) (method_meant (scope_here s w) n))) c.part_note.ensures.shown) refl
 
 pub returns-in-SuperCall : goal.returns-in-SuperCall
 returns-in-SuperCall c =
     let s = c.args.site.now in
     let l = c.args.types.now in
     let ns = c.args.notes.now in
-    let here = scope_here s c.args.spot.here in
     let p = c.args.spot.place in
-    let t = table_in s.trees.now in
+    let w = c.here-in-SuperCall.result in
     let n = name_in (tree_there s).text c.in-SuperCall.name in
-    let found = c.method_at-in-SuperCall.ensures.shown ∙ (c.super_method.ensures.shown t ∙ super_found s (shown_notes l ns) c.args.spot.at p c.args.spot.node c.args.spot.here c.args.meaning c.requires.spot.tree c.requires.spot.here c.requires.meant c.in-SuperCall.name c.in-SuperCall.arguments c.in-SuperCall.is) in
-    made_if c.super_call_note.result _ s l ns (length ns) here p _ _ c.in-SuperCall.is c.super_call_note.ensures.within c.super_call_note.ensures.no_rest c.super_call_note.ensures.shown
+    let found = c.method_at-in-SuperCall.ensures.shown ∙ (c.super_method.ensures.shown (table_in s.trees.now) ∙ super_found s (shown_notes l ns) c.args.spot.at p c.args.spot.node w c.args.meaning c.requires.spot.tree c.here-in-SuperCall.ensures c.requires.meant c.in-SuperCall.name c.in-SuperCall.arguments c.in-SuperCall.is) in
+    of_if s l ns c.args.spot c.super_call_note.result _ (λ v. noting.list p (rules.super_rule v n) (noting.note_at (shown_notes l ns) c.in-SuperCall.arguments)) _ _ c.here-in-SuperCall.ensures c.in-SuperCall.is c.super_call_note.ensures.within c.super_call_note.ensures.no_rest c.super_call_note.ensures.shown
     (λ made h. h (setting_in s.trees.now s.file) s.scopes.now.bindings.items n refl found
-    ∙ ap (λ (x : noting.Note). noting.list p (rules.super_rule here n) x) c.part_note-in-SuperCall.ensures.shown)
+    ∙ ap (noting.list p (rules.super_rule (scope_here s w) n)) c.part_note-in-SuperCall.ensures.shown) refl
 
 pub returns-in-ConstructorCall : goal.returns-in-ConstructorCall
 returns-in-ConstructorCall c =
     let s = c.args.site.now in
     let l = c.args.types.now in
     let ns = c.args.notes.now in
-    let here = scope_here s c.args.spot.here in
     let p = c.args.spot.place in
-    made_if c.constructor_call_note.result _ s l ns (length ns) here p _ _ c.in-ConstructorCall.is c.constructor_call_note.ensures.within c.constructor_call_note.ensures.no_rest c.constructor_call_note.ensures.shown
-    (λ made h. h (setting_in s.trees.now s.file) s.scopes.now.bindings.items refl c.requires.site.single c.requires.spot.class
-    ∙ ap (λ (x : noting.Note). noting.list p (rules.super_constructor_rule here) x) c.part_note-in-ConstructorCall.ensures.shown)
+    let at = c.here-in-ConstructorCall.ensures in
+    let class = ap (λ (w : Within). (scope_here s w).class) at ∙ c.requires.class in
+    of_if s l ns c.args.spot c.constructor_call_note.result _ (λ v. noting.list p (rules.super_constructor_rule v) (noting.note_at (shown_notes l ns) c.in-ConstructorCall.arguments)) _ _ at c.in-ConstructorCall.is c.constructor_call_note.ensures.within c.constructor_call_note.ensures.no_rest c.constructor_call_note.ensures.shown
+    (λ made h. h (setting_in s.trees.now s.file) s.scopes.now.bindings.items refl c.requires.site.single class
+    ∙ ap (noting.list p (rules.super_constructor_rule (scope_here s c.here-in-ConstructorCall.result))) c.part_note-in-ConstructorCall.ensures.shown) refl
 
 pub returns-in-ObjectCreation : goal.returns-in-ObjectCreation
 returns-in-ObjectCreation c =
     let s = c.args.site.now in
     let l = c.args.types.now in
     let ns = c.args.notes.now in
-    let look = typed_in l ns in
-    let here = scope_here s c.args.spot.here in
     let p = c.args.spot.place in
-    let f = rules.creation_rule here in
-    made_if c.creation_note.result _ s l ns (length ns) here p _ _ c.in-ObjectCreation.is c.creation_note.ensures.within c.creation_note.ensures.no_rest c.creation_note.ensures.shown
+    let of = noting.note_at (shown_notes l ns) in
+    let f = noting.one_and_list p (rules.creation_rule (scope_here s c.here-in-ObjectCreation.result)) in
+    of_if s l ns c.args.spot c.creation_note.result _ (λ v. noting.one_and_list p (rules.creation_rule v) (of c.in-ObjectCreation.class) (of c.in-ObjectCreation.arguments)) _ _ c.here-in-ObjectCreation.ensures c.in-ObjectCreation.is c.creation_note.ensures.within c.creation_note.ensures.no_rest c.creation_note.ensures.shown
     (λ made h. h (setting_in s.trees.now s.file) s.scopes.now.bindings.items refl c.requires.site.single
-    ∙ ap (λ (x : noting.Note). noting.one_and_list p f x (note_shown l look c.part_note-y.result)) c.part_note-x.ensures.shown
-    ∙ ap (λ (x : noting.Note). noting.one_and_list p f (noting.note_at (shown_notes l ns) c.in-ObjectCreation.class) x) c.part_note-y.ensures.shown)
+    ∙ ap (λ (x : noting.Note). f x (note_shown l (typed_in l ns) c.part_note-y.result)) c.part_note-x.ensures.shown
+    ∙ ap (f (of c.in-ObjectCreation.class)) c.part_note-y.ensures.shown) refl

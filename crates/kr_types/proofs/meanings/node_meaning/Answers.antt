@@ -1,4 +1,4 @@
-use Rattle.std.proofs.Common.{refl, ap, ◌∙◌, subst, ℕ, List, length}
+use Rattle.std.proofs.Common.{refl, ap, ◌∙◌, subst, ℕ, List}
 use Rattle.std.specs.Prelude.{Option, option_map}
 use Rattle.kr_ast.specs.Arena.{Arena, name_in, tree_in}
 use Rattle.kr_ast.specs.declared.node.Node.{Node}
@@ -12,7 +12,7 @@ use Rattle.kr_types_resolving.specs.Meanings.{creation_meaning, field_behind, me
 use Rattle.kr_types_expressions.specs.Notes.{shown_notes}
 use Rattle.kr_types.specs.Programs.{setting_in}
 use Rattle.kr_types.specs.Sites.{IsBefore, scope_of, tree_there}
-use Rattle.kr_types.proofs.Meant.{class_is, of_kind, of_kind_if, of_no_kind}
+use Rattle.kr_types.proofs.Meant.{of_kind, of_kind_if, of_no_kind}
 use Rattle.kr_types.proofs.meanings.node_meaning.Goals as goal
 
 pub returns-in-Variable : goal.returns-in-Variable
@@ -25,7 +25,7 @@ returns-in-Variable c =
     let t = table_in s.trees.now in
     let name_is = c.name.ensures ∙ ap (λ (a : Arena). name_in a.text c.in-Variable.name) c.tree.ensures in
     of_kind_if s ns at c.args.spot.place c.args.spot.node c.requires.spot.tree c.variable_meaning.result _ (nodes.Variable c.in-Variable.name) c.in-Variable.is c.variable_meaning.ensures.within c.variable_meaning.ensures.shown
-    (λ m h. h (values_of t) (class_is s (length c.args.noted.now.notes) c.args.spot c.requires.spot) ∙ ap (λ (n : List ℕ). name_meaning t n (meant here n)) name_is)
+    (λ m h. h (values_of t) c.requires.class ∙ ap (λ (n : List ℕ). name_meaning t n (meant here n)) name_is)
 
 pub returns-in-FieldAccess : goal.returns-in-FieldAccess
 returns-in-FieldAccess c =
@@ -56,7 +56,7 @@ returns-in-Call c =
     let here = scope_of s at in
     let name_is = c.name-in-Call.ensures ∙ ap (λ (a : Arena). name_in a.text c.in-Call.name) c.tree-in-Call.ensures in
     of_kind s ns at c.args.spot.place c.args.spot.node c.requires.spot.tree (nodes.Call c.in-Call.name c.in-Call.arguments) c.call_meaning.result c.in-Call.is c.call_meaning.ensures.within
-    (c.call_meaning.ensures.shown here refl (class_is s (length c.args.noted.now.notes) c.args.spot c.requires.spot) ∙ ap (λ (n : List ℕ). method_meaning (method_meant here n)) name_is)
+    (c.call_meaning.ensures.shown here refl c.requires.class ∙ ap (λ (n : List ℕ). method_meaning (method_meant here n)) name_is)
 
 pub returns-in-MethodCall : goal.returns-in-MethodCall
 returns-in-MethodCall c =
@@ -88,7 +88,7 @@ returns-in-SuperCall c =
     let t = table_in s.trees.now in
     let name_is = c.name-in-SuperCall.ensures ∙ ap (λ (a : Arena). name_in a.text c.in-SuperCall.name) c.tree-in-SuperCall.ensures in
     of_kind s ns at c.args.spot.place c.args.spot.node c.requires.spot.tree (nodes.SuperCall c.in-SuperCall.name c.in-SuperCall.arguments) c.super_meaning.result c.in-SuperCall.is c.super_meaning.ensures.within
-    (c.super_meaning.ensures.shown here refl (class_is s (length c.args.noted.now.notes) c.args.spot c.requires.spot) ∙ ap (λ (n : List ℕ). super_meaning (method_of t n (super_class here))) name_is)
+    (c.super_meaning.ensures.shown here refl c.requires.class ∙ ap (λ (n : List ℕ). super_meaning (method_of t n (super_class here))) name_is)
 
 pub returns-in-ObjectCreation : goal.returns-in-ObjectCreation
 returns-in-ObjectCreation c =

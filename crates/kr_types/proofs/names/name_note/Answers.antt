@@ -1,29 +1,23 @@
-use Rattle.std.proofs.Common.{sym, ap, ◌∙◌, length, ℕ, List}
+use Rattle.std.proofs.Common.{refl, ap, ◌∙◌, ℕ, List}
 use Rattle.kr_ast.specs.Arena.{Arena, name_in}
 use Rattle.kr_classes_table.specs.Constants.{values_of}
 use Rattle.kr_types_meaning.specs.Rules as rules
-use Rattle.kr_types_scopes.specs.declared.within.Within.{Within}
 use Rattle.kr_classes_members.specs.Shown.{table_in}
 use Rattle.kr_types_meaning.specs.Noting as noting
 use Rattle.kr_types_judging.specs.Shown.{note_shown}
 use Rattle.kr_types_expressions.specs.Notes.{typed_in}
-use Rattle.kr_types.specs.Sites.{scope_here, scope_of, tree_there}
-use Rattle.kr_types.proofs.Making.{made_of}
+use Rattle.kr_types.specs.Sites.{scope_of, tree_there}
+use Rattle.kr_types.proofs.Making.{of_one}
 use Rattle.kr_types.proofs.names.name_note.Goals as goal
 
 pub returns-in-Declarator : goal.returns-in-Declarator
 returns-in-Declarator c =
     let s = c.args.site.now in
     let l = c.args.types.now in
-    let ns = c.args.notes.now in
-    let look = typed_in l ns in
-    let here = scope_here s c.args.spot.here in
+    let look = typed_in l c.args.notes.now in
     let p = c.args.spot.place in
-    let n = name_in (tree_there s).text c.in-Declarator.name in
     let name_is = c.name-in-Declarator.ensures ∙ ap (λ (a : Arena). name_in a.text c.in-Declarator.name) c.tree-in-Declarator.ensures in
     let there = scope_of s c.args.spot.at in
-    made_of s l ns (length ns) here p _ _ _ c.in-Declarator.is c.declarator_note.ensures.within c.declarator_note.ensures.no_rest
+    of_one s l c.args.notes.now c.args.spot (λ v. noting.maybe p (rules.declaration_rule v v.declaring p (name_in (tree_there s).text c.in-Declarator.name))) _ _ _ _ _ refl c.in-Declarator.is c.declarator_note.ensures.within c.declarator_note.ensures.no_rest
     (c.declarator_note.ensures.shown (values_of (table_in s.trees.now)) look c.requires.site.values c.part_note.ensures.linked
-    ∙ ap (λ (m : List ℕ). noting.maybe p (rules.declaration_rule there there.declaring p m) (note_shown l look c.part_note.result)) name_is
-    ∙ ap (λ (w : Within). noting.maybe p (rules.declaration_rule (scope_here s w) (scope_here s w).declaring p n) (note_shown l look c.part_note.result)) (sym c.requires.spot.here)
-    ∙ ap (λ (x : noting.Note). noting.maybe p (rules.declaration_rule here here.declaring p n) x) c.part_note.ensures.shown)
+    ∙ ap (λ (m : List ℕ). noting.maybe p (rules.declaration_rule there there.declaring p m) (note_shown l look c.part_note.result)) name_is) c.part_note.ensures.shown refl

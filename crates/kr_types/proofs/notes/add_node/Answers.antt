@@ -1,26 +1,18 @@
-use Rattle.std.proofs.Common.{◌≡◌, sym, subst, length, Some}
+use Rattle.std.proofs.Common.{◌≡◌, ◌∙◌, sym, ap, subst}
 use Rattle.std.specs.Prelude.{slice_get}
-use Rattle.kr_ast.specs.Arena.{Arena}
-use Rattle.kr_types.proofs.Meant.{kept_more, spot_is}
+use Rattle.kr_ast.specs.declared.node.Node.{Node}
+use Rattle.kr_types.specs.Kinds.{IsOfNamed}
+use Rattle.kr_types.specs.Sites.{scope_of, tree_there}
+use Rattle.kr_types.proofs.Passing.{some_entry}
 use Rattle.kr_types.proofs.notes.add_node.Goals as goal
 
-pub returns-clause-kept : goal.returns-clause-kept
-returns-clause-kept c =
-    let here = subst (λ (t : Arena). slice_get t.entries c.args.at ≡ Some c.entry-entry.result) c.tree.ensures c.entry-entry.ensures.here in
-    kept_more c.args.site.now c.args.types.now c.node_note.new.types c.args.noted.now (record { notes = c.push.new.self; meanings = c.push-2.new.self; inside = c.inside-inside.result }) c.in_ok-note.note c.in_ok-meaning.meaning c.args.at c.entry-entry.result c.here-here.result
-    c.requires.forest c.requires.kept c.in_ok-note.ensures.extends c.requires.at c.requires.within here c.here-here.ensures c.in_ok-note.ensures.note c.in_ok-meaning.ensures c.in_ok-push.ensures c.in_ok-push-2.ensures.items c.inside-inside.ensures.inside
+pub add_note-requires-clause-note : goal.add_note-requires-clause-note
+add_note-requires-clause-note c = c.link_note-note.ensures c.args.site.now (scope_of c.args.site.now c.spot-spot.result.at) c.spot-spot.result.place
 
-pub class_before-before-requires-clause-spot : goal.class_before-before-requires-clause-spot
-class_before-before-requires-clause-spot c =
-    spot_is c.args.site.now (length c.args.noted.now.notes) c.args.at c.tree.result.now c.entry-entry.result c.here-here.result c.inside-inside.result.class c.tree.ensures (sym c.requires.at) c.requires.within c.here-here.ensures c.inside-inside.ensures.here
-    c.entry-entry.ensures.tree c.entry-entry.ensures.parts c.entry-entry.ensures.names
-
-pub node_meaning-requires-clause-spot : goal.node_meaning-requires-clause-spot
-node_meaning-requires-clause-spot c =
-    spot_is c.args.site.now (length c.args.noted.now.notes) c.args.at c.tree.result.now c.entry-entry.result c.here-here.result c.inside-inside.result.class c.tree.ensures (sym c.requires.at) c.requires.within c.here-here.ensures c.inside-inside.ensures.here
-    c.entry-entry.ensures.tree c.entry-entry.ensures.parts c.entry-entry.ensures.names
-
-pub node_note-requires-clause-spot : goal.node_note-requires-clause-spot
-node_note-requires-clause-spot c =
-    spot_is c.args.site.now (length c.args.noted.now.notes) c.args.at c.tree.result.now c.entry-entry.result c.here-here.result c.inside-inside.result.class c.tree.ensures (sym c.requires.at) c.requires.within c.here-here.ensures c.inside-inside.ensures.here
-    c.entry-entry.ensures.tree c.entry-entry.ensures.parts c.entry-entry.ensures.names
+pub add_named-requires-clause-kind : goal.add_named-requires-clause-kind
+add_named-requires-clause-kind c =
+    let s = c.args.site.now in
+    let e = some_entry (tree_there s).entries c.args.at c.requires.within in
+    let same : c.spot-spot.result.node ≡ c.spot.result.node =
+    sym (c.spot-spot.ensures.entry e.0 (ap (slice_get (tree_there s).entries) (sym c.spot-spot.ensures.count) ∙ e.1)).1 ∙ (c.spot.ensures.entry e.0 (ap (slice_get (tree_there s).entries) (sym c.spot.ensures.count) ∙ e.1)).1 in
+    subst (λ (n : Node). IsOfNamed c.in-Named.kind n) same c.in-Named.ensures

@@ -1,10 +1,8 @@
-use Rattle.std.proofs.Common.{map}
 use Rattle.std.specs.Prelude.{option_map}
 use Rattle.kr_types_meaning.specs.Rules as rules
 use Rattle.kr_types_scopes.specs.Settings.{scope_in}
 use Rattle.kr_classes_members.specs.Shown.{method_shown}
-use Rattle.kr_classes_types.specs.Types.{type_at}
-use Rattle.kr_types_judging.specs.Shown.{note_shown, verdict_shown}
+use Rattle.kr_types_judging.specs.Shown.{note_shown}
 use Rattle.kr_types_expressions.specs.Notes.{typed_in}
 use Rattle.kr_types_expressions.proofs.Asking.{concludes_list}
 use Rattle.kr_types_expressions.proofs.calls.call_note.Goals as goal
@@ -16,6 +14,4 @@ pub returns-clause-shown : goal.returns-clause-shown
 returns-clause-shown c = λ g bs e.
     let l = c.args.classes.now.types.now in
     let look = typed_in l c.args.notes.now in
-    let o = option_map (λ ts. map (type_at l) ts.items) c.in_ok-arguments.arguments in
-    concludes_list c.args.place (rules.call_rule (scope_in g bs c.args.here) (option_map (method_shown c.args.classes.now.trees.now) c.args.found)) (note_shown l look c.args.x) (note_shown l look c.conclude.result) (verdict_shown l c.call_verdict-verdict.result) o (c.conclude.ensures.shown l look)
-    (c.call_verdict-verdict.ensures.says g bs e) c.in_ok-arguments.ensures.shown
+    concludes_list c.args.place (rules.call_rule (scope_in g bs c.args.here) (option_map (method_shown c.args.classes.now.trees.now) c.args.found)) (note_shown l look c.args.x) (c.call_verdict-verdict.ensures.says g bs e) c.in_ok-arguments.ensures.shown (c.conclude.ensures.shown l look)

@@ -5,7 +5,7 @@ use Rattle.kr_types_meaning.specs.Rules as rules
 use Rattle.kr_types_meaning.specs.Noting as noting
 use Rattle.kr_types_scopes.specs.Settings.{scope_in}
 use Rattle.kr_classes_types.specs.Types.{type_at}
-use Rattle.kr_types_judging.specs.Shown.{least_shown, note_shown, verdict_shown}
+use Rattle.kr_types_judging.specs.Shown.{note_shown}
 use Rattle.kr_types_expressions.specs.Notes.{typed_in}
 use Rattle.kr_types_expressions.specs.Parts.{with_list}
 use Rattle.kr_types_expressions.proofs.Asking.{concludes_list, concludes_one_and_list}
@@ -23,10 +23,10 @@ returns-in-Some-clause-shown c = λ g bs e.
     let x = note_shown l look c.args.x in
     let y = note_shown l look c.args.y in
     let o = option_map (λ ts. map (type_at l) ts.items) c.in_ok-arguments.arguments in
-    concludes_list c.args.place (rules.static_rule s (method_named s.table c.in-Some.class n)) y (note_shown l look c.conclude.result) (verdict_shown l c.static_call_verdict-verdict.result) o (c.conclude.ensures.shown l look)
+    concludes_list c.args.place (rules.static_rule s (method_named s.table c.in-Some.class n)) y
     (c.static_call_verdict-verdict.ensures.says g bs e
     ∙ ap (λ (m : Option Method). with_list (rules.static_rule s m) o) (c.method_named-found.ensures.shown c.args.classes.now.trees.now c.requires.classes.members ∙ ap (λ (t : Table). method_named t c.in-Some.class n) (sym e)))
-    c.in_ok-arguments.ensures.shown
+    c.in_ok-arguments.ensures.shown (c.conclude.ensures.shown l look)
     ∙ ap (λ (b : Option ℕ). noting.method_of s c.args.place n b x y) (sym c.in-Some.is)
 
 pub returns-in-None-clause-within : goal.returns-in-None-clause-within
@@ -40,8 +40,5 @@ returns-in-None-clause-shown c = λ g bs e.
     let n = c.args.name.now in
     let x = note_shown l look c.args.x in
     let y = note_shown l look c.args.y in
-    let a = option_map (type_at l) c.part_type-object.result in
-    let o = option_map (λ ts. map (type_at l) ts.items) c.in_ok-arguments.arguments in
-    concludes_one_and_list c.args.place (rules.object_call_rule s n) x y (note_shown l look c.conclude-in-None.result) (verdict_shown l c.object_call_verdict-verdict.result) a o (least_shown c.earlier.result) (c.conclude-in-None.ensures.shown l look)
-    (c.object_call_verdict-verdict.ensures.says g bs e) (c.part_type-object.ensures.shown l look) c.in_ok-arguments.ensures.shown c.earlier.ensures
+    concludes_one_and_list c.args.place (rules.object_call_rule s n) x y (c.object_call_verdict-verdict.ensures.says g bs e) (c.part_type-object.ensures.shown l look) c.in_ok-arguments.ensures.shown c.earlier.ensures (c.conclude-in-None.ensures.shown l look)
     ∙ ap (λ (b : Option ℕ). noting.method_of s c.args.place n b x y) (sym c.in-None.is)

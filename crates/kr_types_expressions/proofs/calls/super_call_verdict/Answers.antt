@@ -1,18 +1,10 @@
-use Rattle.std.proofs.Common.{◌∙◌, sym, ap, ℕ, List, map, Vec, Global}
-use Rattle.std.specs.Prelude.{Option, option_map}
 use Rattle.kr_types_meaning.specs.Rules as rules
 use Rattle.kr_types_scopes.specs.Settings.{scope_in}
-use Rattle.kr_classes_types.specs.Types.{type_at}
-use Rattle.kr_types_expressions.specs.Parts.{with_list}
+use Rattle.kr_types_expressions.proofs.Asking.{there_list}
 use Rattle.kr_types_expressions.proofs.calls.super_call_verdict.Goals as goal
 
 pub returns-in-None-clause-within : goal.returns-in-None-clause-within
 returns-in-None-clause-within c = c.fine.ensures.within c.args.classes.now.types.now
 
 pub returns-in-Some-clause-says : goal.returns-in-Some-clause-says
-returns-in-Some-clause-says c = λ g bs n e k.
-    let l = c.args.classes.now.types.now in
-    let f = rules.super_rule (scope_in g bs c.args.here) n in
-    c.super_rule.ensures.says g bs n e k
-    ∙ ap (λ (ts : List ℕ). f (map (type_at l) ts)) c.deref.ensures.value
-    ∙ ap (λ (o : Option (Vec ℕ Global)). with_list f (option_map (λ ts. map (type_at l) ts.items) o)) (sym c.in-Some.is)
+returns-in-Some-clause-says c = λ g bs n e k. there_list c.args.classes.now.types.now (rules.super_rule (scope_in g bs c.args.here) n) c.in-Some.is c.deref.ensures.value (c.super_rule.ensures.says g bs n e k)

@@ -1,9 +1,6 @@
-use Rattle.std.proofs.Common.{map}
-use Rattle.std.specs.Prelude.{option_map}
 use Rattle.kr_types_meaning.specs.Rules as rules
 use Rattle.kr_types_scopes.specs.Settings.{scope_in}
-use Rattle.kr_classes_types.specs.Types.{type_at}
-use Rattle.kr_types_judging.specs.Shown.{least_shown, note_shown, verdict_shown}
+use Rattle.kr_types_judging.specs.Shown.{note_shown}
 use Rattle.kr_types_expressions.specs.Notes.{typed_in}
 use Rattle.kr_types_expressions.proofs.Asking.{concludes_one_and_list}
 use Rattle.kr_types_expressions.proofs.constructors.creation_note.Goals as goal
@@ -15,7 +12,4 @@ pub returns-clause-shown : goal.returns-clause-shown
 returns-clause-shown c = λ g bs e single.
     let l = c.args.classes.now.types.now in
     let look = typed_in l c.args.notes.now in
-    let a = option_map (type_at l) c.part_type-created.result in
-    let o = option_map (λ ts. map (type_at l) ts.items) c.in_ok-arguments.arguments in
-    concludes_one_and_list c.args.place (rules.creation_rule (scope_in g bs c.args.here)) (note_shown l look c.args.x) (note_shown l look c.args.y) (note_shown l look c.conclude.result) (verdict_shown l c.creation_verdict-verdict.result) a o (least_shown c.earlier.result) (c.conclude.ensures.shown l look)
-    (c.creation_verdict-verdict.ensures.says g bs e single) (c.part_type-created.ensures.shown l look) c.in_ok-arguments.ensures.shown c.earlier.ensures
+    concludes_one_and_list c.args.place (rules.creation_rule (scope_in g bs c.args.here)) (note_shown l look c.args.x) (note_shown l look c.args.y) (c.creation_verdict-verdict.ensures.says g bs e single) (c.part_type-created.ensures.shown l look) c.in_ok-arguments.ensures.shown c.earlier.ensures (c.conclude.ensures.shown l look)

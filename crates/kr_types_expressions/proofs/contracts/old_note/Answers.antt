@@ -1,10 +1,7 @@
-use Rattle.std.proofs.Common.{◌∙◌, ap}
 use Rattle.kr_types_meaning.specs.Rules as rules
-use Rattle.kr_types_meaning.specs.Noting.{concluded}
 use Rattle.kr_types_scopes.specs.Settings.{scope_in}
-use Rattle.kr_types_judging.specs.Shown.{known_shown, least_shown}
-use Rattle.kr_types_expressions.specs.Parts.{with_one}
-use Rattle.kr_types_expressions.proofs.Asking.{asks_one}
+use Rattle.kr_types_judging.specs.Shown.{note_shown}
+use Rattle.kr_types_expressions.proofs.Asking.{concludes_one}
 use Rattle.kr_types_expressions.proofs.contracts.old_note.Goals as goal
 
 pub returns-clause-within : goal.returns-clause-within
@@ -13,6 +10,4 @@ returns-clause-within c = c.conclude.ensures.within c.args.types.now c.old_verdi
 pub returns-clause-shown : goal.returns-clause-shown
 returns-clause-shown c = λ files g bs look h e.
     let l = c.args.types.now in
-    let f = rules.old_rule (scope_in g bs c.args.here) in
-    c.conclude.ensures.shown l look
-    ∙ ap (λ (v : rules.Judgement). concluded c.args.place v (least_shown c.args.x.least)) (c.old_verdict-verdict.ensures.says files g bs h e ∙ ap (with_one f) (c.part_type.ensures.shown l look) ∙ asks_one f (known_shown l look c.args.x.known))
+    concludes_one c.args.place (rules.old_rule (scope_in g bs c.args.here)) (note_shown l look c.args.x) (c.old_verdict-verdict.ensures.says files g bs h e) (c.part_type.ensures.shown l look) (c.conclude.ensures.shown l look)

@@ -1,17 +1,9 @@
-use Rattle.std.proofs.Common.{◌∙◌, sym, ap, ℕ}
-use Rattle.std.specs.Prelude.{Option, Some, option_map}
 use Rattle.kr_types_meaning.specs.Rules as rules
-use Rattle.kr_classes_types.specs.Types.{type_at}
-use Rattle.kr_types_expressions.specs.Parts.{with_two}
+use Rattle.kr_types_expressions.proofs.Asking.{there_two}
 use Rattle.kr_types_expressions.proofs.elements.element_verdict.Goals as goal
 
 pub returns-in-Some-Some-clause-says : goal.returns-in-Some-Some-clause-says
-returns-in-Some-Some-clause-says c =
-    let l = c.args.types.now in
-    let f = rules.element_rule in
-    c.element_rule.ensures.says
-    ∙ ap (λ (o : Option ℕ). with_two f (option_map (type_at l) o) (Some (type_at l c.in-Some-Some.b))) (sym c.in-Some-Some.is-0)
-    ∙ ap (λ (o : Option ℕ). with_two f (option_map (type_at l) c.args.a) (option_map (type_at l) o)) (sym c.in-Some-Some.is-1)
+returns-in-Some-Some-clause-says c = there_two c.args.types.now rules.element_rule c.in-Some-Some.is-0 c.in-Some-Some.is-1 c.element_rule.ensures.says
 
 pub returns-in_default-clause-within : goal.returns-in_default-clause-within
 returns-in_default-clause-within c = c.fine.ensures.within c.args.types.now

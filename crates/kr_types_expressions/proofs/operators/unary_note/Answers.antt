@@ -1,9 +1,6 @@
-use Rattle.std.proofs.Common.{◌∙◌, ap}
 use Rattle.kr_types_meaning.specs.Rules as rules
-use Rattle.kr_types_meaning.specs.Noting.{concluded}
-use Rattle.kr_types_judging.specs.Shown.{known_shown, least_shown}
-use Rattle.kr_types_expressions.specs.Parts.{with_one}
-use Rattle.kr_types_expressions.proofs.Asking.{asks_one}
+use Rattle.kr_types_judging.specs.Shown.{note_shown}
+use Rattle.kr_types_expressions.proofs.Asking.{concludes_one}
 use Rattle.kr_types_expressions.proofs.operators.unary_note.Goals as goal
 
 pub returns-clause-within : goal.returns-clause-within
@@ -12,6 +9,4 @@ returns-clause-within c = c.conclude.ensures.within c.args.types.now c.unary_ver
 pub returns-clause-shown : goal.returns-clause-shown
 returns-clause-shown c = λ look.
     let l = c.args.types.now in
-    let f = rules.unary_rule c.args.operator in
-    c.conclude.ensures.shown l look
-    ∙ ap (λ (v : rules.Judgement). concluded c.args.place v (least_shown c.args.x.least)) (c.unary_verdict-verdict.ensures.says ∙ ap (with_one f) (c.part_type.ensures.shown l look) ∙ asks_one f (known_shown l look c.args.x.known))
+    concludes_one c.args.place (rules.unary_rule c.args.operator) (note_shown l look c.args.x) c.unary_verdict-verdict.ensures.says (c.part_type.ensures.shown l look) (c.conclude.ensures.shown l look)

@@ -12,5 +12,5 @@ pub returns-clause-says : goal.returns-clause-says
 returns-clause-says c = λ files g bs h e.
     let l = c.args.types.now in
     c.ask.ensures.says l
-    ∙ ap (λ (v : Judgement). ask c.is_int.result 18 v) (c.written_rule.ensures.says files g bs h e)
-    ∙ ap (λ b. ask b 18 (written_rule (scope_in g bs c.args.here) (typed_shown l c.args.target) (type_at l c.args.to))) c.is_int.ensures
+    ∙ ap (λ (v : Judgement). ask c.is_number.result 18 v) (c.written_rule.ensures.says files g bs h e)
+    ∙ ap (λ b. ask b 18 (written_rule (scope_in g bs c.args.here) (typed_shown l c.args.target) (type_at l c.args.to))) c.is_number.ensures

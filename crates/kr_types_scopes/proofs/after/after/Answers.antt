@@ -1,35 +1,16 @@
-use Rattle.std.proofs.Common.{◌<◌, List, subst, sym}
-use Rattle.kr_types_scopes.specs.declared.tasks.Task.{Task}
-use Rattle.kr_types_scopes.specs.Tasks.{weights}
-use Rattle.kr_types_scopes.proofs.Passing.{way_start, way_on, way_light, way_end}
+use Rattle.std.proofs.Common.{ap, sym, ◌∙◌}
+use Rattle.kr_ast.specs.Arena.{tree_in}
+use Rattle.kr_types_meaning.specs.Scopes.{after}
+use Rattle.kr_types_scopes.specs.Settings.{setting, scope_in}
+use Rattle.kr_types_scopes.proofs.Chains.{step_same}
+use Rattle.kr_types_scopes.proofs.Plain.{after_stays}
 use Rattle.kr_types_scopes.proofs.after.after.Goals as goal
 
-pub loop-task-init : goal.loop-task-init
-loop-task-init c =
-    rw (c.in_ok-push.ensures, c.requires.none) (way_start c.args.tree.now c.args.bindings.now.items c.args.from c.args.node c.requires.at c.requires.chain c.requires.top)
-
-pub pass-requires-clause-at : goal.pass-requires-clause-at
-pass-requires-clause-at c = (rw c.in-Some.ensures at c.loop-task.invariant.within).0
-
-pub pass-requires-clause-top : goal.pass-requires-clause-top
-pass-requires-clause-top c = c.loop-task.invariant.step.top
-
-pub pass-requires-clause-chain : goal.pass-requires-clause-chain
-pass-requires-clause-chain c = c.loop-task.invariant.step.chain
-
-pub loop-task-preserved : goal.loop-task-preserved
-loop-task-preserved c =
-    way_on c.args.tree.now c.args.bindings.now.items c.loop-task.bindings.items c.pass.new.bindings.items c.loop-task.scope c.in_ok-next.next c.args.from c.args.node c.in-Some.task c.pop.new.self c.pass.new.tasks
-    (rw c.in-Some.ensures at c.loop-task.invariant) c.in_ok-next.ensures
-
-pub loop-task-smaller : goal.loop-task-smaller
-loop-task-smaller c =
+pub returns-in_default-clause-made : goal.returns-in_default-clause-made
+returns-in_default-clause-made c =
     let tree = c.args.tree.now in
-    let less : weights tree c.pass.new.tasks < weights tree c.loop-task.tasks =
-    subst (λ (ts : List Task). weights tree c.pass.new.tasks < weights tree ts) (sym c.in-Some.ensures)
-    (way_light tree c.loop-task.bindings.items c.pass.new.bindings.items c.loop-task.scope c.in_ok-next.next c.in-Some.task c.pop.new.self c.pass.new.tasks c.in_ok-next.ensures) in
-    less
-
-pub returns-clause-made : goal.returns-clause-made
-returns-clause-made c =
-    way_end c.args.tree.now c.args.bindings.now.items c.loop-task.bindings.items c.loop-task.scope c.args.from c.args.node (rw c.in_default.ensures.0 at c.loop-task.invariant)
+    let old = c.args.bindings.now.items in
+    let from = c.args.here.now in
+    step_same tree old from (λ g. after (scope_in g old from) (tree_in g.tree c.args.node)) c.requires.chain c.requires.top
+    (λ t v. sym (ap (after (scope_in (setting t v tree) old from)) c.entry.ensures.tree
+    ∙ after_stays (scope_in (setting t v tree) old from) tree.text (tree_in tree) c.entry.result.place c.entry.result.node c.in_default.not-Cons c.in_default.not-Local c.in_default.not-Signature c.in_default.not-Declarator c.in_default.not-Parameter))

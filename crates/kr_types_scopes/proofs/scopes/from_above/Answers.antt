@@ -1,10 +1,5 @@
 use Rattle.std.proofs.Common.{◌<◌, length, arith}
-use Rattle.std.proofs.lemmas.Result.{IfOk-weaker}
-use Rattle.kr_ast.specs.Arena.{tree_in}
-use Rattle.kr_types_scopes.specs.Settings.{scope_in}
-use Rattle.kr_types_meaning.specs.Handing.{handed}
-use Rattle.kr_types_scopes.specs.Scoped.{IsHanded}
-use Rattle.kr_types_scopes.specs.Tasks.{IsStep}
+use Rattle.std.proofs.lemmas.Result.{on_ok_weaker}
 use Rattle.kr_types_scopes.proofs.Handed.{read_within, top_of, parent_there, is_handed}
 use Rattle.kr_types_scopes.proofs.scopes.from_above.Goals as goal
 
@@ -16,7 +11,7 @@ hand_on-requires-clause-top c =
     let ws = c.args.within.now.items in
     let parent = c.entry-entry.result.parent in
     let lt : parent < length ws = omega (arith, parent_there c.args.tree.now c.requires.arena c.args.at c.entry-entry.result c.entry-entry.ensures.here, c.requires.long) in
-    top_of ws parent (length c.args.bindings.now.items) c.index-up.result.now lt c.index-up.ensures c.requires.tops
+    top_of ws parent (length c.args.bindings.now.items) c.index.result.now lt c.index.ensures c.requires.tops
 
 pub returns-clause-made : goal.returns-clause-made
 returns-clause-made c =
@@ -25,7 +20,7 @@ returns-clause-made c =
     let old = c.args.bindings.now.items in
     let new = c.hand_on.new.bindings.items in
     let x = c.entry-entry.result in
-    let up = c.index-up.result.now in
+    let up = c.index.result.now in
     let lt : x.parent < length ws = omega (arith, parent_there tree c.requires.arena c.args.at x c.entry-entry.ensures.here, c.requires.long) in
-    IfOk-weaker c.hand_on.result (λ w. IsStep tree old new w (λ g. handed (scope_in g old up) (tree_in g.tree x.parent) x.position)) (IsHanded tree old new ws c.args.at)
-    (λ w h. is_handed tree old new ws c.args.at w up x c.entry-entry.ensures.here (read_within ws x.parent up lt c.index-up.ensures) h) c.hand_on.ensures.made
+    on_ok_weaker c.hand_on.result
+    (λ h. is_handed tree old new ws c.args.at c.hand_on.new.here up x c.entry-entry.ensures.here (read_within ws x.parent up lt c.index.ensures) h) c.hand_on.ensures.made

@@ -1,4 +1,4 @@
-use Rattle.std.proofs.Common.{◌≡◌, ◌∙◌, refl, sym, ap, [], arith}
+use Rattle.std.proofs.Common.{◌≡◌, ◌∙◌, refl, ap, [], arith}
 use Rattle.std.specs.Prelude.{Option, is_some, slice_index_or}
 use Rattle.kr_classes_table.specs.Types.{JavaType}
 use Rattle.kr_classes_table.specs.Constants.{value_at}
@@ -14,7 +14,7 @@ use Rattle.kr_classes_types.specs.Types.{type_at}
 use Rattle.kr_types_judging.specs.Shown.{known_shown, least_shown, verdict_shown}
 use Rattle.kr_types_statements.specs.Declared.{declares}
 use Rattle.kr_types_statements.specs.Maybe.{types_in, with_maybe}
-use Rattle.kr_types_statements.proofs.Declared.{declares_is, maybe_same, said_likewise, some_shown}
+use Rattle.kr_types_statements.proofs.Declared.{declares_is, maybe_same, said_likewise}
 use Rattle.kr_types_statements.proofs.declarators.declarator_note.Goals as goal
 
 pub at-here-requires : goal.at-here-requires
@@ -43,7 +43,7 @@ returns-clause-shown c = λ known look kept linked.
     let declared = c.type_of_node-declared.ensures g refl refl in
     let e = known_shown l look c.args.x.known in
     let here : c.at-here.result ≡ slice_index_or c.args.scopes.now.within.items c.args.node nowhere = c.at-here.ensures in
-    let has : c.is_some-has_value.result ≡ is_some (value_at known p) = c.is_some-has_value.ensures ∙ sym (some_shown c.value_at.result) ∙ ap (λ v. is_some v) (c.value_at.ensures known kept) in
+    let has : c.is_some-has_value.result ≡ is_some (value_at known p) = c.is_some-has_value.ensures ∙ ap (λ v. is_some v) (c.value_at.ensures known kept) in
     let rule : Option JavaType → rules.Judgement = declares t s.declaring s.declared (rules.is_new s n (meant s n)) (is_some (value_at known p)) in
     let said : verdict_shown l c.declarator_verdict-verdict.result ≡ with_maybe rule o =
     said_likewise t o (verdict_shown l c.declarator_verdict-verdict.result) (declaring_of c.at-here.result.declaring) s.declaring (type_at l c.type_of_node-declared.result) s.declared

@@ -1,9 +1,6 @@
-use Rattle.std.proofs.Common.{◌∙◌, ap}
 use Rattle.kr_types_meaning.specs.Rules as rules
-use Rattle.kr_types_meaning.specs.Noting.{concluded}
-use Rattle.kr_types_judging.specs.Shown.{known_shown, least_shown}
-use Rattle.kr_types_expressions.specs.Parts.{with_one}
-use Rattle.kr_types_expressions.proofs.Asking.{asks_one}
+use Rattle.kr_types_judging.specs.Shown.{note_shown}
+use Rattle.kr_types_expressions.proofs.Asking.{concludes_one}
 use Rattle.kr_types_statements.proofs.types.array_type_note.Goals as goal
 
 pub returns-clause-within : goal.returns-clause-within
@@ -12,7 +9,4 @@ returns-clause-within c = c.conclude.ensures.within c.array_verdict.new.types c.
 pub returns-clause-shown : goal.returns-clause-shown
 returns-clause-shown c = λ look.
     let l = c.args.types.now in
-    let x = known_shown l look c.args.x.known in
-    c.conclude.ensures.shown c.array_verdict.new.types look
-    ∙ ap (λ (v : rules.Judgement). concluded c.args.place v (least_shown c.args.x.least))
-    (c.in_ok-verdict.ensures.says ∙ ap (with_one rules.array_rule) (c.part_type.ensures.shown l look) ∙ asks_one rules.array_rule x)
+    concludes_one c.args.place rules.array_rule (note_shown l look c.args.x) c.in_ok-verdict.ensures.says (c.part_type.ensures.shown l look) (c.conclude.ensures.shown c.array_verdict.new.types look)

@@ -2,15 +2,13 @@ use Rattle.std.proofs.Common.{◌∙◌, refl, ap, []}
 use Rattle.kr_classes_table.specs.Types.{JavaType}
 use Rattle.kr_classes_table.specs.Table.{applied}
 use Rattle.kr_types_meaning.specs.Rules as rules
-use Rattle.kr_types_meaning.specs.Typing.{on_one}
-use Rattle.kr_types_meaning.specs.Noting.{concluded}
+use Rattle.kr_types_meaning.specs.Noting.{one}
 use Rattle.kr_types_scopes.specs.Settings.{setting}
 use Rattle.kr_ast.specs.Files.{file_at}
 use Rattle.kr_classes_members.specs.Shown.{table_in}
 use Rattle.kr_classes_types.specs.Types.{type_at}
-use Rattle.kr_types_judging.specs.Shown.{known_shown, least_shown}
-use Rattle.kr_types_expressions.specs.Parts.{with_one}
-use Rattle.kr_types_expressions.proofs.Asking.{asks_one}
+use Rattle.kr_types_judging.specs.Shown.{note_shown}
+use Rattle.kr_types_expressions.proofs.Asking.{concludes_one}
 use Rattle.kr_types_statements.proofs.types.generic_type_note.Goals as goal
 
 pub generic_verdict-requires-clause-head : goal.generic_verdict-requires-clause-head
@@ -22,9 +20,8 @@ returns-clause-within c = c.conclude.ensures.within c.generic_verdict.new.types 
 pub returns-clause-shown : goal.returns-clause-shown
 returns-clause-shown c = λ s look e.
     let l = c.args.types.now in
-    let x = known_shown l look c.args.x.known in
+    let x = note_shown l look c.args.x in
     let f : JavaType → JavaType → rules.Judgement = λ h t. rules.type_rule (applied h t) in
     let number = c.type_of_node-number.ensures (setting s.table [] (file_at c.args.trees.now c.args.file)) e refl in
-    c.conclude.ensures.shown c.generic_verdict.new.types look
-    ∙ ap (λ (v : rules.Judgement). concluded c.args.place v (least_shown c.args.x.least))
-    (c.in_ok-verdict.ensures.says ∙ ap (with_one (f (type_at l c.type_of_node-number.result))) (c.part_type.ensures.shown l look) ∙ asks_one (f (type_at l c.type_of_node-number.result)) x ∙ ap (λ h. on_one (f h) x) number.type_is)
+    concludes_one c.args.place (f (type_at l c.type_of_node-number.result)) x c.in_ok-verdict.ensures.says (c.part_type.ensures.shown l look) (c.conclude.ensures.shown c.generic_verdict.new.types look)
+    ∙ ap (λ (h : JavaType). one c.args.place (f h) x) number.type_is

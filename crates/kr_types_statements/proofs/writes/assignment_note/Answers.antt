@@ -1,14 +1,10 @@
 use Rattle.std.proofs.Common.{◌∙◌, ap}
-use Rattle.std.specs.Prelude.{Option, option_map}
-use Rattle.kr_classes_table.specs.Types.{JavaType}
+use Rattle.kr_classes_table.specs.Rules.{sooner}
 use Rattle.kr_types_meaning.specs.Rules as rules
-use Rattle.kr_types_meaning.specs.Typing as typing
 use Rattle.kr_types_meaning.specs.Noting.{concluded}
 use Rattle.kr_types_scopes.specs.Settings.{scope_in}
-use Rattle.kr_classes_types.specs.Types.{type_at}
-use Rattle.kr_types_judging.specs.Shown.{known_shown, least_shown, typed_shown}
-use Rattle.kr_types_expressions.specs.Parts.{with_two}
-use Rattle.kr_types_expressions.proofs.Asking.{asks_two}
+use Rattle.kr_types_judging.specs.Shown.{note_shown, typed_shown}
+use Rattle.kr_types_expressions.proofs.Asking.{concludes_two}
 use Rattle.kr_types_statements.proofs.Targets.{assignment_target}
 use Rattle.kr_types_statements.proofs.writes.assignment_note.Goals as goal
 
@@ -19,13 +15,8 @@ pub returns-clause-shown : goal.returns-clause-shown
 returns-clause-shown c = λ files g bs look h e.
     let l = c.args.types.now in
     let s = scope_in g bs c.args.here in
-    let x = known_shown l look c.args.x.known in
-    let y = known_shown l look c.args.y.known in
+    let x = note_shown l look c.args.x in
+    let y = note_shown l look c.args.y in
     let target = typed_shown l c.target_of-target.result in
-    let f = rules.assignment_rule s target in
-    c.conclude.ensures.shown l look
-    ∙ ap (λ (v : rules.Judgement). concluded c.args.place v (least_shown c.earlier.result))
-    (c.assignment_verdict-verdict.ensures.says files g bs h e
-    ∙ ap (λ (o : Option JavaType). with_two f o (option_map (type_at l) c.part_type-second.result)) (c.part_type-first.ensures.shown l look)
-    ∙ ap (with_two f (typing.type_in x)) (c.part_type-second.ensures.shown l look) ∙ asks_two f x y ∙ assignment_target s target x x y (c.target_of-target.ensures l look))
-    ∙ ap (concluded c.args.place (typing.on_two (rules.assignment_rule s x) x y)) c.earlier.ensures
+    concludes_two c.args.place (rules.assignment_rule s target) x y (c.assignment_verdict-verdict.ensures.says files g bs h e) (c.part_type-first.ensures.shown l look) (c.part_type-second.ensures.shown l look) c.earlier.ensures (c.conclude.ensures.shown l look)
+    ∙ ap (λ (v : rules.Judgement). concluded c.args.place v (sooner x.least y.least)) (assignment_target s target x.typed x.typed y.typed (c.target_of-target.ensures l look))

@@ -1,19 +1,11 @@
-use Rattle.std.proofs.Common.{◌∙◌, sym, ap, ℕ}
-use Rattle.std.specs.Prelude.{Option, Some, option_map}
 use Rattle.kr_types_meaning.specs.Rules as rules
 use Rattle.kr_types_scopes.specs.Settings.{scope_in}
-use Rattle.kr_classes_types.specs.Types.{type_at}
 use Rattle.kr_types_judging.specs.Shown.{typed_shown}
-use Rattle.kr_types_expressions.specs.Parts.{with_two}
+use Rattle.kr_types_expressions.proofs.Asking.{there_two}
 use Rattle.kr_types_statements.proofs.writes.compound_verdict.Goals as goal
 
 pub returns-in-Some-Some-clause-says : goal.returns-in-Some-Some-clause-says
-returns-in-Some-Some-clause-says c = λ files g bs h e.
-    let l = c.args.types.now in
-    let f = rules.compound_rule (scope_in g bs c.args.here) c.args.operator (typed_shown l c.args.target) in
-    c.compound_rule.ensures.says files g bs h e
-    ∙ ap (λ (o : Option ℕ). with_two f (option_map (type_at l) o) (Some (type_at l c.in-Some-Some.b))) (sym c.in-Some-Some.is-0)
-    ∙ ap (λ (o : Option ℕ). with_two f (option_map (type_at l) c.args.a) (option_map (type_at l) o)) (sym c.in-Some-Some.is-1)
+returns-in-Some-Some-clause-says c = λ files g bs h e. there_two c.args.types.now (rules.compound_rule (scope_in g bs c.args.here) c.args.operator (typed_shown c.args.types.now c.args.target)) c.in-Some-Some.is-0 c.in-Some-Some.is-1 (c.compound_rule.ensures.says files g bs h e)
 
 pub returns-in_default-clause-within : goal.returns-in_default-clause-within
 returns-in_default-clause-within c = c.fine.ensures.within c.args.types.now

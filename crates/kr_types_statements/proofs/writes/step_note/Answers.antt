@@ -2,9 +2,8 @@ use Rattle.std.proofs.Common.{◌∙◌, ap}
 use Rattle.kr_types_meaning.specs.Rules as rules
 use Rattle.kr_types_meaning.specs.Noting.{concluded}
 use Rattle.kr_types_scopes.specs.Settings.{scope_in}
-use Rattle.kr_types_judging.specs.Shown.{known_shown, least_shown, typed_shown}
-use Rattle.kr_types_expressions.specs.Parts.{with_one}
-use Rattle.kr_types_expressions.proofs.Asking.{asks_one}
+use Rattle.kr_types_judging.specs.Shown.{note_shown, typed_shown}
+use Rattle.kr_types_expressions.proofs.Asking.{concludes_one}
 use Rattle.kr_types_statements.proofs.Targets.{step_target}
 use Rattle.kr_types_statements.proofs.writes.step_note.Goals as goal
 
@@ -15,8 +14,7 @@ pub returns-clause-shown : goal.returns-clause-shown
 returns-clause-shown c = λ files g bs look h e.
     let l = c.args.types.now in
     let s = scope_in g bs c.args.here in
-    let x = known_shown l look c.args.x.known in
+    let x = note_shown l look c.args.x in
     let target = typed_shown l c.target_of-target.result in
-    let f = rules.step_rule s target in
-    c.conclude.ensures.shown l look
-    ∙ ap (λ (v : rules.Judgement). concluded c.args.place v (least_shown c.args.x.least)) (c.step_verdict-verdict.ensures.says files g bs h e ∙ ap (with_one f) (c.part_type.ensures.shown l look) ∙ asks_one f x ∙ step_target s target x x (c.target_of-target.ensures l look))
+    concludes_one c.args.place (rules.step_rule s target) x (c.step_verdict-verdict.ensures.says files g bs h e) (c.part_type.ensures.shown l look) (c.conclude.ensures.shown l look)
+    ∙ ap (λ (v : rules.Judgement). concluded c.args.place v x.least) (step_target s target x.typed x.typed (c.target_of-target.ensures l look))

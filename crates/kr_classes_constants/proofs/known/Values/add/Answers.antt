@@ -1,8 +1,7 @@
 use Rattle.std.proofs.Common.{◌≡◌, ◌∙◌, sym, ap, subst, List, ◌++◌, ◌∷◌, []}
 use Rattle.std.specs.Prelude.{None, is_some}
 use Rattle.indexmap.proofs.CallerLemmas.{insert_entry-new}
-use Rattle.kr_classes_operators.specs.Shown.{constant_shown}
-use Rattle.kr_classes_operators.specs.declared.constant.Constant.{Constant}
+use Rattle.kr_value.specs.declared.value.Value.{Value}
 use Rattle.kr_classes_constants.specs.Kept.{Key, AreValues, found}
 use Rattle.kr_classes_constants.proofs.Places.{looked, kept_value, added_value, none_from}
 use Rattle.kr_classes_constants.proofs.known.Values.add.Goals as goal
@@ -21,4 +20,4 @@ returns c = λ known h.
     ∙ insert_entry-new _ c.self.inside.by_place (place.file, place.line, place.col) value
     (looked place es ∙ ap (found place) c.self.view_is ∙ absent) in
     let all : c.insert.new.self.entries ≡ c.args.self.now ++ ((place.file, place.line, place.col), value) ∷ [] = entries ∙ ap (λ ds. ds ++ ((place.file, place.line, place.col), value) ∷ []) c.self.view_is in
-    subst (λ (ds : List (Key × Constant)). AreValues (known ++ record { place = place; value = constant_shown value } ∷ []) ds) (sym all) (added_value known c.args.self.now place value h)
+    subst (λ (ds : List (Key × Value)). AreValues (known ++ record { place = place; value = value } ∷ []) ds) (sym all) (added_value known c.args.self.now place value h)

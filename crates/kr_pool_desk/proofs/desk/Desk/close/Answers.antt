@@ -11,12 +11,12 @@ pub returns-in-Ok-clause-listing : goal.returns-in-Ok-clause-listing
 returns-in-Ok-clause-listing g c =
     let n = g.N.Run in
     subst (λ (v : Held g.row.R.Denot × ℕ). ListsFrom (drained v.0.log) (listed_in n.all n.span) c.in-Ok.logged.listing) c.self.view_is
-    (whole_listing n.all n.span n.cuts n.opening g.N.Crew.workers c.self.inside.calls.total c.self.inside.board c.in-Ok.logged.listing c.self.invariant c.in-Ok.ensures.finished c.in-Ok.ensures.listing.1)
+    (whole_listing n.all n.span n.cuts n.opening g.N.Crew.workers c.self.inside.calls.total c.self.inside.board c.in-Ok.logged.listing c.self.invariant.0 c.in-Ok.ensures.finished c.in-Ok.ensures.listing.1)
 
 pub returns-in-Ok-clause-log : goal.returns-in-Ok-clause-log
 returns-in-Ok-clause-log g c =
     let n = g.N.Run in
-    finishes n.all n.span n.cuts n.opening g.N.Crew.workers c.self.inside.calls.total c.self.inside.board c.in-Ok.logged.log.items c.self.invariant c.in-Ok.ensures.finished c.in-Ok.ensures.log
+    finishes n.all n.span n.cuts n.opening g.N.Crew.workers c.self.inside.calls.total c.self.inside.board c.in-Ok.logged.log.items c.self.invariant.0 c.in-Ok.ensures.finished c.in-Ok.ensures.log
 
 pub returns-in-Ok-clause-unstopped : goal.returns-in-Ok-clause-unstopped
-returns-in-Ok-clause-unstopped g c = ap (λ (log : List Event). are_shared g.N.Crew.workers log) c.in-Ok.ensures.log ∙ c.self.invariant.grown.shared
+returns-in-Ok-clause-unstopped g c = ap (λ (log : List Event). are_shared g.N.Crew.workers log) c.in-Ok.ensures.log ∙ c.self.invariant.0.grown.shared

@@ -10,10 +10,12 @@ pub invariant_of-self-in-Released : goal.invariant_of-self-in-Released
 invariant_of-self-in-Released g c =
     let n = g.N.Run in let m = g.N.Crew in
     let old = c.self.inside.board in
-    let k = c.self.invariant in
-    run-more n.all n.span n.cuts n.opening m.workers c.self.inside.calls.total c.add.new.self.total old c.give_up.new.self _ _ _ k (c.in-Released.ensures.event refl)
-    (c.in-Released.ensures.stays n.all n.span n.cuts k.ascends k.inside k.board)
-    (give_up-shared m.workers c.args.lease.now.seat c.args.lease.now.segment (subst (λ (s : ℕ). s < m.workers) (sym c.requires.lease) c.requires.below)) c.add.ensures.total
+    let k = c.self.invariant.0 in (
+      run-more n.all n.span n.cuts n.opening m.workers c.self.inside.calls.total c.add.new.self.total old c.give_up.new.self _ _ _ k (c.in-Released.ensures.event refl)
+          (c.in-Released.ensures.stays n.all n.span n.cuts k.ascends k.inside k.board)
+          (give_up-shared m.workers c.args.lease.now.seat c.args.lease.now.segment (subst (λ (s : ℕ). s < m.workers) (sym c.requires.lease) c.requires.below)) c.add.ensures.total,
+      (c.in-Released.ensures.event refl).window ∙ c.self.invariant.1,
+    )
 
 pub returns-in-Released-clause-drained : goal.returns-in-Released-clause-drained
 returns-in-Released-clause-drained g c =

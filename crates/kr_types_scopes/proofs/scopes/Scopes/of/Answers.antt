@@ -22,9 +22,9 @@ loop-at-preserved c =
     let inv = c.loop-at.invariant in
     record {
       bound = omega (arith, inv.bound);
-      none = c.in_ok-here.ensures.none;
-      done = done_step c.args.tree.now c.nodes-nodes.ensures.arena c.loop-at.bindings.items c.from_above.new.bindings.items c.loop-at.within.items (c.loop-at.at - 1) c.loop-at.at c.in_ok-here.here inv.done
-          (omega (arith, c.loop-at-test.true)) inv.bound c.in_ok-here.ensures.made;
+      none = c.in_ok-from_above.ensures.none;
+      done = done_step c.args.tree.now c.nodes-nodes.ensures.arena c.loop-at.bindings.items c.from_above.new.bindings.items c.loop-at.within.items (c.loop-at.at - 1) c.loop-at.at c.from_above.new.here inv.done
+          (omega (arith, c.loop-at-test.true)) inv.bound c.in_ok-from_above.ensures.made;
     }
 
 pub returns : goal.returns

@@ -1,0 +1,42 @@
+-- No operator gives a reference.
+use Rattle.std.specs.Prelude.{Bool, true, false, ℤ, Ok, Err, if◌then◌else◌}
+use Rattle.kr_ast.specs.declared.node.UnaryOperator.{UnaryOperator}
+use Rattle.kr_ast.specs.declared.node.UnaryOperator.TheVariants.{Not}
+use Rattle.kr_ast.specs.declared.node.BinaryOperator.{BinaryOperator}
+use Rattle.kr_ast.specs.declared.node.BinaryOperator.TheVariants.{Divide, Remainder, Equal}
+use Rattle.kr_value.specs.declared.value.Value.{Value}
+use Rattle.kr_value.specs.declared.value.Value.TheVariants.{Int, Bool as Truth, Null, Ref as Reference}
+use Rattle.kr_classes_table.specs.declared.errors.OperatorError.TheVariants.{ZeroDivisor}
+use Rattle.kr_classes_table.specs.Numbers.{Bits32}
+use Rattle.kr_classes_table.specs.Operators.{Applied, of_wholes, of_booleans, of_references, is_zero, apply_alone}
+
+abbrev pub IsPlain : Applied → Type 0
+IsPlain (Ok (Reference o)) = ⊥
+IsPlain r = Unit {0}
+
+divided : (b : Bool) (z : ℤ) → IsPlain (if b then Err ZeroDivisor else Ok (Int z))
+divided true z = tt
+divided false z = tt
+
+pub wholes_plain : (o : BinaryOperator) (a b : ℤ) → IsPlain (of_wholes Bits32 o a b)
+wholes_plain Divide a b = divided (is_zero b) _
+wholes_plain Remainder a b = divided (is_zero b) _
+wholes_plain _ a b = tt
+
+pub booleans_plain : (o : BinaryOperator) (a b : Bool) → IsPlain (of_booleans o a b)
+booleans_plain Equal a b = tt
+booleans_plain _ a b = tt
+
+pub references_plain : (o : BinaryOperator) (same : Bool) → IsPlain (of_references o same)
+references_plain Equal same = tt
+references_plain _ same = tt
+
+pub alone_plain : (o : UnaryOperator) (v : Value) → IsPlain (apply_alone o v)
+alone_plain Not (Int z) = tt
+alone_plain _ (Int z) = tt
+alone_plain Not (Truth b) = tt
+alone_plain _ (Truth b) = tt
+alone_plain Not Null = tt
+alone_plain _ Null = tt
+alone_plain Not (Reference o) = tt
+alone_plain _ (Reference o) = tt

@@ -1,0 +1,4 @@
+pub mod Conversions
+pub mod Laws
+pub mod Shown
+pub mod Worked

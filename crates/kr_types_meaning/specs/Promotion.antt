@@ -1,0 +1,20 @@
+-- To be believed: numeric promotion: the type to which operands are converted (Java Language Specification 5.6).
+use Rattle.std.specs.Prelude.{Bool, Option, Some, None, is_some}
+use Rattle.kr_classes_table.specs.Types.{JavaType, IntType}
+
+-- of one operand: of a sign, of each operand of a shift
+abbrev pub promoted_alone : JavaType → Option JavaType
+promoted_alone IntType = Some IntType
+promoted_alone t = None
+
+-- of two operands
+abbrev pub promoted : JavaType → JavaType → Option JavaType
+promoted IntType u = promoted_alone u
+promoted t u = None
+
+-- the types of numbers
+abbrev pub is_number : JavaType → Bool
+is_number t = is_some (promoted_alone t)
+
+abbrev pub are_numbers : JavaType → JavaType → Bool
+are_numbers t u = is_some (promoted t u)
