@@ -69,7 +69,7 @@ pub(crate) fn put_lines<W: Threads + Wait + Sync, K: Sink, G: Gate + Sync>(
 }
 
 /// Puts the listing of a problem's entries, or the test of its method on them, with keys above `after` and not above `upto`, with
-/// at most so many rows, by so many workers in rounds: rows are put between two rounds, and beside those being scanned at most so
+/// at most so many rows, by so many workers in rounds: rows are put while they work, and beside those being scanned at most so
 /// many as the window and one part have are kept. Says the status; where memory is refused before the first round, nothing is
 /// put, and later it is told by a line. It may wait.
 pub fn put_rounds<W: Threads + Wait + Sync, K: Sink, G: Gate + Sync>(

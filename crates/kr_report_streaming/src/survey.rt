@@ -98,8 +98,9 @@ fn put_on<
     }
 }
 
-/// Puts the lines of a survey's span, at most so many, and the last line, by so many workers in rounds, who keep at most so many
-/// lines more than 256 between two rounds. The log says how the workers shared the span. It may wait.
+/// Puts the lines of a survey's span, at most so many, and the last line, by so many workers in rounds, of whom the caller puts what
+/// stands next while the others work. The board keeps at most so many lines and 256 more. The log says how the workers shared the
+/// span. It may wait.
 pub fn put_survey<
     S: Survey<Row = RowLine> + Sync,
     G: Gate + Sync,
