@@ -59,7 +59,7 @@ updates_at d (i ∷ is) = d.value i >> updates_at d is
 
 abbrev pub run_method : Code → Doing → Value → List Value → Option MethodCode → Run Value
 run_method code d receiver arguments None = stop Stuck
-run_method code d receiver arguments (Some m) = within receiver m.parameters arguments (do
+run_method code d receiver arguments (Some m) = within receiver m.parameters.count arguments (do
   flow ← all_at d (listed code m.body)
   returned m.is_void flow)
 
@@ -91,7 +91,7 @@ initialised code d o (i ∷ is) = initialised_by code d o (initialiser_of (node_
 
 abbrev pub constructed_by : Code → Doing → ClassCode → Option Constructor → Value → List Value → (List Value → Run (Unit {0})) → Run (Unit {0})
 constructed_by code d c None o arguments up = within o 0 arguments (up [] >> initialised code d o (listed code c.initialisers))
-constructed_by code d c (Some k) o arguments up = within o k.parameters arguments (do
+constructed_by code d c (Some k) o arguments up = within o k.parameters.count arguments (do
   vs ← super_values code d k.call
   up vs
   within o 0 [] (initialised code d o (listed code c.initialisers))
@@ -252,7 +252,7 @@ value_done code d (expressions.Cast t e) = do
   v ← d.value e
   class ← class_or_null v
   cast_to code t v class
-value_done code d (expressions.Same e) = d.value e
+value_done code d (expressions.Convert t e) = d.value e
 value_done code d (expressions.Assign x e) = assigned code d x (d.value e)
 value_done code d (expressions.Compound o x e) = changed code d x (compound o (d.value e))
 value_done code d (expressions.Step o x) = changed code d x (stepped o)

@@ -192,7 +192,8 @@ pub data IsExpression (program : Program) (code : Code) (n : Numbering) (s : Sco
   instance : (p : Place) (e t : Tree) (i k : ℕ) → IsPart n s e i → n.type k ≡ written s t → IsExpression program code n s (trees.InstanceOf p e t) (expressions.InstanceOf i k)
   conditional : (p : Place) (c a b : Tree) (i j k : ℕ) → IsPart n s c i → IsPart n s a j → IsPart n s b k
       → IsExpression program code n s (trees.Conditional p c a b) (expressions.Conditional i j k)
-  primitive_cast : (p : Place) (t e : Tree) (i : ℕ) → is_primitive t ≡ true → IsPart n s e i → IsExpression program code n s (trees.Cast p t e) (expressions.Same i)
+  primitive_cast : (p : Place) (t e : Tree) (k i : ℕ) → is_primitive t ≡ true → n.type k ≡ written s t → IsPart n s e i
+      → IsExpression program code n s (trees.Cast p t e) (expressions.Convert k i)
   cast : (p : Place) (t e : Tree) (k i : ℕ) → is_primitive t ≡ false → n.type k ≡ written s t → IsPart n s e i
       → IsExpression program code n s (trees.Cast p t e) (expressions.Cast k i)
   -- writes
@@ -258,8 +259,13 @@ pub data IsStatement (code : Code) (n : Numbering) (s : Scope) : Tree → Statem
 
 -- ---- methods and classes
 
+-- the types of parameters by their links
+abbrev pub AreTypes : Code → Numbering → List tables.Parameter → Nodes → Type 0
+AreTypes code n ps ns = map n.type (listed code ns) ≡ map (λ (p : tables.Parameter). p.type) ps
+
 pub record IsMethodCode (program : Program) (code : Code) (n : Numbering) (m : Method) (k : MethodCode) : Type 0 where
-  pub parameters : k.parameters ≡ length m.parameters
+  pub parameters : k.parameters.count ≡ length m.parameters
+  pub types : AreTypes code n m.parameters k.parameters
   pub void : k.is_void ≡ is_void m.result
   pub body : AreParts n (method_scope program m) m.body (listed code k.body)
 
@@ -290,7 +296,8 @@ AreArguments code n s t None = Unit {0}
 AreArguments code n s t (Some ns) = ⊥
 
 pub record IsConstructor (program : Program) (code : Code) (n : Numbering) (c : ℕ) (k : tables.Constructor) (made : Constructor) : Type 0 where
-  pub parameters : made.parameters ≡ length k.parameters
+  pub parameters : made.parameters.count ≡ length k.parameters
+  pub types : AreTypes code n k.parameters made.parameters
   pub call : AreArguments code n (constructor_scope program c k) k.call made.call
   pub body : AreParts n (constructor_scope program c k) k.body (listed code made.body)
 

@@ -21,18 +21,20 @@ pub enum Node {
     Initialiser(Initialiser),
 }
 
-/// A method: how many parameters it has, whether it gives no value, and its statements.
+/// A method: the types of its parameters, whether it gives no value, and its statements.
 #[derive(Clone, Copy)]
 pub struct MethodCode {
-    pub parameters: u32,
+    /// The links are types.
+    pub parameters: Nodes,
     pub is_void: bool,
     pub body: Nodes,
 }
 
-/// A constructor: how many parameters it has, the arguments of a written call of the superclass's, and its statements.
+/// A constructor: the types of its parameters, the arguments of a written call of the superclass's, and its statements.
 #[derive(Clone, Copy)]
 pub struct Constructor {
-    pub parameters: u32,
+    /// The links are types.
+    pub parameters: Nodes,
     pub call: Option<Nodes>,
     pub body: Nodes,
 }

@@ -133,8 +133,11 @@ pub enum Expression {
         class: TypeId,
         operand: u32,
     },
-    /// A cast to a primitive type.
-    Same(u32),
+    /// A cast to a primitive type: a value is converted to it. With one type of numbers it stays as it is.
+    Convert {
+        to: TypeId,
+        operand: u32,
+    },
     Assign {
         variable: Variable,
         value: u32,

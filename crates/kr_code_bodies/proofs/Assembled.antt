@@ -8,7 +8,7 @@ use Rattle.kr_classes_table.specs.Table.{Table, fields_of, line_of, own_fields}
 use Rattle.kr_classes_types.specs.Listed.{IsGrown}
 use Rattle.kr_types.specs.declared.program.Program.{Program}
 use Rattle.kr_mean.specs.Program.{constructor_of, declared_fields, default_of, program_with}
-use Rattle.kr_space_problem.specs.Posed.{run_program, table}
+use Rattle.kr_code_members.specs.Nodes.{run_program, table}
 use Rattle.kr_code.specs.declared.code.Code.{Code}
 use Rattle.kr_code.specs.declared.code.Node.{Node}
 use Rattle.kr_code.specs.declared.code.Node.TheVariants as nodes

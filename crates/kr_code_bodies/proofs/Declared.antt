@@ -1,6 +1,6 @@
 -- Methods and constructors by the nodes that declare them.
-use Rattle.std.proofs.Common.{◌≡◌, refl, sym, ap, ◌∙◌, subst, ℕ, Bool, false, List, [], ◌∷◌}
-use Rattle.std.specs.Prelude.{Option, Some, None, slice_get}
+use Rattle.std.proofs.Common.{◌≡◌, sym, ap, ◌∙◌, subst, ℕ, Bool, false, List, [], ◌∷◌}
+use Rattle.std.specs.Prelude.{Option, Some, None}
 use Rattle.kr_ast.specs.Tree as trees
 use Rattle.kr_ast.specs.Tree.{Tree}
 use Rattle.kr_ast.specs.Arena.{tree_in}
@@ -11,30 +11,19 @@ use Rattle.kr_classes_table.specs.Table as tables
 use Rattle.kr_classes_table.specs.Table.{Heading, constructors_in, methods_in}
 use Rattle.kr_laws_shapes.specs.Shapes as shapes
 use Rattle.kr_types.specs.declared.program.Program.{Program}
-use Rattle.kr_types.specs.declared.program.TypedFile.{TypedFile}
-use Rattle.kr_space_problem.specs.Posed.{table}
+use Rattle.kr_code_members.specs.Nodes.{table, IsConstructorNode, IsMaybeConstructorNode, IsMemberNode, IsMethodNode}
 use Rattle.kr_code_members.specs.declared.nodes.MethodNode.{MethodNode}
 use Rattle.kr_code_members.specs.declared.nodes.ConstructorNode.{ConstructorNode}
 use Rattle.kr_code_members.specs.Nodes as members
-use Rattle.kr_code_members.specs.Nodes.{IsConstructorNode, IsMaybeConstructorNode, IsMemberNode, IsMethodNode}
+use Rattle.kr_code_members.proofs.Scopes.{parameters}
 use Rattle.kr_code_members.proofs.Signed.{no_methods}
 use Rattle.kr_code_members.proofs.Constructing.{no_constructors}
 use Rattle.kr_code.specs.declared.code.MethodCode.{MethodCode}
 use Rattle.kr_code.specs.declared.code.Constructor as made
 use Rattle.kr_code_lowering.specs.declared.site.Site.{Site}
-use Rattle.kr_code_lowering.specs.Origins.{node_scope, scope_in}
 use Rattle.kr_code_lowering.specs.Sites.{IsHere, IsSite, arena_at, scope_at, tree_at}
-use Rattle.kr_code_lowering.specs.Bodies.{AreParameters, Constructs, Declares, HasParameters, TakesParameters, IsMember}
+use Rattle.kr_code_lowering.specs.Bodies.{Constructs, Declares, HasParameters, TakesParameters, IsMember}
 use Rattle.kr_code_bodies.specs.Made.{IsConstructorMade, IsMethodMade}
-
--- ---- the scope of a node
-
-same_in : (p : Program) (f i : ℕ) (o : Option TypedFile) → scope_in p f i o ≡ members.scope_in p f i o
-same_in p f i None = refl
-same_in p f i (Some t) = refl
-
-pub same_scope : (p : Program) (f i : ℕ) → node_scope p f i ≡ members.node_scope p f i
-same_scope p f i = same_in p f i (slice_get p.files.items f)
 
 -- the site of a node
 pub record IsSiteOf (p : Program) (s : Site) (f i : ℕ) : Type 0 where
@@ -46,18 +35,12 @@ pub site_tree : (p : Program) (s : Site) (f i : ℕ) → IsSiteOf p s f i → me
 site_tree p s f i is = ap (λ (n : ℕ). members.node_tree p n i) (sym is.file) ∙ ap (members.node_tree p s.file) (sym is.node)
 
 pub site_scope : (p : Program) (s : Site) (f i : ℕ) → IsSiteOf p s f i → scope_at p s ≡ members.node_scope p f i
-site_scope p s f i is = same_scope p s.file s.node ∙ ap (λ (n : ℕ). members.node_scope p n s.node) is.file ∙ ap (members.node_scope p f) is.node
+site_scope p s f i is = ap (λ (n : ℕ). members.node_scope p n s.node) is.file ∙ ap (members.node_scope p f) is.node
 
 site_member : (p : Program) (s : Site) (f c i : ℕ) → IsSiteOf p s f i → IsMemberNode p f c i → IsMember p s c
 site_member p s f c i is member = site_scope p s f i is ∙ member.scope
 
 -- ---- methods
-
-parameters : (t : Tree) → shapes.AreParameters t → AreParameters t
-parameters trees.Nil h = tt
-parameters (trees.Cons (trees.Parameter p t n) b) h = parameters b h.1
-parameters (trees.Cons _ b) h = absurd h
-parameters _ h = absurd h
 
 has_parameters : (hs : List Heading) (c : ℕ) (m : tables.Method) (t : Tree) → shapes.IsMember false t → methods_in hs c t ≡ m ∷ [] → HasParameters t
 has_parameters hs c m (trees.Method p st n (trees.Signature q r ps cs) b) h e = parameters ps h.0.1

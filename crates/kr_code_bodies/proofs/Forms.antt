@@ -20,29 +20,18 @@ module _ (files : List Arena) (arrays : List JavaType) (t : JavaType) where
   pub class_row : (d : ℕ) (row : List Bool) → t ≡ ClassType d → IsRow false (λ c b. b ≡ is_below (table_in files) c d) row → IsRow false (IsInstance files arrays t) row
   class_row d row e h c = subst (λ (u : JavaType). IsInstance files arrays u c (get_or row c false)) (sym e) (h c)
 
-  inside_or_past : (k n : ℕ) → (k < n) ⊎ (n ≤ k)
-  inside_or_past k n = grind arith
-
   pub array_row : (u : JavaType) (row : List Bool) → t ≡ ArrayType u → row ≡ map (λ s. is_same s t) arrays → IsRow false (IsArrayInstance files arrays t) row
-  array_row u row e h k = subst (λ (v : JavaType). IsArrayInstance files arrays v k (get_or row k false)) (sym e) (ap (λ bs. get_or bs k false) h ∙ go (inside_or_past k (length arrays)))
-    where
-      go : (k < length arrays) ⊎ (length arrays ≤ k) → get_or (map (λ s. is_same s t) arrays) k false ≡ is_same (get_or arrays k VoidType) (ArrayType u)
-      go (inl l) = get_or-map (λ s. is_same s t) arrays k VoidType false l ∙ ap (is_same (get_or arrays k VoidType)) e
-      go (inr l) = get_or_past (map (λ s. is_same s t) arrays) k false (omega (arith, l, length-map arrays (λ s. is_same s t))) ∙ sym (ap (λ s. is_same s (ArrayType u)) (get_or_past arrays k VoidType l))
+  array_row u row e h k =
+      let row_is : get_or (map (λ s. is_same s t) arrays) k false ≡ is_same (get_or arrays k VoidType) (ArrayType u) = elim (let d : (k < length arrays) ⊎ (length arrays ≤ k) = grind arith in d) [
+        | inl l ↦ get_or-map (λ s. is_same s t) arrays k VoidType false l ∙ ap (is_same (get_or arrays k VoidType)) e
+        | inr l ↦ get_or_past (map (λ s. is_same s t) arrays) k false (omega (arith, l, length-map arrays (λ s. is_same s t))) ∙ sym (ap (λ s. is_same s (ArrayType u)) (get_or_past arrays k VoidType l))
+      ] in
+      subst (λ (v : JavaType). IsArrayInstance files arrays v k (get_or row k false)) (sym e) (ap (λ bs. get_or bs k false) h ∙ row_is)
 
   -- objects are of no other types
   other_row : (l : TypeList) (f : TypeForm) → ((d : ℕ) → f ≡ forms.Class d → ⊥) → (c : ℕ) → IsInstance files arrays (type_of_form l f) c false
   other_row l (forms.Class d) other c = absurd (other d refl)
-  other_row l forms.Int other c = refl
-  other_row l forms.Boolean other c = refl
-  other_row l forms.Null other c = refl
-  other_row l forms.Void other c = refl
-  other_row l forms.Inferred other c = refl
-  other_row l (forms.Array u) other c = refl
-  other_row l (forms.Set u) other c = refl
-  other_row l (forms.List u) other c = refl
-  other_row l (forms.Unknown o n) other c = refl
-  other_row l (forms.Applied h u) other c = refl
+  other_row l _ other c = refl
 
   pub no_class_row : (l : TypeList) (f : TypeForm) → t ≡ type_of_form l f → ((d : ℕ) → f ≡ forms.Class d → ⊥) → (c : ℕ) → IsInstance files arrays t c false
   no_class_row l f e other c = subst (λ (u : JavaType). IsInstance files arrays u c false) (sym e) (other_row l f other c)

@@ -2,7 +2,6 @@
 use Rattle.std.proofs.Common.{◌≡◌, refl, sym, ap, ◌∙◌, subst, ℕ, suc, ◌+◌, ◌<◌, Bool, true, false, List, [], ◌∷◌, ◌++◌, length, map, get_or, append-nil, arith}
 use Rattle.std.specs.Prelude.{if◌then◌else◌, Option, Some, flat_map, option_map, slice_get}
 use Rattle.std.specs.List.{AllZip, range_with_len}
-use Rattle.std.proofs.lemmas.Grind.{flat_map-append}
 use Rattle.std.proofs.lemmas.Option.{get_or_from_slice_get, slice_get-get_or, slice_get-map}
 use Rattle.kr_ast.specs.Tree as trees
 use Rattle.kr_ast.specs.Tree.{Tree}
@@ -20,9 +19,8 @@ use Rattle.kr_types.specs.Programs.{IsProgram}
 use Rattle.kr_types_meaning.specs.Scopes.{Scope, scope_of, static_if}
 use Rattle.kr_classes_table.specs.Constants.{values_of}
 use Rattle.kr_mean.specs.Program.{class_scope, instance_only}
-use Rattle.kr_space_problem.specs.Posed.{run_program, table}
+use Rattle.kr_code_members.specs.Nodes.{run_program, table, IsFieldNode}
 use Rattle.kr_code_members.specs.declared.nodes.FieldNode.{FieldNode}
-use Rattle.kr_code_members.specs.Nodes.{IsFieldNode}
 use Rattle.kr_code.specs.declared.code.Code.{Code}
 use Rattle.kr_code.specs.declared.code.Node.{Node}
 use Rattle.kr_code.specs.declared.code.Node.TheVariants as nodes
@@ -49,9 +47,6 @@ none_static p f e = subst (λ (b : Bool). AllZip (IsInitial p) (flat_map has_ini
 instance_is : (f : tables.Field) → f.is_static ≡ false → flat_map has_initial (instance_only f) ≡ has_initial f
 instance_is f e = ap (λ (b : Bool). flat_map has_initial (if b then [] else f ∷ [])) e ∙ append-nil (has_initial f)
 
-nil_none : (f : tables.Field) (t : Tree) → t ≡ trees.Nil → initial_or_none f t ≡ []
-nil_none f t e = ap (initial_or_none f) e
-
 tree_there : (f : tables.Field) (text : List ℕ) (look : ℕ → Tree) (pl : Place) (n : ast.Node) → (n ≡ syntax.Nil → ⊥) → initial_or_none f (tree_of text look pl n) ≡ f ∷ []
 tree_there f text look pl syntax.Nil h = absurd (h refl)
 tree_there f text look pl _ h = refl
@@ -65,7 +60,7 @@ module _ (p : Program) (program : IsProgram p) (n : FieldNode) (s : Site) (is : 
   pub none_written : f.is_static ≡ false → e.node ≡ syntax.Nil → AllZip (IsInitial p) (flat_map has_initial (instance_only f)) []
   none_written st it =
       let t : f.initial ≡ trees.Nil = sym field.initial ∙ site_tree p s n.file n.initial is ∙ at.tree ∙ ap (tree_of (arena_at p s).text (tree_in (arena_at p s)) e.place) it in
-      subst (λ (fs : List tables.Field). AllZip (IsInitial p) fs []) (sym (instance_is f st ∙ nil_none f f.initial t)) tt
+      subst (λ (fs : List tables.Field). AllZip (IsInitial p) fs []) (sym (instance_is f st ∙ ap (initial_or_none f) t)) tt
 
   pub written : f.is_static ≡ false → (e.node ≡ syntax.Nil → ⊥) → (number : ℕ) → field_numbered (table p) number ≡ f → AllZip (IsInitial p) (flat_map has_initial (instance_only f)) (record { field = number; value = s.first + s.node } ∷ [])
   written st it number numbered =
@@ -86,10 +81,6 @@ module _ (p : Program) (program : IsProgram p) (n : FieldNode) (s : Site) (is : 
 pub own_number : (t : Table) (c j : ℕ) (d : tables.Field) → j < length (own_fields t c) → field_numbered t (first_of fields_of_class t c + j) ≡ get_or (own_fields t c) j d
 own_number t c j d l =
     get_or_from_slice_get (all_fields t) (first_of fields_of_class t c + j) (get_or (own_fields t c) j d) (no_field t) (section fields_of_class t.classes c j l ∙ slice_get-get_or (own_fields t c) j d l)
-
-pub flat_flat : {A B C : Type 0} (f : B → List C) (g : A → List B) (xs : List A) → flat_map (λ x. flat_map f (g x)) xs ≡ flat_map f (flat_map g xs)
-flat_flat f g [] = refl
-flat_flat f g (x ∷ xs) = ap (λ (zs : List _). flat_map f (g x) ++ zs) (flat_flat f g xs) ∙ sym (flat_map-append f (g x) (flat_map g xs))
 
 -- ---- nodes
 

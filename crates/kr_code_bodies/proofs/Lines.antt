@@ -1,13 +1,12 @@
 -- Lines of classes: behind the last class nothing is declared, and no line leads there.
-use Rattle.std.proofs.Common.{◌≡◌, refl, sym, ap, ◌∙◌, subst, ℕ, zero, suc, ◌+◌, ◌<◌, ◌≤◌, Bool, true, false, ◌||◌, nat_eq, List, [], ◌∷◌, ◌++◌, length, arith, if◌then◌else◌}
-use Rattle.std.specs.Prelude.{Option, Some, None, option_and_then, option_to_list, unwrap_or, find, flat_map, reverse}
-use Rattle.kr_ast.specs.Arena.{Arena}
-use Rattle.kr_ast.specs.Tree as trees
-use Rattle.kr_ast.specs.Tree.{Tree}
-use Rattle.kr_classes_table.specs.Table.{Table, Class, Heading, Method, class_at, class_named, classes_from, fields_of, is_among, is_below, is_instance, is_number, line_of, line_within, method_named, number_of, outer_of, own_fields, own_methods, super_of}
-use Rattle.kr_classes_members.specs.Shown.{headings_in, table_in}
-use Rattle.kr_classes_members.proofs.Classes.{classes_in}
-use Rattle.kr_classes_names.proofs.ClassNumbers.{is_other, some_below}
+use Rattle.std.proofs.Common.{◌≡◌, refl, All, map, ap, ◌∙◌, ℕ, zero, suc, ◌+◌, ◌<◌, ◌≤◌, false, ◌||◌, List, [], ◌∷◌, ◌++◌, length, arith}
+use Rattle.std.specs.Prelude.{None, option_and_then, option_to_list, find, flat_map, reverse}
+use Rattle.std.proofs.lemmas.List.Elements.{All-head, All-tail, All-weaker}
+use Rattle.kr_ast.specs.Arena.{Arena, root}
+use Rattle.kr_classes_table.specs.Table.{Table, Class, Method, class_at, fields_of, is_among, is_below, is_instance, line_of, line_within, method_named, own_fields, own_methods}
+use Rattle.kr_classes_members.specs.Shown.{table_in}
+use Rattle.kr_classes_names.proofs.ClassNumbers.{is_other}
+use Rattle.kr_types.proofs.Named.{line_there}
 
 -- ---- behind the last class
 
@@ -36,53 +35,13 @@ module _ (t : Table) (c : ℕ) (past : length t.classes ≤ c) where
   pub below_past : (d : ℕ) → (d ≡ c → ⊥) → is_below t c d ≡ false
   below_past d other = ap (is_among d) line_past ∙ ap (λ b. b || false) (is_other d c other)
 
--- ---- superclasses are classes of the table
+-- ---- no line leads behind the last
 
-some_value : {A : Type 0} (a b : A) → Some a ≡ Some b → a ≡ b
-some_value a b e = ap (λ o. unwrap_or o a) e
-
-chosen : (b : Bool) (c d : ℕ) → (if b then Some c else None) ≡ Some d → c ≡ d
-chosen true c d e = some_value c d e
-chosen false c d e = absurd (cc (e))
-
-within : (n : ℕ) (test : ℕ → Bool) (o : Option ℕ) (d : ℕ) → ((c : ℕ) → o ≡ Some c → c < n) → option_and_then (λ c. if test c then Some c else None) o ≡ Some d → d < n
-within n test None d f e = absurd (cc (e))
-within n test (Some c) d f e = subst (λ (x : ℕ). x < n) (chosen (test c) c d e) (f c refl)
-
-named : (hs : List Heading) (t : Tree) (d : ℕ) → class_named hs t ≡ Some d → d < length hs
-named hs (trees.NamedType p n) d e = some_below hs n d (sym e)
-named hs (trees.QualifiedType p o n) d e = within (length hs) (λ c. is_number (outer_of hs c) (number_of hs o)) (number_of hs n) d (λ c s. some_below hs n c (sym s)) e
-named hs t d e = absurd (cc (e))
-
-long : (all : List Heading) (k : ℕ) (hs : List Heading) → length (classes_from all k hs) ≡ length hs
-long all k [] = refl
-long all k (h ∷ hs) = ap suc (long all (k + 1) hs)
-
-super_within : (all : List Heading) (k : ℕ) (hs : List Heading) (c d : ℕ) → option_and_then (λ (x : Class). x.super) (class_at (classes_from all k hs) c) ≡ Some d → d < length all
-super_within all k [] c d e = absurd (cc (e))
-super_within all k (h ∷ hs) zero d e = named all h.extended d e
-super_within all k (h ∷ hs) (suc c) d e = super_within all (k + 1) hs c d e
-
-closed : (files : List Arena) (c d : ℕ) → super_of (table_in files) c ≡ Some d → d < length (table_in files).classes
-closed files c d e =
-    let hs = headings_in files in
-    let n : length (table_in files).classes ≡ length hs = ap length (classes_in files) ∙ long hs 0 hs in
-    let b : d < length hs = super_within hs 0 hs c d (sym (ap (λ ds. option_and_then (λ (x : Class). x.super) (class_at ds c)) (classes_in files)) ∙ e) in
-    omega (arith, n, b)
-
--- ---- so no line leads behind the last
-
-neither : (a b : Bool) → a ≡ false → b ≡ false → a || b ≡ false
-neither a b e f = ap (λ x. x || b) e ∙ f
-
-off_line : (files : List Arena) (n k : ℕ) (o : Option ℕ) → length (table_in files).classes ≤ n → ((x : ℕ) → o ≡ Some x → x < length (table_in files).classes) → is_among n (line_within k (table_in files) o) ≡ false
-off_line files n zero o l f = refl
-off_line files n (suc k) None l f = refl
-off_line files n (suc k) (Some c) l f =
-    let b : c < length (table_in files).classes = f c refl in
-    neither (nat_eq n c) (is_among n (line_within k (table_in files) (super_of (table_in files) c))) (is_other n c (λ e. absurd (omega (arith, e, b, l)))) (off_line files n k (super_of (table_in files) c) l (closed files c))
+outside : (n : ℕ) (cs : List ℕ) → All (λ c. c < n) cs → is_among n cs ≡ false
+outside n [] h = refl
+outside n (c ∷ cs) h =
+    let b : c < n = All-head (λ d. d < n) c cs h in
+    ap (λ x. x || is_among n cs) (is_other n c (λ e. absurd (omega (arith, e, b)))) ∙ outside n cs (All-tail (λ d. d < n) c cs h)
 
 pub never_below : (files : List Arena) (c n : ℕ) → c < length (table_in files).classes → length (table_in files).classes ≤ n → is_below (table_in files) c n ≡ false
-never_below files c n h l =
-    let t = table_in files in
-    neither (nat_eq n c) (is_among n (line_within (length t.classes) t (super_of t c))) (is_other n c (λ e. absurd (omega (arith, e, h, l)))) (off_line files n (length t.classes) (super_of t c) l (closed files c))
+never_below files c n h l = outside n (line_of (table_in files) c) (All-weaker (λ d. d < length (table_in files).classes) (λ d. d < n) (λ d b. omega (arith, b, l)) (line_of (table_in files) c) (line_there (map root files) c h))

@@ -17,9 +17,6 @@ no_choice false o e = refl
 not_chosen : {A : Type 0} (b : Bool) (o : Option A) → b ≡ false → (if b then o else None) ≡ None
 not_chosen b o e = ap (λ x. if x then o else None) e
 
-inside_or_past : (c n : ℕ) → (c < n) ⊎ (n ≤ c)
-inside_or_past c n = grind arith
-
 module _ (files : List Arena) (c : ℕ) where
   pub no_fields : length (table_in files).classes ≤ c → AreFieldsOf files c []
   no_fields l = record { few = omega arith; stand = All-nil (IsField files); shown = sym (fields_past (table_in files) c l) }
@@ -35,15 +32,13 @@ module _ (files : List Arena) (c : ℕ) where
 
   -- what is of no class is nowhere
   pub no_spot : IsSpot files (no_field (table_in files)) c None
-  no_spot = go (inside_or_past c (length (table_in files).classes))
-    where
-      go : (c < length (table_in files).classes) ⊎ (length (table_in files).classes ≤ c) → IsSpot files (no_field (table_in files)) c None
-      go (inl h) = sym (not_chosen (is_below (table_in files) c (length (table_in files).classes)) (field_position (program_in files []) c []) (never_below files c (length (table_in files).classes) h (omega arith)))
-      go (inr l) = spot_past l (no_field (table_in files))
+  no_spot = elim (let d : (c < length (table_in files).classes) ⊎ (length (table_in files).classes ≤ c) = grind arith in d) [
+    | inl h ↦ sym (not_chosen (is_below (table_in files) c (length (table_in files).classes)) (field_position (program_in files []) c []) (never_below files c (length (table_in files).classes) h (omega arith)))
+    | inr l ↦ spot_past l (no_field (table_in files))
+  ]
 
   pub no_overrider : IsOverrider files (no_method (table_in files)) c None
-  no_overrider = go (inside_or_past c (length (table_in files).classes))
-    where
-      go : (c < length (table_in files).classes) ⊎ (length (table_in files).classes ≤ c) → IsOverrider files (no_method (table_in files)) c None
-      go (inl h) = record { within = tt; shown = sym (not_chosen (is_below (table_in files) c (length (table_in files).classes)) (method_named (table_in files) c []) (never_below files c (length (table_in files).classes) h (omega arith))) }
-      go (inr l) = overrider_past l (no_method (table_in files))
+  no_overrider = elim (let d : (c < length (table_in files).classes) ⊎ (length (table_in files).classes ≤ c) = grind arith in d) [
+    | inl h ↦ record { within = tt; shown = sym (not_chosen (is_below (table_in files) c (length (table_in files).classes)) (method_named (table_in files) c []) (never_below files c (length (table_in files).classes) h (omega arith))) }
+    | inr l ↦ overrider_past l (no_method (table_in files))
+  ]

@@ -12,19 +12,13 @@ pub record IsFront {A : Type 0} (none : A) (P : ℕ → A → Type 0) (n : ℕ) 
   pub count : length row ≡ n
   pub each : (c : ℕ) → c < n → P c (get_or row c none)
 
-below_or_at : (a b : ℕ) → a < b + 1 → (a < b) ⊎ (a ≡ b)
-below_or_at a b k = grind (arith, k)
-
-below_or_past : (a b : ℕ) → (a < b) ⊎ (b ≤ a)
-below_or_past a b = grind arith
-
 pub no_columns : {A : Type 0} (none : A) (P : ℕ → A → Type 0) (row : List A) → row ≡ [] → IsFront none P 0 row
 no_columns none P row e = record { count = ap length e; each = λ c h. absurd (omega (arith, h)) }
 
 pub column_more : {A : Type 0} (none : A) (P : ℕ → A → Type 0) (n : ℕ) (row new : List A) (x : A) → IsFront none P n row → new ≡ row ++ x ∷ [] → P n x → IsFront none P (n + 1) new
 column_more {A = A} none P n row new x front e h = record {
   count = ap length e ∙ length-append row (x ∷ []) ∙ ap (λ k. k + 1) front.count;
-  each = λ c l. subst (λ (ys : List A). P c (get_or ys c none)) (sym e) (go c (below_or_at c n l));
+  each = λ c l. subst (λ (ys : List A). P c (get_or ys c none)) (sym e) (go c (let d : (c < n) ⊎ (c ≡ n) = grind (arith, l) in d));
 }
   where
     go : (c : ℕ) → (c < n) ⊎ (c ≡ n) → P c (get_or (row ++ x ∷ []) c none)
@@ -35,11 +29,10 @@ column_more {A = A} none P n row new x front e h = record {
 
 -- nothing is asked of the columns behind but of what isn't there
 pub whole_row : {A : Type 0} (none : A) (P : ℕ → A → Type 0) (n : ℕ) (row : List A) → IsFront none P n row → ((c : ℕ) → n ≤ c → P c none) → IsRow none P row
-whole_row {A = A} none P n row front behind c = go (below_or_past c n)
-  where
-    go : (c < n) ⊎ (n ≤ c) → P c (get_or row c none)
-    go (inl l) = front.each c l
-    go (inr l) = subst (λ (y : A). P c y) (sym (get_or_past row c none (omega (arith, l, front.count)))) (behind c l)
+whole_row {A = A} none P n row front behind c = elim (let d : (c < n) ⊎ (n ≤ c) = grind arith in d) [
+  | inl l ↦ front.each c l
+  | inr l ↦ subst (λ (y : A). P c y) (sym (get_or_past row c none (omega (arith, l, front.count)))) (behind c l)
+]
 
 pub no_row : {A : Type 0} (none : A) (P : ℕ → A → Type 0) (row : List A) → row ≡ [] → ((c : ℕ) → P c none) → IsRow none P row
 no_row none P row e behind = whole_row none P 0 row (no_columns none P row e) (λ c l. behind c)

@@ -1,6 +1,6 @@
 -- What stands in a list that grows.
 use Rattle.std.proofs.Common.{◌≡◌, sym, ap, ◌∙◌, ℕ, zero, suc, ◌+◌, ◌-◌, ◌<◌, List, [], ◌∷◌, ◌++◌, length, length-append, map, take, drop, get_or, append_assoc, add-one, arith}
-use Rattle.std.specs.Prelude.{slice_get, IfOk, Result, Ok, Err}
+use Rattle.std.specs.Prelude.{slice_get}
 use Rattle.std.specs.List.{range_with_len}
 use Rattle.std.proofs.Math.Seq.{drop-append_seam}
 use Rattle.std.proofs.lemmas.List.{map-append, take_more}
@@ -41,11 +41,6 @@ adds_on old mid new a b = record {
 
 pub adds_grown : (old new : List Node) → AddsInitialisers old new → IsGrown old new
 adds_grown old new a = record { more = map nodes.Initialiser a.added; items = a.items }
-
--- what follows from a result where there is one
-pub if_ok : {A E : Type 0} (P Q : A → Type 0) (r : Result A E) → ((x : A) → P x → Q x) → IfOk r P → IfOk r Q
-if_ok P Q (Ok x) f h = f x h
-if_ok P Q (Err e) f h = tt
 
 pub got_right : {A : Type 0} (xs ys : List A) (i : ℕ) → slice_get (xs ++ ys) (length xs + i) ≡ slice_get ys i
 got_right [] ys i = let e : 0 + i ≡ i = omega arith in ap (slice_get ys) e

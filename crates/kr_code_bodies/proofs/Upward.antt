@@ -5,7 +5,7 @@ use Rattle.kr_ast.specs.Arena.{root}
 use Rattle.kr_classes_table.specs.Table.{line_of}
 use Rattle.kr_types.specs.declared.program.Program.{Program}
 use Rattle.kr_types.proofs.Named as classes
-use Rattle.kr_space_problem.specs.Posed.{table}
+use Rattle.kr_code_members.specs.Nodes.{table}
 
 there : {A : Type 0} (xs : List A) (i : ℕ) → i < length xs → IsSome (slice_get xs i)
 there [] i l = absurd (omega (arith, l))

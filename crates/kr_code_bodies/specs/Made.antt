@@ -4,7 +4,7 @@ use Rattle.kr_value.specs.declared.value.Value.{Value}
 use Rattle.kr_classes_table.specs.Table as tables
 use Rattle.kr_classes_types.specs.Listed.{IsGrown}
 use Rattle.kr_types.specs.declared.program.Program.{Program}
-use Rattle.kr_space_problem.specs.Posed.{run_program, table}
+use Rattle.kr_code_members.specs.Nodes.{run_program, table}
 use Rattle.kr_mean.specs.Program as meaning
 use Rattle.kr_mean.specs.Program.{class_scope}
 use Rattle.kr_code.specs.declared.code.Code.{Code}

@@ -2,10 +2,9 @@
 ghost use Rattle.std.specs.Prelude.{◌≡◌, ◌<◌, ◌^◌, ℕ, List, Some, IfOk, length, slice_get};
 ghost use Rattle.kr_classes_types.specs.Listed.{IsGrown};
 ghost use Rattle.kr_types.specs.Programs.{IsProgram};
-ghost use Rattle.kr_code_members.specs.Nodes.{AreMemberNodes, IsClassNodes};
+ghost use Rattle.kr_code_members.specs.Nodes.{AreMemberNodes, IsClassNodes, run_program, table};
 ghost use Rattle.kr_code_members.specs.declared.nodes.ClassNodes.{ClassNodes as Found};
 ghost use Rattle.kr_classes_roster.specs.Rosters.{IsRoster, all_fields, all_methods};
-ghost use Rattle.kr_space_problem.specs.Posed.{run_program, table};
 ghost use Rattle.kr_code.specs.declared.code.Code.{Code};
 ghost use Rattle.kr_code.specs.declared.code.ClassCode.{ClassCode as Made};
 ghost use Rattle.kr_code_lowering.specs.Origins.{Final, numbering_of};

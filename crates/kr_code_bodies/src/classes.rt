@@ -2,9 +2,8 @@
 ghost use Rattle.std.specs.Prelude.{◌≡◌, ◌<◌, ◌≤◌, ◌^◌, ℕ, List, IfOk, length};
 ghost use Rattle.kr_classes_types.specs.Listed.{IsGrown};
 ghost use Rattle.kr_types.specs.Programs.{IsProgram};
-ghost use Rattle.kr_code_members.specs.Nodes.{IsClassNodes};
+ghost use Rattle.kr_code_members.specs.Nodes.{IsClassNodes, table};
 ghost use Rattle.kr_classes_roster.specs.Rosters.{all_fields, fields_of_class, first_of};
-ghost use Rattle.kr_space_problem.specs.Posed.{table};
 ghost use Rattle.kr_code_bodies.specs.Made.{AddsInitialisers, IsClassMade};
 
 use crate::ancestor_lines::add_line;

@@ -1,5 +1,5 @@
 // The code of constructors.
-ghost use Rattle.std.specs.Prelude.{◌≡◌, ℕ, List, Option, Some, IfOk, IfSome};
+ghost use Rattle.std.specs.Prelude.{ℕ, List, Option, Some, IfOk, IfSome};
 ghost use Rattle.kr_classes_table.specs.Table as tables;
 ghost use Rattle.kr_classes_types.specs.Listed.{IsGrown};
 ghost use Rattle.kr_types.specs.Programs.{IsProgram};
@@ -33,7 +33,7 @@ fn constructor_at(
             body,
         } => constructor_code(program, links, site, entry, parameters, super_call, body),
         _ => Ok(Constructor {
-            parameters: 0,
+            parameters: Nodes { first: 0, count: 0 },
             call: None,
             body: Nodes { first: 0, count: 0 },
         }),

@@ -6,11 +6,10 @@ ghost use Rattle.kr_classes_table.specs.Table.{own_fields};
 ghost use Rattle.kr_classes_types.specs.Listed.{IsGrown};
 ghost use Rattle.kr_types.specs.Programs.{IsProgram};
 ghost use Rattle.kr_mean.specs.Program.{declared_fields, instance_only};
-ghost use Rattle.kr_code_members.specs.Nodes.{IsFieldNode, IsThere};
+ghost use Rattle.kr_code_members.specs.Nodes.{IsFieldNode, IsThere, run_program, table};
 ghost use Rattle.kr_code.specs.declared.code.Node.TheVariants as made;
 ghost use Rattle.kr_code.specs.Resolved.{has_initial, initialised_fields};
 ghost use Rattle.kr_classes_roster.specs.Rosters.{all_fields, field_numbered, fields_of_class, first_of};
-ghost use Rattle.kr_space_problem.specs.Posed.{run_program, table};
 ghost use Rattle.kr_code_bodies.specs.Made.{AreThere, IsInitial};
 
 use kr_ast::Node;

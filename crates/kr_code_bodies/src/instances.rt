@@ -31,6 +31,7 @@ fn heirs(alloc: Global, members: &Members, class: ClassId) -> Result<Vec<bool>, 
 }
 
 /// Of each class whether its objects are of a type.
+#[tactic(auto, using(crate::proofs::Rows::no_row, crate::proofs::Forms::class_row, crate::proofs::Forms::no_class_row))]
 fn instance_row(
     alloc: Global,
     members: &Members,

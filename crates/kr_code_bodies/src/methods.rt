@@ -3,10 +3,9 @@ ghost use Rattle.std.specs.Prelude.{◌≡◌, ℕ, List, IfOk, Some, length, sl
 ghost use Rattle.kr_classes_table.specs.Table as tables;
 ghost use Rattle.kr_classes_types.specs.Listed.{IsGrown};
 ghost use Rattle.kr_types.specs.Programs.{IsProgram};
-ghost use Rattle.kr_code_members.specs.Nodes.{IsMethodNode, IsThere};
+ghost use Rattle.kr_code_members.specs.Nodes.{IsMethodNode, IsThere, table};
 ghost use Rattle.kr_code.specs.declared.code.MethodCode.{MethodCode as Made};
 ghost use Rattle.kr_classes_roster.specs.Rosters.{method_numbered};
-ghost use Rattle.kr_space_problem.specs.Posed.{table};
 ghost use Rattle.kr_code_bodies.specs.Made.{IsMethodMade, IsMethodNumbered};
 
 use kr_ast::Node;
@@ -36,7 +35,7 @@ fn method_at(program: &Program, links: &mut Links, node: MethodNode) -> Result<M
             program, links, site, entry, is_static, name, signature, body,
         ),
         _ => Ok(MethodCode {
-            parameters: 0,
+            parameters: Nodes { first: 0, count: 0 },
             is_void: true,
             body: Nodes { first: 0, count: 0 },
         }),

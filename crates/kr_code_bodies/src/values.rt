@@ -1,11 +1,11 @@
 // What the fields of objects begin with.
-ghost use Rattle.std.specs.Prelude.{◌≡◌, ◌≤◌, ◌++◌, IfOk, length, map, All};
+ghost use Rattle.std.specs.Prelude.{◌≡◌, ◌≤◌, IfOk, length, map, All};
 ghost use Rattle.kr_classes_table.specs.Table.{fields_of};
 ghost use Rattle.kr_classes_members.specs.Shown.{IsField, field_shown};
 ghost use Rattle.kr_classes_types.specs.Listed.{IsGrown};
 ghost use Rattle.kr_types.specs.Programs.{IsProgram};
 ghost use Rattle.kr_mean.specs.Program.{default_of};
-ghost use Rattle.kr_space_problem.specs.Posed.{table};
+ghost use Rattle.kr_code_members.specs.Nodes.{table};
 ghost use Rattle.kr_code_bodies.specs.Made.{AreThere};
 
 use kr_base::NoMemory;

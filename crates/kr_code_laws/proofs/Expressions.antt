@@ -206,7 +206,7 @@ module _ (program : Program) (code : Code) (n : Numbering) (tables : AreTables p
   expression_same s t x (resolved.instance r e u i k h g) =
       then_same (d.value i) (p.value s e) _ _ (part s e i h) (λ v. then_same (class_or_null v) (class_or_null v) _ _ (λ state. refl) (λ class state. ap (λ (z : Value). give z state) (instances program code n tables k class ∙ ap (λ (z : JavaType). instance program z class) g)))
   expression_same s t x (resolved.conditional r c a b i j k h g l) = then_same (d.value i) (p.value s c) _ _ (part s c i h) (λ v. choose_same v _ _ _ _ (part s a j g) (part s b k l))
-  expression_same s t x (resolved.primitive_cast r u e i b h) = λ state. part s e i h state ∙ ap (λ (z : Bool). (if z then p.value s e else (p.value s e >>= (λ v. class_or_null v >>= cast program (written s u) v))) state) (sym b)
+  expression_same s t x (resolved.primitive_cast r u e k i b ty h) = λ state. part s e i h state ∙ ap (λ (z : Bool). (if z then p.value s e else (p.value s e >>= (λ v. class_or_null v >>= cast program (written s u) v))) state) (sym b)
   expression_same s t x (resolved.cast r u e k i b g h) = λ state.
       then_same (d.value i) (p.value s e) (λ v. class_or_null v >>= cast_to code k v) (λ v. class_or_null v >>= cast program (written s u) v) (part s e i h) (λ v. then_same (class_or_null v) (class_or_null v) _ _ (λ y. refl) (λ class y. casts program code n tables k v class y ∙ ap (λ (z : JavaType). cast program z v class y) g)) state
       ∙ ap (λ (z : Bool). (if z then p.value s e else (p.value s e >>= (λ v. class_or_null v >>= cast program (written s u) v))) state) (sym b)

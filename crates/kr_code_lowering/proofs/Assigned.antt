@@ -1,5 +1,6 @@
 -- Assignments.
-use Rattle.std.proofs.Common.{◌≡◌, refl, ap, ◌∙◌, ℕ, ◌+◌, List}
+use Rattle.std.proofs.Common.{◌≡◌, refl, ap, ◌∙◌, ℕ, ◌+◌, List, arith}
+use Rattle.std.specs.Prelude.{Option, Some, None}
 use Rattle.kr_ast.specs.Tree.{Tree}
 use Rattle.kr_ast.specs.Arena as arenas
 use Rattle.kr_ast.specs.Arena.{tree_in, tree_of}
@@ -22,12 +23,23 @@ use Rattle.kr_code_lowering.specs.Sites.{IsHere, IsSite, Resolves, arena_at, sco
 use Rattle.kr_code_lowering.specs.Targets.{IsTarget}
 use Rattle.kr_code_lowering.proofs.Parts.{part_in, part_scope, tree_is}
 use Rattle.kr_code_lowering.proofs.Naming.{parts_are, resolves_at}
-use Rattle.std.proofs.Common.{arith}
 
 -- the target is the first part, and stands for a value
 pub target_scope : (p : Program) → IsProgram p → (s : Site) (e : Entry) (n : Node) → IsHere p s e → e.node ≡ n → (c : ℕ) → arenas.IsPart (arena_at p s).entries s.node 0 c → handed (scope_at p s) (tree_of (arena_at p s).text (tree_in (arena_at p s)) e.place n) 0 ≡ value (scope_at p s)
     → node_scope p s.file c ≡ value (scope_at p s)
 target_scope p is s e n at it c part value_is = part_scope p is s at.site 0 c part ∙ (ap (λ (t : Tree). handed (scope_at p s) t 0) (tree_is p s e n at it) ∙ value_is)
+
+abbrev pub target : Node → Option ℕ
+target (nodes.Assignment a v) = Some a
+target (nodes.CompoundAssignment o a v) = Some a
+target (nodes.Step o a) = Some a
+target n = None
+
+pub written_scope : (p : Program) → IsProgram p → (s : Site) (e : Entry) (n : Node) → IsHere p s e → e.node ≡ n → (c : ℕ) → target n ≡ Some c → node_scope p s.file c ≡ value (scope_at p s)
+written_scope p is s e (nodes.Assignment a v) at it c w = let same : a ≡ c = cc in rw (← same) (target_scope p is s e (nodes.Assignment a v) at it a (parts_are p s e (nodes.Assignment a v) at it).0 refl)
+written_scope p is s e (nodes.CompoundAssignment o a v) at it c w = let same : a ≡ c = cc in rw (← same) (target_scope p is s e (nodes.CompoundAssignment o a v) at it a (parts_are p s e (nodes.CompoundAssignment o a v) at it).0 refl)
+written_scope p is s e (nodes.Step o a) at it c w = let same : a ≡ c = cc in rw (← same) (target_scope p is s e (nodes.Step o a) at it a (parts_are p s e (nodes.Step o a) at it).0 refl)
+written_scope p is s e _ at it c w = absurd (cc (w))
 
 pub part_site : (p : Program) (s : Site) (e : Entry) → IsHere p s e → (j c : ℕ) → arenas.IsPart (arena_at p s).entries s.node j c → IsSite p (record s { node = c })
 part_site p s e at j c part = record { file = at.site.file; node = omega (arith, part.below, at.site.node); first = at.site.first }

@@ -1,5 +1,5 @@
 -- Calls.
-use Rattle.std.proofs.Common.{◌≡◌, refl, sym, ap, ◌∙◌, ℕ, ◌+◌, ◌<◌, ◌≤◌, List, length, subst, true, false, get_or, arith, ◌⊎◌, inl, inr, Option, Some, None}
+use Rattle.std.proofs.Common.{◌≡◌, refl, sym, ap, ◌∙◌, ℕ, ◌+◌, ◌<◌, List, length, subst, true, false, arith, inl, inr, Option, Some, None, Bool, cond, map}
 use Rattle.std.specs.Prelude.{IfSome, option_and_then, slice_get}
 use Rattle.std.proofs.lemmas.Option.{get_or_from_slice_get, slice_get_cases, slice_get_within}
 use Rattle.kr_ast.specs.Tree.{Tree}
@@ -9,51 +9,39 @@ use Rattle.kr_ast.specs.declared.node.Name.{Name}
 use Rattle.kr_ast.specs.declared.node.Entry.{Entry}
 use Rattle.kr_ast.specs.declared.node.Node.{Node}
 use Rattle.kr_ast.specs.declared.node.Node.TheVariants as nodes
-use Rattle.kr_classes_table.specs.Table.{Method, items, method_named}
-use Rattle.kr_types_meaning.specs.Scopes.{Scope, class_before, method_meant, static_only}
+use Rattle.kr_classes_table.specs.Table.{Method, items, method_named, Table, type_named}
+use Rattle.kr_types_meaning.specs.Scopes.{Scope, class_before, method_meant, static_only, written}
 use Rattle.kr_types_meaning.specs.Handing.{handed}
 use Rattle.kr_types_meaning.specs.Running.{running}
 use Rattle.kr_types.specs.declared.program.Program.{Program}
 use Rattle.kr_types.specs.Programs.{IsProgram}
-use Rattle.kr_mean.specs.Meaning.{super_method, typed_method}
+use Rattle.kr_mean.specs.Meaning.{super_method, typed_method, method_of_type}
 use Rattle.kr_code.specs.declared.code.Code.{Code}
 use Rattle.kr_code.specs.declared.expression.Nodes.{Nodes}
 use Rattle.kr_code.specs.declared.expression.Callee.{Callee}
 use Rattle.kr_code.specs.declared.expression.Callee.TheVariants as callees
 use Rattle.kr_code.specs.declared.expression.Expression.TheVariants as expressions
 use Rattle.kr_code.specs.Resolved as resolved
-use Rattle.kr_code.specs.Resolved.{AreParts, IsExpression, IsMethod, IsPart}
-use Rattle.kr_code.specs.Tables.{listed}
-use Rattle.kr_classes_roster.specs.Rosters.{all_methods, no_method}
+use Rattle.kr_code.specs.Resolved.{AreParts, IsMethod, IsPart}
+use Rattle.kr_code.specs.Tables.{listed, class_at}
+use Rattle.kr_classes_roster.specs.Rosters.{all_methods, no_method, method_numbered}
 use Rattle.kr_code_lowering.specs.declared.site.Site.{Site}
-use Rattle.kr_space_problem.specs.Posed.{table}
+use Rattle.kr_code_members.specs.Nodes.{table}
 use Rattle.kr_code_lowering.specs.Origins.{Final, node_scope, node_tree, numbering_of}
 use Rattle.kr_code_lowering.specs.Sites.{Becomes, IsHere, Resolves, arena_at, scope_at}
 use Rattle.kr_code_lowering.specs.Lists.{AreLinked}
-use Rattle.kr_code_lowering.specs.Calls.{IsFound, IsOwnCallee, IsStaticCallee}
-use Rattle.std.proofs.Common.{Bool, cond, map}
-use Rattle.kr_classes_table.specs.Table.{Table, type_named}
+use Rattle.kr_code_lowering.specs.Calls.{IsFound, IsOwnCallee, IsStaticCallee, IsCalledOn, IsCreator}
 use Rattle.kr_classes_table.specs.Types.{JavaType}
-use Rattle.kr_types_meaning.specs.Scopes.{written}
 use Rattle.kr_laws_types.proofs.Loops.{running_same}
-use Rattle.kr_mean.specs.Meaning.{method_of_type}
 use Rattle.kr_code.specs.declared.code.ClassCode.{ClassCode}
 use Rattle.kr_code.specs.declared.expression.Expression.{Expression}
 use Rattle.kr_code.specs.Collections.{call_named}
-use Rattle.kr_code.specs.Tables.{class_at}
-use Rattle.kr_code.specs.Resolved.{is_uncreatable}
-use Rattle.kr_classes_roster.specs.Rosters.{method_numbered}
-use Rattle.kr_code_lowering.specs.Calls.{IsCalledOn, IsCreator}
 use Rattle.kr_types.proofs.Named.{named_there}
 use Rattle.kr_code_lowering.proofs.Parts.{part_in, part_scope, tree_is}
 use Rattle.kr_code_lowering.proofs.Naming.{class_running, parts_are, resolves_at, scope_table}
 
 pub there : {A : Type 0} (xs : List A) (k : ℕ) → k < length xs → (x : A) × (slice_get xs k ≡ Some x)
-there {A} xs k h = go (slice_get_cases xs k).1
-  where
-    go : ((x : A) × (k < length xs) × (slice_get xs k ≡ Some x) × (get_or xs k x ≡ x)) ⊎ ((length xs ≤ k) × (slice_get xs k ≡ None)) → (x : A) × (slice_get xs k ≡ Some x)
-    go (inl w) = (w.0, w.2)
-    go (inr w) = absurd (omega (arith, w.0, h))
+there xs k h = elim (slice_get_cases xs k).1 [ inl w ↦ (w.0, w.2) | inr w ↦ absurd (omega (arith, w.0, h)) ]
 
 -- the number of a method is one of the code's
 pub method_is : (p : Program) (known : List (List ℕ)) (linked : List ℕ) (final : Final) (code : Code) → Becomes p known linked final code → (k : ℕ) (m : Method) → slice_get (all_methods (table p)) k ≡ Some m → IsMethod code (numbering_of p final) m k

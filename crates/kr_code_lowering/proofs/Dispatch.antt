@@ -18,12 +18,17 @@ use Rattle.kr_code.specs.declared.expression.Expression.TheVariants as expressio
 use Rattle.kr_code.specs.Resolved as resolved
 use Rattle.kr_code.specs.Resolved.{IsExpression, is_no_expression}
 use Rattle.kr_code_lowering.specs.declared.site.Site.{Site}
-use Rattle.kr_space_problem.specs.Posed.{run_program}
+use Rattle.kr_code_members.specs.Nodes.{run_program}
 use Rattle.kr_code_lowering.specs.Origins.{Final, node_tree, numbering_of}
 use Rattle.kr_code_lowering.specs.Sites.{IsHere, Resolves, arena_at, scope_at}
 use Rattle.kr_code_lowering.specs.Kinds.{AreFew, IsNumbered, IsOperation, is_operator}
 use Rattle.kr_code_lowering.proofs.Parts.{part_in}
 use Rattle.kr_code_lowering.proofs.Naming.{part_small, parts_are, resolves_at}
+
+-- the forms of what is made of values
+pub ruleset operator_forms = (resolved.truth, resolved.null, resolved.this, IsExpression.element, resolved.unary, resolved.conditional, resolved.result)
+
+pub ruleset binary_forms = (resolved.conjunction, resolved.disjunction, resolved.binary)
 
 operand_running : (o : UnaryOperator) (s : Scope) → running (operand o s) ≡ running s
 operand_running Minus s = refl

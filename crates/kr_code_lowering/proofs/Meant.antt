@@ -1,6 +1,7 @@
 -- What a name means has that name.
-use Rattle.std.proofs.Common.{◌≡◌, refl, sym, ap, ◌∙◌, ℕ, Bool, true, false, cond, List, [], ◌∷◌, bytes_eq, subst, Option, Some, None}
+use Rattle.std.proofs.Common.{◌≡◌, refl, sym, ap, ◌∙◌, ℕ, Bool, true, false, cond, List, [], ◌∷◌, bytes_eq, Option, Some, None}
 use Rattle.std.specs.Prelude.{find, flat_map, option_and_then}
+use Rattle.std.proofs.lemmas.Option.{cond_some, option_and_then_some}
 use Rattle.std.proofs.lemmas.Slice.Eq.{bytes_eq-Decides}
 use Rattle.kr_classes_table.specs.Table.{Table, Field, field_named, line_of, own_fields}
 use Rattle.kr_classes_table.specs.Constants.{constant_only, field_meant, or_else, outer_class}
@@ -17,25 +18,16 @@ found_so name n (z ∷ xs) x e = go (bytes_eq (name z) n) refl (found_so name n 
     go false h r f = r f
 
 constant_so : (o : Option Field) (f : Field) → option_and_then constant_only o ≡ Some f → o ≡ Some f
-constant_so None f e = absurd (cc (e))
-constant_so (Some g) f e = go g.is_static e
-  where
-    go : (b : Bool) → cond b (Some g) None ≡ Some f → Some g ≡ Some f
-    go true h = h
-    go false h = absurd (cc (h))
+constant_so o f e = option_and_then_some constant_only o f e (λ g is h. is ∙ ap (λ (x : Field). Some x) (cond_some g.is_static g f h).1)
 
 field_named_so : (t : Table) (c : ℕ) (n : List ℕ) (f : Field) → field_named t c n ≡ Some f → f.name ≡ n
 field_named_so t c n f e = found_so (λ (g : Field). g.name) n (flat_map (own_fields t) (line_of t c)) f e
-
-outer_so : (t : Table) (o : Option ℕ) (n : List ℕ) (f : Field) → option_and_then (λ c. option_and_then constant_only (field_named t c n)) o ≡ Some f → f.name ≡ n
-outer_so t None n f e = absurd (cc (e))
-outer_so t (Some c) n f e = field_named_so t c n f (constant_so (field_named t c n) f e)
 
 field_so : (t : Table) (c : ℕ) (n : List ℕ) (f : Field) → field_meant t c n ≡ Some f → f.name ≡ n
 field_so t c n f e = go (field_named t c n) refl e
   where
     go : (o : Option Field) → field_named t c n ≡ o → or_else o (option_and_then (λ d. option_and_then constant_only (field_named t d n)) (outer_class t c)) ≡ Some f → f.name ≡ n
-    go None h k = outer_so t (outer_class t c) n f k
+    go None h k = option_and_then_some (λ d. option_and_then constant_only (field_named t d n)) (outer_class t c) f k (λ d is r. field_named_so t d n f (constant_so (field_named t d n) f r))
     go (Some g) h k = field_named_so t c n f (h ∙ k)
 
 in_locals : (ls : List Local) (o : Option Field) (n : List ℕ) (f : Field) → meant_by ls o n ≡ FieldName f → o ≡ Some f

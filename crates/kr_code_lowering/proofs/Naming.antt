@@ -1,6 +1,6 @@
 -- Names and field accesses.
-use Rattle.std.proofs.Common.{◌≡◌, refl, sym, ap, ◌∙◌, ℕ, ◌+◌, ◌<◌, List, subst, Option, Some, None, ◌^◌, arith}
-use Rattle.std.specs.Prelude.{slice_get}
+use Rattle.std.proofs.Common.{◌≡◌, refl, sym, ap, ◌∙◌, ℕ, ◌+◌, ◌<◌, List, subst, Option, Some, None, ◌^◌, arith, map}
+use Rattle.std.specs.Prelude.{slice_get, IfSome}
 use Rattle.std.proofs.lemmas.Option.{get_or_from_slice_get}
 use Rattle.kr_value.specs.declared.value.Value.{Value}
 use Rattle.kr_ast.specs.Tree as trees
@@ -12,8 +12,9 @@ use Rattle.kr_ast.specs.declared.node.Entry.{Entry}
 use Rattle.kr_ast.specs.declared.node.Node.{Node}
 use Rattle.kr_ast.specs.declared.node.Node.TheVariants as nodes
 use Rattle.kr_classes_table.specs.Constants.{constant_of, values_of}
-use Rattle.kr_types_meaning.specs.Scopes.{Scope, class_before}
+use Rattle.kr_types_meaning.specs.Scopes.{Scope, class_before, meant_by}
 use Rattle.kr_types_meaning.specs.Running.{running}
+use Rattle.kr_classes_types.specs.Listed.{IsGrown}
 use Rattle.kr_types.specs.declared.program.Program.{Program}
 use Rattle.kr_types.specs.declared.program.TypedFile.{TypedFile}
 use Rattle.kr_types.specs.Programs.{IsProgram}
@@ -24,19 +25,17 @@ use Rattle.kr_code.specs.Resolved as resolved
 use Rattle.kr_code.specs.Resolved.{IsExpression, IsPart, constant_meant}
 use Rattle.kr_code_lowering.specs.declared.site.Site.{Site}
 use Rattle.kr_code_lowering.specs.declared.named.Named.TheVariants as named
-use Rattle.kr_space_problem.specs.Posed.{run_program, table}
+use Rattle.kr_code_members.specs.Nodes.{run_program, table}
 use Rattle.kr_code_lowering.specs.Origins.{Final, node_scope, node_tree, numbering_of, scope_in}
 use Rattle.kr_code_lowering.specs.Sites.{Becomes, IsHere, Resolves, arena_at, scope_at}
-use Rattle.std.proofs.Common.{map}
-use Rattle.std.specs.Prelude.{IfSome}
 use Rattle.kr_classes_table.specs.Table.{headings_of, table_of}
-use Rattle.kr_types_meaning.specs.Scopes.{meant_by}
 use Rattle.kr_ast.specs.Files.{file_at}
 use Rattle.kr_types_scopes.specs.declared.lookup.LocalFound.{LocalFound}
 use Rattle.kr_types_scopes.specs.Lookups.{IsLocalAt}
 use Rattle.kr_types_scopes.specs.Settings.{setting, type_there}
 use Rattle.kr_classes_roster.specs.Rosters.{no_name}
 use Rattle.kr_code_lowering.specs.Named.{IsLocal, IsNamed, literal_of}
+use Rattle.kr_code_members.proofs.Scopes as members
 use Rattle.kr_code_lowering.proofs.Growth.{got_grown}
 use Rattle.kr_code_lowering.proofs.Meant.{meant_so}
 use Rattle.kr_code_lowering.proofs.Parts.{part_in, small_number, tree_is}
@@ -59,18 +58,10 @@ resolves_at p arrays s e n at is known linked x h final code b =
 -- ---- scopes
 
 pub scope_values : (p : Program) (f i : ℕ) → (node_scope p f i).values ≡ values_of (table p)
-scope_values p f i = go (slice_get p.files.items f)
-  where
-    go : (o : Option TypedFile) → (scope_in p f i o).values ≡ values_of (table p)
-    go None = refl
-    go (Some t) = refl
+scope_values p f i = (members.scope_table p f i).1
 
 pub scope_table : (p : Program) (f i : ℕ) → (node_scope p f i).table ≡ table p
-scope_table p f i = go (slice_get p.files.items f)
-  where
-    go : (o : Option TypedFile) → (scope_in p f i o).table ≡ table p
-    go None = refl
-    go (Some t) = refl
+scope_table p f i = (members.scope_table p f i).0
 
 pub class_running : (s : Scope) (e : Tree) → class_before (running s) e ≡ class_before s e
 class_running s (trees.Variable p n) = refl
@@ -89,8 +80,8 @@ headings_are p = refl
 
 -- ---- names
 
-pub name_is : (p : Program) (known : List (List ℕ)) (linked : List ℕ) (final : Final) (code : Code) → Becomes p known linked final code → (k : ℕ) (x : List ℕ) → slice_get known k ≡ Some x → (numbering_of p final).name k ≡ x
-name_is p known linked final code b k x e = get_or_from_slice_get final.names k x (no_name (table p)) (got_grown known final.names k x b.names e)
+pub name_so : (p : Program) (known : List (List ℕ)) (final : Final) → IsGrown known final.names → (k : ℕ) (x : List ℕ) → slice_get known k ≡ Some x → (numbering_of p final).name k ≡ x
+name_so p known final g k x e = get_or_from_slice_get final.names k x (no_name (table p)) (got_grown known final.names k x g e)
 
 module _ (p : Program) (arrays : List ℕ) (s : Site) (e : Entry) (n : Name) (at : IsHere p s e) (is : e.node ≡ nodes.Variable n) (known : List (List ℕ)) (linked : List ℕ) where
   abbrev x : List ℕ
@@ -104,7 +95,7 @@ module _ (p : Program) (arrays : List ℕ) (s : Site) (e : Entry) (n : Name) (at
   constant_resolves (Some v) h = resolves_at p arrays s e (nodes.Variable n) at is known linked (expressions.Literal v) (λ final code b. resolved.constant e.place x h.0 v h.1 h.2 h.3)
 
   pub own_resolves : (k i : ℕ) → IsNamed p (scope_at p s) x (named.Own k) → slice_get known i ≡ Some x → Resolves p arrays s known linked (expressions.OwnField i)
-  own_resolves k i h g = resolves_at p arrays s e (nodes.Variable n) at is known linked (expressions.OwnField i) (λ final code b. resolved.own_field e.place x h.0 i h.1 h.2 (name_is p known linked final code b i x g ∙ meant_so (scope_at p s) x h.0 h.1))
+  own_resolves k i h g = resolves_at p arrays s e (nodes.Variable n) at is known linked (expressions.OwnField i) (λ final code b. resolved.own_field e.place x h.0 i h.1 h.2 (name_so p known final b.names i x g ∙ meant_so (scope_at p s) x h.0 h.1))
 
   pub nothing_resolves : IsNamed p (scope_at p s) x named.Nothing → Resolves p arrays s known linked expressions.Stuck
   nothing_resolves h = resolves_at p arrays s e (nodes.Variable n) at is known linked expressions.Stuck (λ final code b. resolved.no_name e.place x h)
@@ -121,4 +112,4 @@ module _ (p : Program) (program : IsProgram p) (arrays : List ℕ) (s : Site) (e
   field_resolves i h g = resolves_at p arrays s e (nodes.FieldAccess a n) at is known linked (expressions.FieldOf (s.first + a) i)
       (λ final code b. resolved.field_of e.place (node_tree p s.file a) y (s.first + a) i (class_running (scope_at p s) (node_tree p s.file a) ∙ h)
       (part_in p program final s e (nodes.FieldAccess a n) at is 0 a (parts_are p s e (nodes.FieldAccess a n) at is).0 (running (scope_at p s)) refl)
-      (name_is p known linked final code b i y g))
+      (name_so p known final b.names i y g))

@@ -20,7 +20,7 @@ use Rattle.kr_code.specs.declared.statement.Declarator.{Declarator}
 use Rattle.kr_code.specs.Tables.{declarator_of, expression_of, statement_of}
 use Rattle.kr_code.specs.Resolved.{Numbering, IsDeclarator, IsExpression, IsStatement, is_no_expression, is_no_statement}
 use Rattle.kr_code_lowering.specs.declared.site.Site.{Site}
-use Rattle.kr_space_problem.specs.Posed.{run_program}
+use Rattle.kr_code_members.specs.Nodes.{run_program}
 use Rattle.kr_code_lowering.specs.Origins.{Final, node_origin, numbering_of, origin_of}
 use Rattle.kr_code_lowering.specs.Sites.{IsHere, IsSite, Resolves, arena_at, scope_at, tree_at}
 use Rattle.kr_code_lowering.specs.Statements.{Declares, Does}

@@ -9,19 +9,13 @@ use Rattle.kr_types.specs.Programs.{all_entries}
 use Rattle.kr_mean.specs.Code.{Node}
 use Rattle.kr_code_lowering.specs.Origins.{first_node, origin_from, origin_of, node_origin, nothing}
 
-below : (a b : ℕ) → a < b → nat_lt a b ≡ true
-below a b h = grind (arith, nat_tests)
-
-not_below : (a b : ℕ) → b ≤ a → nat_lt a b ≡ false
-not_below a b h = grind (arith, nat_tests)
-
 step_in : (p : Program) (ns : List Node) (g : ℕ) (a : Arena) (files : List Arena) (k : ℕ) → k < length a.entries → origin_from p ns g (a ∷ files) k ≡ node_origin p g k
 unfolding origin_from
-step_in p ns g a files k h = ap (λ (b : Bool). if b then node_origin p g k else origin_from p ns (suc g) files (k - length a.entries)) (below k (length a.entries) h)
+step_in p ns g a files k h = ap (λ (b : Bool). if b then node_origin p g k else origin_from p ns (suc g) files (k - length a.entries)) (let in_it : nat_lt k (length a.entries) ≡ true = grind (arith, nat_tests) in in_it)
 
 step_over : (p : Program) (ns : List Node) (g : ℕ) (a : Arena) (files : List Arena) (k : ℕ) → length a.entries ≤ k → origin_from p ns g (a ∷ files) k ≡ origin_from p ns (suc g) files (k - length a.entries)
 unfolding origin_from
-step_over p ns g a files k h = ap (λ (b : Bool). if b then node_origin p g k else origin_from p ns (suc g) files (k - length a.entries)) (not_below k (length a.entries) h)
+step_over p ns g a files k h = ap (λ (b : Bool). if b then node_origin p g k else origin_from p ns (suc g) files (k - length a.entries)) (let behind : nat_lt k (length a.entries) ≡ false = grind (arith, nat_tests) in behind)
 
 origin_behind_files : (p : Program) (ns : List Node) (g : ℕ) (files : List Arena) (f i : ℕ) → f < length files → i < length (file_at files f).entries → origin_from p ns g files (first_node files f + i) ≡ node_origin p (g + f) i
 unfolding first_node
@@ -64,11 +58,5 @@ number_below (a ∷ files) (suc f) i h k = omega (arith, length-append a.entries
 pub first_next : (files : List Arena) (f : ℕ) → f < length files → first_node files (suc f) ≡ first_node files f + length (file_at files f).entries
 unfolding first_node
 first_next [] f h = absurd (omega (arith, h))
-first_next (a ∷ []) zero h = omega arith
-first_next (a ∷ (b ∷ files)) zero h = omega arith
+first_next (a ∷ files) zero h = omega arith
 first_next (a ∷ files) (suc f) h = omega (arith, first_next files f (omega (arith, h)))
-
-pub first_of_none : (files : List Arena) → first_node files 0 ≡ 0
-unfolding first_node
-first_of_none [] = refl
-first_of_none (a ∷ files) = refl

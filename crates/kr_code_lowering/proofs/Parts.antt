@@ -1,10 +1,6 @@
 -- What the numbers of a node's parts stand for.
-use Rattle.std.proofs.Common.{◌≡◌, refl, ap, ◌∙◌, ℕ, zero, suc, ◌+◌, ◌<◌, List, [], ◌∷◌, length, arith, get_or, ◌⊎◌, inl, inr, ◌≤◌}
-use Rattle.std.specs.Prelude.{Option, Some, None, slice_get}
-use Rattle.std.proofs.lemmas.Option.{slice_get_cases}
-use Rattle.kr_ast.specs.Tree as trees
+use Rattle.std.proofs.Common.{◌≡◌, ap, ◌∙◌, ℕ, ◌+◌, ◌^◌, ◌<◌, length, arith}
 use Rattle.kr_ast.specs.Tree.{Tree}
-use Rattle.kr_ast.proofs.Grown.{length-grow}
 use Rattle.kr_ast.specs.Arena as arenas
 use Rattle.kr_ast.specs.Arena.{tree_in, tree_of}
 use Rattle.kr_ast.specs.declared.node.Entry.{Entry}
@@ -12,34 +8,19 @@ use Rattle.kr_ast.specs.declared.node.Node.{Node}
 use Rattle.kr_types_meaning.specs.Scopes.{Scope}
 use Rattle.kr_types_meaning.specs.Handing.{handed}
 use Rattle.kr_types_meaning.specs.Running.{running}
-use Rattle.kr_classes_table.specs.Constants.{values_of}
 use Rattle.kr_types.specs.declared.program.Program.{Program}
-use Rattle.kr_types.specs.declared.program.TypedFile.{TypedFile}
 use Rattle.kr_types.specs.Programs.{IsProgram}
 use Rattle.kr_mean.specs.Code as meaning
 use Rattle.kr_code.specs.Resolved.{IsPart}
 use Rattle.kr_code_lowering.specs.declared.site.Site.{Site}
-use Rattle.kr_space_problem.specs.Posed.{table}
-use Rattle.kr_code_lowering.specs.Origins.{Final, node_scope, node_tree, numbering_of, scope_in}
+use Rattle.kr_code_lowering.specs.Origins.{Final, node_scope, node_tree, numbering_of}
 use Rattle.kr_code_lowering.specs.Sites.{IsSite, IsHere, arena_at, scope_at, tree_at}
+use Rattle.kr_code_members.proofs.Scopes as members
 use Rattle.kr_code_lowering.proofs.Numbers.{origin_there, number_below}
-use Rattle.std.proofs.Common.{◌^◌}
-
-there : {A : Type 0} (xs : List A) (i : ℕ) → i < length xs → slice_get xs i ≡ None → ⊥
-there xs i h e = go (slice_get_cases xs i).1
-  where
-    go : ((x : _) × (i < length xs) × (slice_get xs i ≡ Some x) × (get_or xs i x ≡ x)) ⊎ ((length xs ≤ i) × (slice_get xs i ≡ None)) → ⊥
-    go (inl w) = let is = w.2 in cc
-    go (inr w) = omega (arith, w.0, h)
-
-handed_in : (p : Program) → IsProgram p → (f i j c : ℕ) → f < length p.trees.items → i < length (Rattle.kr_ast.specs.Files.file_at p.trees.items f).entries
-    → arenas.IsPart (Rattle.kr_ast.specs.Files.file_at p.trees.items f).entries i j c → (o : Option TypedFile) → slice_get p.files.items f ≡ o → scope_in p f c o ≡ handed (scope_in p f i o) (node_tree p f i) j
-handed_in p is f i j c h k part None e = absurd (there p.files.items f (omega (arith, is.count, h)) e)
-handed_in p is f i j c h k part (Some t) e = ((is.files f t e).scopes (table p) (values_of (table p))).hands i j c k part
 
 -- a part has the scope that the node hands to it
 pub part_scope : (p : Program) → IsProgram p → (s : Site) → IsSite p s → (j c : ℕ) → arenas.IsPart (arena_at p s).entries s.node j c → node_scope p s.file c ≡ handed (scope_at p s) (tree_at p s) j
-part_scope p is s at j c part = handed_in p is s.file s.node j c at.file at.node part (slice_get p.files.items s.file) refl
+part_scope p is s at j c part = members.part_scope p is s.file s.node j c (record { file = at.file; node = at.node }) part
 
 -- the number of a part stands for it
 pub part_number : (p : Program) (final : Final) (s : Site) → IsSite p s → (c : ℕ) → c < length (arena_at p s).entries → IsPart (numbering_of p final) (running (node_scope p s.file c)) (node_tree p s.file c) (s.first + c)
@@ -60,13 +41,3 @@ part_in p is final s e n at it j c part r runs =
 -- it is a number of 32 bits
 pub small_number : (p : Program) → IsProgram p → (s : Site) → IsSite p s → (c : ℕ) → c < length (arena_at p s).entries → s.first + c < 2 ^ 32
 small_number p is s at c h = omega (arith, number_below p.trees.items s.file c at.file h, at.first, is.small)
-
--- behind all nodes there is no tree
-pub tree_past : (a : arenas.Arena) (i : ℕ) → length a.entries ≤ i → tree_in a i ≡ trees.Nil
-unfolding arenas.trees
-tree_past a i h = past (arenas.trees a.text a.entries) i (omega (arith, h, length-grow (arenas.entry_tree a.text) [] a.entries))
-  where
-    past : (ts : List Tree) (k : ℕ) → length ts ≤ k → get_or ts k trees.Nil ≡ trees.Nil
-    past [] k l = refl
-    past (t ∷ ts) zero l = absurd (omega (arith, l))
-    past (t ∷ ts) (suc k) l = past ts k (omega (arith, l))

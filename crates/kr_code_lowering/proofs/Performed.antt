@@ -34,6 +34,8 @@ use Rattle.kr_code_lowering.proofs.Parts.{part_in, tree_is}
 use Rattle.kr_code_lowering.proofs.Naming.{parts_are}
 use Rattle.kr_code_lowering.proofs.Called.{arguments_are}
 
+pub ruleset plain_forms = (resolved.empty, resolved.break, resolved.continue, resolved.evaluated, resolved.if_then, resolved.if_else, resolved.while, resolved.do_while)
+
 pub does_at : (p : Program) (s : Site) (e : Entry) (n : Node) → IsHere p s e → e.node ≡ n → (known : List (List ℕ)) (linked : List ℕ) (x : Statement)
     → ((final : Final) (code : Code) → Becomes p known linked final code → AreDeclared p final code → IsStatement code (numbering_of p final) (running (scope_at p s)) (tree_of (arena_at p s).text (tree_in (arena_at p s)) e.place n) x)
     → Does p s known linked x

@@ -22,7 +22,7 @@ use Rattle.kr_types_resolving.specs.declared.meaning.Meaning.TheVariants as kept
 use Rattle.kr_types_resolving.proofs.Inside.{constant_behind, constant_read, instance_behind, instance_read, is_unnamed, local_read, method_law, method_on_object, nothing_read, static_behind, static_is, super_law, virtual_is}
 use Rattle.kr_types.specs.declared.program.Program.{Program}
 use Rattle.kr_code.specs.declared.expression.Callee.TheVariants as callees
-use Rattle.kr_space_problem.specs.Posed.{table}
+use Rattle.kr_code_members.specs.Nodes.{table}
 use Rattle.kr_code_lowering.specs.declared.site.Site.{Site}
 use Rattle.kr_code_lowering.specs.declared.named.Named.TheVariants as named
 use Rattle.kr_code_lowering.specs.Origins.{node_tree}

@@ -1,5 +1,5 @@
 -- Expressions that name types.
-use Rattle.std.proofs.Common.{◌≡◌, refl, sym, ap, ◌∙◌, ℕ, ◌+◌, List, [], map, subst, true, false, Option}
+use Rattle.std.proofs.Common.{◌≡◌, refl, sym, ap, ◌∙◌, ℕ, ◌+◌, List, map, subst, true, false, Option}
 use Rattle.kr_value.specs.declared.value.Value.{Value}
 use Rattle.kr_classes_table.specs.Types.{JavaType, ArrayType}
 use Rattle.kr_classes_table.specs.Arrays.{array_number}
@@ -25,9 +25,9 @@ module _ (p : Program) (program : IsProgram p) (arrays : List ℕ) (s : Site) (e
   instance_resolves k is number = resolves_at p arrays s e (nodes.InstanceOf a t) at is known linked (expressions.InstanceOf (s.first + a) k)
       (λ final code b. resolved.instance e.place (node_tree p s.file a) (node_tree p s.file t) (s.first + a) k (part_in p program final s e (nodes.InstanceOf a t) at is 0 a (parts_are p s e (nodes.InstanceOf a t) at is).0 (running (scope_at p s)) refl) number.type_is)
 
-  pub same_resolves : e.node ≡ nodes.Cast t a → is_primitive (node_tree p s.file t) ≡ true → Resolves p arrays s known linked (expressions.Same (s.first + a))
-  same_resolves is primitive = resolves_at p arrays s e (nodes.Cast t a) at is known linked (expressions.Same (s.first + a))
-      (λ final code b. resolved.primitive_cast e.place (node_tree p s.file t) (node_tree p s.file a) (s.first + a) primitive (part_in p program final s e (nodes.Cast t a) at is 1 a (parts_are p s e (nodes.Cast t a) at is).1.0 (running (scope_at p s)) refl))
+  pub convert_resolves : (k : ℕ) → e.node ≡ nodes.Cast t a → is_primitive (node_tree p s.file t) ≡ true → IsTypeNumber p.table.types k (written (scope_at p s) (node_tree p s.file t)) → Resolves p arrays s known linked (expressions.Convert k (s.first + a))
+  convert_resolves k is primitive number = resolves_at p arrays s e (nodes.Cast t a) at is known linked (expressions.Convert k (s.first + a))
+      (λ final code b. resolved.primitive_cast e.place (node_tree p s.file t) (node_tree p s.file a) k (s.first + a) primitive number.type_is (part_in p program final s e (nodes.Cast t a) at is 1 a (parts_are p s e (nodes.Cast t a) at is).1.0 (running (scope_at p s)) refl))
 
   pub cast_resolves : (k : ℕ) → e.node ≡ nodes.Cast t a → is_primitive (node_tree p s.file t) ≡ false → IsTypeNumber p.table.types k (written (scope_at p s) (node_tree p s.file t)) → Resolves p arrays s known linked (expressions.Cast k (s.first + a))
   cast_resolves k is primitive number = resolves_at p arrays s e (nodes.Cast t a) at is known linked (expressions.Cast k (s.first + a))

@@ -1,7 +1,6 @@
 -- What an assignment writes.
 use Rattle.std.proofs.Common.{◌≡◌, refl, sym, ap, ◌∙◌, ℕ, ◌+◌, Bool, true, false, cond, List, subst, Option, Some, None}
 use Rattle.std.specs.Prelude.{slice_get}
-use Rattle.std.proofs.lemmas.Option.{get_or_from_slice_get}
 use Rattle.kr_ast.specs.Tree as trees
 use Rattle.kr_ast.specs.Tree.{Tree}
 use Rattle.kr_ast.specs.Arena as arenas
@@ -17,7 +16,6 @@ use Rattle.kr_types_meaning.specs.Typing.{type_of}
 use Rattle.kr_types_meaning.specs.Handing.{handed}
 use Rattle.kr_types_meaning.specs.Running.{running}
 use Rattle.kr_laws_types.proofs.Loops.{running_same}
-use Rattle.kr_classes_types.specs.Listed.{IsGrown}
 use Rattle.kr_classes_types.specs.Types.{type_at}
 use Rattle.kr_types.specs.declared.program.Program.{Program}
 use Rattle.kr_types.specs.Programs.{IsProgram}
@@ -26,52 +24,51 @@ use Rattle.kr_code.specs.declared.expression.Variable.{Variable}
 use Rattle.kr_code.specs.declared.expression.Variable.TheVariants as variables
 use Rattle.kr_code.specs.Resolved as resolved
 use Rattle.kr_code.specs.Resolved.{IsPart, IsVariable}
-use Rattle.kr_classes_roster.specs.Rosters.{field_numbered, no_name}
+use Rattle.kr_classes_roster.specs.Rosters.{field_numbered}
 use Rattle.kr_code_lowering.specs.declared.site.Site.{Site}
 use Rattle.kr_code_lowering.specs.declared.named.Named.TheVariants as named
-use Rattle.kr_space_problem.specs.Posed.{table}
+use Rattle.kr_code_members.specs.Nodes.{table}
 use Rattle.kr_code_lowering.specs.Origins.{Final, node_scope, node_tree, numbering_of}
 use Rattle.kr_code_lowering.specs.Sites.{IsHere, arena_at, scope_at, tree_at}
 use Rattle.kr_code_lowering.specs.Named.{IsNamed}
 use Rattle.kr_code_lowering.specs.Targets.{IsFieldFound, IsTarget, is_array_type}
-use Rattle.kr_code_lowering.proofs.Growth.{got_grown}
 use Rattle.kr_code_lowering.proofs.Meant.{meant_so}
 use Rattle.kr_code_lowering.proofs.Parts.{part_in, part_scope, tree_is}
-use Rattle.kr_code_lowering.proofs.Naming.{parts_are}
-
-name_so : (p : Program) (known : List (List ℕ)) (final : Final) → IsGrown known final.names → (k : ℕ) (x : List ℕ) → slice_get known k ≡ Some x → (numbering_of p final).name k ≡ x
-name_so p known final g k x e = get_or_from_slice_get final.names k x (no_name (table p)) (got_grown known final.names k x g e)
+use Rattle.kr_code_lowering.proofs.Naming.{name_so, parts_are}
 
 -- what a tree that is one of these writes
 target_at : (p : Program) (s : Scope) (t u : Tree) (known : List (List ℕ)) (x : Variable) → t ≡ u → IsTarget p s u known x → IsTarget p s t known x
 target_at p s t u known x e h = subst (λ (w : Tree). IsTarget p s w known x) (sym e) h
 
-module _ (p : Program) (r : Scope) (at : Site) (e : Entry) (n : Name) (here : IsHere p at e) (is : e.node ≡ nodes.Variable n) (known : List (List ℕ)) where
+module _ (p : Program) (r : Scope) (at : Site) (e : Entry) (n : Name) (here : IsHere p at e) (is : e.node ≡ nodes.Variable n) (known : List (List ℕ)) (handed_on : scope_at p at ≡ value r) where
   abbrev x : List ℕ
   x = name_in (arena_at p at).text n
 
   by_name : (v : Variable) → IsTarget p r (trees.Variable e.place x) known v → IsTarget p r (tree_at p at) known v
   by_name v h = target_at p r (tree_at p at) (trees.Variable e.place x) known v (tree_is p at e (nodes.Variable n) here is) h
 
-  pub local_target : (k : ℕ) → IsNamed p r x (named.Local k) → IsTarget p r (tree_at p at) known (variables.Local k)
-  local_target k h = by_name (variables.Local k) (λ final g. subst (λ (m : Meant). IsVariable (numbering_of p final) (running r) (name_target m) (variables.Local k)) (sym h.1) (resolved.local k))
+  pub local_target : (k : ℕ) → IsNamed p (scope_at p at) x (named.Local k) → IsTarget p r (tree_at p at) known (variables.Local k)
+  local_target k there =
+      let h : IsNamed p r x (named.Local k) = subst (λ (s : Scope). IsNamed p s x (named.Local k)) handed_on there in
+      by_name (variables.Local k) (λ final g. subst (λ (m : Meant). IsVariable (numbering_of p final) (running r) (name_target m) (variables.Local k)) (sym h.1) (resolved.local k))
 
-  pub own_target : (k i : ℕ) → IsNamed p r x (named.Own k) → slice_get known i ≡ Some x → IsTarget p r (tree_at p at) known (variables.Own i k)
-  own_target k i h got = by_name (variables.Own i k) (λ final g. subst (λ (m : Meant). IsVariable (numbering_of p final) (running r) (name_target m) (variables.Own i k)) (sym h.1) (chosen final g h.0.is_static h.2))
-    where
-      chosen : (final : Final) → IsGrown known final.names → (b : Bool) → b ≡ false → IsVariable (numbering_of p final) (running r) (cond b Rattle.kr_mean.specs.Meaning.NoTarget (Rattle.kr_mean.specs.Meaning.OwnField h.0)) (variables.Own i k)
-      chosen final g true f = absurd (cc (f))
-      chosen final g false f = resolved.own h.0 i k (name_so p known final g i x got ∙ meant_so r x h.0 h.1) h.3
+  pub own_target : (k i : ℕ) → IsNamed p (scope_at p at) x (named.Own k) → slice_get known i ≡ Some x → IsTarget p r (tree_at p at) known (variables.Own i k)
+  own_target k i there got =
+      let h : IsNamed p r x (named.Own k) = subst (λ (s : Scope). IsNamed p s x (named.Own k)) handed_on there in
+      by_name (variables.Own i k) (λ final g. subst (λ (m : Meant). IsVariable (numbering_of p final) (running r) (name_target m) (variables.Own i k)) (sym h.1)
+      (subst (λ (b : Bool). IsVariable (numbering_of p final) (running r) (cond b Rattle.kr_mean.specs.Meaning.NoTarget (Rattle.kr_mean.specs.Meaning.OwnField h.0)) (variables.Own i k)) (sym h.2)
+      (resolved.own h.0 i k (name_so p known final g i x got ∙ meant_so r x h.0 h.1) h.3)))
 
-  pub constant_target : (v : _) → IsNamed p r x (named.Constant v) → IsTarget p r (tree_at p at) known variables.Unknown
-  constant_target v h = by_name variables.Unknown (λ final g. subst (λ (m : Meant). IsVariable (numbering_of p final) (running r) (name_target m) variables.Unknown) (sym h.1) (chosen final h.0.is_static h.2))
-    where
-      chosen : (final : Final) → (b : Bool) → b ≡ true → IsVariable (numbering_of p final) (running r) (cond b Rattle.kr_mean.specs.Meaning.NoTarget (Rattle.kr_mean.specs.Meaning.OwnField h.0)) variables.Unknown
-      chosen final true f = resolved.unknown
-      chosen final false f = absurd (cc (f))
+  pub constant_target : (v : _) → IsNamed p (scope_at p at) x (named.Constant v) → IsTarget p r (tree_at p at) known variables.Unknown
+  constant_target v there =
+      let h : IsNamed p r x (named.Constant v) = subst (λ (s : Scope). IsNamed p s x (named.Constant v)) handed_on there in
+      by_name variables.Unknown (λ final g. subst (λ (m : Meant). IsVariable (numbering_of p final) (running r) (name_target m) variables.Unknown) (sym h.1)
+      (subst (λ (b : Bool). IsVariable (numbering_of p final) (running r) (cond b Rattle.kr_mean.specs.Meaning.NoTarget (Rattle.kr_mean.specs.Meaning.OwnField h.0)) variables.Unknown) (sym h.2) resolved.unknown))
 
-  pub nothing_target : IsNamed p r x named.Nothing → IsTarget p r (tree_at p at) known variables.Unknown
-  nothing_target h = by_name variables.Unknown (λ final g. subst (λ (m : Meant). IsVariable (numbering_of p final) (running r) (name_target m) variables.Unknown) (sym h) resolved.unknown)
+  pub nothing_target : IsNamed p (scope_at p at) x named.Nothing → IsTarget p r (tree_at p at) known variables.Unknown
+  nothing_target there =
+      let h : IsNamed p r x named.Nothing = subst (λ (s : Scope). IsNamed p s x named.Nothing) handed_on there in
+      by_name variables.Unknown (λ final g. subst (λ (m : Meant). IsVariable (numbering_of p final) (running r) (name_target m) variables.Unknown) (sym h) resolved.unknown)
 
 -- a part of the target runs where the assignment does
 target_part : (p : Program) → IsProgram p → (final : Final) (r : Scope) (at : Site) (e : Entry) (n : Node) → IsHere p at e → e.node ≡ n → scope_at p at ≡ value r → (j c : ℕ) → arenas.IsPart (arena_at p at).entries at.node j c

@@ -1,10 +1,13 @@
 -- Between crates: bodies of methods and constructors, by the nodes that declare them.
-use Rattle.std.specs.Prelude.{◌≡◌, ℕ, List, [], ◌∷◌, Option}
+use Rattle.std.specs.Prelude.{◌≡◌, ℕ, List, [], ◌∷◌, length, map, take, drop, Option}
 use Rattle.kr_ast.specs.Tree as trees
 use Rattle.kr_ast.specs.Tree.{Tree}
-use Rattle.kr_classes_table.specs.Table.{Constructor, Method, constructors_in, methods_in}
+use Rattle.kr_classes_table.specs.Types.{JavaType, VoidType}
+use Rattle.kr_classes_table.specs.Table.{Constructor, Heading, Method, constructors_in, items, methods_in, type_named}
 use Rattle.kr_classes_table.specs.Constants.{values_of}
 use Rattle.kr_types_meaning.specs.Scopes.{scope_of}
+use Rattle.kr_classes_types.specs.Listed.{IsGrown}
+use Rattle.kr_classes_types.specs.Types.{type_at}
 use Rattle.kr_types.specs.declared.program.Program.{Program}
 use Rattle.kr_code.specs.declared.code.Code.{Code}
 use Rattle.kr_code.specs.declared.code.MethodCode.{MethodCode}
@@ -12,21 +15,26 @@ use Rattle.kr_code.specs.declared.code.Constructor as made
 use Rattle.kr_code.specs.declared.expression.Nodes.{Nodes}
 use Rattle.kr_code.specs.Resolved.{AreArguments, IsConstructor, IsMethodCode}
 use Rattle.kr_types_meaning.specs.Running.{running}
+use Rattle.kr_code_members.specs.Walk.{AreParameters}
 use Rattle.kr_code_lowering.specs.declared.site.Site.{Site}
-use Rattle.kr_space_problem.specs.Posed.{run_program, table}
+use Rattle.kr_code_members.specs.Nodes.{run_program, table}
 use Rattle.kr_code_lowering.specs.Origins.{Final, numbering_of}
 use Rattle.kr_code_lowering.specs.Sites.{Becomes, scope_at, tree_at}
-
--- a list of parameters and nothing else
-abbrev pub AreParameters : Tree → Type 0
-AreParameters trees.Nil = Unit {0}
-AreParameters (trees.Cons (trees.Parameter p t n) b) = AreParameters b
-AreParameters t = ⊥
 
 -- a method with a signature, of which the parameters are such a list
 abbrev pub HasParameters : Tree → Type 0
 HasParameters (trees.Method p st n (trees.Signature q r ps cs) b) = AreParameters ps
 HasParameters t = ⊥
+
+-- the type that a parameter names
+abbrev pub parameter_type : List Heading → Tree → JavaType
+parameter_type hs (trees.Parameter p t n) = type_named hs t
+parameter_type hs t = VoidType
+
+-- the links at these nodes are the types of the parameters, also when there are more
+pub record AreTyped (p : Program) (ps : Tree) (links : List ℕ) (ns : Nodes) : Type 0 where
+  pub count : ns.count ≡ length (items ps)
+  pub types : (more : List ℕ) → IsGrown links more → map (type_at p.table.types) (take ns.count (drop ns.first more)) ≡ map (parameter_type (table p).headings) (items ps)
 
 -- the node stands among the members of the class
 abbrev pub IsMember : Program → Site → ℕ → Type 0

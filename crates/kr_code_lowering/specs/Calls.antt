@@ -11,7 +11,7 @@ use Rattle.kr_code.specs.declared.expression.Nodes.{Nodes}
 use Rattle.kr_code.specs.Collections.{call_named}
 use Rattle.kr_code.specs.Resolved.{is_uncreatable}
 use Rattle.kr_classes_roster.specs.Rosters.{all_methods, method_numbered}
-use Rattle.kr_space_problem.specs.Posed.{table}
+use Rattle.kr_code_members.specs.Nodes.{table}
 
 -- the number of a method, if there is one
 abbrev pub IsFound : Program → Option ℕ → Option Method → Type 0

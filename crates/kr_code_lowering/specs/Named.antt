@@ -11,7 +11,7 @@ use Rattle.kr_code.specs.Resolved.{constant_meant}
 use Rattle.kr_classes_roster.specs.Rosters.{field_numbered}
 use Rattle.kr_code_lowering.specs.declared.named.Named.{Named}
 use Rattle.kr_code_lowering.specs.declared.named.Named.TheVariants as named
-use Rattle.kr_space_problem.specs.Posed.{table}
+use Rattle.kr_code_members.specs.Nodes.{table}
 
 -- it means this local, whichever field has the name
 abbrev pub IsLocal : Scope → List ℕ → ℕ → Type 0

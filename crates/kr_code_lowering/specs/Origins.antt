@@ -1,51 +1,32 @@
 -- Between crates: what the numbers of a program's code stand for. The nodes are those of the files, one file after another, and
 -- then those that stand in no file; the fields and methods those of the classes, one class after another; the types have
 -- typing's numbers.
-use Rattle.std.specs.Prelude.{ℕ, zero, suc, ◌+◌, ◌-◌, List, [], ◌∷◌, length, nat_lt, if◌then◌else◌, Option, Some, None, slice_get, slice_index_or}
+use Rattle.std.specs.Prelude.{ℕ, zero, suc, ◌+◌, ◌-◌, List, [], ◌∷◌, length, nat_lt, if◌then◌else◌, slice_index_or}
 use Rattle.std.proofs.Common.{get_or}
-use Rattle.kr_ast.specs.Arena.{Arena, tree_in}
+use Rattle.kr_ast.specs.Arena.{Arena}
 use Rattle.kr_ast.specs.Tree as trees
-use Rattle.kr_classes_table.specs.Constants.{values_of}
-use Rattle.kr_types_meaning.specs.Scopes.{Scope, scope_of}
 use Rattle.kr_types_meaning.specs.Running.{running}
-use Rattle.kr_ast.specs.Files.{file_at}
 use Rattle.kr_classes_types.specs.Types.{type_at}
-use Rattle.kr_space_problem.specs.Posed.{table}
+use Rattle.kr_code_members.specs.Nodes.{table, members_scope}
 use Rattle.kr_types.specs.declared.program.Program.{Program}
-use Rattle.kr_types.specs.declared.program.TypedFile.{TypedFile}
-use Rattle.kr_types.specs.Programs.{scope_there}
 use Rattle.kr_mean.specs.Code.{Node}
+pub use Rattle.kr_code_members.specs.Nodes.{node_scope, node_tree, scope_in}
 use Rattle.kr_code.specs.Resolved.{Numbering}
 use Rattle.kr_classes_roster.specs.Rosters.{field_numbered, method_numbered, no_name}
 
 -- ---- nodes
-
--- where nothing stands
-abbrev pub no_scope : Program → Scope
-no_scope p = scope_of (table p) (values_of (table p)) 0
-
-abbrev pub scope_in : Program → ℕ → ℕ → Option TypedFile → Scope
-scope_in p f i None = no_scope p
-scope_in p f i (Some t) = scope_there p.trees.items f t i
-
--- the scope of a node of a file
-abbrev pub node_scope : Program → ℕ → ℕ → Scope
-node_scope p f i = scope_in p f i (slice_get p.files.items f)
-
-abbrev pub node_tree : Program → ℕ → ℕ → trees.Tree
-node_tree p f i = tree_in (file_at p.trees.items f) i
 
 -- a node of a file, with the scope that it runs in
 abbrev pub node_origin : Program → ℕ → ℕ → Node
 node_origin p f i = record { scope = running (node_scope p f i); tree = node_tree p f i }
 
 abbrev pub nothing : Program → Node
-nothing p = record { scope = running (no_scope p); tree = trees.Nil }
+nothing p = record { scope = running (members_scope p 0); tree = trees.Nil }
 
 -- the number of a file's first node
 unfoldable pub first_node : List Arena → ℕ → ℕ
-first_node [] f = 0
-first_node (a ∷ files) zero = 0
+first_node files zero = 0
+first_node [] (suc f) = 0
 first_node (a ∷ files) (suc f) = length a.entries + first_node files f
 
 -- node k of these files, of which the first has the number f, and of these nodes behind them

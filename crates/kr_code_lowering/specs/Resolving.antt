@@ -6,7 +6,7 @@ use Rattle.kr_code.specs.declared.code.Code.{Code}
 use Rattle.kr_code.specs.declared.code.Node.{Node}
 use Rattle.kr_code.specs.Tables.{declarator_of, expression_of, statement_of}
 use Rattle.kr_code.specs.Resolved.{IsDeclarator, IsExpression, IsStatement}
-use Rattle.kr_space_problem.specs.Posed.{run_program}
+use Rattle.kr_code_members.specs.Nodes.{run_program}
 use Rattle.kr_code_lowering.specs.Origins.{Final, numbering_of, origin_of}
 use Rattle.kr_code_lowering.specs.Sites.{Becomes}
 use Rattle.kr_code_lowering.specs.Statements.{AreDeclared}

@@ -13,7 +13,7 @@ use Rattle.kr_code.specs.declared.expression.Expression.{Expression}
 use Rattle.kr_code.specs.Resolved.{IsExpression}
 use Rattle.kr_classes_roster.specs.Rosters.{all_methods}
 use Rattle.kr_code_lowering.specs.declared.site.Site.{Site}
-use Rattle.kr_space_problem.specs.Posed.{run_program, table}
+use Rattle.kr_code_members.specs.Nodes.{run_program, table}
 use Rattle.kr_code_lowering.specs.Origins.{Final, first_node, node_scope, node_tree, numbering_of}
 
 abbrev pub arena_at : Program → Site → Arena

@@ -11,7 +11,7 @@ use Rattle.kr_types.specs.declared.program.Program.{Program}
 use Rattle.kr_code.specs.declared.expression.Variable.{Variable}
 use Rattle.kr_code.specs.Resolved.{IsVariable}
 use Rattle.kr_classes_roster.specs.Rosters.{field_numbered}
-use Rattle.kr_space_problem.specs.Posed.{table}
+use Rattle.kr_code_members.specs.Nodes.{table}
 use Rattle.kr_code_lowering.specs.Origins.{Final, numbering_of}
 
 -- the variable that a tree writes, where the scope's code runs; there may be more names by then

@@ -1,12 +1,12 @@
 // Names and field accesses as expressions.
-ghost use Rattle.std.specs.Prelude.{◌≡◌, ◌∷◌, [], List, ℕ, Some, IfOk};
+ghost use Rattle.std.specs.Prelude.{◌≡◌, List, ℕ, Some, IfOk};
 ghost use Rattle.kr_ast.specs.declared.node.Node.TheVariants as nodes;
 ghost use Rattle.kr_ast.specs.Arena.{name_in};
 ghost use Rattle.kr_types_meaning.specs.Scopes.{class_before};
 ghost use Rattle.kr_classes_table.specs.Constants.{constant_of, known_value, values_of};
 ghost use Rattle.kr_classes_types.specs.Listed.{IsGrown};
 ghost use Rattle.kr_types.specs.Programs.{IsProgram};
-ghost use Rattle.kr_space_problem.specs.Posed.{table};
+ghost use Rattle.kr_code_members.specs.Nodes.{table};
 ghost use Rattle.kr_code_lowering.specs.Origins.{node_tree};
 ghost use Rattle.kr_code_lowering.specs.Sites.{IsHere, Resolves, arena_at, scope_at};
 ghost use Rattle.kr_code_lowering.specs.Named.{literal_of};

@@ -1,16 +1,16 @@
 // Calls as expressions.
-ghost use Rattle.std.specs.Prelude.{◌≡◌, ◌∷◌, [], List, ℕ, Some, None, IfOk, option_and_then};
+ghost use Rattle.std.specs.Prelude.{◌≡◌, List, ℕ, Some, None, IfOk, option_and_then};
 ghost use Rattle.kr_ast.specs.Arena.{name_in};
 ghost use Rattle.kr_ast.specs.declared.node.Node.TheVariants as nodes;
 ghost use Rattle.kr_classes_table.specs.Table.{method_named};
 ghost use Rattle.kr_types_meaning.specs.Scopes.{class_before, method_meant, static_only};
-ghost use Rattle.kr_mean.specs.Meaning.{super_method, typed_method};
+ghost use Rattle.kr_mean.specs.Meaning.{super_method};
 ghost use Rattle.kr_classes_types.specs.Listed.{IsGrown};
 ghost use Rattle.kr_types.specs.Programs.{IsProgram};
-ghost use Rattle.kr_space_problem.specs.Posed.{table};
+ghost use Rattle.kr_code_members.specs.Nodes.{table};
 ghost use Rattle.kr_code_lowering.specs.Origins.{node_tree};
 ghost use Rattle.kr_code_lowering.specs.Sites.{IsHere, Resolves, arena_at, scope_at};
-ghost use Rattle.kr_code_lowering.specs.Calls.{IsFound, IsOwnCallee, IsStaticCallee};
+ghost use Rattle.kr_code_lowering.specs.Calls.{IsOwnCallee, IsStaticCallee};
 
 use crate::known::meaning_at;
 use crate::links::Links;
@@ -18,7 +18,6 @@ use crate::lists::list_links;
 use crate::site::Site;
 use kr_ast::{Entry, Name};
 use kr_base::NoMemory;
-use kr_classes_table::MethodId;
 use kr_code::{Callee, Expression};
 use kr_types::Program;
 use kr_types_resolving::Meaning;
@@ -57,40 +56,6 @@ pub(crate) fn static_callee(
     }
 }
 
-/// The method of the superclass that a call of `super.m` means.
-fn super_number(
-    program: &Program,
-    site: Site,
-    _entry: Entry,
-    _name: Name,
-    _arguments: u32,
-) -> Option<MethodId>
-    requires program { IsProgram program.now }
-    requires here { IsHere program.now site _entry }
-    requires node { _entry.node ≡ nodes.SuperCall _name _arguments }
-    ensures { IsFound program.now result (super_method (scope_at program.now site) (name_in (arena_at program.now site).text _name)) }
-{
-    meaning_at(program, site).super_method()
-}
-
-/// The method that an object's type has.
-pub(crate) fn typed_number(
-    program: &Program,
-    site: Site,
-    _entry: Entry,
-    _object: u32,
-    _name: Name,
-    _arguments: u32,
-) -> Option<MethodId>
-    requires program { IsProgram program.now }
-    requires here { IsHere program.now site _entry }
-    requires node { _entry.node ≡ nodes.MethodCall _object _name _arguments }
-    requires object { class_before (scope_at program.now site) (node_tree program.now site.file _object) ≡ None }
-    ensures { IsFound program.now result (typed_method (scope_at program.now site) (node_tree program.now site.file _object) (name_in (arena_at program.now site).text _name)) }
-{
-    meaning_at(program, site).method()
-}
-
 /// A call without object as an expression.
 pub(crate) fn call_expression(
     program: &Program,
@@ -126,7 +91,7 @@ pub(crate) fn super_call_expression(
     ensures grown { IsGrown links.old links.new }
     ensures resolves { (arrays : List ℕ) (names : List (List ℕ)) → IfOk result (Resolves program.now arrays site names links.new) }
 {
-    let method = super_number(program, site, entry, name, arguments);
+    let method = meaning_at(program, site).super_method();
     let arguments = list_links(program, site.at(arguments), links)?;
     Ok(Expression::Call {
         callee: Callee::Super(method),

@@ -6,9 +6,9 @@ ghost use Rattle.kr_types.specs.Programs.{IsProgram};
 ghost use Rattle.kr_code_lowering.specs.Sites.{IsHere, IsSite};
 ghost use Rattle.kr_code_lowering.specs.Bodies.{Calls, Constructs};
 
-use crate::bodies::item_count;
 use crate::links::Links;
 use crate::lists::list_links;
+use crate::parameters::parameter_links;
 use crate::site::Site;
 use kr_ast::{Entry, Node};
 use kr_base::NoMemory;
@@ -47,7 +47,7 @@ pub fn constructor_code(
     ensures grown { IsGrown links.old links.new }
     ensures constructs { (arrays : List ℕ) (names : List (List ℕ)) → IfOk result (Constructs program.now arrays site names links.new) }
 {
-    let taken = item_count(program, site.at(parameters));
+    let taken = parameter_links(program, site.at(parameters), links)?;
     let call = call_links(program, links, site.at(super_call))?;
     let statements = list_links(program, site.at(body), links)?;
     Ok(Constructor {

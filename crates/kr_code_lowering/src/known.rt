@@ -4,7 +4,7 @@ ghost use Rattle.kr_types_meaning.specs.Typing.{judged, type_in};
 ghost use Rattle.kr_classes_types.specs.Types.{count, type_at};
 ghost use Rattle.kr_types.specs.Programs.{IsProgram};
 ghost use Rattle.kr_types_resolving.specs.Shown.{IsMeant};
-ghost use Rattle.kr_space_problem.specs.Posed.{table};
+ghost use Rattle.kr_code_members.specs.Nodes.{table};
 ghost use Rattle.kr_code_lowering.specs.Sites.{IsSite, scope_at, tree_at};
 
 use crate::site::Site;

@@ -16,6 +16,7 @@ mod named;
 mod names;
 mod nodes;
 mod operators;
+mod parameters;
 mod plain;
 mod site;
 mod statements;

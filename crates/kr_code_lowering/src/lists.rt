@@ -1,8 +1,9 @@
 // Lists of nodes as links that follow one another.
-ghost use Rattle.std.specs.Prelude.{◌≡◌, ◌<◌, ℕ, List, [], IfOk, IfSome, MatchOption, length};
+ghost use Rattle.std.specs.Prelude.{◌≡◌, ◌<◌, ◌∷◌, [], IfOk, IfSome, MatchOption, length};
 ghost use Rattle.kr_classes_table.specs.Table.{items};
 ghost use Rattle.kr_classes_types.specs.Listed.{IsGrown};
 ghost use Rattle.kr_types.specs.Programs.{IsProgram};
+ghost use Rattle.kr_code_lowering.specs.Origins.{node_tree};
 ghost use Rattle.kr_code_lowering.specs.Sites.{IsSite, arena_at, tree_at};
 ghost use Rattle.kr_code_lowering.specs.Lists.{AreLinked, IsAhead};
 
@@ -20,6 +21,7 @@ pub(crate) fn first_item(program: &Program, list: Site) -> Option<(u32, u32)>
     ensures within { IfSome result (λ p. p.0 < length (arena_at program.now list).entries) }
     ensures behind { IfSome result (λ p. p.1 < list.node) }
     ensures none { MatchOption result (items (tree_at program.now list) ≡ []) (λ p. IsAhead program.now list p.0 p.1) }
+    ensures shown { MatchOption result (items (tree_at program.now list) ≡ []) (λ p. items (tree_at program.now list) ≡ node_tree program.now list.file p.0 ∷ items (node_tree program.now list.file p.1)) }
 {
     match list.entry(program).node {
         Node::Cons { first, rest } => Some((first, rest)),

@@ -4,12 +4,13 @@ ghost use Rattle.kr_ast.specs.declared.node.Node.TheVariants as nodes;
 ghost use Rattle.kr_classes_types.specs.Listed.{IsGrown};
 ghost use Rattle.kr_classes_types.specs.Types.{count, type_at};
 ghost use Rattle.kr_types.specs.Programs.{IsProgram};
-ghost use Rattle.kr_classes_roster.specs.Rosters.{IsRoster, all_methods};
-ghost use Rattle.kr_space_problem.specs.Posed.{table};
+ghost use Rattle.kr_classes_roster.specs.Rosters.{all_methods};
+ghost use Rattle.kr_code_members.specs.Nodes.{table};
 ghost use Rattle.kr_code_lowering.specs.Sites.{IsHere, Resolves};
 ghost use Rattle.kr_code_lowering.specs.Calls.{IsCalledOn, IsCreator};
 
-use crate::calls::{static_callee, typed_number};
+use crate::calls::static_callee;
+use crate::known::meaning_at;
 use crate::links::Links;
 use crate::lists::list_links;
 use crate::named::class_before;
@@ -81,7 +82,7 @@ pub(crate) fn method_call_expression(
             arguments: nodes,
         }),
         None => {
-            let method = typed_number(program, site, entry, object, name, arguments);
+            let method = meaning_at(program, site).method();
             let text = site.text(program, name);
             Ok(called_on(program, site.first + object, method, text, nodes))
         }

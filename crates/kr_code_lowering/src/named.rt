@@ -6,7 +6,7 @@ ghost use Rattle.kr_classes_table.specs.Constants.{known_value, values_of};
 ghost use Rattle.kr_types_meaning.specs.Scopes.{class_before, value};
 ghost use Rattle.kr_types.specs.Programs.{IsProgram};
 ghost use Rattle.kr_classes_roster.specs.Rosters.{all_fields, field_numbered};
-ghost use Rattle.kr_space_problem.specs.Posed.{table};
+ghost use Rattle.kr_code_members.specs.Nodes.{table};
 ghost use Rattle.kr_code_lowering.specs.Origins.{node_scope, node_tree};
 ghost use Rattle.kr_code_lowering.specs.Sites.{IsHere, IsSite, arena_at, scope_at};
 ghost use Rattle.kr_code_lowering.specs.Named.{IsNamed};

@@ -2,8 +2,7 @@
 ghost use Rattle.std.specs.Prelude.{◌≡◌, ◌+◌, ◌<◌, ◌^◌, suc, All, IfOk, Some, codes, length, slice_get};
 ghost use Rattle.kr_classes_types.specs.Listed.{IsGrown};
 ghost use Rattle.kr_classes_types.specs.Types.{count};
-ghost use Rattle.kr_types.specs.Programs.{IsProgram};
-ghost use Rattle.kr_types.specs.Programs.{all_entries};
+ghost use Rattle.kr_types.specs.Programs.{IsProgram, all_entries};
 ghost use Rattle.kr_code_lowering.specs.Origins.{first_node};
 ghost use Rattle.kr_code_lowering.specs.Sites.{IsSite};
 ghost use Rattle.kr_code_lowering.specs.Resolving.{AreNodes, IsNode};

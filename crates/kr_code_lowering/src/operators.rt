@@ -1,7 +1,6 @@
 // Expressions whose parts stand for values in the same scope: literals, operators, elements of arrays.
-ghost use Rattle.std.specs.Prelude.{◌≡◌, ◌+◌};
+ghost use Rattle.std.specs.Prelude.{◌+◌};
 ghost use Rattle.kr_ast.specs.Arena.{parts};
-ghost use Rattle.kr_code.specs.declared.expression.Expression.TheVariants as expressions;
 ghost use Rattle.kr_code_lowering.specs.Kinds.{AreFew, IsOperation, IsBinary};
 
 use kr_ast::{BinaryOperator, Node};
@@ -10,6 +9,7 @@ use kr_code::Expression;
 use kr_value::Value;
 
 /// The expression of an operator between two operands: `&&` and `||` may leave the second out.
+#[tactic(auto, using(crate::proofs::Dispatch::binary_forms))]
 fn binary(operator: BinaryOperator, left: u32, right: u32) -> Expression
     ensures { IsBinary operator left right result }
 {
@@ -25,6 +25,7 @@ fn binary(operator: BinaryOperator, left: u32, right: u32) -> Expression
 }
 
 /// The expression of an operator's node, whose parts have numbers from the first one on.
+#[tactic(auto, using(crate::proofs::Dispatch::operator_forms))]
 pub(crate) fn operator_expression(first: u32, place: Place, node: Node) -> Expression
     requires { AreFew first (parts node) }
     ensures { IsOperation first place node result }

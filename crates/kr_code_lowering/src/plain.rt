@@ -25,6 +25,7 @@ pub(crate) fn is_plain(node: Node) -> bool
 }
 
 /// The statement of such a node, whose parts have numbers from the first one on.
+#[tactic(auto, using(crate::proofs::Performed::plain_forms))]
 pub(crate) fn plain_statement(first: u32, node: Node) -> Statement
     requires { AreFew first (parts node) }
     ensures { IsPlain first node result }

@@ -1,10 +1,6 @@
 // What a node is as a statement.
-ghost use Rattle.std.specs.Prelude.{◌≡◌, ◌+◌, ◌<◌, List, ℕ, IfOk, length};
-ghost use Rattle.kr_base.specs.declared.place.Place.{Place};
-ghost use Rattle.kr_ast.specs.Tree.{Tree};
-ghost use Rattle.kr_ast.specs.Arena.{tree_of};
+ghost use Rattle.std.specs.Prelude.{◌≡◌, ◌+◌, ◌<◌, List, ℕ, IfOk};
 ghost use Rattle.kr_ast.specs.declared.node.Node.TheVariants as nodes;
-ghost use Rattle.kr_code.specs.Resolved.{is_no_statement};
 ghost use Rattle.kr_classes_types.specs.Listed.{IsGrown};
 ghost use Rattle.kr_types.specs.Programs.{IsProgram};
 ghost use Rattle.kr_code_lowering.specs.Sites.{IsHere, IsSite, tree_at};

@@ -1,16 +1,13 @@
 // What an assignment writes.
 ghost use Rattle.std.specs.Prelude.{◌≡◌, ◌<◌, Some, IfOk};
 ghost use Rattle.kr_ast.specs.declared.node.Node.TheVariants as nodes;
-ghost use Rattle.kr_ast.specs.Arena.{name_in};
 ghost use Rattle.kr_types_meaning.specs.Scopes.{value};
-ghost use Rattle.kr_mean.specs.Meaning.{typed_field};
 ghost use Rattle.kr_classes_types.specs.Types.{count, type_at};
 ghost use Rattle.kr_classes_types.specs.Listed.{IsGrown};
 ghost use Rattle.kr_types.specs.Programs.{IsProgram};
-ghost use Rattle.kr_space_problem.specs.Posed.{table};
-ghost use Rattle.kr_code_lowering.specs.Origins.{node_tree};
-ghost use Rattle.kr_code_lowering.specs.Sites.{IsHere, IsSite, arena_at, scope_at, tree_at};
-ghost use Rattle.kr_code_lowering.specs.Targets.{IsFieldFound, IsTarget, is_array_type};
+ghost use Rattle.kr_code_members.specs.Nodes.{table};
+ghost use Rattle.kr_code_lowering.specs.Sites.{IsHere, IsSite, scope_at, tree_at};
+ghost use Rattle.kr_code_lowering.specs.Targets.{IsTarget, is_array_type};
 
 use crate::known::{meaning_at, type_of};
 use crate::named::{Named, name_at};
@@ -18,7 +15,7 @@ use crate::names::Names;
 use crate::site::Site;
 use kr_ast::{Entry, Name, Node};
 use kr_base::NoMemory;
-use kr_classes_table::{FieldId, TypeId};
+use kr_classes_table::TypeId;
 use kr_classes_types::{TypeForm, Types};
 use kr_code::Variable;
 use kr_types::Program;
@@ -55,22 +52,6 @@ fn name_target(
     }
 }
 
-/// The field that is written, by its number.
-fn field_number(
-    program: &Program,
-    site: Site,
-    _entry: Entry,
-    _object: u32,
-    _name: Name,
-) -> Option<FieldId>
-    requires program { IsProgram program.now }
-    requires here { IsHere program.now site _entry }
-    requires node { _entry.node ≡ nodes.FieldAccess _object _name }
-    ensures { IsFieldFound program.now result (typed_field (scope_at program.now site) (node_tree program.now site.file _object) (name_in (arena_at program.now site).text _name)) }
-{
-    meaning_at(program, site).instance()
-}
-
 /// A field of an object that is written.
 fn field_target(
     alloc: Global,
@@ -89,7 +70,7 @@ fn field_target(
     ensures grown { IsGrown names.old names.new }
     ensures target { IfOk result (IsTarget program.now (scope_at program.now site) (tree_at program.now at) names.new) }
 {
-    match field_number(program, at, entry, object, name) {
+    match meaning_at(program, at).instance() {
         None => Ok(Variable::Unknown),
         Some(field) => {
             let number = names.number(alloc, at.text(program, name))?;

@@ -96,11 +96,15 @@ pub(crate) fn cast_expression(
     requires node { entry.node ≡ nodes.Cast target operand }
     ensures { (arrays links : List ℕ) (names : List (List ℕ)) → Resolves program.now arrays site names links result }
 {
+    let to = named_type(program, site, target);
     if is_primitive_type(program, site, target) {
-        return Expression::Same(site.first + operand);
+        return Expression::Convert {
+            to,
+            operand: site.first + operand,
+        };
     }
     Expression::Cast {
-        class: named_type(program, site, target),
+        class: to,
         operand: site.first + operand,
     }
 }

@@ -15,6 +15,7 @@ use kr_types::Program;
 use std::alloc::Global;
 
 /// An assignment as an expression.
+#[tactic(auto, using(crate::proofs::Assigned::written_scope, crate::proofs::Parts::small_number))]
 pub(crate) fn assignment_expression(
     alloc: Global,
     program: &Program,
@@ -38,6 +39,7 @@ pub(crate) fn assignment_expression(
 }
 
 /// A compound assignment as an expression.
+#[tactic(auto, using(crate::proofs::Assigned::written_scope, crate::proofs::Parts::small_number))]
 pub(crate) fn compound_expression(
     alloc: Global,
     program: &Program,
@@ -63,6 +65,7 @@ pub(crate) fn compound_expression(
 }
 
 /// A `++` or `--` as an expression.
+#[tactic(auto, using(crate::proofs::Assigned::written_scope))]
 pub(crate) fn step_expression(
     alloc: Global,
     program: &Program,

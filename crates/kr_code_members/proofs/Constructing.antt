@@ -5,7 +5,7 @@ use Rattle.std.specs.List.{AllZip}
 use Rattle.kr_base.specs.declared.place.Place.{Place}
 use Rattle.kr_ast.specs.Tree as trees
 use Rattle.kr_ast.specs.Tree.{Tree}
-use Rattle.kr_ast.specs.Arena.{IsPart, tree_of}
+use Rattle.kr_ast.specs.Arena.{IsPart, tree_in, tree_of}
 use Rattle.kr_ast.specs.declared.node.Entry.{Entry}
 use Rattle.kr_ast.specs.declared.node.Node.{Node}
 use Rattle.kr_ast.specs.declared.node.Node.TheVariants as nodes
@@ -20,11 +20,14 @@ use Rattle.kr_types.specs.Programs.{IsProgram}
 use Rattle.kr_mean.specs.Program.{first}
 use Rattle.kr_code_members.specs.declared.nodes.ConstructorNode.{ConstructorNode}
 use Rattle.kr_code_members.specs.Nodes.{IsConstructorNode, IsHere, IsMaybeConstructorNode, IsMemberNode, arena_at, members_scope, node_scope, node_tree, table}
-use Rattle.kr_code_members.proofs.Scopes.{constructor_body, part_scope, part_there, parts_are, tree_is}
+use Rattle.kr_code_members.proofs.Scopes.{constructor_body, parameters, part_scope, part_there, parts_are, tree_is}
 
 pub no_constructors : (hs : List Heading) (text : List ℕ) (look : ℕ → Tree) (pl : Place) (n : Node) → ((a k b : ℕ) → n ≡ nodes.Constructor a k b → ⊥) → constructors_in hs (tree_of text look pl n) ≡ []
 no_constructors hs text look pl (nodes.Constructor a k b) h = absurd (h a k b refl)
 no_constructors hs text look pl _ h = refl
+
+pub no_constructor : (p : Program) (f c i : ℕ) (e : Entry) → IsHere p f i e → ((a k b : ℕ) → e.node ≡ nodes.Constructor a k b → ⊥) → AllZip (IsConstructorNode p c) (constructors_in (table p).headings (node_tree p f i)) []
+no_constructor p f c i e at h = rw (ap (constructors_in (table p).headings) at.tree ∙ no_constructors (table p).headings (arena_at p f).text (tree_in (arena_at p f)) e.place e.node h) tt
 
 module _ (p : Program) (program : IsProgram p) (f c i : ℕ) (member : IsMemberNode p f c i) (e : Entry) (at : IsHere p f i e) (a k b : ℕ) (it : e.node ≡ nodes.Constructor a k b) where
   abbrev n : Node
@@ -56,7 +59,7 @@ module _ (p : Program) (program : IsProgram p) (f c i : ℕ) (member : IsMemberN
   declared_constructor =
       let made : ConstructorNode = record { file = f; node = i; super_call = k; body = b } in
       let ps = parts_are p f i e n at it in
-      let runs = constructor_body (table p) (values_of (table p)) c pt shape.0 in
+      let runs = constructor_body (table p) (values_of (table p)) c pt (parameters pt shape.0) in
       let is_constructor : IsConstructorNode p c own made = record {
         member = member;
         declares = declares;

@@ -11,9 +11,8 @@ use Rattle.kr_ast.specs.declared.node.Name.{Name}
 use Rattle.kr_ast.specs.declared.node.Entry.{Entry}
 use Rattle.kr_ast.specs.declared.node.Node.{Node}
 use Rattle.kr_ast.specs.declared.node.Node.TheVariants as nodes
-use Rattle.kr_classes_table.specs.Table.{Heading, Field, declared_in, fields_in, items, type_named}
+use Rattle.kr_classes_table.specs.Table.{Heading, Field, declared_in, fields_in, items, type_named, Table}
 use Rattle.kr_types_meaning.specs.Scopes.{Scope, bind_as, declaring, field_kind, scope_of, static_if}
-use Rattle.kr_classes_table.specs.Table.{Table}
 use Rattle.kr_classes_table.specs.Constants.{Known, values_of}
 use Rattle.kr_laws_shapes.specs.Shapes.{AreDeclarators, IsDeclarator, IsMember, IsVariableType}
 use Rattle.kr_types_meaning.specs.Handing.{handed}
@@ -30,9 +29,12 @@ use Rattle.kr_code_members.proofs.Zipped.{each_shown}
 
 -- ---- lines
 
-pub no_fields : (hs : List Heading) (c : ℕ) (text : List ℕ) (look : ℕ → Tree) (pl : Place) (n : Node) → ((st fi : Bool) (a b : ℕ) → n ≡ nodes.Field st fi a b → ⊥) → fields_in hs c (tree_of text look pl n) ≡ []
-no_fields hs c text look pl (nodes.Field st fi a b) h = absurd (h st fi a b refl)
-no_fields hs c text look pl _ h = refl
+pub no_fields : (p : Program) (f c i : ℕ) (e : Entry) → IsHere p f i e → ((st fi : Bool) (a b : ℕ) → e.node ≡ nodes.Field st fi a b → ⊥) → fields_in (table p).headings c (node_tree p f i) ≡ []
+no_fields p f c i e at h = ap (fields_in (table p).headings c) at.tree ∙ go e.node h
+  where
+    go : (n : Node) → ((st fi : Bool) (a b : ℕ) → n ≡ nodes.Field st fi a b → ⊥) → fields_in (table p).headings c (tree_of (arena_at p f).text (tree_in (arena_at p f)) e.place n) ≡ []
+    go (nodes.Field st fi a b) k = absurd (k st fi a b refl)
+    go _ k = refl
 
 module _ (p : Program) (program : IsProgram p) (f c i : ℕ) (member : IsMemberNode p f c i) (e : Entry) (at : IsHere p f i e) (st fi : Bool) (d ds : ℕ) (it : e.node ≡ nodes.Field st fi d ds) where
   t : node_tree p f i ≡ trees.Field e.place st fi (node_tree p f d) (node_tree p f ds)

@@ -2,10 +2,9 @@
 use Rattle.std.proofs.Common.{◌≡◌, refl, sym, ap, ◌∙◌, subst, ℕ, zero, suc, Bool, true, false, List, [], ◌∷◌, ◌++◌, map, append_assoc}
 use Rattle.std.proofs.lemmas.List.{map-append}
 use Rattle.std.specs.List.{AllByRecursion}
-use Rattle.kr_base.specs.declared.place.Place.{Place}
 use Rattle.kr_ast.specs.Tree as trees
 use Rattle.kr_ast.specs.Tree.{Tree}
-use Rattle.kr_ast.specs.Arena.{IsPart, tree_of}
+use Rattle.kr_ast.specs.Arena.{IsPart, tree_in, tree_of}
 use Rattle.kr_ast.specs.declared.node.Entry.{Entry}
 use Rattle.kr_ast.specs.declared.node.Node.{Node}
 use Rattle.kr_ast.specs.declared.node.Node.TheVariants as nodes
@@ -21,9 +20,12 @@ use Rattle.kr_code_members.proofs.Scopes.{part_scope, part_there, parts_are, tre
 
 -- ---- a list's node
 
-pub no_items : (text : List ℕ) (look : ℕ → Tree) (pl : Place) (n : Node) → ((a b : ℕ) → n ≡ nodes.Cons a b → ⊥) → items (tree_of text look pl n) ≡ []
-no_items text look pl (nodes.Cons a b) h = absurd (h a b refl)
-no_items text look pl _ h = refl
+pub no_items : (p : Program) (f l : ℕ) (e : Entry) → IsHere p f l e → ((a b : ℕ) → e.node ≡ nodes.Cons a b → ⊥) → items (node_tree p f l) ≡ []
+no_items p f l e at h = ap items at.tree ∙ go e.node h
+  where
+    go : (n : Node) → ((a b : ℕ) → n ≡ nodes.Cons a b → ⊥) → items (tree_of (arena_at p f).text (tree_in (arena_at p f)) e.place n) ≡ []
+    go (nodes.Cons a b) k = absurd (k a b refl)
+    go _ k = refl
 
 same : (j : ℕ) (s t : Scope) → t ≡ s → second j s t ≡ s
 same zero s t e = refl

@@ -22,10 +22,7 @@ use Rattle.kr_code_members.specs.Nodes.{AreShaped, IsHere, IsMemberNode, arena_a
 use Rattle.kr_code_members.specs.Walk.{IsClassNode, IsIn, IsItem, IsMemberList, heading_numbered, members_of}
 use Rattle.kr_code_members.proofs.Scopes.{part_scope, part_there, parts_are, scope_table, tree_is}
 use Rattle.kr_code_members.proofs.Items.{each_class, each_member}
-use Rattle.kr_code_members.proofs.Zipped.{each_shown}
-
-same_heading : (h k : Heading) → h ∷ [] ≡ k ∷ [] → h ≡ k
-same_heading h k e = cc
+use Rattle.kr_code_members.proofs.Zipped.{each_shown, same_item}
 
 module _ (p : Program) (f i : ℕ) (item : IsItem p f i) (e : Entry) (at : IsHere p f i e) where
   module _ (x : Name) (a b : ℕ) (it : e.node ≡ nodes.Class x a b) where
@@ -50,7 +47,7 @@ module _ (p : Program) (f i : ℕ) (item : IsItem p f i) (e : Entry) (at : IsHer
       shape = shape.1;
       listed = λ o. ap (flat_map members_of) (heads o) ∙ append-nil (items (node_tree p f b));
       scope = λ h c is number.
-          let same : own h.outer ≡ h = same_heading (own h.outer) h (sym (heads h.outer) ∙ is) in
+          let same : own h.outer ≡ h = same_item (own h.outer) h (sym (heads h.outer) ∙ is) in
           let named : number_of (table p).headings name ≡ Some c = ap (λ (k : Heading). number_of (table p).headings k.name) same ∙ number in
           let s = node_scope p f i in
           part_scope p program f i 1 b at.there part ∙ ap (λ (u : Tree). handed s u 1) t

@@ -1,5 +1,5 @@
 -- The scope of a part, and those of the code of methods and constructors.
-use Rattle.std.proofs.Common.{◌≡◌, refl, sym, ap, ◌∙◌, subst, ℕ, ◌<◌, ◌≤◌, ◌⊎◌, inl, inr, Bool, List, [], ◌∷◌, ◌++◌, length, map, get_or, append_assoc, append-nil, arith}
+use Rattle.std.proofs.Common.{◌≡◌, refl, sym, ap, ◌∙◌, subst, ℕ, ◌<◌, inl, inr, Bool, List, [], ◌∷◌, ◌++◌, length, map, append_assoc, append-nil, arith}
 use Rattle.std.specs.Prelude.{Option, Some, None, slice_get, reverse}
 use Rattle.std.proofs.lemmas.List.{reverse-append}
 use Rattle.std.proofs.lemmas.Option.{slice_get_cases}
@@ -12,7 +12,7 @@ use Rattle.kr_ast.specs.declared.node.Node.{Node}
 use Rattle.kr_classes_table.specs.Table.{Table, parameters_in, type_named}
 use Rattle.kr_classes_table.specs.Constants.{Known, values_of}
 use Rattle.kr_types_meaning.specs.Scopes.{Scope, Local, after, bind_local, scope_of, static_if, written}
-use Rattle.kr_laws_shapes.specs.Shapes.{AreParameters}
+use Rattle.kr_laws_shapes.specs.Shapes as shapes
 use Rattle.kr_types_meaning.specs.Handing.{handed}
 use Rattle.kr_types_meaning.specs.Running.{running}
 use Rattle.kr_types.specs.declared.program.Program.{Program}
@@ -20,15 +20,12 @@ use Rattle.kr_types.specs.declared.program.TypedFile.{TypedFile}
 use Rattle.kr_types.specs.Programs.{IsProgram}
 use Rattle.kr_mean.specs.Program.{parameter_local, with_parameters}
 use Rattle.kr_code_members.specs.Nodes.{IsHere, IsThere, arena_at, node_scope, node_tree, scope_in, table}
+use Rattle.kr_code_members.specs.Walk.{AreParameters}
 
 -- ---- parts
 
 absent : {A : Type 0} (xs : List A) (i : ℕ) → i < length xs → slice_get xs i ≡ None → ⊥
-absent xs i h e = go (slice_get_cases xs i).1
-  where
-    go : ((x : _) × (i < length xs) × (slice_get xs i ≡ Some x) × (get_or xs i x ≡ x)) ⊎ ((length xs ≤ i) × (slice_get xs i ≡ None)) → ⊥
-    go (inl w) = let is = w.2 in cc
-    go (inr w) = omega (arith, w.0, h)
+absent xs i h e = elim (slice_get_cases xs i).1 [ inl w ↦ (let is = w.2 in cc) | inr w ↦ omega (arith, w.0, h) ]
 
 handed_in : (p : Program) → IsProgram p → (f i j c : ℕ) → IsThere p f i → IsPart (arena_at p f).entries i j c → (o : Option TypedFile) → slice_get p.files.items f ≡ o → scope_in p f c o ≡ handed (scope_in p f i o) (node_tree p f i) j
 handed_in p is f i j c at part None e = absurd (absent p.files.items f (omega (arith, is.count, at.file)) e)
@@ -60,6 +57,12 @@ scope_table p f i = table_in_scope p f i (slice_get p.files.items f)
 abbrev with_locals : List Local → Scope → Scope
 with_locals ls s = record s { locals = ls }
 
+pub parameters : (t : Tree) → shapes.AreParameters t → AreParameters t
+parameters trees.Nil h = tt
+parameters (trees.Cons (trees.Parameter p t n) b) h = parameters b h.1
+parameters (trees.Cons _ b) h = absurd h
+parameters _ h = absurd h
+
 -- parameters are the locals behind them
 after_parameters : (s : Scope) (ps : Tree) → AreParameters ps → after s ps ≡ with_locals (reverse (map parameter_local (parameters_in s.table.headings ps)) ++ s.locals) s
 after_parameters s trees.Nil h = refl
@@ -67,7 +70,7 @@ after_parameters s (trees.Cons (trees.Parameter p t n) b) h =
     let w = written s t in
     let rest = map parameter_local (parameters_in s.table.headings b) in
     let l : Local = record { name = n; type = w } in
-    after_parameters (bind_local n w s) b h.1
+    after_parameters (bind_local n w s) b h
     ∙ ap (λ (ls : List Local). with_locals ls s) (sym (append_assoc (reverse rest) (l ∷ []) s.locals) ∙ ap (λ (ls : List Local). ls ++ s.locals) (sym (reverse-append (l ∷ []) rest)))
 after_parameters s (trees.Cons _ b) h = absurd h
 after_parameters s _ h = absurd h

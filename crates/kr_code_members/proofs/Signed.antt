@@ -19,12 +19,15 @@ use Rattle.kr_types.specs.declared.program.Program.{Program}
 use Rattle.kr_types.specs.Programs.{IsProgram}
 use Rattle.kr_code_members.specs.declared.nodes.MethodNode.{MethodNode}
 use Rattle.kr_code_members.specs.Nodes.{IsHere, IsMemberNode, IsMethodNode, arena_at, members_scope, node_scope, node_tree, table}
-use Rattle.kr_code_members.proofs.Scopes.{method_body, part_scope, part_there, parts_are, tree_is}
+use Rattle.kr_code_members.proofs.Scopes.{method_body, parameters, part_scope, part_there, parts_are, tree_is}
 
 -- what is no method
 pub no_methods : (hs : List Heading) (c : ℕ) (text : List ℕ) (look : ℕ → Tree) (pl : Place) (n : Node) → ((st : Bool) (x : Name) (a b : ℕ) → n ≡ nodes.Method st x a b → ⊥) → methods_in hs c (tree_of text look pl n) ≡ []
 no_methods hs c text look pl (nodes.Method st x a b) h = absurd (h st x a b refl)
 no_methods hs c text look pl _ h = refl
+
+pub no_method : (p : Program) (f c i : ℕ) (e : Entry) → IsHere p f i e → ((st : Bool) (x : Name) (a b : ℕ) → e.node ≡ nodes.Method st x a b → ⊥) → AllZip (IsMethodNode p) (methods_in (table p).headings c (node_tree p f i)) []
+no_method p f c i e at h = rw (ap (methods_in (table p).headings c) at.tree ∙ no_methods (table p).headings c (arena_at p f).text (tree_in (arena_at p f)) e.place e.node h) tt
 
 no_signature : (hs : List Heading) (c : ℕ) (p : Place) (st : Bool) (x : List ℕ) (body : Tree) (text : List ℕ) (look : ℕ → Tree) (pl : Place) (n : Node) → ((r ps cs : ℕ) → n ≡ nodes.Signature r ps cs → ⊥)
     → method_with hs c p st x body (tree_of text look pl n) ≡ []
@@ -93,7 +96,7 @@ module _ (p : Program) (program : IsProgram p) (f c i : ℕ) (member : IsMemberN
     pub signed_method : AllZip (IsMethodNode p) (methods_in hs c (node_tree p f i)) (record { file = f; class = c; node = i; contracts = cs; body = b } ∷ [])
     signed_method =
         let made : MethodNode = record { file = f; class = c; node = i; contracts = cs; body = b } in
-        let runs = method_body (table p) (values_of (table p)) c st s.place (node_tree p f r) pt (node_tree p f cs) signed.1 in
+        let runs = method_body (table p) (values_of (table p)) c st s.place (node_tree p f r) pt (node_tree p f cs) (parameters pt signed.1) in
         let is_method : IsMethodNode p own made = record {
           class = refl;
           member = member;

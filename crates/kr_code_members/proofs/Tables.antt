@@ -1,6 +1,7 @@
 -- The class table by the headings, and the numbers of names.
 use Rattle.std.proofs.Common.{◌≡◌, refl, sym, ap, ◌∙◌, subst, ℕ, zero, suc, ◌+◌, ◌^◌, ◌<◌, Bool, true, false, List, [], ◌∷◌, ◌++◌, length, map, take, get_or, append-nil, zero-add, bytes_eq, if◌then◌else◌, arith}
-use Rattle.std.specs.Prelude.{Option, Some, None, flat_map, option_and_then, option_to_list, ◌||◌}
+use Rattle.std.specs.Prelude.{Option, Some, None, flat_map, option_and_then, option_to_list}
+use Rattle.std.proofs.lemmas.Bool.{or_parts}
 use Rattle.std.proofs.lemmas.List.{length-map, take_more}
 use Rattle.std.proofs.lemmas.Grind.{flat_map-append}
 use Rattle.std.proofs.lemmas.List.Folds.{flat_map-map}
@@ -11,6 +12,8 @@ use Rattle.kr_classes_table.specs.Table.{Table, Class, Method, Heading, class_at
 use Rattle.kr_classes_table.specs.Rules.{Fault, C1, C2, C3, C4, C5, C6, C7, C8, break_if, class_fault, each_class, first_of, is_name_among, least, repeated}
 use Rattle.kr_classes_table.proofs.Least.{is_least}
 use Rattle.kr_classes_names.specs.Shown.{heading_shown}
+use Rattle.kr_classes.proofs.ByClass as ByClass
+use Rattle.kr_classes.proofs.ByClass.{at_index, long}
 use Rattle.kr_classes_names.proofs.ClassNumbers.{turned}
 use Rattle.kr_types.specs.declared.program.Program.{Program}
 use Rattle.kr_types.specs.Programs.{IsProgram}
@@ -33,27 +36,20 @@ classes_are : (p : Program) → (table p).classes ≡ classes_from (table p).hea
 unfolding table_of
 classes_are p = refl
 
-count_from : (all : List Heading) (k : ℕ) (hs : List Heading) → length (classes_from all k hs) ≡ length hs
-count_from all k [] = refl
-count_from all k (h ∷ hs) = ap suc (count_from all (k + 1) hs)
-
 pub class_count_is : (p : Program) → length (table p).classes ≡ length (table p).headings
-class_count_is p = ap length (classes_are p) ∙ count_from (table p).headings 0 (table p).headings
+class_count_is p = ap length (classes_are p) ∙ long (table p).headings 0 (table p).headings
 
-got_from : (all : List Heading) (k : ℕ) (hs : List Heading) (c : ℕ) (d : Class) (e : Heading) → c < length hs → get_or (classes_from all k hs) c d ≡ class_of all (k + c) (get_or hs c e)
-got_from all k [] c d e l = absurd (omega (arith, l))
-got_from all k (h ∷ hs) zero d e l = ap (λ (n : ℕ). class_of all n h) (omega arith)
-got_from all k (h ∷ hs) (suc c) d e l = got_from all (k + 1) hs c d e (omega (arith, l)) ∙ ap (λ (n : ℕ). class_of all n (get_or hs c e)) (omega arith)
+-- a class, whichever
+pub no_class : Program → Class
+no_class p = class_of [] 0 no_heading
 
-at_from : (all : List Heading) (k : ℕ) (hs : List Heading) (c : ℕ) (e : Heading) → c < length hs → class_at (classes_from all k hs) c ≡ Some (class_of all (k + c) (get_or hs c e))
-at_from all k [] c e l = absurd (omega (arith, l))
-at_from all k (h ∷ hs) zero e l = ap (λ (n : ℕ). Some (class_of all n h)) (omega arith)
-at_from all k (h ∷ hs) (suc c) e l = at_from all (k + 1) hs c e (omega (arith, l)) ∙ ap (λ (n : ℕ). Some (class_of all n (get_or hs c e))) (omega arith)
+class_read : (p : Program) (c : ℕ) (d : Class) → c < length (table p).headings → get_or (table p).classes c d ≡ class_of (table p).headings c (heading_numbered p c)
+class_read p c d l =
+    let hs = (table p).headings in
+    ap (λ (cs : List Class). get_or cs c d) (classes_are p) ∙ ByClass.class_read hs 0 hs c d no_heading l ∙ ap (λ (n : ℕ). class_of hs n (heading_numbered p c)) (zero-add c)
 
 class_is : (p : Program) (c : ℕ) → c < length (table p).headings → class_at (table p).classes c ≡ Some (class_of (table p).headings c (heading_numbered p c))
-class_is p c l =
-    ap (λ (cs : List Class). class_at cs c) (classes_are p) ∙ at_from (table p).headings 0 (table p).headings c no_heading l
-    ∙ ap (λ (n : ℕ). Some (class_of (table p).headings n (heading_numbered p c))) (zero-add c)
+class_is p c l = at_index (table p).classes c (no_class p) (omega (arith, l, class_count_is p)) ∙ ap (λ (d : Class). Some d) (class_read p c (no_class p) l)
 
 pub fields_are : (p : Program) (c : ℕ) → c < length (table p).headings → own_fields (table p) c ≡ flat_map (fields_in (table p).headings c) (heading_numbered p c).members
 fields_are p c l =
@@ -62,21 +58,12 @@ fields_are p c l =
 pub constructor_is : (p : Program) (c : ℕ) → c < length (table p).headings → constructor_of (program_with (table p) []) c ≡ first (flat_map (constructors_in (table p).headings) (heading_numbered p c).members)
 constructor_is p c l = ap (option_and_then (λ (d : Class). first d.constructors)) (class_is p c l)
 
-pub methods_are : (p : Program) (c : ℕ) (d : Class) → c < length (table p).headings → methods_of_class (get_or (table p).classes c d) ≡ flat_map (methods_in (table p).headings c) (heading_numbered p c).members
-methods_are p c d l =
-    ap (λ (cs : List Class). methods_of_class (get_or cs c d)) (classes_are p) ∙ ap methods_of_class (got_from (table p).headings 0 (table p).headings c d no_heading l)
-    ∙ ap (λ (n : ℕ). methods_of_class (class_of (table p).headings n (heading_numbered p c))) (zero-add c)
-
--- a class, whichever
-pub no_class : Program → Class
-no_class p = class_of [] 0 no_heading
-
 -- the methods of one class more
 pub methods_more : (p : Program) (c : ℕ) (d : Class) → c < length (table p).classes → flat_map methods_of_class (take c (table p).classes) ++ flat_map (methods_in (table p).headings c) (heading_numbered p c).members ≡ flat_map methods_of_class (take (c + 1) (table p).classes)
 methods_more p c d l =
     let cs = (table p).classes in
     let before = flat_map methods_of_class (take c cs) in
-    ap (λ (ms : List Method). before ++ ms) (sym (methods_are p c d (omega (arith, l, class_count_is p))) ∙ sym (append-nil (methods_of_class (get_or cs c d))))
+    ap (λ (ms : List Method). before ++ ms) (sym (ap methods_of_class (class_read p c d (omega (arith, l, class_count_is p)))) ∙ sym (append-nil (methods_of_class (get_or cs c d))))
     ∙ sym (flat_map-append methods_of_class (take c cs) (get_or cs c d ∷ []))
     ∙ ap (flat_map methods_of_class) (sym (take_more cs c d l))
 
@@ -97,10 +84,6 @@ unbroken false r p e = refl
 abbrev named_at : Heading → List ℕ × Place
 named_at h = (h.name, h.place)
 
-either_false : (a b : Bool) → (a || b) ≡ false → (a ≡ false) × (b ≡ false)
-either_false true b e = absurd (cc (e))
-either_false false b e = (refl, e)
-
 -- a name that isn't repeated isn't one of those before it
 unseen : (r : ℕ) (seen : List (List ℕ)) (hs : List Heading) (c : ℕ) (d : Heading) → repeated r seen (map named_at hs) ≡ [] → c < length hs → is_name_among (get_or hs c d).name seen ≡ false
 unseen r seen [] c d e l = absurd (omega (arith, l))
@@ -108,7 +91,7 @@ unseen r seen (h ∷ hs) zero d e l = unbroken (is_name_among h.name seen) r h.p
 unseen r seen (h ∷ hs) (suc c) d e l =
     let rest = (both_empty (break_if (is_name_among h.name seen) r h.place) (repeated r (h.name ∷ seen) (map named_at hs)) e).1 in
     let n = (get_or hs c d).name in
-    (either_false (bytes_eq n h.name) (is_name_among n seen) (unseen r (h.name ∷ seen) hs c d rest (omega (arith, l)))).1
+    (or_parts (bytes_eq n h.name) (is_name_among n seen) (unseen r (h.name ∷ seen) hs c d rest (omega (arith, l)))).1
 
 same_bytes : (n : List ℕ) → bytes_eq n n ≡ true
 same_bytes n = grind (arith, bytes_eq-Decides n n)
@@ -119,7 +102,7 @@ numbered r seen k (h ∷ hs) zero d e l = ap (λ (b : Bool). if b then Some k el
 numbered r seen k (h ∷ hs) (suc c) d e l =
     let rest = (both_empty (break_if (is_name_among h.name seen) r h.place) (repeated r (h.name ∷ seen) (map named_at hs)) e).1 in
     let n = (get_or hs c d).name in
-    let other : bytes_eq h.name n ≡ false = turned h.name n ∙ (either_false (bytes_eq n h.name) (is_name_among n seen) (unseen r (h.name ∷ seen) hs c d rest (omega (arith, l)))).0 in
+    let other : bytes_eq h.name n ≡ false = turned h.name n ∙ (or_parts (bytes_eq n h.name) (is_name_among n seen) (unseen r (h.name ∷ seen) hs c d rest (omega (arith, l)))).0 in
     ap (λ (b : Bool). if b then Some k else number_from (k + 1) hs n) other ∙ numbered r (h.name ∷ seen) (k + 1) hs c d rest (omega (arith, l)) ∙ ap (λ (m : ℕ). Some m) (omega arith)
 
 names_of_classes : (all : List Heading) (k : ℕ) (hs : List Heading) → map (λ (d : Class). (d.name, d.place)) (classes_from all k hs) ≡ map named_at hs

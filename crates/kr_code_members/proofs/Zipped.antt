@@ -1,12 +1,16 @@
 -- Lists whose items stand for those of another.
-use Rattle.std.proofs.Common.{◌≡◌, refl, sym, ap, ◌∙◌, subst, ℕ, zero, suc, ◌+◌, ◌<◌, ◌≤◌, List, [], ◌∷◌, ◌++◌, length, map, take, get_or, append-nil, All, arith}
-use Rattle.std.specs.Prelude.{Option, Some, None, flat_map, option_to_list, slice_get}
+use Rattle.std.proofs.Common.{◌≡◌, inl, inr, refl, sym, ap, ◌∙◌, subst, ℕ, zero, suc, ◌+◌, ◌<◌, ◌≤◌, List, [], ◌∷◌, ◌++◌, length, map, take, get_or, append-nil, All, arith}
+use Rattle.std.specs.Prelude.{Option, Some, flat_map, option_to_list, slice_get}
 use Rattle.std.specs.List.{AllZip, AllByRecursion}
 use Rattle.std.proofs.lemmas.List.{take_all}
 use Rattle.std.proofs.lemmas.List.Folds.{flat_map-map}
 use Rattle.std.proofs.lemmas.Option.{get_or_from_slice_get, slice_get_within}
-use Rattle.std.proofs.lemmas.List.Elements.{All-from_recursion}
+use Rattle.std.proofs.lemmas.List.Elements.{All-cons, All-from_recursion, All-head, All-nil, All-tail}
 use Rattle.kr_base.proofs.Added.{flat_step}
+use Rattle.kr_types_scopes.proofs.Grown.{slice_get_push}
+
+pub same_item : {A : Type 0} (x y : A) → x ∷ [] ≡ y ∷ [] → x ≡ y
+same_item x y e = cc
 
 pub zip_append : {A B : Type 0} (R : A → B → Type 0) (xs us : List A) (ys vs : List B) → AllZip R xs ys → AllZip R us vs → AllZip R (xs ++ us) (ys ++ vs)
 zip_append R [] us [] vs h k = k
@@ -44,27 +48,21 @@ zip_step R f before kept new found xs i d l n h k =
 pub zip_end : {A B C : Type 0} (R : A → B → Type 0) (f : C → List A) (before : List A) (ys : List B) (xs : List C) (n : ℕ) → length xs ≤ n → AllZip R (before ++ flat_map f (take n xs)) ys → AllZip R (before ++ flat_map f xs) ys
 zip_end R f before ys xs n l h = subst (λ (cs : List _). AllZip R (before ++ flat_map f cs) ys) (take_all n xs l) h
 
-by_recursion : {A B : Type 0} (P : B → Type 0) (v : A → B) (xs : List A) → AllByRecursion P (map v xs) → AllByRecursion (λ x. P (v x)) xs
-by_recursion P v [] h = tt
-by_recursion P v (x ∷ xs) h = (h.0, by_recursion P v xs h.1)
+pub unmapped : {A B : Type 0} (f : A → B) (P : B → Type 0) (xs : List A) → All P (map f xs) → All (λ x. P (f x)) xs
+unmapped f P [] a = All-nil (λ x. P (f x))
+unmapped f P (x ∷ xs) a = All-cons (λ y. P (f y)) x xs (All-head P (f x) (map f xs) a) (unmapped f P xs (All-tail P (f x) (map f xs) a))
 
 -- what holds of the items shown
 pub each_shown : {A B : Type 0} (P : B → Type 0) (v : A → B) (xs : List A) (ys : List B) → map v xs ≡ ys → AllByRecursion P ys → All (λ x. P (v x)) xs
-each_shown P v xs ys e h = All-from_recursion (λ x. P (v x)) xs (by_recursion P v xs (subst (λ (bs : List _). AllByRecursion P bs) (sym e) h))
+each_shown P v xs ys e h = unmapped v P xs (All-from_recursion P (map v xs) (subst (λ (zs : List _). AllByRecursion P zs) (sym e) h))
 
 -- lists by their items as they are shown
 pub by_shown : {A B C : Type 0} (f : B → List C) (v : A → B) (xs ys : List A) (ms : List B) → ys ≡ xs → map v xs ≡ ms → flat_map (λ n. f (v n)) ys ≡ flat_map f ms
 by_shown f v xs ys ms e h = sym (flat_map-map f v ys) ∙ ap (flat_map f) (ap (map v) e ∙ h)
 
-pushed : {A : Type 0} (P : ℕ → A → Type 0) (xs : List A) (x : A) → P (length xs) x → ((c : ℕ) (k : A) → slice_get xs c ≡ Some k → P c k) → (c : ℕ) (k : A) → slice_get (xs ++ x ∷ []) c ≡ Some k → P c k
-pushed P [] x p h zero k e = subst (P 0) (ap (λ (o : Option _). Rattle.std.specs.Prelude.unwrap_or o x) e) p
-pushed P [] x p h (suc c) k e = absurd (cc (e))
-pushed P (y ∷ xs) x p h zero k e = h zero k e
-pushed P (y ∷ xs) x p h (suc c) k e = pushed (λ (n : ℕ). P (suc n)) xs x p (λ n z i. h (suc n) z i) c k e
-
 -- one item more, by its number
 pub each_push : {A : Type 0} (P : ℕ → A → Type 0) (xs ys : List A) (x : A) (n : ℕ) → ys ≡ xs ++ x ∷ [] → length xs ≡ n → P n x → ((c : ℕ) (k : A) → slice_get xs c ≡ Some k → P c k) → (c : ℕ) (k : A) → slice_get ys c ≡ Some k → P c k
-each_push P xs ys x n e l p h c k i = pushed P xs x (subst (λ (m : ℕ). P m x) (sym l) p) h c k (sym (ap (λ (zs : List _). slice_get zs c) e) ∙ i)
+each_push P xs ys x n e l p h c k i = elim (slice_get_push xs x c k (sym (ap (λ (zs : List _). slice_get zs c) e) ∙ i)) [ inl old ↦ h c k old | inr new ↦ subst (P c) new.1 (subst (λ (m : ℕ). P m x) (sym (new.0 ∙ l)) p) ]
 
 -- what stands for the item of a number
 pub zip_number : {A B : Type 0} (R : A → B → Type 0) (xs : List A) (ys : List B) (d : A) → AllZip R xs ys → (k : ℕ) (y : B) → slice_get ys k ≡ Some y → R (get_or xs k d) y

@@ -1,7 +1,8 @@
 -- Between crates: the way from a file to the members of its classes.
 use Rattle.std.specs.Prelude.{◌≡◌, ◌<◌, ℕ, Option, true, false, List, [], ◌∷◌, flat_map, Some, None, slice_index_or}
 use Rattle.kr_base.specs.declared.place.Place.{Place}
-use Rattle.kr_ast.specs.Tree.{Tree, Nil}
+use Rattle.kr_ast.specs.Tree as trees
+use Rattle.kr_ast.specs.Tree.{Tree}
 use Rattle.kr_classes_table.specs.Table.{Field, Heading, declared_in, fields_in, heading_of, items, number_of}
 use Rattle.kr_types_meaning.specs.Scopes.{Scope, after, declaring, field_kind, static_if}
 use Rattle.kr_laws_shapes.specs.Shapes.{AreDeclarators, IsDeclarator, IsMember}
@@ -39,7 +40,7 @@ abbrev pub no_place : Place
 no_place = record { file = 0; line = 0; col = 0 }
 
 abbrev pub no_heading : Heading
-no_heading = record { name = []; place = no_place; outer = None; extended = Nil; members = [] }
+no_heading = record { name = []; place = no_place; outer = None; extended = trees.Nil; members = [] }
 
 abbrev pub heading_numbered : Program → ℕ → Heading
 heading_numbered p c = slice_index_or (table p).headings c no_heading
@@ -64,6 +65,14 @@ pub record IsMemberList (p : Program) (f i l : ℕ) : Type 0 where
   pub shape : IsMember true (node_tree p f l)
   pub listed : (o : Option ℕ) → flat_map members_of (heading_of o (node_tree p f i)) ≡ items (node_tree p f l)
   pub scope : (h : Heading) (c : ℕ) → heading_of h.outer (node_tree p f i) ≡ h ∷ [] → number_of (table p).headings h.name ≡ Some c → node_scope p f l ≡ members_scope p c
+
+-- ---- methods and constructors
+
+-- a list of parameters and nothing else
+abbrev pub AreParameters : Tree → Type 0
+AreParameters trees.Nil = Unit {0}
+AreParameters (trees.Cons (trees.Parameter p t n) b) = AreParameters b
+AreParameters t = ⊥
 
 -- ---- fields
 

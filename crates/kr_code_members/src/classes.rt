@@ -3,10 +3,9 @@ ghost use Rattle.std.specs.Prelude.{◌≡◌, ◌++◌, ◌<◌, [], ℕ, List,
 ghost use Rattle.kr_ast.specs.Arena.{root};
 ghost use Rattle.kr_ast.specs.Tree.{Tree};
 ghost use Rattle.kr_classes_table.specs.Table.{Heading, heading_of, headings_from, items as listed, with_nested};
-ghost use Rattle.kr_laws_shapes.specs.Shapes.{IsMember};
 ghost use Rattle.std.specs.List.{AllZip};
 ghost use Rattle.kr_types.specs.Programs.{IsProgram};
-ghost use Rattle.kr_code_members.specs.Nodes.{AreShaped, IsThere, arena_at, node_tree, table};
+ghost use Rattle.kr_code_members.specs.Nodes.{AreShaped, arena_at, node_tree, table};
 ghost use Rattle.kr_code_members.specs.Walk.{HasHeading, IsItem, IsMemberList, members_of};
 
 use crate::nodes::{entry, tree_at};
@@ -17,6 +16,7 @@ use kr_types::Program;
 use std::alloc::Global;
 
 /// The list of the members of the class that a node is.
+#[tactic(auto, using(crate::proofs::Nested::is_member_list))]
 pub(crate) fn member_list(program: &Program, file: u32, node: u32) -> Option<u32>
     requires program { IsProgram program.now }
     requires node { IsItem program.now file node }
@@ -76,6 +76,7 @@ fn add_class(
 }
 
 /// The items of a file.
+#[tactic(auto, using(crate::proofs::Nested::file_items_are, crate::proofs::Nested::last_items))]
 fn file_items(alloc: Global, program: &Program, file: u32) -> Result<Vec<u32>, NoMemory>
     requires shaped { AreShaped program.now }
     requires file { file < length program.now.trees.items }

@@ -1,5 +1,5 @@
 // The nodes of constructors.
-ghost use Rattle.std.specs.Prelude.{◌≡◌, All, flat_map, option_to_list};
+ghost use Rattle.std.specs.Prelude.{All, flat_map, option_to_list};
 ghost use Rattle.kr_classes_table.specs.Table.{constructors_in};
 ghost use Rattle.std.specs.List.{AllZip};
 ghost use Rattle.kr_types.specs.Programs.{IsProgram};
@@ -11,6 +11,7 @@ use kr_ast::Node;
 use kr_types::Program;
 
 /// The constructor that a member is.
+#[tactic(auto, using(crate::proofs::Constructing::declared_constructor, crate::proofs::Constructing::no_constructor))]
 fn constructor_node(
     program: &Program,
     file: u32,

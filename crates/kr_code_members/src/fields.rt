@@ -23,6 +23,7 @@ pub(crate) struct FieldLine {
 }
 
 /// The line of fields that a member is.
+#[tactic(auto, using(crate::proofs::Declaring::no_fields))]
 fn line_of_fields(program: &Program, file: u32, class: u32, member: u32) -> Option<FieldLine>
     requires program { IsProgram program.now }
     requires member { IsMemberNode program.now file class member }
@@ -45,6 +46,7 @@ fn line_of_fields(program: &Program, file: u32, class: u32, member: u32) -> Opti
 }
 
 /// The field that a declarator declares.
+#[tactic(auto, using(crate::proofs::Declaring::declared_field, crate::proofs::Declaring::nothing_declared))]
 fn field_node(
     program: &Program,
     file: u32,
@@ -67,6 +69,7 @@ fn field_node(
 }
 
 /// The declarators of a line.
+#[tactic(auto, using(crate::proofs::Declaring::still_line, crate::proofs::Declaring::on_line, crate::proofs::Declaring::line_declares))]
 fn declarators(
     alloc: Global,
     program: &Program,
@@ -85,6 +88,7 @@ fn declarators(
 }
 
 /// Adds the fields that declarators declare.
+#[tactic(auto, using(crate::proofs::Zipped::zip_start, crate::proofs::Zipped::zip_end))]
 fn add_declared(
     program: &Program,
     file: u32,

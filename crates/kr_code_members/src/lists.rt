@@ -12,6 +12,7 @@ use kr_types::Program;
 use std::alloc::Global;
 
 /// The first item of a list and what is behind it.
+#[tactic(auto, using(crate::proofs::Items::splits, crate::proofs::Items::no_items))]
 fn first_item(program: &Program, file: u32, list: u32) -> Option<(u32, u32)>
     requires program { IsProgram program.now }
     requires list { IsThere program.now file list }

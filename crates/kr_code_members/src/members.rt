@@ -19,6 +19,7 @@ use kr_types::Program;
 use std::alloc::Global;
 
 /// The members of a class.
+#[tactic(auto, using(crate::proofs::Nested::a_class, crate::proofs::Nested::listed_members, crate::proofs::Nested::member_nodes_are))]
 fn members_of(
     alloc: Global,
     program: &Program,

@@ -12,6 +12,7 @@ use kr_base::{NoMemory, add_found};
 use kr_types::Program;
 
 /// A method with the parts of its signature.
+#[tactic(auto, using(crate::proofs::Signed::unsigned))]
 fn with_signature(
     program: &Program,
     file: u32,
@@ -42,6 +43,7 @@ fn with_signature(
 }
 
 /// The method that a member is.
+#[tactic(auto, using(crate::proofs::Signed::no_method))]
 fn method_node(program: &Program, file: u32, class: u32, member: u32) -> Option<MethodNode>
     requires program { IsProgram program.now }
     requires member { IsMemberNode program.now file class member }
@@ -62,6 +64,7 @@ fn method_node(program: &Program, file: u32, class: u32, member: u32) -> Option<
 }
 
 /// Adds the methods among a class's members.
+#[tactic(auto, using(crate::proofs::Zipped::zip_start, crate::proofs::Zipped::zip_end))]
 pub(crate) fn add_methods(
     program: &Program,
     file: u32,

@@ -4,17 +4,22 @@ ghost use Rattle.kr_classes_members.specs.Kept.{AreMembers};
 use kr_ast::Tree;
 use kr_base::NoMemory;
 use kr_classes_members::Members;
+use kr_classes_roster::Roster;
 use kr_classes_types::{TypeForm, Types};
-use kr_pure_effects::{created_classes, runnable_methods};
+use kr_pure_effects::{created_classes, overriders};
 use std::alloc::Global;
 
 /// A call of the method may run one.
 pub fn methods_fit(alloc: Global, trees: &[Tree], members: &Members) -> Result<bool, NoMemory>
     requires { AreMembers trees.now members.now }
 {
-    let meant = members.method_named(0, b"m");
-    let found = runnable_methods(alloc, trees, members, meant)?;
-    Ok(found.len() == 1)
+    match members.method_named(0, b"m") {
+        None => Ok(false),
+        Some(method) => {
+            let roster = Roster::read(alloc, members)?;
+            Ok(overriders(alloc, trees, members, &roster, method)?.len() == 1)
+        }
+    }
 }
 
 fn created_fit(alloc: Global, types: &mut Types, members: &Members) -> Result<bool, NoMemory> {

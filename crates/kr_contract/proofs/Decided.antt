@@ -40,7 +40,7 @@ module _ (code : Code) (before w : World) (o : Doing → Others → Outcome Valu
   pub ended : (h : Halt) (e : Stop) (verdict : Verdict) → h ≡ Ended e → verdict ≡ ended_as trap e → Answers code (Err h) w before o → Decides {A = Value} code (Err verdict) w (λ d. then_judged trap (o d None))
   ended h e verdict is same a =
       let k = subst (λ (g : Halt). Answers code (Err g) w before o) is a None tt in
-      λ d m next. ap (λ (r : Result Value Stop). judged_as trap r (o d None).after next) (k.1 d m).said ∙ (judged_end trap e (o d None).after next ∙ sym same)
+      λ d m next. ap (λ (x : Outcome Value). judged_as trap x.said x.after next) (k.1 d m) ∙ (judged_end trap e (state_of w) next ∙ sym same)
 
 -- ---- values of `\old`s
 

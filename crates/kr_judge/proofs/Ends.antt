@@ -35,7 +35,7 @@ ran answer (Ok b) w o i m =
     (truth_said b ∙ ap end_of (sym (ap (λ (x : Outcome Bool). x.said) is)), sym (ap (λ (x : Outcome Bool). x.reads) is))
 ran answer (Err e) w o i m =
     let is = subst (λ (a : Result Bool Halt). MeansAs a w (This ∷ []) o) i m in
-    (early_said e ∙ ap end_of (sym is.said), sym is.reads)
+    (early_said e ∙ ap end_of (sym (ap (λ (x : Outcome Bool). x.said) is)), sym (ap (λ (x : Outcome Bool). x.reads) is))
 
 -- ---- the order
 

@@ -1,6 +1,5 @@
 -- Between crates: what is answered of conditions.
-use Rattle.std.specs.Prelude.{◌≡◌, ℕ, Bool, true, List, [], ◌∷◌, ◌++◌, Result, Ok, Err}
-use Rattle.kr_mean.specs.declared.kind.Stop.{Stop}
+use Rattle.std.specs.Prelude.{◌≡◌, ℕ, Bool, true, List, [], ◌∷◌, Result, Ok, Err}
 use Rattle.kr_mean.specs.Places.{SlotPlace}
 use Rattle.kr_mean.specs.Steps.{Outcome, Run, give, ◌>>=◌}
 use Rattle.kr_mean.specs.Runs.{where_true}
@@ -17,17 +16,10 @@ abbrev pub hold_at : Doing → List ℕ → Run Bool
 hold_at d [] = give true
 hold_at d (i ∷ is) = d.value i >>= (λ v. where_true v (hold_at d is))
 
--- a run of conditions has ended so, with the world's heap and fuel, and its reads
-pub record IsEnded (e : Stop) (w : World) (o : Outcome Bool) : Type 0 where
-  pub said : o.said ≡ Err e
-  pub heap : o.after.heap ≡ w.candidates ++ w.made
-  pub fuel : o.after.fuel ≡ w.fuel
-  pub reads : o.reads ≡ w.reads
-
 -- the answer is the outcome's, with what was read before it and in it, each place once; where memory ran out nothing is said
 abbrev pub MeansAs : Result Bool Halt → World → List SlotPlace → Outcome Bool → Type 0
 MeansAs (Ok b) w seen o = noting seen o ≡ record { said = Ok b; after = state_of w; reads = w.reads }
-MeansAs (Err (Ended e)) w seen o = IsEnded e w (noting seen o)
+MeansAs (Err (Ended e)) w seen o = noting seen o ≡ record { said = Err e; after = state_of w; reads = w.reads }
 MeansAs (Err (Memory why)) w seen o = Unit {0}
 
 -- in every meaning of the code

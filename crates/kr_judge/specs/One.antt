@@ -11,9 +11,8 @@ use Rattle.kr_run_state.specs.declared.world.Halt.{Halt}
 use Rattle.kr_run_state.specs.declared.world.Halt.TheVariants.{Ended, Memory}
 use Rattle.kr_run_state.specs.Noting.{noting}
 use Rattle.kr_run_state.specs.Worlds.{state_of}
-use Rattle.kr_judge.specs.Judged.{IsEnded}
 
 abbrev pub OneAs : Code → Result Bool Halt → World → List SlotPlace → ℕ → State → Type 0
 OneAs code (Ok b) w seen i s = (d : Doing) → IsMeaning code d → (m : Run Bool) → noting seen ((d.value i >>= (λ v. where_true v m)) s) ≡ noting w.reads (where_true (Truth b) m (state_of w))
-OneAs code (Err (Ended e)) w seen i s = (d : Doing) → IsMeaning code d → (m : Run Bool) → IsEnded e w (noting seen ((d.value i >>= (λ v. where_true v m)) s))
+OneAs code (Err (Ended e)) w seen i s = (d : Doing) → IsMeaning code d → (m : Run Bool) → noting seen ((d.value i >>= (λ v. where_true v m)) s) ≡ record { said = Err e; after = state_of w; reads = w.reads }
 OneAs code (Err (Memory why)) w seen i s = Unit {0}

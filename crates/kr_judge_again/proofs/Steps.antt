@@ -34,14 +34,14 @@ use Rattle.kr_run_frames.specs.Frame.{Frame}
 use Rattle.kr_run_frames.specs.declared.task.Task.{Task}
 use Rattle.kr_run_frames.specs.declared.task.Task.TheVariants as tasks
 use Rattle.kr_run_frames.specs.Frames.{continued, resumed}
-use Rattle.kr_run_frames.specs.Leads.{Leads, HasEnded}
+use Rattle.kr_run_frames.specs.Leads.{Leads}
 use Rattle.kr_run_frames.proofs.Outcomes.{noted_behind}
-use Rattle.kr_run.specs.Answers.{Gives as GivesAs, EndsSo, StepsTo}
+use Rattle.kr_run.specs.Answers.{ComesTo, StepsTo}
 use Rattle.kr_run.specs.declared.steps.Step.{Step}
 use Rattle.kr_run.specs.declared.steps.Step.TheVariants as steps
 use Rattle.kr_judge.specs.Follows.{Follow, place_in}
 use Rattle.kr_judge.specs.declared.accesses.Accesses.{Accesses}
-use Rattle.kr_judge.specs.Judged.{hold_at, HoldsAs, IsEnded}
+use Rattle.kr_judge.specs.Judged.{hold_at, HoldsAs}
 use Rattle.kr_run_state.specs.Ends.{IsEnd}
 use Rattle.kr_judge.proofs.Ends.{ran}
 use Rattle.kr_judge.specs.declared.predicate.Predicate.{Predicate}
@@ -80,19 +80,9 @@ rest_gives : (seen new : List SlotPlace) (o : Outcome Value) (v : Value) (t : St
 unfolding by_noted noted_by
 rest_gives seen new o v t f h = noting_continued seen o f ∙ ap (λ (q : Outcome Value). by_noted q f) h
 
-rest_ends : (seen : List SlotPlace) (o : Outcome Value) (f : Value → Run Bool) (e : Stop) (w : World) → HasEnded e w None (noting seen o) → IsEnded e w (noting seen (continued o f))
-unfolding noted_by
-rest_ends seen o f e w x =
-    let is = noting_continued seen o f ∙ ap (λ (r : Result Value Stop). noted_by r o.after (noted_once seen o.reads) f) x.said in
-    record {
-      said = ap (λ (q : Outcome Bool). q.said) is;
-      heap = ap (λ (q : Outcome Bool). q.after.heap) is ∙ x.heap;
-      fuel = ap (λ (q : Outcome Bool). q.after.fuel) is ∙ x.fuel;
-      reads = ap (λ (q : Outcome Bool). q.reads) is ∙ x.reads;
-    }
-
-ended_by : (e : Stop) (w : World) (o o' : Outcome Bool) → o ≡ o' → IsEnded e w o' → IsEnded e w o
-ended_by e w o o' is x = subst (λ (q : Outcome Bool). IsEnded e w q) (sym is) x
+rest_ends : (seen new : List SlotPlace) (o : Outcome Value) (e : Stop) (t : State) (f : Value → Run Bool) → noting seen o ≡ record { said = Err e; after = t; reads = new } → noting seen (continued o f) ≡ record { said = Err e; after = t; reads = new }
+unfolding by_noted noted_by
+rest_ends seen new o e t f h = noting_continued seen o f ∙ ap (λ (q : Outcome Value). by_noted q f) h
 
 -- ---- what is allowed
 
@@ -168,7 +158,7 @@ module _ (b : Bounds) (p : Predicate) (v : List ℕ) where
         ∙ rest_alike w.reads w'.reads (resumed p.code d fs task (state_at w (heap_in b x))) (resumed p.code d fs' task' (state_at w' (heap_in b x))) (λ y. where_true y (hold_at d (behind p condition))) (r.1 d m);
   }
 
-  pub gives_on : (condition : ℕ) (fs : List Frame) (task : Task) (given : Value) (w w' : World) → GoesOn b p v condition fs task w → GivesAs p.code given w' w (λ d x. resumed p.code d fs task (state_at w x)) → Gave b p v condition given w'
+  pub gives_on : (condition : ℕ) (fs : List Frame) (task : Task) (given : Value) (w w' : World) → GoesOn b p v condition fs task w → ComesTo p.code (Ok given) w' w (λ d x. resumed p.code d fs task (state_at w x)) → Gave b p v condition given w'
   gives_on condition fs task given w w' g l = record {
     same = λ e. let k = (l None tt).0 in k.same e ∙ g.same (k.frozen_before e);
     is = λ x i a d m.
@@ -177,11 +167,10 @@ module _ (b : Bounds) (p : Predicate) (v : List ℕ) where
         ∙ rest_gives w.reads w'.reads (resumed p.code d fs task (state_at w (heap_in b x))) given (state_at w' (heap_in b x)) (λ y. where_true y (hold_at d (behind p condition))) (r.1 d m);
   }
 
-  pub ends_on : (condition : ℕ) (fs : List Frame) (task : Task) (e : Stop) (w w' : World) → GoesOn b p v condition fs task w → EndsSo p.code e w' w (λ d x. resumed p.code d fs task (state_at w x))
-      → (d : Doing) → IsMeaning p.code d → IsEnded e w' (noting (This ∷ []) (hold_at d p.conditions.items (start (bare b) v)))
-  ends_on condition fs task e w w' g l d m =
-      ended_by e w' _ _ (g.is None tt tt d m)
-      (rest_ends w.reads (resumed p.code d fs task (state_of w)) (λ x. where_true x (hold_at d (behind p condition))) e w' ((l None tt).1 d m))
+  pub ends_on : (condition : ℕ) (fs : List Frame) (task : Task) (e : Stop) (w w' : World) → GoesOn b p v condition fs task w → ComesTo p.code (Err e) w' w (λ d x. resumed p.code d fs task (state_at w x)) → HoldsAs p.code (Err (Ended e)) w' (This ∷ []) (λ d. hold_at d p.conditions.items (start (bare b) v))
+  ends_on condition fs task e w w' g l = λ d m.
+      g.is None tt tt d m
+      ∙ rest_ends w.reads w'.reads (resumed p.code d fs task (state_of w)) e (state_of w') (λ x. where_true x (hold_at d (behind p condition))) ((l None tt).1 d m)
 
   -- ---- conditions
 
@@ -212,14 +201,7 @@ module _ (b : Bounds) (p : Predicate) (v : List ℕ) where
 
   -- one is no truth value
   pub one_stuck : (condition : ℕ) (given : Value) (w : World) → Gave b p v condition given w → ((m : Run Bool) (s : State) → where_true given m s ≡ stop Stuck s) → HoldsAs p.code (Err (Ended Stuck)) w (This ∷ []) (λ d. hold_at d p.conditions.items (start (bare b) v))
-  one_stuck condition given w g h = λ d m.
-      let is = g.is None tt tt d m ∙ ap (λ (o : Outcome Bool). noting w.reads o) (h (hold_at d (behind p condition)) (state_of w)) in
-      record {
-        said = ap (λ (q : Outcome Bool). q.said) is;
-        heap = ap (λ (q : Outcome Bool). q.after.heap) is;
-        fuel = ap (λ (q : Outcome Bool). q.after.fuel) is;
-        reads = ap (λ (q : Outcome Bool). q.reads) is;
-      }
+  one_stuck condition given w g h = λ d m. g.is None tt tt d m ∙ ap (λ (o : Outcome Bool). noting w.reads o) (h (hold_at d (behind p condition)) (state_of w))
 
   -- ---- checkpoints
 

@@ -17,7 +17,8 @@ use Rattle.kr_mean.specs.Problem.{Problem, ClassDomain, no_objects}
 use Rattle.kr_mean.specs.Runs.{class_number, root_class, tested_method}
 use Rattle.kr_mean.specs.Space.{space_of, IsVector}
 use Rattle.kr_fin.specs.declared.document.FinDoc.{FinDoc}
-use Rattle.kr_space_meaning.specs.Bounds.{Setting, setting_of, bounded, class_domains, array_class_domain, domains_of, root_of, method_at, program_in, problem_in, problem_of}
+use Rattle.kr_space_meaning.specs.Keys.{method_at}
+use Rattle.kr_space_meaning.specs.Bounds.{Setting, setting_of, bounded, class_domains, array_class_domain, domains_of, root_of, program_in, problem_in, problem_of}
 use Rattle.kr_space_meaning.specs.Faults.{is_predicate, S1, S2, S3_S5_S6, S4, S7, S8, S9, faults_in}
 use Rattle.kr_fin.specs.Least.{IsLeast}
 use Rattle.kr_space_meaning.specs.Meaning.{faults_of, unless, meaning}

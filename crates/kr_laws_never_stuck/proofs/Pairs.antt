@@ -3,7 +3,7 @@ use Rattle.std.proofs.Common.{◌≡◌, ℕ, ◌+◌, Bool, true, false, not, �
 use Rattle.std.specs.Prelude.{codes}
 use Rattle.std.specs.List.{before_first, after_first, position_or_len}
 use Rattle.kr_fin.specs.Shapes.{is_dot, has_no_dot, is_part, is_pair}
-use Rattle.kr_space_meaning.specs.Faults.{owner_part, name_part}
+use Rattle.kr_space_meaning.specs.Keys.{owner_part, name_part}
 
 no_dot : (xs ys : List ℕ) → has_no_dot (xs ++ 46 ∷ ys) ≡ true → ⊥
 no_dot [] ys e = cc (e)

@@ -21,8 +21,9 @@ use Rattle.kr_fin.specs.declared.document.NamedDomain.{NamedDomain}
 use Rattle.kr_fin.specs.declared.document.Item.{Item as FinItem}
 use Rattle.kr_fin.specs.Shapes.{is_pair}
 use Rattle.kr_space_meaning.specs.Names.{array_or_none, array_type, type_within}
-use Rattle.kr_space_meaning.specs.Bounds.{Setting, setting_of, bounded, typed_bound, class_name, values_given, field_key, field_spots, class_domains, element_spots, elements_key, array_spots, array_class_domain, lengths_of, greatest, domains_of, root_of, method_at, parameters_of, tested_parameters, parameter_key, problem_in, program_in, problem_of}
-use Rattle.kr_space_meaning.specs.Faults.{owner_part, element_of, instance_type, own_field_type, field_type, parameter_type, is_unfit, fields_unfit, params_unfit, S1, S2, S3_S5_S6, S4, S7, S8, S9, faults_in}
+use Rattle.kr_space_meaning.specs.Bounds.{Setting, setting_of, bounded, typed_bound, class_name, field_values, parameter_values, field_key, field_spots, class_domains, element_spots, elements_key, array_spots, array_class_domain, lengths_of, greatest, domains_of, root_of, tested_parameters, parameter_key, problem_in, program_in, problem_of}
+use Rattle.kr_space_meaning.specs.Keys.{owner_part, element_of, instance_type, own_field_type, field_type, method_at, parameter_type, parameters_of}
+use Rattle.kr_space_meaning.specs.Faults.{is_unfit, fields_unfit, params_unfit, S1, S2, S3_S5_S6, S4, S7, S8, S9, faults_in}
 use Rattle.kr_space_meaning.specs.Limits.{IsSmall, AreLengths, IsWithinLimits}
 use Rattle.kr_space_meaning.proofs.Each.{both_none, unbroken, none_each, each_of_both, each_weaker, each_at}
 use Rattle.kr_space_meaning.proofs.Plain.{length-element_spots}
@@ -33,7 +34,8 @@ use Rattle.kr_laws_safety.proofs.Vectors.{type_same}
 use Rattle.kr_laws_never_stuck.specs.Keys.{IsKeyed, HasKeys, HasPairs}
 use Rattle.kr_laws_never_stuck.specs.DomainTypes.{DomainTypesLaw}
 use Rattle.kr_laws_never_stuck.proofs.Pairs.{IsApart, apart, dotted}
-use Rattle.kr_laws_never_stuck.proofs.Values.{given_holds, lengths_short, class_below, AreArrays, HasDomains, given_of}
+use Rattle.kr_space_meaning.proofs.Given.{given_holds}
+use Rattle.kr_laws_never_stuck.proofs.Values.{lengths_short, class_below, AreArrays, HasDomains, given_of}
 
 -- ---- lists
 
@@ -161,7 +163,7 @@ posed setting mode = record {
   program = program_in setting;
   root = unwrap_or (root_of setting) 0;
   mode = mode;
-  parameters = map (λ p. values_given setting setting.document.params (parameter_key mode p)) (tested_parameters setting mode);
+  parameters = map (λ p. parameter_values setting (parameter_key mode p)) (tested_parameters setting mode);
   fuel = setting.document.fuel;
   domains = domains_of setting;
 }
@@ -238,12 +240,12 @@ module _ (setting : Setting) (mode : Mode) (set : IsSet setting) where
       ∙ (ap (option_and_then instance_type) k.found ∙ ap (λ (b : Bool). if b then None else Some f.type) k.instance)))
 
   -- what is given for a key of `fields` of a type
-  given_typed : (key : List ℕ) (t : JavaType) → (is_pair key ≡ true → field_type setting.table key ≡ Some t) → IsDomainOf P t (values_given setting setting.document.fields key)
-  given_typed key t h = given_of P setting has setting.document.fields key t (λ items e.
+  given_typed : (key : List ℕ) (t : JavaType) → (is_pair key ≡ true → field_type setting.table key ≡ Some t) → IsDomainOf P t (field_values setting key)
+  given_typed key t h = given_of P setting has (field_type setting.table) setting.document.fields key t (λ items e.
       let d : IsFieldDomain setting.table key items = given_holds (IsFieldDomain setting.table) setting.document.fields key items set.fields e in
-      (ap (λ (o : Option JavaType). is_unfit setting.table o items) (sym (h d.0)) ∙ d.1, d.2))
+      (h d.0, d.1, d.2))
 
-  field_typed : (f : Field) → IsKeyed setting.table f → IsDomainOf P f.type (values_given setting setting.document.fields (field_key setting.table f))
+  field_typed : (f : Field) → IsKeyed setting.table f → IsDomainOf P f.type (field_values setting (field_key setting.table f))
   field_typed f k = given_typed (field_key setting.table f) f.type (λ p.
       let same = dotted (class_name setting.table f.class) f.name in
       field_type_is f k (subst (λ (key : List ℕ). IsApart key (class_name setting.table f.class) f.name) (sym same) (apart (class_name setting.table f.class) f.name (ap is_pair (sym same) ∙ p))))
@@ -266,7 +268,7 @@ module _ (setting : Setting) (mode : Mode) (set : IsSet setting) where
   all_elements t k zero domain h = tt
   all_elements t k (suc n) domain h = (h, all_elements t (k + 1) n domain h)
 
-  elements_typed : (a : JavaType × ArrayBound) → (b : IsBound setting a) → IsDomainOf P b.element (values_given setting setting.document.fields (elements_key a.1.name))
+  elements_typed : (a : JavaType × ArrayBound) → (b : IsBound setting a) → IsDomainOf P b.element (field_values setting (elements_key a.1.name))
   elements_typed a b = given_typed (elements_key a.1.name) b.element (λ p.
       type_of_key (elements_key a.1.name) a.1.name (42 ∷ []) (Some b.element) (apart a.1.name (42 ∷ []) p)
       (ap element_of b.named ∙ ap (λ (t : JavaType). element_of (Some t)) b.array))
@@ -275,7 +277,7 @@ module _ (setting : Setting) (mode : Mode) (set : IsSet setting) where
   unfolding Spots
   array_typed a b =
       let n = greatest (lengths_of setting a.1.lengths) in
-      let elements = values_given setting setting.document.fields (elements_key a.1.name) in
+      let elements = field_values setting (elements_key a.1.name) in
       subst (λ (t : JavaType). AreElementsOf P t (array_spots (lengths_of setting a.1.lengths) elements)) (sym (b.number ∙ b.array))
       (all_elements b.element 0 n elements (elements_typed a b), omega (arith, length-element_spots 0 n elements, lengths_short setting a.1.lengths b.lengths))
 
@@ -300,11 +302,11 @@ module _ (setting : Setting) (mode : Mode) (set : IsSet setting) where
   tested_is : (name : List ℕ) → method_at setting.table (root_of setting) name ≡ method_named setting.table (root_class P) name
   tested_is name = ap (λ (o : Option ℕ). method_at setting.table o name) set.rooted ∙ ap (λ (c : ℕ). method_named setting.table c name) (sym root_is)
 
-  parameter_typed : (name : List ℕ) (m : Method) (p : Parameter) → method_named setting.table (root_class P) name ≡ Some m → IsOneOf p m.parameters → IsDomainOf P p.type (values_given setting setting.document.params (name ++ codes "." ++ p.name))
+  parameter_typed : (name : List ℕ) (m : Method) (p : Parameter) → method_named setting.table (root_class P) name ≡ Some m → IsOneOf p m.parameters → IsDomainOf P p.type (parameter_values setting (name ++ codes "." ++ p.name))
   parameter_typed name m p q i =
       let key = name ++ codes "." ++ p.name in
       let same = dotted name p.name in
-      given_of P setting has setting.document.params key p.type (λ items e.
+      given_of P setting has (parameter_type setting.table (root_of setting)) setting.document.params key p.type (λ items e.
       let d : IsParameterDomain setting.table (root_of setting) key items = given_holds (IsParameterDomain setting.table (root_of setting)) setting.document.params key items set.params e in
       let a = subst (λ (k : List ℕ). IsApart k name p.name) (sym same) (apart name p.name (ap is_pair (sym same) ∙ d.0)) in
       let found : parameter_type setting.table (root_of setting) key ≡ Some p.type =
@@ -312,9 +314,9 @@ module _ (setting : Setting) (mode : Mode) (set : IsSet setting) where
       ∙ (ap (λ (n : List ℕ). option_map (λ p. p.type) (find (λ q. bytes_eq q.name p.name) (parameters_of (method_at setting.table (root_of setting) n)))) a.owner_is
       ∙ (ap (λ (o : Option Method). option_map (λ p. p.type) (find (λ q. bytes_eq q.name p.name) (parameters_of o))) (tested_is name ∙ q)
       ∙ ap (option_map (λ p. p.type)) (set.keys.parameters (root_class P) name m p q i))) in
-      (ap (λ (o : Option JavaType). is_unfit setting.table o items) (sym found) ∙ d.1, d.2))
+      (found, d.1, d.2))
 
-  all_parameters : (ps : List Parameter) (key : Parameter → List ℕ) → ((p : Parameter) → IsOneOf p ps → IsDomainOf P p.type (values_given setting setting.document.params (key p))) → AreDomainsOf P (map (λ p. p.type) ps) (map (λ p. values_given setting setting.document.params (key p)) ps)
+  all_parameters : (ps : List Parameter) (key : Parameter → List ℕ) → ((p : Parameter) → IsOneOf p ps → IsDomainOf P p.type (parameter_values setting (key p))) → AreDomainsOf P (map (λ p. p.type) ps) (map (λ p. parameter_values setting (key p)) ps)
   all_parameters [] key h = tt
   all_parameters (p ∷ ps) key h = (h p (inl refl), all_parameters ps key (λ q i. h q (inr i)))
 
@@ -323,14 +325,14 @@ module _ (setting : Setting) where
   parameters_typed Listing set m e = absurd (cc (e))
   parameters_typed (Testing name) set m e =
       let problem = posed setting (Testing name) in
-      subst (λ (o : Option Method). AreDomainsOf problem (map (λ p. p.type) m.parameters) (map (λ p. values_given setting setting.document.params (name ++ codes "." ++ p.name)) (parameters_of o)))
+      subst (λ (o : Option Method). AreDomainsOf problem (map (λ p. p.type) m.parameters) (map (λ p. parameter_values setting (name ++ codes "." ++ p.name)) (parameters_of o)))
       (sym (tested_is setting (Testing name) set name ∙ e))
       (all_parameters setting (Testing name) set m.parameters (λ p. name ++ codes "." ++ p.name) (λ p i. parameter_typed setting (Testing name) set name m p e i))
 
   no_parameters : (mode : Mode) (set : IsSet setting) → tested_method (posed setting mode) mode ≡ None → (posed setting mode).parameters ≡ []
   no_parameters Listing set e = refl
   no_parameters (Testing name) set e =
-      ap (λ (o : Option Method). map (λ p. values_given setting setting.document.params (name ++ codes "." ++ p.name)) (parameters_of o)) (tested_is setting (Testing name) set name ∙ e)
+      ap (λ (o : Option Method). map (λ p. parameter_values setting (name ++ codes "." ++ p.name)) (parameters_of o)) (tested_is setting (Testing name) set name ∙ e)
 
   typed : (mode : Mode) → IsSet setting → HaveDomainsTypes (posed setting mode)
   typed mode set = record {

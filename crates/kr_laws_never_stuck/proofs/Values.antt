@@ -3,7 +3,6 @@ use Rattle.std.proofs.Common.{◌≡◌, ℕ, suc, ◌+◌, ◌<◌, ◌≤◌, 
 use Rattle.std.specs.Prelude.{bytes_eq, codes, unwrap_or}
 use Rattle.std.specs.Int.Signed.{le_z}
 use Rattle.std.specs.List.{AllByRecursion, list_any}
-use Rattle.std.proofs.lemmas.Slice.Eq.{bytes_eq-Decides}
 use Rattle.kr_classes_table.specs.Types.{JavaType, IntType, BooleanType, ClassType, is_same}
 use Rattle.kr_classes_table.specs.Table.{Heading, Table, is_subtype, number_from, number_of}
 use Rattle.kr_value.specs.declared.value.Value.TheVariants.{Int, Bool as Truth, Null}
@@ -15,30 +14,16 @@ use Rattle.kr_fin.specs.declared.document.Item.{Item as FinItem}
 use Rattle.kr_fin.specs.declared.document.Item.TheVariants.{Number, Range, Truth as FinTruth, Name}
 use Rattle.kr_space_meaning.specs.Names.{Meant, NoReference, Unknown, array_type, array_meant, class_meant, meant}
 use Rattle.kr_space_meaning.specs.Names as names
-use Rattle.kr_space_meaning.specs.Bounds.{Setting, given, array_domain, meant_values, item_values, values_of, lengths_in, lengths_of, greatest, values_given}
+use Rattle.kr_space_meaning.specs.Bounds.{Setting, given, array_domain, width_for, meant_values, item_values, values_with, values_of, lengths_in, lengths_of, greatest, values_given}
 use Rattle.kr_space_meaning.specs.Faults.{meant_fits, fits, is_unfit}
 use Rattle.kr_space_meaning.specs.Limits.{IsSmall, AreLengths}
 use Rattle.kr_space_meaning.proofs.Each.{each_of_both}
 use Rattle.kr_classes_table.specs.Numbers.{Bits32}
+use Rattle.kr_classes_table.specs.Operators.{number}
 use Rattle.kr_laws_safety.specs.Fits.{IsWithin}
 use Rattle.kr_laws_safety.specs.Domains.{class_type, IsDomainOf}
 use Rattle.kr_laws_safety.proofs.Heaps.{same_type}
 use Rattle.kr_laws_never_stuck.proofs.Integers.{is_int, range_ints, none_between, IsShort, is_short, range_short}
-
--- ---- what a key is given
-
--- what holds of all that is given holds of what a key is given
-pub given_holds : (Q : List ℕ → List FinItem → Type 0) (domains : List NamedDomain) (key : List ℕ) (items : List FinItem) → AllByRecursion (λ d. Q d.key d.domain) domains → given domains key ≡ Some items → Q key items
-given_holds Q [] key items h e = absurd (cc (e))
-given_holds Q (d ∷ ds) key items h e = go (bytes_eq d.key key) refl e (given_holds Q ds key items h.1)
-  where
-    inside : Option (List FinItem) → List FinItem
-    inside (Some is) = is
-    inside None = items
-
-    go : (b : Bool) → bytes_eq d.key key ≡ b → cond b (Some d.domain) (given ds key) ≡ Some items → (given ds key ≡ Some items → Q key items) → Q key items
-    go true q e r = subst (λ (k : List ℕ). Q k items) ((bytes_eq-Decides d.key key).0 q) (subst (λ (is : List FinItem). Q d.key is) (ap inside e) h.0)
-    go false q e r = r e
 
 -- ---- lengths
 
@@ -50,15 +35,15 @@ short_integers : (zs : List ℤ) → AllByRecursion IsShort zs → AllByRecursio
 short_integers [] h = tt
 short_integers (z ∷ zs) h = (h.0, short_integers zs h.1)
 
-short_item : (setting : Setting) (item : FinItem) → AreLengths item → AllByRecursion AtMost (item_values setting item)
+short_item : (setting : Setting) (item : FinItem) → AreLengths item → AllByRecursion AtMost (item_values setting Bits32 item)
 short_item setting (Number z) h = (is_short z h, tt)
 short_item setting (Range from to) h = short_integers (integers from to) (range_short from to h.0 h.1)
 short_item setting (FinTruth b) h = absurd h
 short_item setting (Name n) h = absurd h
 
-short_items : (setting : Setting) (items : List FinItem) → AllByRecursion AreLengths items → AllByRecursion AtMost (values_of setting items)
+short_items : (setting : Setting) (items : List FinItem) → AllByRecursion AreLengths items → AllByRecursion AtMost (values_with setting Bits32 items)
 short_items setting [] h = tt
-short_items setting (i ∷ is) h = each_of_both AtMost (item_values setting i) (values_of setting is) (short_item setting i h.0) (short_items setting is h.1)
+short_items setting (i ∷ is) h = each_of_both AtMost (item_values setting Bits32 i) (values_with setting Bits32 is) (short_item setting i h.0) (short_items setting is h.1)
 
 greatest_short : (items : Domain) → AllByRecursion AtMost items → greatest (lengths_in items) ≤ 64
 greatest_short [] h = omega arith
@@ -70,7 +55,7 @@ greatest_short (Plain (Rattle.kr_value.specs.declared.value.Value.TheVariants.Re
 greatest_short (Objects d ∷ items) h = greatest_short items h.1
 
 pub lengths_short : (setting : Setting) (items : List FinItem) → AllByRecursion AreLengths items → greatest (lengths_of setting items) ≤ 64
-lengths_short setting items h = greatest_short (values_of setting items) (short_items setting items h)
+lengths_short setting items h = greatest_short (values_with setting Bits32 items) (short_items setting items h)
 
 -- ---- names
 
@@ -127,7 +112,7 @@ module _ (problem : Problem) (setting : Setting) (has : HasDomains problem setti
   both t [] ys h k = k
   both t (x ∷ xs) ys h k = (h.0, both t xs ys h.1 k)
 
-  integers_of : (t : JavaType) (zs : List ℤ) → t ≡ IntType → AllByRecursion (IsWithin Bits32) zs → IsDomainOf problem t (map (λ z. Plain (Int z)) zs)
+  integers_of : (t : JavaType) (zs : List ℤ) → t ≡ IntType → AllByRecursion (IsWithin Bits32) zs → IsDomainOf problem t (map (λ z. Plain (number Bits32 z)) zs)
   integers_of t [] e h = tt
   integers_of t (z ∷ zs) e h = ((e, h.0), integers_of t zs e h.1)
 
@@ -149,7 +134,8 @@ module _ (problem : Problem) (setting : Setting) (has : HasDomains problem setti
   meant_of t (names.Arrays u) l e = arrays_of t u (length setting.table.headings) setting.arrays has.arrays e
   meant_of t Unknown l e = tt
 
-  item_of : (t : JavaType) (item : FinItem) → fits setting.table t item ≡ true → IsSmall item → IsDomainOf problem t (item_values setting item)
+  item_of : (t : JavaType) (item : FinItem) → fits setting.table t item ≡ true → IsSmall item → IsDomainOf problem t (item_values setting (width_for (Some t)) item)
+  unfolding width_for
   item_of t (Number z) e s = ((same_type t IntType e, is_int z s), tt)
   item_of t (Range from to) e s = go (le_z from to) refl e
     where
@@ -159,20 +145,23 @@ module _ (problem : Problem) (setting : Setting) (has : HasDomains problem setti
   item_of t (FinTruth b) e s = (same_type t BooleanType e, tt)
   item_of t (Name n) e s = meant_of t (meant setting.table.headings n) (meant_below setting.table.headings n) e
 
-  all_fit : (t : JavaType) (items : List FinItem) → list_any (λ i. not (fits setting.table t i)) items ≡ false → AllByRecursion IsSmall items → IsDomainOf problem t (values_of setting items)
+  all_fit : (t : JavaType) (items : List FinItem) → list_any (λ i. not (fits setting.table t i)) items ≡ false → AllByRecursion IsSmall items → IsDomainOf problem t (values_of setting (Some t) items)
   all_fit t [] e s = tt
   all_fit t (i ∷ is) e s = go (fits setting.table t i) refl e (all_fit t is)
     where
-      go : (b : Bool) → fits setting.table t i ≡ b → (not b || list_any (λ i. not (fits setting.table t i)) is) ≡ false → (list_any (λ i. not (fits setting.table t i)) is ≡ false → AllByRecursion IsSmall is → IsDomainOf problem t (values_of setting is))
-          → IsDomainOf problem t (item_values setting i ++ values_of setting is)
-      go true q e r = both t (item_values setting i) (values_of setting is) (item_of t i q s.0) (r e s.1)
+      go : (b : Bool) → fits setting.table t i ≡ b → (not b || list_any (λ i. not (fits setting.table t i)) is) ≡ false → (list_any (λ i. not (fits setting.table t i)) is ≡ false → AllByRecursion IsSmall is → IsDomainOf problem t (values_of setting (Some t) is))
+          → IsDomainOf problem t (item_values setting (width_for (Some t)) i ++ values_of setting (Some t) is)
+      go true q e r = both t (item_values setting (width_for (Some t)) i) (values_of setting (Some t) is) (item_of t i q s.0) (r e s.1)
       go false q e r = absurd (cc (e))
 
   -- what is given for a key, if anything is, is of the type that the key asks for
-  pub given_of : (domains : List NamedDomain) (key : List ℕ) (t : JavaType)
-      → ((items : List FinItem) → given domains key ≡ Some items → (is_unfit setting.table (Some t) items ≡ false) × AllByRecursion IsSmall items) → IsDomainOf problem t (values_given setting domains key)
-  given_of domains key t h = go (given domains key) refl
+  pub given_of : (asked : List ℕ → Option JavaType) (domains : List NamedDomain) (key : List ℕ) (t : JavaType)
+      → ((items : List FinItem) → given domains key ≡ Some items → (asked key ≡ Some t) × (is_unfit setting.table (asked key) items ≡ false) × AllByRecursion IsSmall items) → IsDomainOf problem t (values_given setting asked domains key)
+  given_of asked domains key t h = go (given domains key) refl
     where
-      go : (o : Option (List FinItem)) → given domains key ≡ o → IsDomainOf problem t (values_of setting (unwrap_or o []))
+      go : (o : Option (List FinItem)) → given domains key ≡ o → IsDomainOf problem t (values_of setting (asked key) (unwrap_or o []))
       go None e = tt
-      go (Some items) e = let x = h items e in all_fit t items x.0 x.1
+      go (Some items) e =
+          let x = h items e in
+          subst (λ (o : Option JavaType). IsDomainOf problem t (values_of setting o items)) (sym x.0)
+          (all_fit t items (subst (λ (o : Option JavaType). is_unfit setting.table o items ≡ false) x.0 x.1) x.2)

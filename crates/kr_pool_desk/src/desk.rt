@@ -297,9 +297,9 @@ impl<R: Drop, N: Run<R>> Desk<R, N> {
         }
     }
 
-    /// A seat cuts what it has left, and lays rests out for others, unless something can be taken already or the window is
-    /// nearly full: there the foremost alone is cut. The highest cuts come first, behind which there is often nothing, so it lays
-    /// out up to three at once. The lease under which it goes on, and whether it cut.
+    /// A seat cuts what it has left, and lays rests out for others, unless something can be taken already or the window has no
+    /// room for rows behind its segment. The highest cuts come first, behind which there is often nothing, so it lays out up to
+    /// three at once. The lease under which it goes on, and whether it cut.
     pub fn lay_out(&mut self, seat: u32, lease: Lease, calls: &mut Share<N>) -> (Lease, bool)
         requires part { 0 < calls.old.parts }
         requires below { seat < N.workers }

@@ -7,10 +7,17 @@ use kr_board::Lease;
 /// A segment behind the foremost that holds more than this part of the window is left for one nearer to the front.
 const SHARES: u64 = 12;
 
-/// This part of the window is left to the foremost segment.
-const FRONT: u64 = 8;
+/// For each open segment before it, up to a most, this part of the window is left to those nearer to the front.
+const LEFT: u64 = 16;
 
-/// Where there is no window, the first segment has many rows from here on.
+const MOST_LEFT: u64 = 4;
+
+/// So many rows are reckoned for a part that isn't scanned yet, or the part of a small window that is left for one segment.
+const PART: u64 = 256;
+
+/// This part of the window is much for one segment; and so many rows are, where there is no window.
+const MUCH: u64 = 8;
+
 const MANY: u64 = 512;
 
 impl<R: Drop, N: Run<R>> Desk<R, N> {
@@ -24,14 +31,45 @@ impl<R: Drop, N: Run<R>> Desk<R, N> {
         false
     }
 
-    // Whether this is the first segment that isn't closed.
-    fn is_foremost(&self, number: u64) -> bool {
+    // How many segments before this one are open.
+    fn position(&self, number: u64) -> u64 {
+        let mut before: u64 = 0;
         for segment in self.board.segments() {
+            if segment.number == number {
+                return before;
+            }
             if !segment.is_closed() {
-                return segment.number == number;
+                before = before.saturating_add(1);
             }
         }
-        false
+        before
+    }
+
+    // Whether so many rows more, behind so many open segments, leave too little of the window to these.
+    fn is_crowded(&self, position: u64, rows: u64) -> bool {
+        match self.board.window() {
+            None => false,
+            Some(window) => {
+                let shares = if position < MOST_LEFT {
+                    position
+                } else {
+                    MOST_LEFT
+                };
+                let left = (window / LEFT).saturating_mul(shares);
+                self.board.rows_kept().saturating_add(rows) > window.saturating_sub(left)
+            }
+        }
+    }
+
+    // Whether a part that isn't scanned yet may have no room, behind so many open segments.
+    fn has_no_room_for_more(&self, position: u64) -> bool {
+        match self.board.window() {
+            None => false,
+            Some(window) => {
+                let share = window / LEFT;
+                self.is_crowded(position, if share < PART { share } else { PART })
+            }
+        }
     }
 
     // How many rows a segment behind the foremost may hold before its seat looks for one nearer to the front.
@@ -42,11 +80,20 @@ impl<R: Drop, N: Run<R>> Desk<R, N> {
         }
     }
 
-    // Whether the first free segment, if there is one, is the foremost or holds few rows.
+    // Whether a segment that holds so many rows, behind so many open ones, is too far from the front to go on with.
+    fn is_too_far(&self, position: u64, rows: u64) -> bool {
+        position > 0 && (self.is_over_share(rows) || self.has_no_room_for_more(position))
+    }
+
+    // Whether the first free segment, if there is one, is near enough to the front.
     fn has_takeable(&self) -> bool {
+        let mut position: u64 = 0;
         for segment in self.board.segments() {
             if segment.has_remainder() && !segment.is_owned() {
-                return !self.is_over_share(segment.rows) || self.is_foremost(segment.number);
+                return !self.is_too_far(position, segment.rows);
+            }
+            if !segment.is_closed() {
+                position = position.saturating_add(1);
             }
         }
         false
@@ -59,9 +106,13 @@ impl<R: Drop, N: Run<R>> Desk<R, N> {
 
     /// Whether a seat that goes on under this lease gives it up, for one nearer to the front.
     pub fn is_far(&self, lease: &Lease) -> bool {
+        let mut position: u64 = 0;
         for segment in self.board.segments() {
             if segment.number == lease.segment {
-                return self.is_over_share(segment.rows) && !self.is_foremost(lease.segment);
+                return self.is_too_far(position, segment.rows);
+            }
+            if !segment.is_closed() {
+                position = position.saturating_add(1);
             }
         }
         false
@@ -83,19 +134,11 @@ impl<R: Drop, N: Run<R>> Desk<R, N> {
         }
     }
 
-    // Whether the rows kept fill nearly all of the window.
-    fn is_nearly_full(&self) -> bool {
-        match self.board.window() {
-            None => false,
-            Some(window) => self.board.rows_kept() >= window - window / FRONT,
-        }
-    }
-
     // Whether the rest of this lease is wanted now: nothing else can be taken, and there is room for its rows.
     pub(crate) fn is_rest_wanted(&self, lease: &Lease) -> bool {
         !self.has_takeable()
             && !self.is_at_window()
-            && (!self.is_nearly_full() || self.is_foremost(lease.segment))
+            && !self.has_no_room_for_more(self.position(lease.segment).saturating_add(1))
     }
 
     // Whether this is the first segment, and it has no rows.
@@ -106,17 +149,9 @@ impl<R: Drop, N: Run<R>> Desk<R, N> {
         }
     }
 
-    /// Whether a part of so many rows of this segment has room at the board, and leaves room for the foremost segment.
+    /// Whether a part of so many rows of this segment has room at the board, and leaves room to those nearer to the front.
     pub fn has_room(&self, segment: u64, rows: u64) -> bool {
-        let Some(window) = self.board.window() else {
-            return true;
-        };
-        let kept = self.board.rows_kept().saturating_add(rows);
-        if self.is_foremost(segment) {
-            kept <= window || self.is_open_front(segment)
-        } else {
-            kept <= window - window / FRONT
-        }
+        self.is_open_front(segment) || !self.is_crowded(self.position(segment), rows)
     }
 
     /// Whether a drain gives rows, or makes a segment the first one, or says that nothing is left.
@@ -131,7 +166,7 @@ impl<R: Drop, N: Run<R>> Desk<R, N> {
     pub fn has_much(&self) -> bool {
         let many = match self.board.window() {
             None => MANY,
-            Some(window) => window / FRONT,
+            Some(window) => window / MUCH,
         };
         match self.board.segments().first() {
             None => true,

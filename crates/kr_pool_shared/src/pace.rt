@@ -6,9 +6,12 @@ const VAIN: u32 = 8;
 
 const UNBEGUN: u32 = 400;
 
+/// How many entries a part has at least, for its seat to count as one that had work.
+const WORK: u64 = 32;
+
 /// How many seats there are, how many of them began a round, how many are in it, how many of these wait for work, and how many for
-/// room; how often the caller waited in vain; how many reports came since a rest was laid out, and how many have to; whether there
-/// is news for those that wait.
+/// room; how often the caller waited in vain; how many reports came since a rest was laid out, and how many have to before the
+/// next; which seat had work since then, and whether more than one had; whether there is news for those that wait.
 #[derive(Drop)]
 pub struct Pace {
     seats: u32,
@@ -19,6 +22,8 @@ pub struct Pace {
     vain: u32,
     since: u32,
     patience: u32,
+    worker: Option<u32>,
+    shared: bool,
     news: bool,
 }
 
@@ -44,6 +49,8 @@ impl Pace {
             vain: 0,
             since: 0,
             patience: 0,
+            worker: None,
+            shared: false,
             news: false,
         }
     }
@@ -129,30 +136,42 @@ impl Pace {
         news
     }
 
-    /// A report came, behind which its seat goes on. Whether it should lay out a rest.
-    pub fn wants_rest(&mut self, has_cut: bool) -> bool {
+    /// A part came, of so many entries. The caller should drain where a seat waits for room.
+    pub fn reported(&mut self, seat: u32, tried: u64) {
         self.vain = 0;
-        self.since = self.since.saturating_add(1);
-        if has_cut {
-            self.patience = 0;
+        if self.held > 0 {
+            self.news = true;
         }
-        self.waiting > 0 && self.since >= self.patience
+        self.since = self.since.saturating_add(1);
+        if tried < WORK {
+            return;
+        }
+        match self.worker {
+            None => self.worker = Some(seat),
+            Some(one) => {
+                if one != seat {
+                    self.shared = true;
+                }
+            }
+        }
     }
 
-    /// A rest was laid out.
+    /// Whether a seat that goes on should lay out a rest, for one that waits or will: more than one had work since the last time,
+    /// or enough reports came. Not where a seat is alone in the round.
+    pub fn wants_rest(&self) -> bool {
+        self.present > 1 && (self.shared || self.since >= self.patience)
+    }
+
+    /// A rest was laid out. Where one seat alone had work since the last time, the next one waits longer.
     pub fn laid_out(&mut self) {
+        self.patience = if self.shared {
+            0
+        } else {
+            longer(self.patience)
+        };
         self.since = 0;
+        self.worker = None;
+        self.shared = false;
         self.news = true;
-    }
-
-    /// A report came, behind which its seat doesn't go on. Where it had just laid out a rest and little was left, the next
-    /// one waits longer.
-    pub fn ended(&mut self, has_cut: bool, tried: u64) {
-        self.vain = 0;
-        self.since = self.since.saturating_add(1);
-        self.news = true;
-        if has_cut {
-            self.patience = if tried < 32 { longer(self.patience) } else { 0 };
-        }
     }
 }

@@ -10,7 +10,6 @@ use std::sync::ledger::Share;
 pub struct Seat<N: Crew> {
     pub number: u32,
     pub refused: Option<NoMemory>,
-    pub cut: bool,
     pub calls: Share<N>,
     pub ghost one_part: { calls.parts ≡ 1 },
     pub ghost below: { number < N.workers },

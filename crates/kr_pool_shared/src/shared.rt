@@ -58,14 +58,12 @@ fn seats_for<N: Crew>(alloc: Global, workers: u32, all: Share<N>) -> Result<Vec<
         seats.push(Seat {
             number: workers - i,
             refused: None,
-            cut: false,
             calls,
         })?;
     }
     seats.push(Seat {
         number: 0,
         refused: None,
-        cut: false,
         calls: all,
     })?;
     Ok(seats)
@@ -265,10 +263,13 @@ impl<R: Drop, N: Run<R>, D: Ledger> Shared<R, N, D> {
         self.table.lock(rt).has_room(segment, rows)
     }
 
-    /// Waits until a part has room, or the round is over. Whether it has.
+    /// Waits until a part has room, or the round is over. Whether it has. The caller is told, since it should drain.
     pub fn await_room<W: Wait>(&self, rt: &W, segment: u64, rows: u64) -> bool {
         let mut quiet = false;
         let mut table = self.table.lock(rt);
+        if !table.has_room(segment, rows) {
+            self.tell();
+        }
         for _ in rt.forever() {
             if self.is_over() {
                 return false;

@@ -118,8 +118,8 @@ impl<R: Drop, N: Run<R>, D: Ledger> Table<R, N, D> {
         self.desk.take(seat.number, &mut seat.calls)
     }
 
-    /// A part of the run's entries, reported. A seat that goes on lays its rest out where others wait. One that is far from
-    /// the front, and holds more there than a share of the window, is done with it for now, and the lease is given up.
+    /// A part of the run's entries, reported. A seat that goes on may lay rests out, for those that wait or will. One that is too
+    /// far from the front is done with its segment for now, and the lease is given up.
     pub fn report(
         &mut self,
         lease: Lease,
@@ -135,20 +135,18 @@ impl<R: Drop, N: Run<R>, D: Ledger> Table<R, N, D> {
         ensures back { IfErr result (λ refused. (refused.lease ≡ lease) × (refused.part ≡ part)) }
         ensures number { seat.new.number ≡ seat.old.number }
     {
-        let tried = part.tried;
+        self.pace.reported(seat.number, part.tried);
         match self.desk.report(seat.number, lease, part, &mut seat.calls) {
             Ok(Reported::Go(next)) => {
                 if self.desk.is_far(&next) {
-                    self.pace.ended(seat.cut, tried);
-                    seat.cut = false;
+                    self.pace.tell();
                     self.desk.give_up(seat.number, &next, &mut seat.calls);
                     return Ok(Reported::Done);
                 }
                 Ok(Reported::Go(self.go_on(next, seat)))
             }
             other => {
-                self.pace.ended(seat.cut, tried);
-                seat.cut = false;
+                self.pace.tell();
                 other
             }
         }
@@ -161,14 +159,11 @@ impl<R: Drop, N: Run<R>, D: Ledger> Table<R, N, D> {
         ensures grown { Grows self.old.0.log self.new.0.log }
         ensures number { seat.new.number ≡ seat.old.number }
     {
-        let wanted = self.pace.wants_rest(seat.cut);
-        seat.cut = false;
-        if !wanted {
+        if !self.pace.wants_rest() {
             return lease;
         }
         let (next, cut) = self.desk.lay_out(seat.number, lease, &mut seat.calls);
         if cut {
-            seat.cut = true;
             self.pace.laid_out();
         }
         next

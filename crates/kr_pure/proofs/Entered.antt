@@ -1,5 +1,5 @@
 -- The code that is entered at the nodes of members.
-use Rattle.std.proofs.Common.{◌≡◌, refl, sym, ap, ◌∙◌, subst, ℕ, ◌+◌, ◌<◌, ◌≤◌, Bool, true, false, List, [], ◌∷◌, ◌++◌, append-nil, append_assoc, get_or, length, take}
+use Rattle.std.proofs.Common.{◌≡◌, refl, sym, ap, ◌∙◌, subst, ℕ, ◌+◌, ◌<◌, ◌≤◌, Bool, true, false, List, [], ◌∷◌, ◌++◌, append-nil, append_assoc, get_or, length, take, arith}
 use Rattle.std.specs.Prelude.{Option, Some, None, map, flat_map, option_to_list, if◌then◌else◌}
 use Rattle.std.specs.List.{AllZip}
 use Rattle.std.proofs.lemmas.Grind.{flat_map-append}
@@ -18,11 +18,14 @@ use Rattle.kr_mean.specs.Code.{Node, code, code_of_all, code_of_class, code_of_c
 use Rattle.kr_mean.specs.Runs.{contract_nodes}
 use Rattle.kr_pure.proofs.Nodes.{maybe, statements, super_call}
 use Rattle.kr_pure.proofs.Walk.{all_code}
-use Rattle.kr_code_members.specs.Nodes.{IsClassNodes, IsConstructorNode, IsFieldNode, IsMaybeConstructorNode, IsMethodNode, node_scope, node_tree, table}
+use Rattle.kr_code_members.specs.Nodes.{AreMemberNodes, IsClassNodes, IsConstructorNode, IsFieldNode, IsMaybeConstructorNode, IsMethodNode, node_scope, node_tree, table}
 use Rattle.kr_code_members.specs.declared.nodes.ClassNodes.{ClassNodes}
 use Rattle.kr_code_members.specs.declared.nodes.ConstructorNode.{ConstructorNode}
 use Rattle.kr_code_members.specs.declared.nodes.FieldNode.{FieldNode}
 use Rattle.kr_code_members.specs.declared.nodes.MethodNode.{MethodNode}
+use Rattle.kr_code_members.specs.declared.nodes.MemberNodes.{MemberNodes}
+use Rattle.kr_classes_roster.specs.Rosters.{all_methods, method_numbered}
+use Rattle.std.proofs.lemmas.Option.{slice_get_read}
 use Rattle.kr_pure.specs.declared.conditions.Side.{Side}
 use Rattle.kr_pure.specs.Entries.{Enter, IsEntry, class_entries, code_at, constructor_entries, initial_entry, line_code, part_of, stated}
 use Rattle.kr_pure.proofs.Lists.{take_past}
@@ -46,6 +49,10 @@ entered_same p xs ys es e h = subst (λ (zs : List Node). Enter p zs es) e h
 -- more code at more entries
 pub entered_more : (p : Program) (before xs : List Node) (old new more : List NodeId) → new ≡ old ++ more → Enter p xs more → Enter p before old → Enter p (before ++ xs) new
 entered_more p before xs old new more e h b = subst (λ (es : List NodeId). Enter p (before ++ xs) es) (sym e) (both_entered p before xs old more b h)
+
+-- the node of a method by its number
+pub method_there : (p : Program) (nodes : MemberNodes) (k : ℕ) (n : MethodNode) → AreMemberNodes p nodes → k < length (all_methods (table p)) → n ≡ get_or nodes.methods.items k n → IsMethodNode p (method_numbered (table p) k) n
+method_there p nodes k n h l e = h.methods k n (slice_get_read nodes.methods.items (length nodes.methods.items) k n refl (let c = h.method_count in omega (arith, l, c)) e)
 
 module _ (p : Program) (arrays : List JavaType) where
   abbrev mean : meaning.Program

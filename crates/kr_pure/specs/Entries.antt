@@ -1,7 +1,6 @@
 -- Between crates: nodes at which code is entered: lists of statements, initial values, conditions.
 use Rattle.std.specs.Prelude.{◌≡◌, ℕ, List, [], ◌∷◌, ◌++◌, flat_map, All, Option, Some, None, if◌then◌else◌}
 use Rattle.kr_ast.specs.Tree.{Tree}
-use Rattle.kr_classes_table.specs.Table.{Table, Method, method_named}
 use Rattle.kr_types_meaning.specs.Scopes.{Scope, Part, Requiring, Ensuring, in_contract}
 use Rattle.kr_ast.specs.declared.files.NodeId.{NodeId}
 use Rattle.kr_types_meaning.specs.Running.{running}
@@ -34,10 +33,6 @@ pub record IsEntry (p : Program) (n : NodeId) : Type 0 where
 pub record Enter (p : Program) (ns : List Node) (entries : List NodeId) : Type 0 where
   pub stand : All (IsEntry p) entries
   pub code : flat_map (code_at p) entries ≡ ns
-
--- Its name means the method in the class that declares it: no other of the class has the name before it.
-abbrev pub IsNamed : Table → Method → Type 0
-IsNamed t m = method_named t m.class m.name ≡ Some m
 
 -- ---- entries of members
 

@@ -1,9 +1,14 @@
 -- Between crates: the walk over the predicate's code: from the entries of its roots to the parts of each node that was seen, and
 -- to the entries of what the node may run.
-use Rattle.std.specs.Prelude.{◌≡◌, ℕ, List, All, Contains, Some, slice_get}
+use Rattle.std.specs.Prelude.{◌≡◌, ℕ, List, [], All, Contains, Some, slice_get}
+use Rattle.kr_base.specs.declared.place.Place.{Place}
+use Rattle.kr_ast.specs.declared.node.Node.{Node as AstNode}
 use Rattle.kr_ast.specs.declared.node.Entry.{Entry}
-use Rattle.kr_ast.specs.Arena.{Arena, IsArena}
+use Rattle.kr_ast.specs.Arena.{Arena, IsArena, tree_of}
+use Rattle.kr_ast.specs.Tree.{Tree}
 use Rattle.kr_ast.specs.declared.files.NodeId.{NodeId}
+use Rattle.kr_types_meaning.specs.Scopes.{Scope}
+use Rattle.kr_mean.specs.Program.{Program}
 use Rattle.kr_mean.specs.Code.{Node, code_run}
 use Rattle.kr_mean.specs.Purity.{IsOneOf, IsPredicateCode}
 use Rattle.kr_pure.specs.Seen.{IsActing, node_on}
@@ -16,6 +21,10 @@ use Rattle.kr_pure.specs.Entries.{Enter, IsEntry, code_at, node_of}
 -- another node of the file
 abbrev pub beside : NodeId → ℕ → NodeId
 beside n i = record { file = n.file; node = i }
+
+-- a node of this kind runs no other code
+abbrev pub RunsNothing : AstNode → Type 0
+RunsNothing n = (program : Program) (s : Scope) (text : List ℕ) (look : ℕ → Tree) (p : Place) → code_run program (record { scope = s; tree = tree_of text look p n }) ≡ []
 
 -- A walk comes to the node from an entry of the predicate's code.
 pub record IsBelow (problem : Problem) (n : NodeId) : Type 0 where

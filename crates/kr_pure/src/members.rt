@@ -1,60 +1,32 @@
 // The entries of what may be run: the bodies of methods, and what creations run of classes.
 ghost use Rattle.std.specs.Prelude.{◌≡◌, ◌<◌, ◌++◌, List, All, IfOk, flat_map, length, map};
 ghost use Rattle.kr_classes_table.specs.Types.{JavaType};
-ghost use Rattle.kr_classes_members.specs.Shown.{IsMethod, method_shown};
-ghost use Rattle.kr_classes_roster.specs.Rosters.{IsRoster};
-ghost use Rattle.kr_types.specs.Programs.{IsProgram};
+ghost use Rattle.kr_classes_roster.specs.Rosters.{all_methods, method_numbered};
 ghost use Rattle.kr_mean.specs.Program.{program_with};
 ghost use Rattle.kr_mean.specs.Code.{Node as CodeNode, code_of_class, code_of_method};
-ghost use Rattle.kr_code_members.specs.Nodes.{AreMemberNodes, IsMethodNode, table};
-ghost use Rattle.kr_pure.specs.Entries.{Enter, IsNamed, class_entries, constructor_entries, initial_entry};
+ghost use Rattle.kr_code_members.specs.Nodes.{AreMemberNodes, table};
+ghost use Rattle.kr_pure.specs.Entries.{Enter, class_entries, constructor_entries, initial_entry};
 
-use kr_ast::{NodeId, tree_of};
+use kr_ast::NodeId;
 use kr_base::NoMemory;
-use kr_classes_members::Method;
-use kr_classes_roster::Roster;
-use kr_code_members::{ClassNodes, ConstructorNode, FieldNode, MemberNodes, MethodNode};
+use kr_classes_table::MethodId;
+use kr_code_members::{ClassNodes, ConstructorNode, FieldNode, MemberNodes};
 use kr_types::Program;
-
-/// Where a method stands.
-pub(crate) fn method_node(
-    program: &Program,
-    roster: &Roster,
-    nodes: &MemberNodes,
-    method: Method,
-) -> MethodNode
-    requires program { IsProgram program.now }
-    requires roster { IsRoster program.now.trees.items roster.now }
-    requires nodes { AreMemberNodes program.now nodes.now }
-    requires method { IsMethod program.now.trees.items method }
-    requires named { IsNamed (table program.now) (method_shown program.now.trees.items method) }
-    ensures { IsMethodNode program.now (method_shown program.now.trees.items method) result }
-{
-    let name = tree_of(&program.trees, method.file).name(method.name);
-    match roster.method_named(&program.table.members, method.class, name) {
-        Some(number) => nodes.methods[number as usize],
-        None => unreachable!(),
-    }
-}
 
 /// Adds the bodies of methods.
 #[inline(always)]
 pub(crate) fn add_bodies(
-    program: &Program,
-    roster: &Roster,
+    _program: &Program,
     nodes: &MemberNodes,
-    methods: &[Method],
+    methods: &[MethodId],
     entries: &mut Vec<NodeId>,
 ) -> Result<(), NoMemory>
-    requires program { IsProgram program.now }
-    requires roster { IsRoster program.now.trees.items roster.now }
-    requires nodes { AreMemberNodes program.now nodes.now }
-    requires methods { All (IsMethod program.now.trees.items) methods.now }
-    requires named { All (IsNamed (table program.now)) (map (method_shown program.now.trees.items) methods.now) }
-    ensures { (before : List CodeNode) (arrays : List JavaType) → IfOk result (λ done. Enter program.now before entries.old.items → Enter program.now (before ++ flat_map (code_of_method (program_with (table program.now) arrays)) (map (method_shown program.now.trees.items) methods.now)) entries.new.items) }
+    requires nodes { AreMemberNodes _program.now nodes.now }
+    requires methods { All (λ k. k < length (all_methods (table _program.now))) methods.now }
+    ensures { (before : List CodeNode) (arrays : List JavaType) → IfOk result (λ done. Enter _program.now before entries.old.items → Enter _program.now (before ++ flat_map (code_of_method (program_with (table _program.now) arrays)) (map (method_numbered (table _program.now)) methods.now)) entries.new.items) }
 {
     for method in methods {
-        let found = method_node(program, roster, nodes, *method);
+        let found = nodes.methods[*method as usize];
         entries.push(NodeId {
             file: found.file,
             node: found.body,

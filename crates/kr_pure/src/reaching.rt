@@ -1,21 +1,19 @@
 // The walk over the predicate's code.
-ghost use Rattle.std.specs.Prelude.{◌≡◌, Some, All, IfOk, map, slice_get};
+ghost use Rattle.std.specs.Prelude.{◌≡◌, Some, All, IfOk, IsTrue, map, slice_get};
 ghost use Rattle.kr_ast.specs.declared.node.Entry.{Entry as EntryMeant};
 ghost use Rattle.kr_ast.specs.Files.{IsNode};
-ghost use Rattle.kr_classes_roster.specs.Rosters.{IsRoster};
 ghost use Rattle.kr_types.specs.Programs.{IsProgram};
 ghost use Rattle.kr_pure.specs.Walk.{walk_parts};
 ghost use Rattle.kr_pure.specs.Found.{AreFound, IsAdded};
 ghost use Rattle.kr_code_members.specs.Nodes.{AreMemberNodes, AreShaped, arena_at};
 ghost use Rattle.kr_space_problem.specs.Posed.{IsPosed};
-ghost use Rattle.kr_pure.specs.Reach.{AreArenas, ArePredicateCode, IsBelow, IsStep, IsWalked, beside};
+ghost use Rattle.kr_pure.specs.Reach.{AreArenas, ArePredicateCode, IsBelow, IsStep, IsWalked, RunsNothing, beside};
 
 use crate::entries::entries_run;
 use crate::roots::root_entries;
 use crate::{Found, count_nodes};
 use kr_ast::{Node, NodeId, Parts, tree_of};
 use kr_base::NoMemory;
-use kr_classes_roster::Roster;
 use kr_code_members::{MemberNodes, member_nodes};
 use kr_space_problem::Problem;
 use kr_types::Program;
@@ -53,18 +51,29 @@ fn add_parts(program: &Program, at: NodeId, found: &mut Found) -> Result<(), NoM
     Ok(())
 }
 
+/// Whether a node of this kind runs no other code: it calls nothing, and creates no object.
+fn runs_nothing(node: Node) -> bool
+    ensures { IsTrue result → RunsNothing node }
+{
+    match node {
+        Node::Call { .. }
+        | Node::MethodCall { .. }
+        | Node::SuperCall { .. }
+        | Node::ObjectCreation { .. } => false,
+        _ => true,
+    }
+}
+
 /// Adds the parts of a node, and the entries of what it may run.
 fn follow(
     alloc: Global,
     problem: &Problem,
-    roster: &Roster,
     nodes: &MemberNodes,
     at: NodeId,
     found: &mut Found,
 ) -> Result<(), NoMemory>
     requires posed { IsPosed problem.now }
     requires arenas { AreArenas problem.now.program.trees.items }
-    requires roster { IsRoster problem.now.program.trees.items roster.now }
     requires nodes { AreMemberNodes problem.now.program nodes.now }
     requires node { IsNode problem.now.program.trees.items at }
     requires found { AreFound problem.now.program.trees.items found.old }
@@ -73,7 +82,11 @@ fn follow(
 {
     let program = &problem.program;
     add_parts(program, at, found)?;
-    let entries = entries_run(alloc, problem, roster, nodes, at)?;
+    let entry = tree_of(&program.trees, at.file).entry(at.node);
+    if runs_nothing(entry.node) {
+        return Ok(());
+    }
+    let entries = entries_run(alloc, problem, nodes, at)?;
     found.add_all(&program.trees, &entries)
 }
 
@@ -81,13 +94,11 @@ fn follow(
 fn walk_on(
     alloc: Global,
     problem: &Problem,
-    roster: &Roster,
     nodes: &MemberNodes,
     found: &mut Found,
 ) -> Result<(), NoMemory>
     requires posed { IsPosed problem.now }
     requires arenas { AreArenas problem.now.program.trees.items }
-    requires roster { IsRoster problem.now.program.trees.items roster.now }
     requires nodes { AreMemberNodes problem.now.program nodes.now }
     requires found { AreFound problem.now.program.trees.items found.old }
     requires below { All (IsBelow problem.now) found.old.nodes.items }
@@ -97,7 +108,7 @@ fn walk_on(
     let mut next = 0;
     while next < found.nodes.len() {
         let at = found.nodes[next];
-        follow(alloc, problem, roster, nodes, at, found)?;
+        follow(alloc, problem, nodes, at, found)?;
         next += 1;
     }
     Ok(())
@@ -111,12 +122,11 @@ pub fn predicate_nodes(alloc: Global, problem: &Problem) -> Result<Vec<NodeId>, 
 {
     let program = &problem.program;
     let trees = program.trees.as_slice();
-    let roster = &program.roster;
     let nodes = member_nodes(alloc, program)?;
     let count = count_nodes(trees);
     let mut found = Found::none(alloc, trees, count)?;
-    let entries = root_entries(alloc, problem, roster, &nodes)?;
+    let entries = root_entries(alloc, problem, &nodes)?;
     found.add_all(trees, &entries)?;
-    walk_on(alloc, problem, roster, &nodes, &mut found)?;
+    walk_on(alloc, problem, &nodes, &mut found)?;
     Ok(found.into_nodes())
 }

@@ -8,7 +8,7 @@ use Rattle.kr_ast.specs.Arena.{name_in, tree_of}
 use Rattle.kr_ast.specs.declared.node.Node.{Node}
 use Rattle.kr_ast.specs.declared.node.Node.TheVariants as nodes
 use Rattle.kr_value.specs.declared.object.Class.{Class}
-use Rattle.kr_classes_table.specs.Types.{JavaType, ClassType, SetType, ListType}
+use Rattle.kr_classes_table.specs.Types.{JavaType, ClassType}
 use Rattle.kr_classes_table.specs.Table.{Field, Method, Table, method_named, number_of}
 use Rattle.kr_classes_table.specs.Constants.{constant_of}
 use Rattle.kr_types_meaning.specs.Scopes.{Scope, Meant, LocalName, FieldName, NoName, class_before, meant, method_meant, static_only, super_class, written}
@@ -86,8 +86,6 @@ access_runs program t n None o = field_runs program (option_and_then instance_on
 
 creation_runs : (program : Program) (t : JavaType) → [] ≡ runs_by program (creation_meaning t)
 creation_runs program (ClassType c) = refl
-creation_runs program (SetType t) = refl
-creation_runs program (ListType t) = refl
 creation_runs program _ = refl
 
 -- a node runs the methods of its meaning
@@ -143,8 +141,6 @@ written_super program (Some m) class = refl
 
 written_creation : (program : Program) (t : JavaType) (class : Class) → false ≡ field_written program (creation_meaning t) class
 written_creation program (ClassType c) class = refl
-written_creation program (SetType t) class = refl
-written_creation program (ListType t) class = refl
 written_creation program _ class = refl
 
 -- a write of a node that is no element writes the field of its meaning

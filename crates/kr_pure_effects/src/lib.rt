@@ -15,6 +15,6 @@ mod touch;
 pub use candidates::touches_candidates;
 pub use created::created_classes;
 pub use nodes::touch_of;
-pub use runnable::{overrider, overriders, runnable_methods};
+pub use runnable::overriders;
 pub use runs::{Runs, runs_of};
 pub use touch::Touch;

@@ -1,25 +1,39 @@
 // The methods that a call of a method may run.
-ghost use Rattle.std.specs.Prelude.{◌≡◌, IfOk, IfSome, Some, All, map, option_map};
+ghost use Rattle.std.specs.Prelude.{◌≡◌, ◌<◌, IfOk, IfSome, All, length, map, option_map};
 ghost use Rattle.kr_value.specs.declared.object.Class.TheVariants.{Object};
 ghost use Rattle.kr_classes_members.specs.Shown.{IsMethod, method_shown, table_in};
 ghost use Rattle.kr_classes_members.specs.Kept.{AreMembers};
+ghost use Rattle.kr_classes_roster.specs.Rosters.{IsRoster, all_methods, method_numbered};
 ghost use Rattle.kr_mean.specs.Program.{Program, overriding};
-ghost use Rattle.kr_mean.specs.Code.{overriders, runnable};
+ghost use Rattle.kr_mean.specs.Code.{overriders};
 
 use kr_ast::{Tree, tree_of};
 use kr_base::{NoMemory, add_found};
 use kr_classes_members::{Members, Method};
+use kr_classes_roster::Roster;
+use kr_classes_table::MethodId;
 use std::alloc::Global;
 
 /// The method that a call of a method runs on an object of a class; none where the class has it not.
-pub fn overrider(trees: &[Tree], members: &Members, method: Method, class: u32) -> Option<Method>
+fn overrider(
+    trees: &[Tree],
+    members: &Members,
+    roster: &Roster,
+    method: Method,
+    class: u32,
+) -> Option<MethodId>
     requires members { AreMembers trees.now members.now }
+    requires roster { IsRoster trees.now roster.now }
     requires method { IsMethod trees.now method }
-    ensures stands { IfSome result (IsMethod trees.now) }
-    ensures shown { (program : Program) → program.table ≡ table_in trees.now → option_map (method_shown trees.now) result ≡ overriding program (method_shown trees.now method) (Object class) }
+    ensures within { IfSome result (λ k. k < length (all_methods (table_in trees.now))) }
+    ensures shown { (program : Program) → program.table ≡ table_in trees.now → option_map (method_numbered (table_in trees.now)) result ≡ overriding program (method_shown trees.now method) (Object class) }
 {
     if members.is_below(class, method.class) {
-        members.method_named(class, tree_of(trees, method.file).name(method.name))
+        roster.method_named(
+            members,
+            class,
+            tree_of(trees, method.file).name(method.name),
+        )
     } else {
         None
     }
@@ -30,12 +44,14 @@ pub fn overriders(
     alloc: Global,
     trees: &[Tree],
     members: &Members,
+    roster: &Roster,
     method: Method,
-) -> Result<Vec<Method>, NoMemory>
+) -> Result<Vec<MethodId>, NoMemory>
     requires members { AreMembers trees.now members.now }
+    requires roster { IsRoster trees.now roster.now }
     requires method { IsMethod trees.now method }
-    ensures stands { IfOk result (λ found. All (IsMethod trees.now) found.items) }
-    ensures shown { IfOk result (λ found. (program : Program) → program.table ≡ table_in trees.now → map (method_shown trees.now) found.items ≡ overriders program (method_shown trees.now method)) }
+    ensures within { IfOk result (λ found. All (λ k. k < length (all_methods (table_in trees.now))) found.items) }
+    ensures shown { IfOk result (λ found. (program : Program) → program.table ≡ table_in trees.now → map (method_numbered (table_in trees.now)) found.items ≡ overriders program (method_shown trees.now method)) }
 {
     let classes = members.len();
     if classes > 0xffff_ffff {
@@ -43,33 +59,7 @@ pub fn overriders(
     }
     let mut found = Vec::new(alloc);
     for class in 0..classes as u32 {
-        add_found(&mut found, overrider(trees, members, method, class))?;
+        add_found(&mut found, overrider(trees, members, roster, method, class))?;
     }
     Ok(found)
-}
-
-/// The methods that a call may run: none where it means no method, a static method alone, else one for each class that has it.
-pub fn runnable_methods(
-    alloc: Global,
-    trees: &[Tree],
-    members: &Members,
-    meant: Option<Method>,
-) -> Result<Vec<Method>, NoMemory>
-    requires members { AreMembers trees.now members.now }
-    requires meant { IfSome meant (IsMethod trees.now) }
-    ensures stands { IfOk result (λ found. All (IsMethod trees.now) found.items) }
-    ensures shown { IfOk result (λ found. (program : Program) → program.table ≡ table_in trees.now → map (method_shown trees.now) found.items ≡ runnable program (option_map (method_shown trees.now) meant)) }
-{
-    match meant {
-        None => Ok(Vec::new(alloc)),
-        Some(method) => {
-            if method.is_static {
-                let mut found = Vec::new(alloc);
-                found.push(method)?;
-                Ok(found)
-            } else {
-                overriders(alloc, trees, members, method)
-            }
-        }
-    }
 }

@@ -1,7 +1,8 @@
 // What a node may run: methods and classes.
 ghost use Rattle.std.specs.Prelude.{◌≡◌, ◌<◌, All, IfOk, Some, length, map, slice_get};
 ghost use Rattle.kr_ast.specs.Files.{file_at};
-ghost use Rattle.kr_classes_members.specs.Shown.{IsMethod, method_shown, table_in};
+ghost use Rattle.kr_classes_members.specs.Shown.{table_in};
+ghost use Rattle.kr_classes_roster.specs.Rosters.{all_methods, method_numbered};
 ghost use Rattle.kr_types.specs.Programs.{IsProgram};
 ghost use Rattle.kr_types.specs.declared.program.TypedFile.{TypedFile as Typed};
 ghost use Rattle.kr_mean.specs.Program as meaning;
@@ -13,14 +14,14 @@ use crate::created_classes;
 use crate::known::{entry_at, named_type};
 use kr_ast::Node;
 use kr_base::NoMemory;
-use kr_classes_members::Method;
+use kr_classes_table::MethodId;
 use kr_types::Program;
 use std::alloc::Global;
 
 /// What a node may run: methods, and the classes whose constructors and initial values a creation runs.
 #[derive(Drop)]
 pub struct Runs {
-    pub methods: Vec<Method>,
+    pub methods: Vec<MethodId>,
     pub classes: Vec<u32>,
 }
 
@@ -48,9 +49,9 @@ pub fn runs_of(alloc: Global, program: &Program, file: u32, node: u32) -> Result
     requires program { IsProgram program.now }
     requires file { file < length program.now.trees.items }
     requires node { node < length (file_at program.now.trees.items file).entries }
-    ensures methods { IfOk result (λ runs. All (IsMethod program.now.trees.items) runs.methods.items) }
+    ensures methods { IfOk result (λ runs. All (λ k. k < length (all_methods (table_in program.now.trees.items))) runs.methods.items) }
     ensures classes { IfOk result (λ runs. All (λ c. c < length (table_in program.now.trees.items).classes) runs.classes.items) }
-    ensures shown { IfOk result (λ runs. (mean : meaning.Program) (t : Typed) → mean.table ≡ table_in program.now.trees.items → slice_get program.now.files.items file ≡ Some t → let n = node_there program.now.trees.items file t node in (map (method_shown program.now.trees.items) runs.methods.items ≡ methods_run mean n.scope n.tree) × (runs.classes.items ≡ classes_run mean n.scope n.tree)) }
+    ensures shown { IfOk result (λ runs. (mean : meaning.Program) (t : Typed) → mean.table ≡ table_in program.now.trees.items → slice_get program.now.files.items file ≡ Some t → let n = node_there program.now.trees.items file t node in (map (method_numbered (table_in program.now.trees.items)) runs.methods.items ≡ methods_run mean n.scope n.tree) × (runs.classes.items ≡ classes_run mean n.scope n.tree)) }
 {
     let methods = methods_of(alloc, program, file, node)?;
     let classes = classes_of(alloc, program, file, node)?;

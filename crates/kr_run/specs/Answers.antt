@@ -12,27 +12,23 @@ use Rattle.kr_run_state.specs.Noting.{noting}
 use Rattle.kr_run_state.specs.Worlds.{Others, Allows, Keeps, state_at}
 use Rattle.kr_run_frames.specs.Frame.{Frame}
 use Rattle.kr_run_frames.specs.declared.task.Task.{Task}
-use Rattle.kr_run_frames.specs.Leads.{Leads, HasEnded}
+use Rattle.kr_run_frames.specs.Leads.{Leads}
 use Rattle.kr_run.specs.declared.steps.Step.{Step}
 use Rattle.kr_run.specs.declared.steps.Step.TheVariants.{More, Finished}
 
--- the run gives a value, and leaves a world, in every meaning of the code, with all candidates that what it has read allows
-abbrev pub Gives : Code → Value → World → World → (Doing → Others → Outcome Value) → Type 0
-Gives code v w before o = (x : Others) → Allows w x → Keeps before w x × ((d : Doing) → IsMeaning code d → noting before.reads (o d x) ≡ record { said = Ok v; after = state_at w x; reads = w.reads })
+-- The run comes to a value, or ends so, and leaves a world, in every meaning of the code: with all candidates that what it has
+-- read allows.
+abbrev pub ComesTo : Code → Result Value Stop → World → World → (Doing → Others → Outcome Value) → Type 0
+ComesTo code r w before o = (x : Others) → Allows w x → Keeps before w x × ((d : Doing) → IsMeaning code d → noting before.reads (o d x) ≡ record { said = r; after = state_at w x; reads = w.reads })
 
--- the run has ended so
-abbrev pub EndsSo : Code → Stop → World → World → (Doing → Others → Outcome Value) → Type 0
-EndsSo code e w before o = (x : Others) → Allows w x → Keeps before w x × ((d : Doing) → IsMeaning code d → HasEnded e w x (noting before.reads (o d x)))
+-- the value, or the end; where memory ran out nothing is said
+abbrev pub Answers : Code → Result Value Halt → World → World → (Doing → Others → Outcome Value) → Type 0
+Answers code (Ok v) w before o = ComesTo code (Ok v) w before o
+Answers code (Err (Ended e)) w before o = ComesTo code (Err e) w before o
+Answers code (Err (Memory why)) w before o = Unit {0}
 
 -- a step leads on to a task, or the run has given a value or has ended
 abbrev pub StepsTo : Code → Result Step Halt → Task → List Frame → World → World → (Doing → Others → Outcome Value) → Type 0
 StepsTo code (Ok More) task fs w before o = Leads code (Ok task) fs w before o
-StepsTo code (Ok (Finished v)) task fs w before o = Gives code v w before o
-StepsTo code (Err (Ended e)) task fs w before o = EndsSo code e w before o
-StepsTo code (Err (Memory why)) task fs w before o = Unit {0}
-
--- the value, or the end; where memory ran out nothing is said
-abbrev pub Answers : Code → Result Value Halt → World → World → (Doing → Others → Outcome Value) → Type 0
-Answers code (Ok v) w before o = Gives code v w before o
-Answers code (Err (Ended e)) w before o = EndsSo code e w before o
-Answers code (Err (Memory why)) w before o = Unit {0}
+StepsTo code (Ok (Finished v)) task fs w before o = Answers code (Ok v) w before o
+StepsTo code (Err h) task fs w before o = Answers code (Err h) w before o

@@ -1,3 +1,3 @@
 pub mod Answers
 pub mod Statements
-pub mod Leaving
+pub mod Unwinding

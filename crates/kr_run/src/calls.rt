@@ -55,7 +55,7 @@ fn run_method(
         *task = Task::Act(Action::End(Stop::Stuck));
         return Ok(());
     };
-    if arguments.len() != found.parameters as usize {
+    if arguments.len() != found.parameters.count as usize {
         *task = Task::Act(Action::End(Stop::Stuck));
         return Ok(());
     }

@@ -102,9 +102,9 @@ fn construct_declared(
     arguments: &Vec<Value>,
     task: &mut Task,
 ) -> Result<(), Halt>
-    ensures { Leads code.now (next_task result task.new) stack.new world.new world.old (λ d x. out_unit code.now d stack.old (within up.object constructor.parameters arguments.now.items (bind (super_values code.now d constructor.call) (upwards code.now d up)) (state_at world.old x))) }
+    ensures { Leads code.now (next_task result task.new) stack.new world.new world.old (λ d x. out_unit code.now d stack.old (within up.object constructor.parameters.count arguments.now.items (bind (super_values code.now d constructor.call) (upwards code.now d up)) (state_at world.old x))) }
 {
-    if arguments.len() != constructor.parameters as usize {
+    if arguments.len() != constructor.parameters.count as usize {
         return stop_unit(code, world, stack, task);
     }
     stack.push_back(world.this, world.locals.as_slice())?;

@@ -7,6 +7,7 @@ mod calls;
 mod create;
 mod run;
 mod steps;
+mod unwinding;
 
 pub use run::{advance, evaluate, step};
 pub use steps::Step;

@@ -6,7 +6,6 @@ ghost use Rattle.kr_run_frames.specs.Frame as frames;
 ghost use Rattle.kr_run_frames.specs.Kept.{IsOnTop};
 ghost use Rattle.kr_code.specs.declared.statement.Statement.TheVariants.{Declare as Declarations};
 ghost use Rattle.kr_run.specs.Statements.{IsTicked};
-ghost use Rattle.kr_run.specs.Leaving.{IsLeaving};
 ghost use Rattle.kr_run_frames.specs.declared.task.Task.TheVariants as tasks;
 ghost use Rattle.kr_code.specs.Doing.{statement_done, flow_of};
 ghost use Rattle.kr_code.specs.Steps.{store_initial as store_step};
@@ -23,6 +22,7 @@ ghost use Rattle.kr_run_state.specs.Worlds.{state_at};
 use crate::arguments::{next_arguments, take_argument, take_found, take_up_argument};
 use crate::create::{construct, initialise, stop_unit, take_unit};
 use crate::steps::Step;
+use crate::unwinding::{Passing, end, is_leaving, pass_by};
 use kr_ast::{BinaryOperator, StepOperator};
 use kr_code::{Code, Nodes, Statement};
 use kr_mean::{Flow, Kind, Stop};
@@ -496,6 +496,7 @@ fn do_task(
 
 /// A value comes to the topmost frame, or the run has it.
 #[inline(always)]
+#[tactic(auto, using(crate::proofs::Passing::stops_then))]
 fn give_value(
     alloc: Global,
     code: &Code,
@@ -512,51 +513,33 @@ fn give_value(
     let frame = *top;
     match value_frame(alloc, code, world, stack, frame, given, task) {
         Ok(()) => return Ok(Step::More),
-        Err(halt) => return Err(halt),
-    }
-}
-
-/// Whether a flow leaves the body.
-#[inline(always)]
-fn is_leaving(flow: Flow) -> bool
-    ensures { result ≡ true → IsLeaving flow }
-{
-    match flow {
-        Flow::Left => true,
-        Flow::Gave(_) => true,
-        Flow::Next => false,
-        Flow::Broke => false,
-        Flow::Continued => false,
-    }
-}
-
-/// Blocks, loops and lists of statements are left, whose frames only pass on what leaves the body.
-fn pass_by(code: &Code, world: &mut World, stack: &mut Stack, flow: Flow)
-    requires { IsLeaving flow }
-    ensures { Leads code.now (Ok (tasks.Led flow)) stack.new world.new world.old (λ d x. out_flow code.now d stack.old (give flow (state_at world.old x))) }
-{
-    'frames: for _ in 0..stack.len() {
-        let Some(top) = stack.top() else {
-            return;
-        };
-        match *top {
-            Waiting::Flow(_) => {
-                stack.drop_top();
-                continue 'frames;
-            }
-            Waiting::Scope(count) => {
-                stack.drop_top();
-                world.locals.truncate(count);
-                continue 'frames;
-            }
-            _ => return,
-        }
+        Err(Halt::Ended(why)) => return Err(end(code, world, stack, why)),
+        Err(Halt::Memory(why)) => return Err(Halt::Memory(why)),
     }
 }
 
 /// A statement's end comes to the topmost frame.
 #[inline(always)]
 #[tactic(auto, unfolding(kr_mean::specs::Steps::bind))]
+fn arrive(
+    code: &Code,
+    world: &mut World,
+    stack: &mut Stack,
+    flow: Flow,
+    task: &mut Task,
+) -> Result<(), Halt>
+    ensures { Leads code.now (next_task result task.new) stack.new world.new world.old (λ d x. out_flow code.now d stack.old (give flow (state_at world.old x))) }
+{
+    let Some(top) = stack.top() else {
+        return Err(Halt::Ended(Stop::Stuck));
+    };
+    let frame = *top;
+    return flow_frame(code, world, stack, frame, flow, task);
+}
+
+/// A statement's end comes to the frame that waits for it.
+#[inline(always)]
+#[tactic(auto, using(crate::proofs::Passing::comes_then))]
 fn give_flow(
     code: &Code,
     world: &mut World,
@@ -567,13 +550,10 @@ fn give_flow(
     ensures { Leads code.now (next_task result task.new) stack.new world.new world.old (λ d x. out_flow code.now d stack.old (give flow (state_at world.old x))) }
 {
     if is_leaving(flow) {
-        pass_by(code, world, stack, flow);
+        pass_by(code, world, stack, Passing::Flow(flow))?;
+        return arrive(code, world, stack, flow, task);
     }
-    let Some(top) = stack.top() else {
-        return Err(Halt::Ended(Stop::Stuck));
-    };
-    let frame = *top;
-    return flow_frame(code, world, stack, frame, flow, task);
+    return arrive(code, world, stack, flow, task);
 }
 
 /// What gives nothing is done.
@@ -594,8 +574,9 @@ fn give_nothing(
     return unit_frame(alloc, code, world, stack, frame, task);
 }
 
-/// One step: the next task comes in place of the one that is done.
+/// One step: the next task comes in place of the one that is done. Where the run ends all frames are left.
 #[inline(always)]
+#[tactic(auto, using(crate::proofs::Passing::stops_then))]
 pub fn step(
     alloc: Global,
     code: &Code,
@@ -609,7 +590,8 @@ pub fn step(
         Task::Got(given) => return give_value(alloc, code, world, stack, given, task),
         _ => match do_task(alloc, code, world, stack, task) {
             Ok(()) => return Ok(Step::More),
-            Err(halt) => return Err(halt),
+            Err(Halt::Ended(why)) => return Err(end(code, world, stack, why)),
+            Err(Halt::Memory(why)) => return Err(Halt::Memory(why)),
         },
     }
 }

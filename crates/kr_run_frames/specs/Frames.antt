@@ -1,11 +1,13 @@
 -- Between crates: the outcome of the whole run, from what a part of it has come to and the frames that wait.
-use Rattle.std.specs.Prelude.{ℕ, true, false, List, [], ◌∷◌, map, take, reverse}
+use Rattle.std.specs.Prelude.{ℕ, true, false, List, [], ◌∷◌, Result, Ok, Err, map, take, reverse}
 use Rattle.kr_value.specs.declared.value.Value.{Value}
 use Rattle.kr_value.specs.declared.value.Value.TheVariants.{Bool as Truth, Null}
+use Rattle.kr_mean.specs.declared.kind.Stop.{Stop}
 use Rattle.kr_mean.specs.declared.kind.Stop.TheVariants.{Stuck}
 use Rattle.kr_mean.specs.declared.flow.Flow.{Flow}
 use Rattle.kr_mean.specs.declared.flow.Flow.TheVariants as flows
-use Rattle.kr_mean.specs.Steps.{State, Outcome, Run, go_on, say, give, stop, ◌>>=◌, ◌>>◌, get_this, assign, within, element, class_or_null, class_of, collect}
+use Rattle.kr_mean.specs.Places.{SlotPlace}
+use Rattle.kr_mean.specs.Steps.{State, Outcome, Run, after_reads, go_on, say, give, stop, ◌>>=◌, ◌>>◌, get_this, assign, within, element, class_or_null, class_of, collect}
 use Rattle.kr_mean.specs.Operators.{operated, operated_alone, gives_old}
 use Rattle.kr_mean.specs.Meaning as meaning
 use Rattle.kr_mean.specs.Meaning.{then_on, then_round, then_update, returned, completed, choose, stepped, change_from}
@@ -167,9 +169,21 @@ restored this locals o = record { said = o.said; after = record o.after { this_v
 abbrev pub cut_to : {A : Type 0} → ℕ → Outcome A → Outcome A
 cut_to n o = record { said = o.said; after = record o.after { locals = take n o.after.locals }; reads = o.reads }
 
--- a frame that waits for something else
-abbrev pub misled : {A : Type 0} → Outcome A → Outcome Value
-misled o = continued o (λ a. stop Stuck)
+-- a run stops: each frame is passed by, and with it a block's locals end, or a body
+abbrev pub stopped : Code → Doing → List Frame → Stop → State → Outcome Value
+stopped code d [] e s = stop e s
+stopped code d (frames.Scope n ∷ fs) e s = stopped code d fs e (record s { locals = take n s.locals })
+stopped code d (frames.Leave void this locals ∷ fs) e s = stopped code d fs e (record s { this_value = this; locals = map local_of locals })
+stopped code d (frames.Back this locals ∷ fs) e s = stopped code d fs e (record s { this_value = this; locals = map local_of locals })
+stopped code d (f ∷ fs) e s = stopped code d fs e s
+
+-- the topmost frame waits for something else
+abbrev pub missed : {A : Type 0} → Code → Doing → List Frame → Result A Stop → State → List SlotPlace → Outcome Value
+missed code d fs (Ok a) s reads = after_reads reads (stopped code d fs Stuck s)
+missed code d fs (Err e) s reads = after_reads reads (stopped code d fs e s)
+
+abbrev pub misled : {A : Type 0} → Code → Doing → List Frame → Outcome A → Outcome Value
+misled code d fs o = missed code d fs o.said o.after o.reads
 
 -- ---- stacks
 
@@ -185,7 +199,7 @@ abbrev mutual
       out_unit code d fs (continued (continued o (λ v. values_at d (listed code ns) >>= (λ ws. give (v ∷ ws)))) (λ ws. upwards code d up (onto (reverse vs) ws)))
   out_value code d (frames.UpEnter up ns ∷ fs) o = out_unit code d fs (continued o (λ v. values_at d (listed code ns) >>= upwards code d up))
   out_value code d (frames.Store field object ∷ fs) o = out_unit code d fs (continued o (store_initial code field object))
-  out_value code d _ o = misled o
+  out_value code d fs o = misled code d fs o
 
   -- a statement has led on
   pub out_flow : Code → Doing → List Frame → Outcome Flow → Outcome Value
@@ -193,7 +207,7 @@ abbrev mutual
   out_flow code d (frames.Scope n ∷ fs) o = out_flow code d fs (cut_to n o)
   out_flow code d (frames.Leave void this locals ∷ fs) o = out_value code d fs (restored this locals (continued o (returned void)))
   out_flow code d (frames.Complete ∷ fs) o = out_unit code d fs (continued o completed)
-  out_flow code d _ o = misled o
+  out_flow code d fs o = misled code d fs o
 
   -- something is done that gives nothing
   pub out_unit : Code → Doing → List Frame → Outcome (Unit {0}) → Outcome Value
@@ -201,13 +215,13 @@ abbrev mutual
   out_unit code d (frames.Construct line object vs ∷ fs) o = out_unit code d fs (continued o (λ u. constructed code d (listed code line) object vs))
   out_unit code d (frames.Back this locals ∷ fs) o = out_unit code d fs (restored this locals o)
   out_unit code d (frames.Made object ∷ fs) o = out_value code d fs (continued o (λ u. give object))
-  out_unit code d _ o = misled o
+  out_unit code d fs o = misled code d fs o
 
 -- the arguments that are left come for the topmost frame
 abbrev pub out_arguments : Code → Doing → List Frame → State → Outcome Value
 out_arguments code d (frames.Arguments goal ns vs ∷ fs) s = out_value code d fs (continued (values_at d (listed code ns) s) (λ ws. applied code d goal (onto (reverse vs) ws)))
 out_arguments code d (frames.UpArguments up ns vs ∷ fs) s = out_unit code d fs (continued (values_at d (listed code ns) s) (λ ws. upwards code d up (onto (reverse vs) ws)))
-out_arguments code d _ s = stop Stuck s
+out_arguments code d fs s = stopped code d fs Stuck s
 
 -- the outcome of the whole run, where a task comes next
 abbrev pub resumed : Code → Doing → List Frame → Task → State → Outcome Value

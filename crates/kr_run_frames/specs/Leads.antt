@@ -1,7 +1,6 @@
 -- Between crates: what a step of the machine leaves to do is what there was to do.
-use Rattle.std.specs.Prelude.{◌≡◌, List, ◌++◌, Result, Ok, Err}
+use Rattle.std.specs.Prelude.{◌≡◌, List, Result, Ok, Err}
 use Rattle.kr_value.specs.declared.value.Value.{Value}
-use Rattle.kr_mean.specs.declared.kind.Stop.{Stop}
 use Rattle.kr_mean.specs.Steps.{Outcome}
 use Rattle.kr_code.specs.declared.code.Code.{Code}
 use Rattle.kr_code.specs.Doing.{Doing, IsMeaning}
@@ -9,23 +8,17 @@ use Rattle.kr_run_state.specs.declared.world.World.{World}
 use Rattle.kr_run_state.specs.declared.world.Halt.{Halt}
 use Rattle.kr_run_state.specs.declared.world.Halt.TheVariants.{Ended, Memory}
 use Rattle.kr_run_state.specs.Noting.{noting}
-use Rattle.kr_run_state.specs.Worlds.{Others, Allows, Keeps, candidates_of, state_at}
+use Rattle.kr_run_state.specs.Worlds.{Others, Allows, Keeps, state_at}
 use Rattle.kr_run_frames.specs.declared.task.Task.{Task}
 use Rattle.kr_run_frames.specs.Frame.{Frame}
-use Rattle.kr_run_frames.specs.Frames.{resumed}
+use Rattle.kr_run_frames.specs.Frames.{resumed, stopped}
 
--- A run has ended so, with the world's heap and fuel, and its reads.
-pub record HasEnded (e : Stop) (w : World) (x : Others) (o : Outcome Value) : Type 0 where
-  pub said : o.said ≡ Err e
-  pub heap : o.after.heap ≡ candidates_of w.candidates x ++ w.made
-  pub fuel : o.after.fuel ≡ w.fuel
-  pub reads : o.reads ≡ w.reads
-
--- After a step the run's outcome, with what was read before, is that of what is left to do; or the run has ended: with all
--- candidates that what was read until then allows. Where memory ran out nothing is said.
+-- After a step the run's outcome, with what was read before, is that of what is left to do; where the run has stopped, frames
+-- that wait are left to be passed by: with all candidates that what was read until then allows. Where memory ran out nothing is
+-- said.
 abbrev pub Leads : Code → Result Task Halt → List Frame → World → World → (Doing → Others → Outcome Value) → Type 0
 Leads code (Ok task) fs w before o = (x : Others) → Allows w x → Keeps before w x × ((d : Doing) → IsMeaning code d → noting before.reads (o d x) ≡ noting w.reads (resumed code d fs task (state_at w x)))
-Leads code (Err (Ended e)) fs w before o = (x : Others) → Allows w x → Keeps before w x × ((d : Doing) → IsMeaning code d → HasEnded e w x (noting before.reads (o d x)))
+Leads code (Err (Ended e)) fs w before o = (x : Others) → Allows w x → Keeps before w x × ((d : Doing) → IsMeaning code d → noting before.reads (o d x) ≡ noting w.reads (stopped code d fs e (state_at w x)))
 Leads code (Err (Memory why)) fs w before o = Unit {0}
 
 -- the task that stands there now, or why none does

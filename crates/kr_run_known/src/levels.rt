@@ -326,7 +326,7 @@ fn parts_in<L: Look>(
                 }
             }
         }
-        Expression::Same(operand) => L::look(code, world, *operand, fuel),
+        Expression::Convert { operand, .. } => L::look(code, world, *operand, fuel),
         _ => None,
     }
 }

@@ -45,6 +45,6 @@ leaves code void said (Err e) given w before o none is gives a d m =
     let b = subst (λ (r : Result Value Halt). Answers code r w before o) is a in
     let q = (b None tt).1 d m in
     same given (ending_of void (o d None).said) w.made (o d None).after.heap w.fuel (o d None).after.fuel
-    (gives ∙ ap (ending_of void) (sym q.said))
-    (sym (all_made w before none (b None tt).0) ∙ sym q.heap)
-    (sym q.fuel)
+    (gives ∙ ap (ending_of void) (sym (ap (λ (x : Outcome Value). x.said) q)))
+    (sym (all_made w before none (b None tt).0) ∙ sym (ap (λ (x : Outcome Value). x.after.heap) q))
+    (sym (ap (λ (x : Outcome Value). x.after.fuel) q))

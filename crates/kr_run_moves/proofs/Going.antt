@@ -22,7 +22,7 @@ use Rattle.kr_run_frames.specs.Frame.{Frame}
 use Rattle.kr_run_frames.specs.declared.task.Task.{Task}
 use Rattle.kr_run_frames.specs.Frames.{continued, out_value, out_flow}
 use Rattle.kr_run_frames.specs.Leads.{Leads}
-use Rattle.kr_run_frames.proofs.Outcomes.{continued_reads, ends_on, flow_ends, flow_reads, gave, halts, leads_alike, leads_same, value_ends, value_reads}
+use Rattle.kr_run_frames.proofs.Outcomes.{continued_reads, flow_halts_then, flow_reads, gave, leads_alike, leads_same, value_halts_then, value_reads}
 use Rattle.kr_run_moves.proofs.Moves.{given_then, mapped}
 
 -- a part gives something, and then a value comes
@@ -62,26 +62,25 @@ ticked out law seen new n s t v h =
     ap (λ q. noting seen (out q)) (sym (given_then tick Null (λ x. n) s))
     ∙ gave (λ q. out (continued q (λ x. n))) (λ rs q. ap out (continued_reads rs q (λ x. n)) ∙ law rs (continued q (λ x. n))) seen new (bind tick (λ u. give Null) s) v t h
 
-pub no_value_tick : (code : Code) (h : Halt) (fs gs : List Frame) (w before : World) (n : Doing → Run Value)
-    → Agrees {A = Value} (Err h) w before (λ x. bind tick (λ u. give Null) (state_at before x)) → Leads code (Err h) gs w before (λ d x. out_value code d fs (bind tick (λ u. n d) (state_at before x)))
-no_value_tick code h fs gs w before n a =
-    leads_alike code (Err h) gs w before _ (λ d x. out_value code d fs (continued (bind tick (λ u. give Null) (state_at before x)) (λ v. n d)))
+pub no_value_tick : (code : Code) (h : Halt) (fs : List Frame) (w before : World) (n : Doing → Run Value)
+    → Agrees {A = Value} (Err h) w before (λ x. bind tick (λ u. give Null) (state_at before x)) → Leads code (Err h) fs w before (λ d x. out_value code d fs (bind tick (λ u. n d) (state_at before x)))
+no_value_tick code h fs w before n a =
+    leads_alike code (Err h) fs w before _ (λ d x. out_value code d fs (continued (bind tick (λ u. give Null) (state_at before x)) (λ v. n d)))
     (λ x d m. ap (λ (q : Outcome Value). out_value code d fs q) (sym (given_then tick Null (λ v. n d) (state_at before x))))
-    (halts code h gs w before (λ d q. out_value code d fs (continued q (λ v. n d))) (λ d e heap fuel reads o y. value_ends code d e heap fuel reads fs _ (ends_on e heap fuel reads o (λ v. n d) y)) (λ x. bind tick (λ u. give Null) (state_at before x)) a)
+    (value_halts_then code h fs w before (λ d v. n d) (λ x. bind tick (λ u. give Null) (state_at before x)) a)
 
-pub no_flow_tick : (code : Code) (h : Halt) (fs gs : List Frame) (w before : World) (n : Doing → Run Flow)
-    → Agrees {A = Value} (Err h) w before (λ x. bind tick (λ u. give Null) (state_at before x)) → Leads code (Err h) gs w before (λ d x. out_flow code d fs (bind tick (λ u. n d) (state_at before x)))
-no_flow_tick code h fs gs w before n a =
-    leads_alike code (Err h) gs w before _ (λ d x. out_flow code d fs (continued (bind tick (λ u. give Null) (state_at before x)) (λ v. n d)))
+pub no_flow_tick : (code : Code) (h : Halt) (fs : List Frame) (w before : World) (n : Doing → Run Flow)
+    → Agrees {A = Value} (Err h) w before (λ x. bind tick (λ u. give Null) (state_at before x)) → Leads code (Err h) fs w before (λ d x. out_flow code d fs (bind tick (λ u. n d) (state_at before x)))
+no_flow_tick code h fs w before n a =
+    leads_alike code (Err h) fs w before _ (λ d x. out_flow code d fs (continued (bind tick (λ u. give Null) (state_at before x)) (λ v. n d)))
     (λ x d m. ap (λ (q : Outcome Flow). out_flow code d fs q) (sym (given_then tick Null (λ v. n d) (state_at before x))))
-    (halts code h gs w before (λ d q. out_flow code d fs (continued q (λ v. n d))) (λ d e heap fuel reads o y. flow_ends code d e heap fuel reads fs _ (ends_on e heap fuel reads o (λ v. n d) y)) (λ x. bind tick (λ u. give Null) (state_at before x)) a)
+    (flow_halts_then code h fs w before (λ d v. n d) (λ x. bind tick (λ u. give Null) (state_at before x)) a)
 
 -- a step ends the run, and no statement leads on
-pub no_flow : (code : Code) (h : Halt) (fs gs : List Frame) (w before : World) (m : Run Value) (k : Doing → Value → Run Flow)
-    → Agrees {A = Value} (Err h) w before (λ x. m (state_at before x)) → Leads code (Err h) gs w before (λ d x. out_flow code d fs (bind m (k d) (state_at before x)))
+pub no_flow : (code : Code) (h : Halt) (fs : List Frame) (w before : World) (m : Run Value) (k : Doing → Value → Run Flow)
+    → Agrees {A = Value} (Err h) w before (λ x. m (state_at before x)) → Leads code (Err h) fs w before (λ d x. out_flow code d fs (bind m (k d) (state_at before x)))
 unfolding bind
-no_flow code h fs gs w before m k a =
-    halts code h gs w before (λ d q. out_flow code d fs (continued q (k d))) (λ d e heap fuel reads o y. flow_ends code d e heap fuel reads fs _ (ends_on e heap fuel reads o (k d) y)) (λ x. m (state_at before x)) a
+no_flow code h fs w before m k a = flow_halts_then code h fs w before k (λ x. m (state_at before x)) a
 
 -- ---- lists
 

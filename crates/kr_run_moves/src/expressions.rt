@@ -408,7 +408,7 @@ fn enter_expression(
             *operand,
             task,
         ),
-        Expression::Same(operand) => {
+        Expression::Convert { operand, .. } => {
             *task = Task::Evaluate(*operand);
             Ok(())
         }

@@ -99,7 +99,10 @@ impl Parts {
     ) -> Result<(), NoMemory> {
         let listed = self.list(body)?;
         self.methods.push(MethodCode {
-            parameters,
+            parameters: Nodes {
+                first: 0,
+                count: parameters,
+            },
             is_void,
             body: listed,
         })?;

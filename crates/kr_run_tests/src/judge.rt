@@ -52,7 +52,7 @@ impl Written for OneField {
         push_nodes(&mut parts.nodes)?;
         parts.links.push(3)?;
         parts.methods.push(MethodCode {
-            parameters: 0,
+            parameters: Nodes { first: 0, count: 0 },
             is_void: false,
             body: Nodes { first: 0, count: 1 },
         })?;

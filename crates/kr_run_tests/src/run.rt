@@ -112,12 +112,12 @@ fn push_declarations(parts: &mut Parts) -> Result<(), NoMemory> {
     parts.links.extend_from_slice(&[1, 10, 7, 9, 11, 20, 0])?;
     parts.values.push(Value::Null)?;
     parts.methods.push(MethodCode {
-        parameters: 1,
+        parameters: Nodes { first: 0, count: 1 },
         is_void: false,
         body: Nodes { first: 1, count: 3 },
     })?;
     parts.methods.push(MethodCode {
-        parameters: 0,
+        parameters: Nodes { first: 0, count: 0 },
         is_void: false,
         body: Nodes { first: 5, count: 1 },
     })?;

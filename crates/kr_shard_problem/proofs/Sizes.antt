@@ -1,19 +1,22 @@
 -- The class domains of a document that breaks no rule: names without a line feed, few objects, few values of each spot.
-use Rattle.std.proofs.Common.{◌≡◌, ℕ, zero, suc, ◌+◌, ◌<◌, ◌≤◌, ◌^◌, ◌==◌, Bool, true, false, nat_lt, List, [], ◌∷◌, ◌++◌, length, map, get_or, Option, Some, None, refl, sym, ap, ◌∙◌, subst, arith, length-append}
-use Rattle.std.specs.Prelude.{bytes_eq, codes, unwrap_or, if◌then◌else◌}
+use Rattle.std.proofs.Common.{◌≡◌, ℕ, zero, suc, ◌+◌, ◌<◌, ◌≤◌, ◌^◌, ◌==◌, nat_lt, List, [], ◌∷◌, ◌++◌, length, map, get_or, Option, Some, None, refl, sym, ap, ◌∙◌, subst, arith, length-append}
+use Rattle.std.specs.Prelude.{codes, unwrap_or}
 use Rattle.std.specs.List.{AllByRecursion}
 use Rattle.std.proofs.lemmas.Bool.{ltb-false}
 use Rattle.kr_classes_table.specs.Types.{JavaType}
 use Rattle.kr_classes_table.specs.Table.{Field, Heading, fields_of}
 use Rattle.kr_fin.specs.declared.document.ArrayBound.{ArrayBound}
 use Rattle.kr_fin.specs.declared.document.NamedDomain.{NamedDomain}
+use Rattle.kr_fin.specs.declared.document.Item.{Item as FinItem}
 use Rattle.kr_mean.specs.declared.mode.Mode.{Mode}
 use Rattle.kr_mean.specs.Problem.{Problem, Choice, ClassDomain, Domain, Objects, Slot, Spotted, choices_at, choices_in, domain_at, item_choices, no_objects, slots}
 use Rattle.kr_space_meaning.specs.declared.refusal.SpaceRule.TheVariants.{EmptyDomain, TooMany, ValueTwice}
-use Rattle.kr_space_meaning.specs.Bounds.{Setting, array_class_domain, bounded, class_domains, domains_of, element_spots, elements_key, field_key, field_spots, given, greatest, lengths_of, typed_bound, values_given, values_of}
+use Rattle.kr_space_meaning.specs.Bounds.{Setting, array_class_domain, bounded, class_domains, domains_of, element_spots, elements_key, field_key, field_spots, field_values, given, greatest, lengths_of, root_of, typed_bound, values_of}
+use Rattle.kr_space_meaning.specs.Keys.{field_type, parameter_type}
 use Rattle.kr_space_meaning.specs.Faults.{S1, S2, S3_S5_S6, S4, S7, S8, S9, faults_in, has_twice, number_faults, numbers_of, numbers_of_lengths, of_arrays}
 use Rattle.kr_space_meaning.specs.Names.{array_type}
 use Rattle.kr_space_meaning.specs.Order.{break_if}
+use Rattle.kr_space_meaning.proofs.Given.{given_holds}
 use Rattle.kr_space_meaning.proofs.Each.{both_none, each_at, each_mapped, each_of_both, each_weaker, none_each, unbroken}
 use Rattle.kr_laws_slots.proofs.Numbering.{no_spot, object_slot, spotted_at, SlotCase, is_this, is_parameter, is_spot, slot_case}
 use Rattle.kr_laws_slots.proofs.Spaces.{objects_long}
@@ -24,15 +27,15 @@ use Rattle.kr_shard_problem.proofs.Types.{array_line}
 -- ---- the rules on numbers
 
 pub record AreNumbered (problem : Problem) (setting : Setting) : Type 0 where
-  pub fields : numbers_of problem setting (codes "fields.") setting.document.fields ≡ []
+  pub fields : numbers_of problem setting (field_type setting.table) (codes "fields.") setting.document.fields ≡ []
   pub lengths : numbers_of_lengths problem setting setting.document.arrays ≡ []
   pub few : length (slots problem) ≤ 4096
 
 pub numbered : (problem : Problem) (setting : Setting) (mode : Mode) → faults_in problem setting mode ≡ [] → AreNumbered problem setting
 unfolding faults_in
 numbered problem setting mode e =
-    let fields = numbers_of problem setting (codes "fields.") setting.document.fields in
-    let params = numbers_of problem setting (codes "params.") setting.document.params in
+    let fields = numbers_of problem setting (field_type setting.table) (codes "fields.") setting.document.fields in
+    let params = numbers_of problem setting (parameter_type setting.table (root_of setting)) (codes "params.") setting.document.params in
     let lengths = numbers_of_lengths problem setting setting.document.arrays in
     let this = break_if ((domain_at problem problem.root).count == 0) EmptyDomain (codes "this") in
     let many = break_if (nat_lt 4096 (length (slots problem))) TooMany (codes "slots") in
@@ -79,26 +82,26 @@ pub record IsGood (problem : Problem) (domain : ClassDomain) : Type 0 where
   pub spots : AllByRecursion (λ s. IsSmall problem s.domain) domain.spots
 
 module _ (problem : Problem) (setting : Setting) (is : AreNumbered problem setting) where
-  fields_small : AllByRecursion (λ d. IsSmall problem (values_of setting d.domain)) setting.document.fields
+  -- what is given for a key of `fields`
+  abbrev IsFieldSmall : List ℕ → List FinItem → Type 0
+  IsFieldSmall key items = IsSmall problem (values_of setting (field_type setting.table key) items)
+
+  fields_small : AllByRecursion (λ d. IsFieldSmall d.key d.domain) setting.document.fields
   fields_small =
-      each_weaker _ (λ (d : NamedDomain). IsSmall problem (values_of setting d.domain)) setting.document.fields
-      (λ d none. few_choices (codes "fields." ++ d.key) (choices_in problem (values_of setting d.domain)) none) (none_each _ setting.document.fields is.fields)
+      each_weaker _ (λ (d : NamedDomain). IsFieldSmall d.key d.domain) setting.document.fields
+      (λ d none. few_choices (codes "fields." ++ d.key) (choices_in problem (values_of setting (field_type setting.table d.key) d.domain)) none) (none_each _ setting.document.fields is.fields)
 
   lengths_small : AllByRecursion (λ b. IsSmall problem (lengths_of setting b.lengths)) setting.document.arrays
   lengths_small =
       each_weaker _ (λ (b : ArrayBound). IsSmall problem (lengths_of setting b.lengths)) setting.document.arrays
       (λ b none. few_choices (of_arrays b.name) (choices_in problem (lengths_of setting b.lengths)) none) (none_each _ setting.document.arrays is.lengths)
 
-  found_small : (ds : List NamedDomain) (key : List ℕ) → AllByRecursion (λ d. IsSmall problem (values_of setting d.domain)) ds → IsSmall problem (values_of setting (unwrap_or (given ds key) []))
-  found_small [] key h = omega arith
-  found_small (d ∷ ds) key h = go (bytes_eq d.key key) (found_small ds key h.1)
+  given_small : (key : List ℕ) → IsSmall problem (field_values setting key)
+  given_small key = go (given setting.document.fields key) refl
     where
-      go : (b : Bool) → IsSmall problem (values_of setting (unwrap_or (given ds key) [])) → IsSmall problem (values_of setting (unwrap_or (if b then Some d.domain else given ds key) []))
-      go true rest = h.0
-      go false rest = rest
-
-  given_small : (key : List ℕ) → IsSmall problem (values_given setting setting.document.fields key)
-  given_small key = found_small setting.document.fields key fields_small
+      go : (o : Option (List FinItem)) → given setting.document.fields key ≡ o → IsFieldSmall key (unwrap_or o [])
+      go None e = omega arith
+      go (Some items) e = given_holds IsFieldSmall setting.document.fields key items fields_small e
 
   -- ---- class domains
 
@@ -120,7 +123,7 @@ module _ (problem : Problem) (setting : Setting) (is : AreNumbered problem setti
     array_good a name count long = record {
       name = name;
       count = count;
-      spots = (long, elements_small 0 (greatest (lengths_of setting a.1.lengths)) (values_given setting setting.document.fields (elements_key a.1.name)) (given_small (elements_key a.1.name)));
+      spots = (long, elements_small 0 (greatest (lengths_of setting a.1.lengths)) (field_values setting (elements_key a.1.name)) (given_small (elements_key a.1.name)));
     }
 
     both_each : (bs : List ArrayBound) → AllByRecursion (λ b. b.count ≤ 64) bs → AllByRecursion (λ b. IsSmall problem (lengths_of setting b.lengths)) bs

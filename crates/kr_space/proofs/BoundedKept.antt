@@ -5,7 +5,10 @@ use Rattle.std.specs.List.{AllByRecursion}
 use Rattle.std.proofs.lemmas.Bool.{and_parts, leb-true, le-leb}
 use Rattle.std.proofs.lemmas.List.{drop_more}
 use Rattle.std.proofs.lemmas.List.Sums.{fold-append}
+use Rattle.kr_classes_table.specs.Types.{JavaType}
+use Rattle.kr_classes_table.specs.Numbers.{Width, Bits32}
 use Rattle.kr_classes_types.specs.Types.{TypeList, Extends}
+use Rattle.kr_space_names.proofs.Growing.{node_types_kept}
 use Rattle.kr_mean.specs.Problem.{Problem, Choice, Domain, choices_in}
 use Rattle.kr_fin.specs.declared.document.Item.{Item as FinItem}
 use Rattle.kr_fin.specs.declared.document.Item.TheVariants.{Number, Range, Truth, Name}
@@ -13,7 +16,7 @@ use Rattle.kr_space_layout.specs.declared.item.DomainEntry.{DomainEntry}
 use Rattle.kr_space_layout.specs.declared.stretch.Block.{Block}
 use Rattle.kr_space_layout.specs.Items.{domain_of}
 use Rattle.kr_space_layout.specs.Stretches.{all_choices, stretch_of}
-use Rattle.kr_space_meaning.specs.Bounds.{Setting, lengths_of, values_of}
+use Rattle.kr_space_meaning.specs.Bounds.{Setting, lengths_of, values_of, values_with, width_for}
 use Rattle.kr_space_meaning.specs.Faults.{number_faults}
 use Rattle.kr_space_meaning.specs.Limits.{AreLengths, IsInt, IsLength, IsSmall}
 use Rattle.kr_space_meaning.specs.Order.{Fault, lesser}
@@ -26,6 +29,7 @@ use Rattle.kr_space.proofs.LengthLists.{lengths_are}
 pub bounded_kept : (a b : TypeList) (d : Bounded) → Extends a b → IsBounded a d → IsBounded b d
 bounded_kept a b d e k = record {
   classes = k.classes;
+  typed = node_types_kept d.classes.now.trees.now a b d.classes.now.numbers.now e k.typed;
   few = k.few;
   bounds = bounds_kept a b d.document.now.arrays d.bounds.now (setting_in d).arrays e k.bounds;
   blocks = k.blocks;
@@ -42,7 +46,7 @@ pub each_of : {A : Type 0} (P : A → Type 0) (xs : List A) → All P xs → All
 each_of P [] h = tt
 each_of P (x ∷ xs) h = (h 0 x (omega arith), each_of P xs (λ k d l. h (suc k) d (omega (arith, l))))
 
-pub lengths_values : (setting : Setting) (items : List FinItem) → All AreLengths items → values_of setting items ≡ lengths_of setting items
+pub lengths_values : (setting : Setting) (items : List FinItem) → All AreLengths items → values_with setting Bits32 items ≡ lengths_of setting items
 lengths_values setting items h = sym (lengths_are setting items (each_of AreLengths items h))
 
 small_natural : (n : ℕ) → nat_le n 64 ≡ true → nat_le n 2147483647 ≡ true
@@ -64,8 +68,13 @@ lengths_small items h = λ k d l. small_length (get_or items k d) (h k d l)
 
 -- of lengths the values are the lengths
 pub lengths_noted : (problem : Problem) (setting : Setting) (item : List ℕ) (items : List FinItem) (old new : Option Fault) → All AreLengths items
-    → new ≡ fold lesser old (number_faults item (choices_in problem (values_of setting items))) → new ≡ fold lesser old (number_faults item (choices_in problem (lengths_of setting items)))
+    → new ≡ fold lesser old (number_faults item (choices_in problem (values_with setting Bits32 items))) → new ≡ fold lesser old (number_faults item (choices_in problem (lengths_of setting items)))
 lengths_noted problem setting item items old new h n = n ∙ ap (λ (d : Domain). fold lesser old (number_faults item (choices_in problem d))) (lengths_values setting items h)
+
+-- numbers have the width of the type that is asked for
+pub width_noted : (problem : Problem) (setting : Setting) (t : Option JavaType) (w : Width) (item : List ℕ) (items : List FinItem) (old new : Option Fault) → w ≡ width_for t
+    → new ≡ fold lesser old (number_faults item (choices_in problem (values_with setting w items))) → new ≡ fold lesser old (number_faults item (choices_in problem (values_of setting t items)))
+width_noted problem setting t w item items old new e n = n ∙ ap (λ (v : Width). fold lesser old (number_faults item (choices_in problem (values_with setting v items)))) e
 
 -- the faults of one item more of a list
 pub noted_more : {A : Type 0} (f : A → List Fault) (xs : List A) (i : ℕ) (x : A) (old new : Option Fault) → i < length xs → x ≡ get_or xs i x → new ≡ fold lesser old (f x)

@@ -22,12 +22,12 @@ use Rattle.kr_space_layout.specs.declared.item.DomainEntry.{DomainEntry}
 use Rattle.kr_space_layout.specs.Bounds.{Bounds, bounds_of, spotted}
 use Rattle.kr_space_layout.specs.Bounds as shapes
 use Rattle.kr_space_layout.specs.Items.{domain_of}
-use Rattle.kr_space_meaning.specs.Bounds.{Setting, array_class_domain, array_spots, class_domain, class_domains, class_name, count_named, domains_of, element_spots, elements_key, field_key, field_spots, greatest, lengths_of, parameter_key, root_of, setting_of, tested_parameters, values_given}
+use Rattle.kr_space_meaning.specs.Bounds.{Setting, array_class_domain, array_spots, class_domain, class_domains, class_name, count_named, domains_of, element_spots, elements_key, field_key, field_spots, greatest, lengths_of, parameter_key, root_of, setting_of, tested_parameters}
 use Rattle.kr_space_rules.specs.declared.bounds.Bound.{Bound}
 use Rattle.kr_space_rules.specs.Entries.{bound_shown, no_bound}
 use Rattle.kr_space.specs.Basis.{AreArrays, bounds_on}
 use Rattle.kr_space.specs.Headings.{heading_at}
-use Rattle.kr_space.specs.Pools.{pool}
+use Rattle.kr_space.specs.Pools.{fields_given, params_given, pool}
 use Rattle.kr_space.proofs.ClassFaults.{name_at}
 
 -- ---- lists that grow
@@ -50,17 +50,17 @@ got_there xs ys i x d s h e = e ∙ (ap (λ (zs : List _). get_or zs i x) s ∙ 
 -- ---- fields
 
 abbrev field_spot : Setting → FinDoc → Table → ℕ → Field → problems.Spotted
-field_spot setting document table i f = record { spot = FieldSpot i; domain = values_given setting document.fields (field_key table f) }
+field_spot setting document table i f = record { spot = FieldSpot i; domain = fields_given setting document (field_key table f) }
 
 fields_next : {A : Type 0} (files : List Tree) (document : FinDoc) (v : A → Field) (xs : List A) (i : ℕ) (x : A) → i < length xs → x ≡ get_or xs i x
     → field_spots (setting_of files document) i (map v (drop i xs)) ≡ field_spot (setting_of files document) document (table_of files) i (v x) ∷ field_spots (setting_of files document) (i + 1) (map v (drop (i + 1) xs))
-unfolding setting_of
+unfolding setting_of fields_given
 fields_next {A = A} files document v xs i x h e =
     ap (λ (ys : List A). field_spots (setting_of files document) i (map v ys)) (drop_more xs i x h)
     ∙ ap (λ (y : A). field_spot (setting_of files document) document (table_of files) i (v y) ∷ field_spots (setting_of files document) (i + 1) (map v (drop (i + 1) xs))) (sym e)
 
 pub spots_next : {A : Type 0} (files : List Tree) (document : FinDoc) (ds : List Domain) (all : List problems.Spotted) (old new : List Spotted) (v : A → Field) (xs : List A) (i n : ℕ) (x : A) → i < length xs → x ≡ get_or xs i x
-    → get_or ds n [] ≡ values_given (setting_of files document) document.fields (field_key (table_of files) (v x)) → new ≡ old ++ (record { spot = FieldSpot i; domain = n }) ∷ []
+    → get_or ds n [] ≡ fields_given (setting_of files document) document (field_key (table_of files) (v x)) → new ≡ old ++ (record { spot = FieldSpot i; domain = n }) ∷ []
     → all ≡ map (spotted ds) old ++ field_spots (setting_of files document) i (map v (drop i xs)) → all ≡ map (spotted ds) new ++ field_spots (setting_of files document) (i + 1) (map v (drop (i + 1) xs))
 spots_next files document ds all old new v xs i n x h e g k a =
     shown_next (spotted ds) all (field_spots (setting_of files document) (i + 1) (map v (drop (i + 1) xs))) old new (record { spot = FieldSpot i; domain = n }) (field_spot (setting_of files document) document (table_of files) i (v x)) k
@@ -108,8 +108,9 @@ document_is files document = refl
 
 pub array_domain_is : (files : List Tree) (document : FinDoc) (ds : List Domain) (l : TypeList) (arrays : List ℕ) (b : Bound) (number count : ℕ) (bytes : List ℕ) (spots : List Spotted) → AreArrays l (setting_of files document) arrays → number ≡ unwrap_or (array_number (types_shown l arrays) (type_at l b.number)) 0
     → bytes ≡ (get_or document.arrays b.at no_bound).name → count ≡ (get_or document.arrays b.at no_bound).count
-    → map (spotted ds) spots ≡ array_spots (lengths_of (setting_of files document) (get_or document.arrays b.at no_bound).lengths) (values_given (setting_of files document) document.fields (elements_key (get_or document.arrays b.at no_bound).name))
+    → map (spotted ds) spots ≡ array_spots (lengths_of (setting_of files document) (get_or document.arrays b.at no_bound).lengths) (fields_given (setting_of files document) document (elements_key (get_or document.arrays b.at no_bound).name))
     → shapes.class_domain ds (record { name = bytes; class = Array number; count = count; spots = spots }) ≡ array_class_domain (setting_of files document) (bound_shown l document.arrays b)
+unfolding fields_given
 array_domain_is files document ds l arrays b number count bytes spots k n e c s =
     let a = get_or document.arrays b.at no_bound in
     let setting = setting_of files document in
@@ -119,7 +120,7 @@ array_domain_is files document ds l arrays b number count bytes spots k n e c s 
     ∙ (ap (λ (i : ℕ). record { name = a.name; class = Array i; count = count; spots = map (spotted ds) spots }) same
     ∙ (ap (λ (i : ℕ). record { name = a.name; class = Array m; count = i; spots = map (spotted ds) spots }) c
     ∙ (ap (λ (ss : List problems.Spotted). record { name = a.name; class = Array m; count = a.count; spots = ss }) s
-    ∙ ap (λ (d : FinDoc). record { name = a.name; class = Array m; count = a.count; spots = array_spots (lengths_of setting a.lengths) (values_given setting d.fields (elements_key a.name)) }) (sym (document_is files document)))))
+    ∙ ap (λ (d : FinDoc). record { name = a.name; class = Array m; count = a.count; spots = array_spots (lengths_of setting a.lengths) (fields_given setting d (elements_key a.name)) }) (sym (document_is files document)))))
 
 pub arrays_kept : (a b : TypeList) (setting : Setting) (arrays : List ℕ) → Extends a b → AreArrays a setting arrays → AreArrays b setting arrays
 arrays_kept a b setting arrays e k = record { numbers = numbers_kept a b arrays e k.numbers; shown = shown_kept a b arrays e k.numbers ∙ k.shown; few = k.few }
@@ -140,10 +141,10 @@ domains_whole files document l first all bounds f a b =
 
 pub layout_is : (files : List Tree) (document : FinDoc) (mode : Mode) (class : Option ℕ) (root : ℕ) (parameters : List ℕ) (all : List ClassDomain) (ds : List (List DomainEntry)) → map domain_of ds ≡ pool (setting_of files document) document
     → class ≡ root_of (setting_of files document) → root ≡ unwrap_or class 0
-    → map (λ n. get_or (pool (setting_of files document) document) n []) parameters ≡ map (λ p. values_given (setting_of files document) document.params (parameter_key mode p)) (tested_parameters (setting_of files document) mode)
+    → map (λ n. get_or (pool (setting_of files document) document) n []) parameters ≡ map (λ p. params_given (setting_of files document) document (parameter_key mode p)) (tested_parameters (setting_of files document) mode)
     → map (shapes.class_domain (pool (setting_of files document) document)) all ≡ domains_of (setting_of files document)
     → bounds_of root mode document.fuel parameters all (map domain_of ds) ≡ bounds_on (setting_of files document) mode
-unfolding setting_of table_of
+unfolding setting_of table_of params_given
 layout_is files document mode class root parameters all ds d c r p a =
     let setting = setting_of files document in
     let own : map (λ n. get_or (pool setting document) n []) parameters ≡ (bounds_on setting mode).parameters = p in

@@ -5,13 +5,14 @@ use Rattle.std.specs.List.{AllByRecursion}
 use Rattle.std.proofs.lemmas.Int.{ints}
 use Rattle.std.proofs.lemmas.Bool.{cases_lt}
 use Rattle.std.proofs.lemmas.List.{drop_more}
+use Rattle.kr_classes_table.specs.Numbers.{Bits32}
 use Rattle.kr_value.specs.declared.value.Value.TheVariants.{Int, Bool as TruthValue, Null, Ref as Reference}
 use Rattle.kr_mean.specs.Problem.{Domain, Plain, Objects}
 use Rattle.kr_mean.specs.Problem as problems
 use Rattle.kr_fin.specs.declared.document.Item.{Item}
 use Rattle.kr_fin.specs.declared.document.Item.TheVariants.{Number, Range, Truth, Name}
 use Rattle.kr_space_layout.specs.Items.{integers_from, magnitude, width_between}
-use Rattle.kr_space_meaning.specs.Bounds.{Setting, greatest, item_values, lengths_in, lengths_of, values_of}
+use Rattle.kr_space_meaning.specs.Bounds.{Setting, greatest, item_values, lengths_in, lengths_of, values_with}
 use Rattle.kr_space_meaning.specs.Limits.{AreLengths}
 
 abbrev integer : ℤ → problems.DomainItem
@@ -70,7 +71,7 @@ greatest-append (Objects d ∷ xs) ys = greatest-append xs ys
 -- ---- lengths
 
 -- of lengths all values are lengths
-item_lengths : (setting : Setting) (item : Item) → AreLengths item → lengths_in (item_values setting item) ≡ item_values setting item
+item_lengths : (setting : Setting) (item : Item) → AreLengths item → lengths_in (item_values setting Bits32 item) ≡ item_values setting Bits32 item
 item_lengths setting (Number (pos n)) h = refl
 item_lengths setting (Number (negsuc n)) h = absurd (cc (h))
 item_lengths setting (Range (pos a) (pos b)) h = lengths_in_range a (width_between (pos a) (pos b))
@@ -79,31 +80,31 @@ item_lengths setting (Range (pos a) (negsuc b)) h = absurd (let x = h.1 in cc (x
 item_lengths setting (Truth b) h = absurd h
 item_lengths setting (Name name) h = absurd h
 
-pub lengths_are : (setting : Setting) (items : List Item) → AllByRecursion AreLengths items → lengths_of setting items ≡ values_of setting items
+pub lengths_are : (setting : Setting) (items : List Item) → AllByRecursion AreLengths items → lengths_of setting items ≡ values_with setting Bits32 items
 lengths_are setting [] h = refl
 lengths_are setting (i ∷ is) h =
-    lengths_in-append (item_values setting i) (values_of setting is)
-    ∙ (ap (λ (ds : Domain). ds ++ lengths_in (values_of setting is)) (item_lengths setting i h.0) ∙ ap (λ (ds : Domain). item_values setting i ++ ds) (lengths_are setting is h.1))
+    lengths_in-append (item_values setting Bits32 i) (values_with setting Bits32 is)
+    ∙ (ap (λ (ds : Domain). ds ++ lengths_in (values_with setting Bits32 is)) (item_lengths setting i h.0) ∙ ap (λ (ds : Domain). item_values setting Bits32 i ++ ds) (lengths_are setting is h.1))
 
 -- the greatest of one entry more
 pub greatest_more : (setting : Setting) (items : List Item) (all last next i : ℕ) (x : Item) → i < length items → all ≡ max last (greatest (lengths_of setting (drop i items)))
-    → next ≡ max last (greatest (lengths_in (item_values setting (get_or items i x)))) → all ≡ max next (greatest (lengths_of setting (drop (i + 1) items)))
+    → next ≡ max last (greatest (lengths_in (item_values setting Bits32 (get_or items i x)))) → all ≡ max next (greatest (lengths_of setting (drop (i + 1) items)))
 greatest_more setting items all last next i x h e n =
     let item = get_or items i x in
-    let rest = values_of setting (drop (i + 1) items) in
-    let a : greatest (lengths_of setting (drop i items)) ≡ max (greatest (lengths_in (item_values setting item))) (greatest (lengths_in rest)) =
-    ap (λ (is : List Item). greatest (lengths_of setting is)) (drop_more items i x h) ∙ (ap greatest (lengths_in-append (item_values setting item) rest) ∙ greatest-append (lengths_in (item_values setting item)) (lengths_in rest)) in
+    let rest = values_with setting Bits32 (drop (i + 1) items) in
+    let a : greatest (lengths_of setting (drop i items)) ≡ max (greatest (lengths_in (item_values setting Bits32 item))) (greatest (lengths_in rest)) =
+    ap (λ (is : List Item). greatest (lengths_of setting is)) (drop_more items i x h) ∙ (ap greatest (lengths_in-append (item_values setting Bits32 item) rest) ∙ greatest-append (lengths_in (item_values setting Bits32 item)) (lengths_in rest)) in
     omega (arith, e, n, a)
 
-pub range_greatest : (setting : Setting) (a b : ℕ) → a ≤ b → greatest (lengths_in (item_values setting (Range (pos a) (pos b)))) ≡ b
+pub range_greatest : (setting : Setting) (a b : ℕ) → a ≤ b → greatest (lengths_in (item_values setting Bits32 (Range (pos a) (pos b)))) ≡ b
 range_greatest setting a b h =
     ap (λ (n : ℕ). greatest (lengths_in (map integer (integers_from (pos a) n)))) (width_above a b h)
     ∙ (ap greatest (lengths_in_range a (suc (b - a))) ∙ (greatest_in_range a (b - a) ∙ omega (arith, h)))
 
-pub range_none : (setting : Setting) (a b : ℕ) → b < a → greatest (lengths_in (item_values setting (Range (pos a) (pos b)))) ≡ 0
+pub range_none : (setting : Setting) (a b : ℕ) → b < a → greatest (lengths_in (item_values setting Bits32 (Range (pos a) (pos b)))) ≡ 0
 range_none setting a b h = ap (λ (n : ℕ). greatest (lengths_in (map integer (integers_from (pos a) n)))) (width_none a b h)
 
-pub entry_range : (setting : Setting) (item : Item) (from to : ℤ) (a b r : ℕ) → item ≡ Range from to → pos a ≡ from → pos b ≡ to → r ≡ greatest (lengths_in (item_values setting (Range (pos a) (pos b)))) → r ≡ greatest (lengths_in (item_values setting item))
+pub entry_range : (setting : Setting) (item : Item) (from to : ℤ) (a b r : ℕ) → item ≡ Range from to → pos a ≡ from → pos b ≡ to → r ≡ greatest (lengths_in (item_values setting Bits32 (Range (pos a) (pos b)))) → r ≡ greatest (lengths_in (item_values setting Bits32 item))
 entry_range setting item from to a b r e f t k =
-    k ∙ (ap (λ (z : ℤ). greatest (lengths_in (item_values setting (Range z (pos b))))) f
-    ∙ (ap (λ (z : ℤ). greatest (lengths_in (item_values setting (Range from z)))) t ∙ ap (λ (i : Item). greatest (lengths_in (item_values setting i))) (sym e)))
+    k ∙ (ap (λ (z : ℤ). greatest (lengths_in (item_values setting Bits32 (Range z (pos b))))) f
+    ∙ (ap (λ (z : ℤ). greatest (lengths_in (item_values setting Bits32 (Range from z)))) t ∙ ap (λ (i : Item). greatest (lengths_in (item_values setting Bits32 i))) (sym e)))

@@ -13,6 +13,7 @@ use Rattle.kr_mean.specs.Problem.{Problem, domain_at, no_objects, slots}
 use Rattle.kr_fin.specs.declared.document.ArrayBound.{ArrayBound}
 use Rattle.kr_fin.specs.declared.document.FinDoc.{FinDoc}
 use Rattle.kr_space_meaning.specs.declared.refusal.SpaceRule.TheVariants.{EmptyDomain, TooMany}
+use Rattle.kr_space_meaning.specs.Keys.{field_type, parameter_type}
 use Rattle.kr_space_meaning.specs.Bounds.{Setting, array_class_domain, bounded, class_domains, count_named, domains_of, problem_in, problem_of, program_in, root_of, setting_of, tested_parameters}
 use Rattle.kr_space_meaning.specs.Faults.{S1, S2, S3_S5_S6, S4, S7, S8, S9, array_S2, classes_S2, faults_in, fields_unfit, no_fields, no_params, params_unfit, numbers_of, numbers_of_lengths, parameter_S2}
 use Rattle.kr_space_meaning.specs.Order.{Fault, break_if, lesser}
@@ -43,10 +44,10 @@ five : (old : Option Fault) (a b c d e : List Fault) → fold lesser old (a ++ (
 five old a b c d e = three old a b (c ++ (d ++ e)) ∙ three (fold lesser (fold lesser old a) b) c d e
 
 pub numbers_are : (problem : Problem) (setting : Setting) (old : Option Fault) → fold lesser old (S3_S5_S6 problem setting)
-    ≡ fold lesser (fold lesser (fold lesser (fold lesser (fold lesser old (numbers_of problem setting (codes "fields.") setting.document.fields)) (numbers_of problem setting (codes "params.") setting.document.params))
+    ≡ fold lesser (fold lesser (fold lesser (fold lesser (fold lesser old (numbers_of problem setting (field_type setting.table) (codes "fields.") setting.document.fields)) (numbers_of problem setting (parameter_type setting.table (root_of setting)) (codes "params.") setting.document.params))
     (numbers_of_lengths problem setting setting.document.arrays)) (break_if ((domain_at problem problem.root).count == 0) EmptyDomain (codes "this"))) (break_if (nat_lt 4096 (length (slots problem))) TooMany (codes "slots"))
 numbers_are problem setting old =
-    five old (numbers_of problem setting (codes "fields.") setting.document.fields) (numbers_of problem setting (codes "params.") setting.document.params) (numbers_of_lengths problem setting setting.document.arrays)
+    five old (numbers_of problem setting (field_type setting.table) (codes "fields.") setting.document.fields) (numbers_of problem setting (parameter_type setting.table (root_of setting)) (codes "params.") setting.document.params) (numbers_of_lengths problem setting setting.document.arrays)
     (break_if ((domain_at problem problem.root).count == 0) EmptyDomain (codes "this")) (break_if (nat_lt 4096 (length (slots problem))) TooMany (codes "slots"))
 
 pub faults_are : (problem : Problem) (setting : Setting) (mode : Mode) (old : Option Fault) → fold lesser old (faults_in problem setting mode) ≡ fold lesser (fold lesser old (S1 setting)) (after_S1 problem setting mode)

@@ -13,7 +13,7 @@ use Rattle.kr_mean.specs.Program.{Program}
 use Rattle.kr_mean.specs.Problem.{Problem, ClassDomain, Domain, Slot, domain_at, no_objects, objects_from, objects_of_domain, parameter_slots, slots, slots_of_object}
 use Rattle.kr_fin.specs.declared.document.ArrayBound.{ArrayBound}
 use Rattle.kr_fin.specs.declared.document.FinDoc.{FinDoc}
-use Rattle.kr_space_meaning.specs.Bounds.{Setting, array_class_domain, class_domains, class_name, count_named, elements_key, field_spots, greatest, lengths_of, parameter_key, problem_in, program_in, setting_of, tested_parameters, values_given}
+use Rattle.kr_space_meaning.specs.Bounds.{Setting, array_class_domain, class_domains, class_name, count_named, elements_key, field_spots, field_values, greatest, lengths_of, parameter_key, parameter_values, problem_in, program_in, setting_of, tested_parameters}
 use Rattle.kr_space_meaning.proofs.Plain.{length-element_spots}
 use Rattle.kr_space.specs.Headings.{heading_at, no_heading}
 use Rattle.kr_space.specs.Slots.{slots_of_arrays, slots_of_classes}
@@ -92,7 +92,7 @@ classes_slots setting c (h ∷ hs) =
 
 array_long : (setting : Setting) (a : JavaType × ArrayBound) → length (array_class_domain setting a).spots ≡ greatest (lengths_of setting a.1.lengths) + 1
 array_long setting a =
-    let l = length-element_spots 0 (greatest (lengths_of setting a.1.lengths)) (values_given setting setting.document.fields (elements_key a.1.name)) in omega (arith, l)
+    let l = length-element_spots 0 (greatest (lengths_of setting a.1.lengths)) (field_values setting (elements_key a.1.name)) in omega (arith, l)
 
 arrays_slots : (setting : Setting) (arrays : List (JavaType × ArrayBound)) → domains_slots (map (array_class_domain setting) arrays) ≡ slots_of_arrays setting arrays
 arrays_slots setting [] = refl
@@ -104,7 +104,7 @@ setting_slots : (program : Program) (setting : Setting) (mode : Mode) → length
 unfolding problem_in
 setting_slots program setting mode =
     let all = all_long (problem_in program setting mode) in
-    let p = length-map (tested_parameters setting mode) (λ p. values_given setting setting.document.params (parameter_key mode p)) in
+    let p = length-map (tested_parameters setting mode) (λ p. parameter_values setting (parameter_key mode p)) in
     let d = domains_slots-append (class_domains setting 0 setting.table.headings) (map (array_class_domain setting) setting.arrays) in
     let c = classes_slots setting 0 setting.table.headings in
     let a = arrays_slots setting setting.arrays in

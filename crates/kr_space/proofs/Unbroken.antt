@@ -8,7 +8,8 @@ use Rattle.kr_mean.specs.Problem.{Problem, domain_at, slots}
 use Rattle.kr_mean.specs.WellFormed.{IsWellFormed}
 use Rattle.kr_fin.specs.declared.document.FinDoc.{FinDoc}
 use Rattle.kr_space_meaning.specs.declared.refusal.SpaceRule.TheVariants.{EmptyDomain, TooMany}
-use Rattle.kr_space_meaning.specs.Bounds.{Setting, problem_of, setting_of}
+use Rattle.kr_space_meaning.specs.Keys.{field_type, parameter_type}
+use Rattle.kr_space_meaning.specs.Bounds.{Setting, problem_of, root_of, setting_of}
 use Rattle.kr_space_meaning.specs.Faults.{S1, S2, S3_S5_S6, S4, S7, S8, S9, faults_in, numbers_of, numbers_of_lengths}
 use Rattle.kr_fin.specs.Least.{IsLeast}
 use Rattle.kr_space_meaning.specs.Meaning.{faults_of}
@@ -29,8 +30,8 @@ well_formed_here trees here document mode p h e is = subst (λ (q : Problem). Is
 few_slots : (problem : Problem) (setting : Setting) (mode : Mode) → faults_in problem setting mode ≡ [] → length (slots problem) ≤ 4096
 unfolding faults_in
 few_slots problem setting mode e =
-    let fields = numbers_of problem setting (codes "fields.") setting.document.fields in
-    let params = numbers_of problem setting (codes "params.") setting.document.params in
+    let fields = numbers_of problem setting (field_type setting.table) (codes "fields.") setting.document.fields in
+    let params = numbers_of problem setting (parameter_type setting.table (root_of setting)) (codes "params.") setting.document.params in
     let lengths = numbers_of_lengths problem setting setting.document.arrays in
     let this = break_if ((domain_at problem problem.root).count == 0) EmptyDomain (codes "this") in
     let many = break_if (nat_lt 4096 (length (slots problem))) TooMany (codes "slots") in

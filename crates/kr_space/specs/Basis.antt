@@ -6,7 +6,7 @@ use Rattle.kr_space_names.specs.Collected.{AreNumbers, types_shown}
 use Rattle.kr_fin.specs.declared.document.FinDoc.{FinDoc}
 use Rattle.kr_mean.specs.declared.mode.Mode.{Mode}
 use Rattle.kr_space_layout.specs.Bounds.{Bounds}
-use Rattle.kr_space_meaning.specs.Bounds.{Setting, domains_of, parameter_key, root_of, setting_of, tested_parameters, values_given}
+use Rattle.kr_space_meaning.specs.Bounds.{Setting, domains_of, parameter_key, parameter_values, root_of, setting_of, tested_parameters}
 use Rattle.kr_space_meaning.specs.Limits.{IsWithinLimits}
 use Rattle.kr_space_rules.specs.Classes.{AreClasses, files_of}
 use Rattle.kr_space_rules.specs.Entries.{AreBounds}
@@ -43,7 +43,7 @@ abbrev pub bounds_on : Setting → Mode → Bounds
 bounds_on setting mode = record {
   root = unwrap_or (root_of setting) 0;
   mode = mode;
-  parameters = map (λ p. values_given setting setting.document.params (parameter_key mode p)) (tested_parameters setting mode);
+  parameters = map (λ p. parameter_values setting (parameter_key mode p)) (tested_parameters setting mode);
   fuel = setting.document.fuel;
   domains = domains_of setting;
 }

@@ -6,10 +6,10 @@ ghost use Rattle.kr_classes_types.specs.Types.{count, type_at};
 ghost use Rattle.kr_space_names.specs.Collected.{AreNumbers, types_shown};
 ghost use Rattle.kr_mean.specs.Problem.{Domain};
 ghost use Rattle.kr_space_layout.specs.Bounds.{class_domain as domain_shown, spotted};
-ghost use Rattle.kr_space_meaning.specs.Bounds.{Setting, array_class_domain, array_spots as spots_of_array, element_spots, elements_key, lengths_of, values_given};
+ghost use Rattle.kr_space_meaning.specs.Bounds.{Setting, array_class_domain, array_spots as spots_of_array, element_spots, elements_key, lengths_of};
 ghost use Rattle.kr_space_rules.specs.Entries.{IsBound, bound_shown, no_bound};
 ghost use Rattle.kr_space.specs.Basis.{AreArrays, AreBoundsOn, IsBasis, setting_on};
-ghost use Rattle.kr_space.specs.Pools.{pool};
+ghost use Rattle.kr_space.specs.Pools.{fields_given, pool};
 
 use crate::basis::Basis;
 use crate::elements::greatest_of;
@@ -54,7 +54,7 @@ fn add_elements(spots: &mut Listed<Spotted>, count: u32, domain: u32) -> Result<
 /// The number of the domain of an array type's elements.
 fn elements_domain(alloc: Global, basis: &Basis, bound: &ArrayBound) -> Result<u32, NoMemory>
     requires { IsBasis basis.now }
-    ensures { IfOk result (λ n. (setting : Setting) → get_or (pool setting basis.now.document.now) n [] ≡ values_given setting basis.now.document.now.fields (elements_key bound.now.name)) }
+    ensures { IfOk result (λ n. (setting : Setting) → get_or (pool setting basis.now.document.now) n [] ≡ fields_given setting basis.now.document.now (elements_key bound.now.name)) }
 {
     let key = joined(alloc, bound.name.as_str().as_bytes(), b".*".as_slice())?;
     Ok(field_domain(basis.keys, basis.document, &key))
@@ -64,7 +64,7 @@ fn elements_domain(alloc: Global, basis: &Basis, bound: &ArrayBound) -> Result<u
 fn array_spots(alloc: Global, basis: &Basis, at: u32) -> Result<Listed<Spotted>, NoMemory>
     requires basis { IsBasis basis.now }
     requires at { at < length basis.now.document.now.arrays }
-    ensures { IfOk result (λ spots. map (spotted (pool (setting_on basis.now) basis.now.document.now)) spots ≡ spots_of_array (lengths_of (setting_on basis.now) (get_or basis.now.document.now.arrays at no_bound).lengths) (values_given (setting_on basis.now) basis.now.document.now.fields (elements_key (get_or basis.now.document.now.arrays at no_bound).name))) }
+    ensures { IfOk result (λ spots. map (spotted (pool (setting_on basis.now) basis.now.document.now)) spots ≡ spots_of_array (lengths_of (setting_on basis.now) (get_or basis.now.document.now.arrays at no_bound).lengths) (fields_given (setting_on basis.now) basis.now.document.now (elements_key (get_or basis.now.document.now.arrays at no_bound).name))) }
 {
     let document = basis.document;
     let bound = &document.arrays.as_slice()[at as usize];

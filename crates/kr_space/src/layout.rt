@@ -1,6 +1,7 @@
 // The layout of a document's problem.
 ghost use Rattle.std.specs.Prelude.{◌≡◌, IfOk, unwrap_or};
 ghost use Rattle.kr_classes_types.specs.Types.{Extends};
+ghost use Rattle.kr_space_rules.specs.Classes.{AreTyped};
 ghost use Rattle.kr_space.specs.Basis.{AreArrays, AreBoundsOn, IsBasis, bounds_on, setting_on};
 ghost use Rattle.kr_space.specs.Pools.{AreDomainsOn, AreValuesOn};
 
@@ -99,6 +100,7 @@ pub(crate) fn layout_of(
     mode: Mode,
 ) -> Result<Layout, NoMemory>
     requires basis { IsBasis basis.now }
+    requires typed { AreTyped basis.now.classes.now types.old }
     requires bounds { AreBoundsOn types.old basis.now }
     requires arrays { AreArrays types.old (setting_on basis.now) arrays.now }
     ensures layout { IfOk result (λ layout. layout ≡ bounds_on (setting_on basis.now) mode) }

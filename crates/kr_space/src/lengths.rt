@@ -1,5 +1,6 @@
 // The greatest of the lengths that arrays may have.
 ghost use Rattle.std.specs.Prelude.{◌≡◌, All, max, pos};
+ghost use Rattle.kr_classes_table.specs.Numbers.{Bits32};
 ghost use Rattle.kr_space_meaning.specs.Bounds.{Setting, greatest, item_values, lengths_in, lengths_of};
 ghost use Rattle.kr_space_meaning.specs.Limits.{AreLengths, IsLength};
 ghost use Rattle.kr_fin.specs.declared.document.Item.TheVariants.{Range};
@@ -17,7 +18,7 @@ fn length_of(number: i64) -> u32
 /// The greatest of the lengths from one to another; 0 where there are none.
 #[tactic(auto, using(crate::proofs::LengthLists::range_greatest, crate::proofs::LengthLists::range_none))]
 fn range_greatest(from: u32, to: u32) -> u32
-    ensures { (setting : Setting) → result ≡ greatest (lengths_in (item_values setting (Range (pos from) (pos to)))) }
+    ensures { (setting : Setting) → result ≡ greatest (lengths_in (item_values setting Bits32 (Range (pos from) (pos to)))) }
 {
     if from <= to { to } else { 0 }
 }
@@ -25,7 +26,7 @@ fn range_greatest(from: u32, to: u32) -> u32
 /// The greatest of the lengths of an entry.
 fn entry_greatest(item: &Item) -> u32
     requires { AreLengths item.now }
-    ensures { (setting : Setting) → result ≡ greatest (lengths_in (item_values setting item.now)) }
+    ensures { (setting : Setting) → result ≡ greatest (lengths_in (item_values setting Bits32 item.now)) }
 {
     match item {
         Item::Number(number) => length_of(*number),

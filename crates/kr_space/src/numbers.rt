@@ -1,11 +1,13 @@
 // Rules S3, S5 and S6 of the domains that are given.
 ghost use Rattle.std.specs.Prelude.{◌≡◌, ◌++◌, All, OnOk, fold};
+ghost use Rattle.kr_classes_table.specs.Numbers.{Bits32};
 ghost use Rattle.kr_classes_types.specs.Types.{Extends};
 ghost use Rattle.kr_mean.specs.Problem.{choices_in};
-ghost use Rattle.kr_space_meaning.specs.Bounds.{lengths_of, values_of};
+ghost use Rattle.kr_space_meaning.specs.Bounds.{lengths_of, values_of, values_with};
 ghost use Rattle.kr_space_meaning.specs.Faults.{number_faults, numbers_of, numbers_of_lengths, of_arrays};
 ghost use Rattle.kr_space_meaning.specs.Limits.{AreLengths, IsSmall};
 ghost use Rattle.kr_space_meaning.specs.Order.{lesser};
+ghost use Rattle.kr_space_rules.specs.Widths.{asked, width_shown};
 ghost use Rattle.kr_space.specs.Bounded.{IsBounded, problem_in, setting_in};
 
 use crate::bounded::Bounded;
@@ -14,20 +16,21 @@ use kr_classes_types::Types;
 use kr_fin::{ArrayBound, Item, Least, NamedDomain};
 use kr_space_meaning::SpaceRule;
 use kr_space_names::item_of;
-use kr_space_rules::{entries_of, note_numbers};
+use kr_space_rules::{Keyed, Width, entries_of, note_numbers, width_asked};
 
 #[tactic(auto, using(crate::proofs::BoundedKept::numbers_same))]
-/// The numbers of the values of a domain, under its item.
+/// The numbers of the values of a domain whose numbers have a width, under its item.
 fn note_values(
     least: &mut Least<SpaceRule>,
     types: &mut Types,
     bounded: &Bounded,
+    width: Width,
     item: &str,
     items: &[Item],
 ) -> Result<(), NoMemory>
     requires bounded { IsBounded types.old bounded.now }
     requires small { All IsSmall items.now }
-    ensures noted { OnOk result (least.new ≡ fold lesser least.old (number_faults item.now (choices_in (problem_in bounded.now) (values_of (setting_in bounded.now) items.now)))) }
+    ensures noted { OnOk result (least.new ≡ fold lesser least.old (number_faults item.now (choices_in (problem_in bounded.now) (values_with (setting_in bounded.now) (width_shown width) items.now)))) }
     ensures extends { Extends types.old types.new }
 {
     let classes = bounded.classes;
@@ -38,32 +41,50 @@ fn note_values(
         classes.heads,
         bounded.document,
         bounded.bounds,
+        width,
         items,
     )?;
     note_numbers(least, item, &entries, bounded.blocks)
 }
 
-/// The numbers of the values of a field, of elements or of a parameter.
+/// The numbers of the values of a field, of elements or of a parameter, where numbers have a width.
 fn note_domain(
     least: &mut Least<SpaceRule>,
     types: &mut Types,
     bounded: &Bounded,
+    width: Width,
     table: &str,
     domain: &NamedDomain,
 ) -> Result<(), NoMemory>
     requires bounded { IsBounded types.old bounded.now }
     requires small { All IsSmall domain.now.domain }
-    ensures noted { OnOk result (least.new ≡ fold lesser least.old (number_faults (table.now ++ domain.now.key) (choices_in (problem_in bounded.now) (values_of (setting_in bounded.now) domain.now.domain)))) }
+    ensures noted { OnOk result (least.new ≡ fold lesser least.old (number_faults (table.now ++ domain.now.key) (choices_in (problem_in bounded.now) (values_with (setting_in bounded.now) (width_shown width) domain.now.domain)))) }
     ensures extends { Extends types.old types.new }
 {
     let item = item_of(least.alloc(), table, domain.key.as_str())?;
-    note_values(
-        least,
-        types,
-        bounded,
-        item.as_str(),
-        domain.domain.as_slice(),
-    )
+    let items = domain.domain.as_slice();
+    note_values(least, types, bounded, width, item.as_str(), items)
+}
+
+/// The numbers of the values of a domain, for the type that its key asks for.
+#[tactic(auto, using(crate::proofs::BoundedKept::bounded_kept))]
+fn note_keyed(
+    least: &mut Least<SpaceRule>,
+    types: &mut Types,
+    bounded: &Bounded,
+    keyed: Keyed,
+    table: &str,
+    domain: &NamedDomain,
+) -> Result<(), NoMemory>
+    requires bounded { IsBounded types.old bounded.now }
+    requires small { All IsSmall domain.now.domain }
+    ensures noted { OnOk result (least.new ≡ fold lesser least.old (number_faults (table.now ++ domain.now.key) (choices_in (problem_in bounded.now) (values_of (setting_in bounded.now) (asked (setting_in bounded.now) keyed domain.now.key) domain.now.domain)))) }
+    ensures extends { Extends types.old types.new }
+{
+    let alloc = least.alloc();
+    let key = domain.key.as_str().as_bytes();
+    let width = width_asked(alloc, bounded.classes, types, bounded.document, keyed, key)?;
+    note_domain(least, types, bounded, width, table, domain)
 }
 
 /// The numbers of the values of the domains of a table.
@@ -71,16 +92,17 @@ pub(crate) fn note_domains(
     least: &mut Least<SpaceRule>,
     types: &mut Types,
     bounded: &Bounded,
+    keyed: Keyed,
     table: &str,
     domains: &[NamedDomain],
 ) -> Result<(), NoMemory>
     requires bounded { IsBounded types.old bounded.now }
     requires small { All (λ d. All IsSmall d.domain) domains.now }
-    ensures noted { OnOk result (least.new ≡ fold lesser least.old (numbers_of (problem_in bounded.now) (setting_in bounded.now) table.now domains.now)) }
+    ensures noted { OnOk result (least.new ≡ fold lesser least.old (numbers_of (problem_in bounded.now) (setting_in bounded.now) (asked (setting_in bounded.now) keyed) table.now domains.now)) }
     ensures extends { Extends types.old types.new }
 {
     for domain in domains {
-        note_domain(least, types, bounded, table, domain)?;
+        note_keyed(least, types, bounded, keyed, table, domain)?;
     }
     Ok(())
 }
@@ -95,17 +117,12 @@ fn note_length_values(
 ) -> Result<(), NoMemory>
     requires bounded { IsBounded types.old bounded.now }
     requires lengths { All AreLengths bound.now.lengths }
-    ensures noted { OnOk result (least.new ≡ fold lesser least.old (number_faults (of_arrays bound.now.name) (choices_in (problem_in bounded.now) (values_of (setting_in bounded.now) bound.now.lengths)))) }
+    ensures noted { OnOk result (least.new ≡ fold lesser least.old (number_faults (of_arrays bound.now.name) (choices_in (problem_in bounded.now) (values_with (setting_in bounded.now) Bits32 bound.now.lengths)))) }
     ensures extends { Extends types.old types.new }
 {
     let item = item_of(least.alloc(), "arrays.", bound.name.as_str())?;
-    note_values(
-        least,
-        types,
-        bounded,
-        item.as_str(),
-        bound.lengths.as_slice(),
-    )
+    let lengths = bound.lengths.as_slice();
+    note_values(least, types, bounded, Width::Bits32, item.as_str(), lengths)
 }
 
 /// The numbers of the lengths of an array type.

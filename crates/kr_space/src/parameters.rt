@@ -2,10 +2,10 @@
 ghost use Rattle.std.specs.Prelude.{◌≡◌, [], All, IfOk, map};
 ghost use Rattle.std.proofs.Common.{get_or};
 ghost use Rattle.kr_mean.specs.declared.mode.Mode.TheVariants.{Method as Testing};
-ghost use Rattle.kr_space_meaning.specs.Bounds.{parameter_key as key_of_parameter, root_of, tested_parameters, values_given};
+ghost use Rattle.kr_space_meaning.specs.Bounds.{parameter_key as key_of_parameter, root_of, tested_parameters};
 ghost use Rattle.kr_space_rules.specs.Parameters.{IsParameter, parameter_shown};
 ghost use Rattle.kr_space.specs.Basis.{IsBasis, setting_on};
-ghost use Rattle.kr_space.specs.Pools.{pool};
+ghost use Rattle.kr_space.specs.Pools.{params_given, pool};
 
 use crate::basis::Basis;
 use crate::keys::joined;
@@ -41,7 +41,7 @@ fn numbers_of(
 ) -> Result<Listed<u32>, NoMemory>
     requires basis { IsBasis basis.now }
     requires parameters { All (IsParameter basis.now.classes.now.trees.now) parameters.now }
-    ensures { IfOk result (λ numbers. map (λ n. get_or (pool (setting_on basis.now) basis.now.document.now) n []) numbers ≡ map (λ p. values_given (setting_on basis.now) basis.now.document.now.params (key_of_parameter (Testing method.now) p)) (map (parameter_shown basis.now.classes.now.trees.now) parameters.now)) }
+    ensures { IfOk result (λ numbers. map (λ n. get_or (pool (setting_on basis.now) basis.now.document.now) n []) numbers ≡ map (λ p. params_given (setting_on basis.now) basis.now.document.now (key_of_parameter (Testing method.now) p)) (map (parameter_shown basis.now.classes.now.trees.now) parameters.now)) }
 {
     let mut numbers = Listed::new(alloc);
     for parameter in parameters {
@@ -61,7 +61,7 @@ pub(crate) fn parameter_domains(
 ) -> Result<Listed<u32>, NoMemory>
     requires basis { IsBasis basis.now }
     requires root { root ≡ root_of (setting_on basis.now) }
-    ensures { IfOk result (λ numbers. map (λ n. get_or (pool (setting_on basis.now) basis.now.document.now) n []) numbers ≡ map (λ p. values_given (setting_on basis.now) basis.now.document.now.params (key_of_parameter mode.now p)) (tested_parameters (setting_on basis.now) mode.now)) }
+    ensures { IfOk result (λ numbers. map (λ n. get_or (pool (setting_on basis.now) basis.now.document.now) n []) numbers ≡ map (λ p. params_given (setting_on basis.now) basis.now.document.now (key_of_parameter mode.now p)) (tested_parameters (setting_on basis.now) mode.now)) }
 {
     match mode {
         Mode::List => Ok(Listed::new(alloc)),

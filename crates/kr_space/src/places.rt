@@ -1,11 +1,11 @@
 // The numbers of the domains that a document gives.
 ghost use Rattle.std.specs.Prelude.{◌≡◌, ◌<◌, ◌+◌, [], length};
 ghost use Rattle.std.proofs.Common.{get_or};
-ghost use Rattle.kr_space_meaning.specs.Bounds.{Setting, lengths_of, values_given};
+ghost use Rattle.kr_space_meaning.specs.Bounds.{Setting, lengths_of};
 ghost use Rattle.kr_space_rules.specs.Entries.{no_bound};
 ghost use Rattle.kr_space.specs.Basis.{HasFewDomains};
 ghost use Rattle.kr_space.specs.Keys.{AreKeys};
-ghost use Rattle.kr_space.specs.Pools.{pool};
+ghost use Rattle.kr_space.specs.Pools.{fields_given, params_given, pool};
 
 use crate::keys::Keys;
 use kr_fin::FinDoc;
@@ -26,7 +26,7 @@ fn domain_count(document: &FinDoc) -> u32
 pub(crate) fn field_domain(keys: &Keys, document: &FinDoc, key: &[u8]) -> u32
     requires keys { AreKeys document.now keys.now }
     requires few { HasFewDomains document.now }
-    ensures { (setting : Setting) → get_or (pool setting document.now) result [] ≡ values_given setting document.now.fields key.now }
+    ensures { (setting : Setting) → get_or (pool setting document.now) result [] ≡ fields_given setting document.now key.now }
 {
     match keys.fields.find(key) {
         None => domain_count(document),
@@ -39,7 +39,7 @@ pub(crate) fn field_domain(keys: &Keys, document: &FinDoc, key: &[u8]) -> u32
 pub(crate) fn parameter_domain(keys: &Keys, document: &FinDoc, key: &[u8]) -> u32
     requires keys { AreKeys document.now keys.now }
     requires few { HasFewDomains document.now }
-    ensures { (setting : Setting) → get_or (pool setting document.now) result [] ≡ values_given setting document.now.params key.now }
+    ensures { (setting : Setting) → get_or (pool setting document.now) result [] ≡ params_given setting document.now key.now }
 {
     match keys.params.find(key) {
         None => domain_count(document),

@@ -68,7 +68,7 @@ struct Laid {
 }
 
 /// The array types and the layout of the problem that is made of these.
-#[tactic(auto, using(kr_space_rules::proofs::Bounded::bounds_kept))]
+#[tactic(auto, using(kr_space_names::proofs::Growing::node_types_kept, kr_space_rules::proofs::Bounded::bounds_kept))]
 fn laid_on(alloc: Global, types: &mut Types, basis: &Basis, mode: Mode) -> Result<Laid, NoMemory>
     requires few { length basis.now.classes.now.trees.now < 65 }
     requires basis { IsBasis basis.now }

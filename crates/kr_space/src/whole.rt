@@ -7,7 +7,7 @@ ghost use Rattle.kr_space_meaning.specs.Bounds.{problem_of, setting_of};
 ghost use Rattle.kr_space_meaning.specs.Faults.{S3_S5_S6};
 ghost use Rattle.kr_space_meaning.specs.Limits.{IsWithinLimits};
 ghost use Rattle.kr_space_meaning.specs.Order.{lesser};
-ghost use Rattle.kr_space_rules.specs.Classes.{AreClasses, files_of};
+ghost use Rattle.kr_space_rules.specs.Classes.{AreClasses, AreTyped, files_of};
 ghost use Rattle.kr_space_rules.specs.Entries.{AreBounds};
 ghost use Rattle.kr_space.specs.Bounded.{IsBounded, problem_in, setting_in};
 ghost use Rattle.kr_space.specs.Keys.{AreKeys};
@@ -22,7 +22,7 @@ use kr_classes_types::Types;
 use kr_fin::{FinDoc, Least};
 use kr_mean::Mode;
 use kr_space_meaning::SpaceRule;
-use kr_space_rules::{Bound, Classes, note_if};
+use kr_space_rules::{Bound, Classes, Keyed, note_if};
 
 /// The count of a root's class domain; 0 where there is none.
 fn count_of_root(counts: &[u32], root: Option<u32>) -> u32
@@ -52,8 +52,10 @@ fn note_numbers_of(
     ensures extends { Extends types.old types.new }
 {
     let document = bounded.document;
-    note_domains(least, types, bounded, "fields.", document.fields.as_slice())?;
-    note_domains(least, types, bounded, "params.", document.params.as_slice())?;
+    let fields = document.fields.as_slice();
+    let params = document.params.as_slice();
+    note_domains(least, types, bounded, Keyed::Field, "fields.", fields)?;
+    note_domains(least, types, bounded, Keyed::Parameter, "params.", params)?;
     note_all_lengths(least, types, bounded, document.arrays.as_slice())?;
     note_if(least, is_rootless, SpaceRule::EmptyDomain, "this")?;
     note_if(least, has_many, SpaceRule::TooMany, "slots")
@@ -71,6 +73,7 @@ pub(crate) fn note_numbers(
     bounds: &[Bound],
 ) -> Result<(), NoMemory>
     requires classes { AreClasses classes.now }
+    requires typed { AreTyped classes.now types.old }
     requires keys { AreKeys document.now keys.now }
     requires bounds { AreBounds types.old document.now.arrays bounds.now (setting_of (files_of classes.now) document.now).arrays }
     requires limits { IsWithinLimits document.now }

@@ -2,18 +2,19 @@
 use Rattle.std.proofs.Common.{refl}
 use Rattle.kr_classes_table.specs.Table.{table_of}
 use Rattle.kr_space_meaning.specs.Names.{array_type, meant}
-use Rattle.kr_space_meaning.specs.Bounds.{setting_of, problem_in}
+use Rattle.kr_space_meaning.specs.Bounds.{setting_of, width_for, problem_in}
 use Rattle.kr_space_meaning.specs.Faults.{faults_in}
 use Rattle.kr_space_meaning.specs.Examples.{Problems, Refusals, CloseRefusals, Sizes}
 
 pub problems : Problems
-unfolding table_of array_type meant setting_of problem_in faults_in
+unfolding table_of array_type meant setting_of width_for problem_in faults_in
 problems = record {
   of_nodes = refl;
   of_heirs = refl;
   of_array_types = refl;
   of_named_types = refl;
   of_parameters = refl;
+  of_numbers_given = refl;
   nodes_taken = refl;
   heirs_taken = refl;
   arrays_taken = refl;
@@ -21,7 +22,7 @@ problems = record {
 }
 
 pub refusals : Refusals
-unfolding table_of array_type meant setting_of problem_in faults_in
+unfolding table_of array_type meant setting_of width_for problem_in faults_in
 refusals = record {
   root_unknown = refl;
   class_unknown = refl;
@@ -50,7 +51,7 @@ refusals = record {
 }
 
 pub close_refusals : CloseRefusals
-unfolding table_of array_type meant setting_of problem_in faults_in
+unfolding table_of array_type meant setting_of width_for problem_in faults_in
 close_refusals = record {
   least_item = refl;
   bounded_unknown = refl;
@@ -60,6 +61,7 @@ close_refusals = record {
   no_element_domain = refl;
   no_element = refl;
   no_length = refl;
+  far_range = refl;
   empty_range_beside = refl;
   unfit_range = refl;
   unfit_class = refl;
@@ -72,7 +74,7 @@ close_refusals = record {
 }
 
 pub sizes : Sizes
-unfolding table_of array_type meant setting_of problem_in faults_in
+unfolding table_of array_type meant setting_of width_for problem_in faults_in
 sizes = record {
   many_slots = refl;
   too_many_slots = refl;

@@ -1,4 +1,5 @@
 pub mod Each
 pub mod Examples
+pub mod Given
 pub mod Plain
 pub mod WellFormed

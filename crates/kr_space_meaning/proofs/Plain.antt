@@ -1,26 +1,30 @@
 -- Values of domains: no plain one is a reference, lengths are natural numbers.
-use Rattle.std.proofs.Common.{◌≡◌, ℕ, zero, suc, ◌+◌, ◌≤◌, ℤ, pos, negsuc, Bool, true, false, cond, List, [], ◌∷◌, ◌++◌, length, map, refl, ap, arith}
+use Rattle.std.proofs.Common.{◌≡◌, ℕ, zero, suc, ◌+◌, ◌≤◌, ℤ, pos, negsuc, Bool, true, false, cond, List, [], ◌∷◌, ◌++◌, length, map, Option, refl, ap, arith}
+use Rattle.std.specs.Prelude.{unwrap_or}
 use Rattle.kr_classes_table.specs.Types.{JavaType, is_same}
+use Rattle.kr_classes_table.specs.Numbers.{Width, Bits32}
+use Rattle.kr_classes_table.specs.Operators.{number}
 use Rattle.kr_value.specs.declared.value.Value.TheVariants.{Int, Bool as Truth, Null, Ref as Reference}
 use Rattle.kr_mean.specs.Problem.{Domain, Plain, Objects}
 use Rattle.kr_mean.specs.WellFormed.{ArePlain, AreLengths, AreElements, AreFields}
 use Rattle.kr_classes_table.specs.Table.{Field}
 use Rattle.kr_fin.specs.declared.document.ArrayBound.{ArrayBound}
+use Rattle.kr_fin.specs.declared.document.NamedDomain.{NamedDomain}
 use Rattle.kr_fin.specs.declared.document.Item.{Item as FinItem}
 use Rattle.kr_fin.specs.declared.document.Item.TheVariants.{Number, Range, Truth as FinTruth, Name}
 use Rattle.kr_space_meaning.specs.Names.{Meant, NoReference, Unknown, meant}
 use Rattle.kr_space_meaning.specs.Names as names
 use Rattle.kr_space_layout.specs.Items.{integers}
-use Rattle.kr_space_meaning.specs.Bounds.{Setting, array_domain, meant_values, item_values, values_of, lengths_in, greatest, element_spots, field_spots}
+use Rattle.kr_space_meaning.specs.Bounds.{Setting, array_domain, meant_values, given, width_for, item_values, values_with, values_given, lengths_in, greatest, element_spots, field_spots}
 
 plain_both : (xs ys : Domain) → ArePlain xs → ArePlain ys → ArePlain (xs ++ ys)
 plain_both [] ys a b = b
 plain_both (Plain v ∷ xs) ys a b = (a.0, plain_both xs ys a.1 b)
 plain_both (Objects d ∷ xs) ys a b = plain_both xs ys a b
 
-plain_integers : (zs : List ℤ) → ArePlain (map (λ z. Plain (Int z)) zs)
-plain_integers [] = tt
-plain_integers (z ∷ zs) = (tt, plain_integers zs)
+plain_numbers : (w : Width) (zs : List ℤ) → ArePlain (map (λ z. Plain (number w z)) zs)
+plain_numbers w [] = tt
+plain_numbers Bits32 (z ∷ zs) = (tt, plain_numbers Bits32 zs)
 
 plain_array : (d : ℕ) (bounds : List (JavaType × ArrayBound)) (t : JavaType) → ArePlain (array_domain d bounds t)
 plain_array d [] t = tt
@@ -36,15 +40,18 @@ plain_meant setting (names.Objects c) = tt
 plain_meant setting (names.Arrays t) = plain_array (length setting.table.headings) setting.arrays t
 plain_meant setting Unknown = tt
 
-plain_item : (setting : Setting) (item : FinItem) → ArePlain (item_values setting item)
-plain_item setting (Number z) = (tt, tt)
-plain_item setting (Range from to) = plain_integers (integers from to)
-plain_item setting (FinTruth b) = (tt, tt)
-plain_item setting (Name name) = plain_meant setting (meant setting.table.headings name)
+plain_item : (setting : Setting) (w : Width) (item : FinItem) → ArePlain (item_values setting w item)
+plain_item setting Bits32 (Number z) = (tt, tt)
+plain_item setting w (Range from to) = plain_numbers w (integers from to)
+plain_item setting w (FinTruth b) = (tt, tt)
+plain_item setting w (Name name) = plain_meant setting (meant setting.table.headings name)
 
-pub plain_values : (setting : Setting) (items : List FinItem) → ArePlain (values_of setting items)
-plain_values setting [] = tt
-plain_values setting (item ∷ items) = plain_both (item_values setting item) (values_of setting items) (plain_item setting item) (plain_values setting items)
+plain_values : (setting : Setting) (w : Width) (items : List FinItem) → ArePlain (values_with setting w items)
+plain_values setting w [] = tt
+plain_values setting w (item ∷ items) = plain_both (item_values setting w item) (values_with setting w items) (plain_item setting w item) (plain_values setting w items)
+
+pub plain_given : (setting : Setting) (asked : List ℕ → Option JavaType) (domains : List NamedDomain) (key : List ℕ) → ArePlain (values_given setting asked domains key)
+plain_given setting asked domains key = plain_values setting (width_for (asked key)) (unwrap_or (given domains key) [])
 
 pub plain_lengths : (items : Domain) → ArePlain (lengths_in items)
 plain_lengths [] = tt

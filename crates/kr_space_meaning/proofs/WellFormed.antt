@@ -5,6 +5,7 @@ use Rattle.std.specs.List.{AllByRecursion}
 use Rattle.std.proofs.lemmas.Bool.{le-leb}
 use Rattle.kr_ast.specs.Tree.{Tree}
 use Rattle.kr_classes_table.specs.Types.{JavaType}
+use Rattle.kr_classes_table.specs.Numbers.{Bits32}
 use Rattle.kr_classes_table.specs.Table.{Heading, Field, number_from, fields_of}
 use Rattle.kr_mean.specs.declared.mode.Mode.{Mode}
 use Rattle.kr_mean.specs.Problem.{Problem, ClassDomain, Domain, DomainObject, slots, no_slot, choices_in, domain_at, Choice, no_objects, objects_of_domain, objects_from, all_objects, parameter_slots, slots_of_object, object_choice, Objects, upto}
@@ -16,13 +17,15 @@ use Rattle.kr_fin.specs.declared.document.NamedDomain.{NamedDomain}
 use Rattle.kr_fin.specs.declared.document.ArrayBound.{ArrayBound}
 use Rattle.kr_fin.specs.declared.document.Item.{Item as FinItem}
 use Rattle.kr_space_meaning.specs.Names.{array_type}
-use Rattle.kr_space_meaning.specs.Bounds.{Setting, setting_of, bounded, typed_bound, problem_in, program_in, root_of, given, values_of, lengths_of, values_given, field_spots, field_key, class_domain, class_domains, array_class_domain, element_spots, elements_key, greatest, domains_of, count_named, tested_parameters, parameter_key}
+use Rattle.kr_space_meaning.specs.Keys.{field_type, parameter_type}
+use Rattle.kr_space_meaning.specs.Bounds.{Setting, setting_of, bounded, typed_bound, problem_in, program_in, root_of, given, values_of, values_with, lengths_of, values_given, field_values, parameter_values, field_spots, field_key, class_domain, class_domains, array_class_domain, element_spots, elements_key, greatest, domains_of, count_named, tested_parameters, parameter_key}
 use Rattle.kr_space_meaning.specs.Faults.{S1, S2, S3_S5_S6, number_faults, numbers_of, numbers_of_lengths, faults_in, classes_S2, class_S2, array_S2, parameter_S2, no_domain}
 use Rattle.kr_space_meaning.specs.declared.refusal.SpaceRule.TheVariants.{EmptyDomain, TooMany}
 use Rattle.kr_space_meaning.specs.Order.{Fault, break_if}
 use Rattle.kr_space_meaning.specs.Laws.{WellFormedLaw}
 use Rattle.kr_space_meaning.proofs.Each.{both_none, unbroken, none_each, each_of_both, each_mapped, each_flat, each_weaker, each_always, each_at, each_number}
-use Rattle.kr_space_meaning.proofs.Plain.{plain_values, plain_lengths, lengths_upto, length-element_spots, elements_in_order, fields_in_order}
+use Rattle.kr_space_meaning.proofs.Given.{given_holds}
+use Rattle.kr_space_meaning.proofs.Plain.{plain_given, plain_lengths, lengths_upto, length-element_spots, elements_in_order, fields_in_order}
 
 -- ---- the root
 
@@ -47,39 +50,37 @@ not_zero : {X : Type 0} (xs : List X) → (length xs == 0) ≡ false → 0 < len
 not_zero [] e = absurd (cc (e))
 not_zero (x ∷ xs) e = omega arith
 
--- what a list of given domains has
-abbrev AllFilled : Problem → Setting → List NamedDomain → Type 0
-AllFilled problem setting domains = AllByRecursion (λ d. Filled problem (values_of setting d.domain)) domains
+-- what a list of given domains has, whose keys ask for types
+abbrev AllFilled : Problem → Setting → (List ℕ → Option JavaType) → List NamedDomain → Type 0
+AllFilled problem setting asked domains = AllByRecursion (λ d. Filled problem (values_of setting (asked d.key) d.domain)) domains
 
-found_filled : (problem : Problem) (setting : Setting) (domains : List NamedDomain) (key : List ℕ) (items : List FinItem) → AllFilled problem setting domains
-    → given domains key ≡ Some items → Filled problem (values_of setting items)
-found_filled problem setting [] key items h e = absurd (cc (e))
-found_filled problem setting (d ∷ ds) key items h e = go (bytes_eq d.key key) e (λ later. found_filled problem setting ds key items h.1 later)
+given_filled : (problem : Problem) (setting : Setting) (asked : List ℕ → Option JavaType) (domains : List NamedDomain) (key : List ℕ) → AllFilled problem setting asked domains
+    → is_none (given domains key) ≡ false → Filled problem (values_given setting asked domains key)
+given_filled problem setting asked domains key h some = go (given domains key) refl some
   where
-    go : (b : Bool) → cond b (Some d.domain) (given ds key) ≡ Some items → (given ds key ≡ Some items → Filled problem (values_of setting items)) → Filled problem (values_of setting items)
-    go true here rest = let same : d.domain ≡ items = cc in subst (λ (x : List FinItem). Filled problem (values_of setting x)) same h.0
-    go false later rest = rest later
-
-given_filled : (problem : Problem) (setting : Setting) (domains : List NamedDomain) (key : List ℕ) → AllFilled problem setting domains
-    → is_none (given domains key) ≡ false → Filled problem (values_given setting domains key)
-given_filled problem setting domains key h some = go (given domains key) refl some
-  where
-    go : (o : Option (List FinItem)) → given domains key ≡ o → is_none o ≡ false → Filled problem (values_of setting (unwrap_or o []))
+    go : (o : Option (List FinItem)) → given domains key ≡ o → is_none o ≡ false → Filled problem (values_of setting (asked key) (unwrap_or o []))
     go None e absent = absurd (cc (absent))
-    go (Some items) e there = found_filled problem setting domains key items h e
+    go (Some items) e there = given_holds (λ k is. Filled problem (values_of setting (asked k) is)) domains key items h e
+
+-- what the keys of `fields` and of `params` ask for
+abbrev field_asked : Setting → List ℕ → Option JavaType
+field_asked setting key = field_type setting.table key
+
+abbrev parameter_asked : Setting → List ℕ → Option JavaType
+parameter_asked setting key = parameter_type setting.table (root_of setting) key
 
 record AreFilled (problem : Problem) (setting : Setting) : Type 0 where
-  fields : AllFilled problem setting setting.document.fields
-  params : AllFilled problem setting setting.document.params
+  fields : AllFilled problem setting (field_asked setting) setting.document.fields
+  params : AllFilled problem setting (parameter_asked setting) setting.document.params
   lengths : AllByRecursion (λ b. Filled problem (lengths_of setting b.lengths)) setting.document.arrays
 
 -- the choices are some
 some : (item : List ℕ) (choices : List Choice) → number_faults item choices ≡ [] → 0 < length choices
 some item choices e = not_zero choices (unbroken _ _ item (both_none _ _ e).0)
 
-table_filled : (problem : Problem) (setting : Setting) (table : List ℕ) (domains : List NamedDomain) → numbers_of problem setting table domains ≡ [] → AllFilled problem setting domains
-table_filled problem setting table domains e =
-    each_weaker _ (λ (d : NamedDomain). Filled problem (values_of setting d.domain)) domains (λ d none. some (table ++ d.key) (choices_in problem (values_of setting d.domain)) none) (none_each _ domains e)
+table_filled : (problem : Problem) (setting : Setting) (asked : List ℕ → Option JavaType) (table : List ℕ) (domains : List NamedDomain) → numbers_of problem setting asked table domains ≡ [] → AllFilled problem setting asked domains
+table_filled problem setting asked table domains e =
+    each_weaker _ (λ (d : NamedDomain). Filled problem (values_of setting (asked d.key) d.domain)) domains (λ d none. some (table ++ d.key) (choices_in problem (values_of setting (asked d.key) d.domain)) none) (none_each _ domains e)
 
 lengths_filled : (problem : Problem) (setting : Setting) (bounds : List ArrayBound) → numbers_of_lengths problem setting bounds ≡ [] → AllByRecursion (λ b. Filled problem (lengths_of setting b.lengths)) bounds
 lengths_filled problem setting bounds e =
@@ -87,8 +88,8 @@ lengths_filled problem setting bounds e =
 
 -- the parts of the rules on numbers
 record AreNumbered (problem : Problem) (setting : Setting) : Type 0 where
-  fields : numbers_of problem setting (codes "fields.") setting.document.fields ≡ []
-  params : numbers_of problem setting (codes "params.") setting.document.params ≡ []
+  fields : numbers_of problem setting (field_asked setting) (codes "fields.") setting.document.fields ≡ []
+  params : numbers_of problem setting (parameter_asked setting) (codes "params.") setting.document.params ≡ []
   lengths : numbers_of_lengths problem setting setting.document.arrays ≡ []
   root : ((domain_at problem problem.root).count == 0) ≡ false
 
@@ -102,7 +103,7 @@ parts fields params lengths none slots e =
 
 numbered : (problem : Problem) (setting : Setting) → S3_S5_S6 problem setting ≡ [] → AreNumbered problem setting
 numbered problem setting e =
-    let p = parts (numbers_of problem setting (codes "fields.") setting.document.fields) (numbers_of problem setting (codes "params.") setting.document.params) (numbers_of_lengths problem setting setting.document.arrays)
+    let p = parts (numbers_of problem setting (field_asked setting) (codes "fields.") setting.document.fields) (numbers_of problem setting (parameter_asked setting) (codes "params.") setting.document.params) (numbers_of_lengths problem setting setting.document.arrays)
     ((domain_at problem problem.root).count == 0) (break_if (nat_lt 4096 (length (slots problem))) TooMany (codes "slots")) e in
     record { fields = p.0; params = p.1; lengths = p.2; root = p.3 }
 
@@ -110,8 +111,8 @@ all_filled : (problem : Problem) (setting : Setting) → S3_S5_S6 problem settin
 all_filled problem setting e =
     let n = numbered problem setting e in
     record {
-      fields = table_filled problem setting (codes "fields.") setting.document.fields n.fields;
-      params = table_filled problem setting (codes "params.") setting.document.params n.params;
+      fields = table_filled problem setting (field_asked setting) (codes "fields.") setting.document.fields n.fields;
+      params = table_filled problem setting (parameter_asked setting) (codes "params.") setting.document.params n.params;
       lengths = lengths_filled problem setting setting.document.arrays n.lengths;
     }
 
@@ -121,22 +122,22 @@ all_filled problem setting e =
 abbrev SpotsHave : (Domain → Type 0) → ClassDomain → Type 0
 SpotsHave P domain = 0 < domain.count → AllByRecursion (λ s. P s.domain) domain.spots
 
-fields_filled : (problem : Problem) (setting : Setting) → AllFilled problem setting setting.document.fields → (k : ℕ) (fs : List Field)
+fields_filled : (problem : Problem) (setting : Setting) → AllFilled problem setting (field_asked setting) setting.document.fields → (k : ℕ) (fs : List Field)
     → AllByRecursion (λ f. no_domain (codes "fields.") setting.document.fields (field_key setting.table f) ≡ []) fs → AllByRecursion (λ s. Filled problem s.domain) (field_spots setting k fs)
 fields_filled problem setting filled k [] h = tt
 fields_filled problem setting filled k (f ∷ fs) h =
-    (given_filled problem setting setting.document.fields (field_key setting.table f) filled (unbroken _ _ _ h.0), fields_filled problem setting filled (k + 1) fs h.1)
+    (given_filled problem setting (field_asked setting) setting.document.fields (field_key setting.table f) filled (unbroken _ _ _ h.0), fields_filled problem setting filled (k + 1) fs h.1)
 
 some_objects : (n : ℕ) → 0 < n → nat_lt 0 n ≡ true
 some_objects n h = le-leb 1 n h
 
-class_filled : (problem : Problem) (setting : Setting) → AllFilled problem setting setting.document.fields → (c : ℕ) (d : Heading) → class_S2 setting c d ≡ []
+class_filled : (problem : Problem) (setting : Setting) → AllFilled problem setting (field_asked setting) setting.document.fields → (c : ℕ) (d : Heading) → class_S2 setting c d ≡ []
     → SpotsHave (Filled problem) (class_domain setting c d)
 class_filled problem setting filled c d e some =
     let all = subst (λ (b : Bool). cond b (flat_map (λ f. no_domain (codes "fields.") setting.document.fields (field_key setting.table f)) (fields_of setting.table c)) [] ≡ []) (some_objects (count_named setting.document.objects d.name) some) e in
     fields_filled problem setting filled 0 (fields_of setting.table c) (none_each _ (fields_of setting.table c) all)
 
-classes_filled : (problem : Problem) (setting : Setting) → AllFilled problem setting setting.document.fields → (c : ℕ) (ds : List Heading) → classes_S2 setting c ds ≡ []
+classes_filled : (problem : Problem) (setting : Setting) → AllFilled problem setting (field_asked setting) setting.document.fields → (c : ℕ) (ds : List Heading) → classes_S2 setting c ds ≡ []
     → AllByRecursion (SpotsHave (Filled problem)) (class_domains setting c ds)
 classes_filled problem setting filled c [] e = tt
 classes_filled problem setting filled c (d ∷ ds) e =
@@ -147,19 +148,19 @@ all_elements : (P : Domain → Type 0) (k n : ℕ) (domain : Domain) → P domai
 all_elements P k zero domain p = tt
 all_elements P k (suc n) domain p = (p, all_elements P (k + 1) n domain p)
 
-array_filled : (problem : Problem) (setting : Setting) → AllFilled problem setting setting.document.fields → (a : JavaType × ArrayBound) → array_S2 setting a ≡ []
+array_filled : (problem : Problem) (setting : Setting) → AllFilled problem setting (field_asked setting) setting.document.fields → (a : JavaType × ArrayBound) → array_S2 setting a ≡ []
     → Filled problem (lengths_of setting a.1.lengths) → SpotsHave (Filled problem) (array_class_domain setting a)
 array_filled problem setting filled a e long some = (long, elements (greatest (lengths_of setting a.1.lengths)) refl)
   where
-    elements : (n : ℕ) → greatest (lengths_of setting a.1.lengths) ≡ n → AllByRecursion (λ s. Filled problem s.domain) (element_spots 0 n (values_given setting setting.document.fields (elements_key a.1.name)))
+    elements : (n : ℕ) → greatest (lengths_of setting a.1.lengths) ≡ n → AllByRecursion (λ s. Filled problem s.domain) (element_spots 0 n (field_values setting (elements_key a.1.name)))
     elements zero is = tt
     elements (suc n) is =
         let asked : (nat_lt 0 a.1.count && nat_lt 0 (greatest (lengths_of setting a.1.lengths))) ≡ true = rw (some_objects a.1.count some, is) (some_objects (suc n) (omega arith)) in
         let none = subst (λ (b : Bool). cond b (no_domain (codes "fields.") setting.document.fields (elements_key a.1.name)) [] ≡ []) asked e in
-        all_elements (Filled problem) 0 (suc n) (values_given setting setting.document.fields (elements_key a.1.name))
-        (given_filled problem setting setting.document.fields (elements_key a.1.name) filled (unbroken _ _ _ none))
+        all_elements (Filled problem) 0 (suc n) (field_values setting (elements_key a.1.name))
+        (given_filled problem setting (field_asked setting) setting.document.fields (elements_key a.1.name) filled (unbroken _ _ _ none))
 
-arrays_filled : (problem : Problem) (setting : Setting) → AllFilled problem setting setting.document.fields → (bounds : List (JavaType × ArrayBound))
+arrays_filled : (problem : Problem) (setting : Setting) → AllFilled problem setting (field_asked setting) setting.document.fields → (bounds : List (JavaType × ArrayBound))
     → AllByRecursion (λ a. array_S2 setting a ≡ []) bounds → AllByRecursion (λ a. Filled problem (lengths_of setting a.1.lengths)) bounds
     → AllByRecursion (SpotsHave (Filled problem)) (map (array_class_domain setting) bounds)
 arrays_filled problem setting filled [] none long = tt
@@ -179,7 +180,7 @@ of_bounded P hs (b ∷ bs) h = each_of_both (λ a. P a.1) (typed_bound (array_ty
 fields_plain : (setting : Setting) (k : ℕ) (fs : List Field) → AllByRecursion (λ s. ArePlain s.domain) (field_spots setting k fs)
 fields_plain setting k [] = tt
 fields_plain setting k (f ∷ fs) =
-    (plain_values setting (unwrap_or (given setting.document.fields (field_key setting.table f)) []), fields_plain setting (k + 1) fs)
+    (plain_given setting (field_asked setting) setting.document.fields (field_key setting.table f), fields_plain setting (k + 1) fs)
 
 classes_plain : (setting : Setting) (c : ℕ) (ds : List Heading) → AllByRecursion (SpotsHave ArePlain) (class_domains setting c ds)
 classes_plain setting c [] = tt
@@ -187,9 +188,9 @@ classes_plain setting c (d ∷ ds) = ((λ some. fields_plain setting 0 (fields_o
 
 array_plain : (setting : Setting) (a : JavaType × ArrayBound) → SpotsHave ArePlain (array_class_domain setting a)
 array_plain setting a some = (
-  plain_lengths (values_of setting a.1.lengths),
-  all_elements ArePlain 0 (greatest (lengths_of setting a.1.lengths)) (values_given setting setting.document.fields (elements_key a.1.name))
-      (plain_values setting (unwrap_or (given setting.document.fields (elements_key a.1.name)) [])),
+  plain_lengths (values_with setting Bits32 a.1.lengths),
+  all_elements ArePlain 0 (greatest (lengths_of setting a.1.lengths)) (field_values setting (elements_key a.1.name))
+      (plain_given setting (field_asked setting) setting.document.fields (elements_key a.1.name)),
 )
 
 classes_spotted : (setting : Setting) (c : ℕ) (ds : List Heading) → AllByRecursion (λ d. AreSpots d.class d.spots) (class_domains setting c ds)
@@ -199,9 +200,9 @@ classes_spotted setting c (d ∷ ds) = (fields_in_order setting 0 (fields_of set
 array_spotted : (setting : Setting) (a : JavaType × ArrayBound) → AreSpots (array_class_domain setting a).class (array_class_domain setting a).spots
 array_spotted setting a =
     let lengths = lengths_of setting a.1.lengths in
-    let elements = values_given setting setting.document.fields (elements_key a.1.name) in
+    let elements = field_values setting (elements_key a.1.name) in
     let long : greatest lengths ≤ length (element_spots 0 (greatest lengths) elements) = omega (arith, length-element_spots 0 (greatest lengths) elements) in
-    (refl, elements_in_order 0 (greatest lengths) elements, lengths_upto (length (element_spots 0 (greatest lengths) elements)) (values_of setting a.1.lengths) long)
+    (refl, elements_in_order 0 (greatest lengths) elements, lengths_upto (length (element_spots 0 (greatest lengths) elements)) (values_with setting Bits32 a.1.lengths) long)
 
 -- ---- slots
 
@@ -273,13 +274,13 @@ domains_filled problem setting mode bounds rules =
     (arrays_filled problem setting filled.fields setting.arrays (none_each (array_S2 setting) setting.arrays arrays.0) lengths)
 
 parameters_filled : (problem : Problem) (setting : Setting) (mode : Mode) → Rules problem setting mode
-    → AllByRecursion (λ p. Filled problem (values_given setting setting.document.params (parameter_key mode p))) (tested_parameters setting mode)
+    → AllByRecursion (λ p. Filled problem (parameter_values setting (parameter_key mode p))) (tested_parameters setting mode)
 parameters_filled problem setting mode rules =
     let filled = all_filled problem setting rules.filled_all in
     let parts = both_none (classes_S2 setting 0 setting.table.headings) _ rules.given_all in
     let arrays = both_none (flat_map (array_S2 setting) setting.arrays) _ parts.1 in
-    each_weaker (λ p. parameter_S2 setting mode p ≡ []) (λ p. Filled problem (values_given setting setting.document.params (parameter_key mode p))) (tested_parameters setting mode)
-    (λ p none. given_filled problem setting setting.document.params (parameter_key mode p) filled.params (unbroken _ _ _ none))
+    each_weaker (λ p. parameter_S2 setting mode p ≡ []) (λ p. Filled problem (parameter_values setting (parameter_key mode p))) (tested_parameters setting mode)
+    (λ p none. given_filled problem setting (parameter_asked setting) setting.document.params (parameter_key mode p) filled.params (unbroken _ _ _ none))
     (none_each (parameter_S2 setting mode) (tested_parameters setting mode) arrays.1)
 
 domains_plain : (setting : Setting) → AllByRecursion (SpotsHave ArePlain) (domains_of setting)
@@ -295,7 +296,7 @@ domains_spotted setting = each_of_both (λ d. AreSpots d.class d.spots) (class_d
 -- a problem whose parts are those of the setting
 record IsOf (problem : Problem) (setting : Setting) (mode : Mode) : Type 0 where
   root : problem.root ≡ unwrap_or (root_of setting) 0
-  parameters : problem.parameters ≡ map (λ p. values_given setting setting.document.params (parameter_key mode p)) (tested_parameters setting mode)
+  parameters : problem.parameters ≡ map (λ p. parameter_values setting (parameter_key mode p)) (tested_parameters setting mode)
   domains : problem.domains ≡ domains_of setting
 
 well_formed_of : (problem : Problem) (setting : Setting) (mode : Mode) → setting.arrays ≡ bounded setting.table.headings setting.document.arrays → IsOf problem setting mode → Rules problem setting mode → IsWellFormed problem
@@ -304,10 +305,10 @@ well_formed_of problem setting mode bounds is rules =
     let some_root = (numbered problem setting rules.filled_all).root in
     let root_filled : Filled problem (Objects problem.root ∷ []) = some_choices problem problem.root (domain_at problem problem.root).count some_root in
     let params_filled = subst (λ (ds : List Domain). AllByRecursion (Filled problem) ds) (sym is.parameters)
-    (each_mapped (Filled problem) (λ p. values_given setting setting.document.params (parameter_key mode p)) (tested_parameters setting mode) (parameters_filled problem setting mode rules)) in
+    (each_mapped (Filled problem) (λ p. parameter_values setting (parameter_key mode p)) (tested_parameters setting mode) (parameters_filled problem setting mode rules)) in
     let params_plain = subst (λ (ds : List Domain). AllByRecursion ArePlain ds) (sym is.parameters)
-    (each_mapped ArePlain (λ p. values_given setting setting.document.params (parameter_key mode p)) (tested_parameters setting mode)
-    (each_always (λ p. ArePlain (values_given setting setting.document.params (parameter_key mode p))) (tested_parameters setting mode) (λ p. plain_values setting (unwrap_or (given setting.document.params (parameter_key mode p)) [])))) in
+    (each_mapped ArePlain (λ p. parameter_values setting (parameter_key mode p)) (tested_parameters setting mode)
+    (each_always (λ p. ArePlain (parameter_values setting (parameter_key mode p))) (tested_parameters setting mode) (λ p. plain_given setting (parameter_asked setting) setting.document.params (parameter_key mode p)))) in
     let spots_filled = subst (λ (ds : List ClassDomain). AllByRecursion (SpotsHave (Filled problem)) ds) (sym is.domains) (domains_filled problem setting mode bounds rules) in
     let spots_plain = subst (λ (ds : List ClassDomain). AllByRecursion (SpotsHave ArePlain) ds) (sym is.domains) (domains_plain setting) in
     let spotted = subst (λ (ds : List ClassDomain). AllByRecursion (λ d. AreSpots d.class d.spots) ds) (sym is.domains) (domains_spotted setting) in

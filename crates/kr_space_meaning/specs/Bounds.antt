@@ -3,8 +3,10 @@
 use Rattle.std.specs.Prelude.{ℕ, zero, suc, ◌+◌, pos, List, [], ◌∷◌, ◌++◌, length, map, flat_map, max, bytes_eq, codes, Option, Some, None, option_map, unwrap_or, slice_get, if◌then◌else◌}
 use Rattle.kr_ast.specs.Tree.{Tree}
 use Rattle.kr_classes_table.specs.Types.{JavaType, is_same}
-use Rattle.kr_classes_table.specs.Table.{Table, Heading, Field, Parameter, Method, table_of, fields_of, method_named, number_of}
+use Rattle.kr_classes_table.specs.Table.{Table, Heading, Field, Parameter, table_of, fields_of, number_of}
 use Rattle.kr_classes_table.specs.Arrays.{array_types_of, array_number, arrays_in, once}
+use Rattle.kr_classes_table.specs.Numbers.{Width, Bits32}
+use Rattle.kr_classes_table.specs.Operators.{number}
 use Rattle.kr_value.specs.declared.value.Value.TheVariants.{Int, Bool as Truth, Null}
 use Rattle.kr_value.specs.declared.object.Class.TheVariants.{Object, Array}
 use Rattle.kr_value.specs.declared.object.Spot.TheVariants.{Field as FieldSpot, Length, Element}
@@ -21,6 +23,7 @@ use Rattle.kr_fin.specs.declared.document.Item.{Item as FinItem}
 use Rattle.kr_fin.specs.declared.document.Item.TheVariants.{Number, Range, Truth as FinTruth, Name}
 use Rattle.kr_space_meaning.specs.Names.{Meant, NoReference, Unknown, array_type, meant}
 use Rattle.kr_space_meaning.specs.Names as names
+use Rattle.kr_space_meaning.specs.Keys.{field_type, method_at, parameter_type, parameters_of}
 
 abbrev Text : Type 0
 Text = List ℕ
@@ -82,28 +85,47 @@ meant_values setting (names.Objects c) = Objects c ∷ []
 meant_values setting (names.Arrays t) = array_domain (length setting.table.headings) setting.arrays t
 meant_values setting Unknown = []
 
-abbrev pub item_values : Setting → FinItem → List DomainItem
-item_values setting (Number z) = Plain (Int z) ∷ []
-item_values setting (Range from to) = map (λ z. Plain (Int z)) (integers from to)
-item_values setting (FinTruth b) = Plain (Truth b) ∷ []
-item_values setting (Name name) = meant_values setting (meant setting.table.headings name)
+-- the width of a type's numbers, where a key asks for a type: `int` has the only one, and a type without numbers takes none
+unfoldable pub width_for : Option JavaType → Width
+width_for t = Bits32
 
--- the values of a domain, in order
-abbrev pub values_of : Setting → List FinItem → Domain
-values_of setting items = flat_map (item_values setting) items
+-- numbers of a width
+abbrev pub item_values : Setting → Width → FinItem → List DomainItem
+item_values setting w (Number z) = Plain (number w z) ∷ []
+item_values setting w (Range from to) = map (λ z. Plain (number w z)) (integers from to)
+item_values setting w (FinTruth b) = Plain (Truth b) ∷ []
+item_values setting w (Name name) = meant_values setting (meant setting.table.headings name)
 
--- the lengths of a domain: its natural numbers
+abbrev pub values_with : Setting → Width → List FinItem → Domain
+values_with setting w items = flat_map (item_values setting w) items
+
+-- the values of a domain, in order: numbers are made for the type that is asked for
+abbrev pub values_of : Setting → Option JavaType → List FinItem → Domain
+values_of setting t items = values_with setting (width_for t) items
+
+-- the lengths of a domain: its natural numbers, which are ints
 abbrev pub lengths_in : List DomainItem → List DomainItem
 lengths_in [] = []
 lengths_in (Plain (Int (pos n)) ∷ items) = Plain (Int (pos n)) ∷ lengths_in items
 lengths_in (item ∷ items) = lengths_in items
 
 abbrev pub lengths_of : Setting → List FinItem → Domain
-lengths_of setting items = lengths_in (values_of setting items)
+lengths_of setting items = lengths_in (values_with setting Bits32 items)
 
--- the values that are given for a key: none where no domain is
-abbrev pub values_given : Setting → List NamedDomain → Text → Domain
-values_given setting domains key = values_of setting (unwrap_or (given domains key) [])
+-- the values that are given for a key, for the type that the key asks for: none where no domain is
+abbrev pub values_given : Setting → (Text → Option JavaType) → List NamedDomain → Text → Domain
+values_given setting asked domains key = values_of setting (asked key) (unwrap_or (given domains key) [])
+
+-- the class of the root, if it is one
+abbrev pub root_of : Setting → Option ℕ
+root_of setting = number_of setting.table.headings setting.document.root
+
+-- the values of a field or of elements, and of a parameter
+abbrev pub field_values : Setting → Text → Domain
+field_values setting key = values_given setting (field_type setting.table) setting.document.fields key
+
+abbrev pub parameter_values : Setting → Text → Domain
+parameter_values setting key = values_given setting (parameter_type setting.table (root_of setting)) setting.document.params key
 
 -- ---- class domains
 
@@ -114,7 +136,7 @@ field_key table f = class_name table f.class ++ codes "." ++ f.name
 abbrev pub field_spots : Setting → ℕ → List Field → List Spotted
 field_spots setting k [] = []
 field_spots setting k (f ∷ fs) =
-    record { spot = FieldSpot k; domain = values_given setting setting.document.fields (field_key setting.table f) }
+    record { spot = FieldSpot k; domain = field_values setting (field_key setting.table f) }
     ∷ field_spots setting (k + 1) fs
 
 abbrev pub class_domain : Setting → ℕ → Heading → ClassDomain
@@ -151,24 +173,13 @@ array_class_domain setting a = record {
   name = a.1.name;
   class = Array (unwrap_or (array_number setting.types a.0) 0);
   count = a.1.count;
-  spots = array_spots (lengths_of setting a.1.lengths) (values_given setting setting.document.fields (elements_key a.1.name));
+  spots = array_spots (lengths_of setting a.1.lengths) (field_values setting (elements_key a.1.name));
 }
 
 abbrev pub domains_of : Setting → List ClassDomain
 domains_of setting = class_domains setting 0 setting.table.headings ++ map (array_class_domain setting) setting.arrays
 
--- ---- root, method and parameters
-
-abbrev pub root_of : Setting → Option ℕ
-root_of setting = number_of setting.table.headings setting.document.root
-
-abbrev pub method_at : Table → Option ℕ → Text → Option Method
-method_at table None name = None
-method_at table (Some c) name = method_named table c name
-
-abbrev pub parameters_of : Option Method → List Parameter
-parameters_of None = []
-parameters_of (Some m) = m.parameters
+-- ---- method and parameters
 
 -- the parameters of the method under test, where one is tested
 abbrev pub tested_parameters : Setting → Mode → List Parameter
@@ -187,7 +198,7 @@ problem_in program setting mode = record {
   program = program;
   root = unwrap_or (root_of setting) 0;
   mode = mode;
-  parameters = map (λ p. values_given setting setting.document.params (parameter_key mode p)) (tested_parameters setting mode);
+  parameters = map (λ p. parameter_values setting (parameter_key mode p)) (tested_parameters setting mode);
   fuel = setting.document.fuel;
   domains = domains_of setting;
 }

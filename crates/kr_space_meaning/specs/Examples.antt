@@ -237,6 +237,7 @@ pub record Problems : Type 0 where
   -- the array types that only the document names have numbers behind the program's own
   pub of_named_types : array_types with_arrays (of_arrays (Number (pos 0) ∷ []) (Number (pos 7) ∷ [])) ≡ ArrayType IntType ∷ ArrayType (ArrayType IntType) ∷ ArrayType BooleanType ∷ []
   pub of_parameters : parameters with_heir (with_params (given (codes "put.x") (Truth true ∷ []) ∷ [])) (codes "put") ≡ (Plain (TruthValue true) ∷ []) ∷ []
+  pub of_numbers_given : parameters (node_and (rep_ok_of always ∷ method_of (codes "put") int ∷ [])) (with_parameter two_nodes (codes "put.x") (Range (negsuc 0) (pos 1) ∷ [])) (codes "put") ≡ (Plain (Int (negsuc 0)) ∷ int_items (0 ∷ 1 ∷ [])) ∷ []
   pub nodes_taken : refused (node ∷ []) two_nodes Listing ≡ None
   pub heirs_taken : refused with_heir (of_heir one_heir (Number (pos 7) ∷ []) (name (codes "R") ∷ name (codes "Base") ∷ [])) Listing ≡ None
   pub arrays_taken : refused with_arrays (of_arrays (Number (pos 0) ∷ Number (pos 2) ∷ []) (Number (pos 7) ∷ [])) Listing ≡ None
@@ -279,6 +280,8 @@ pub record CloseRefusals : Type 0 where
   pub no_element_domain : refused (node ∷ []) (bounding (codes "int[]") (Number (pos 1) ∷ [])) Listing ≡ broken (codes "S2") (codes "fields.int[].*")
   pub no_element : refused (node ∷ []) (bounding (codes "int[]") (Number (pos 0) ∷ [])) Listing ≡ None
   pub no_length : refused (node ∷ []) (bounding (codes "int[]") []) Listing ≡ broken (codes "S3") (codes "arrays.int[]")
+  -- the ends of a range are compared whole: 2^32 is above 1
+  pub far_range : refused with_heir (of_heir one_heir (Range (pos 4294967296) (pos 1) ∷ []) (name (codes "R") ∷ [])) Listing ≡ broken (codes "S3") (codes "fields.Base.a")
   pub empty_range_beside : refused (node ∷ []) (node_with (name (codes "null") ∷ Range (pos 2) (pos 1) ∷ [])) Listing ≡ None
   pub unfit_range : refused (node ∷ []) (node_with (Range (pos 1) (pos 1) ∷ [])) Listing ≡ broken (codes "S4") (codes "fields.N.next")
   pub unfit_class : refused two_classes (node_with (name (codes "null") ∷ name (codes "Other") ∷ [])) Listing ≡ broken (codes "S4") (codes "fields.N.next")

@@ -1,65 +1,27 @@
 -- To be believed: which rules a document breaks for a program and a mode, each with the item that breaks it: all of them, in no
 -- order that matters. A domain is judged where it is given, whether a slot has it or not.
-use Rattle.std.specs.Prelude.{ℕ, ◌+◌, ◌==◌, Bool, true, false, not, ◌&&◌, ◌||◌, List, [], ◌∷◌, ◌++◌, length, flat_map, find, nat_eq, nat_lt, bytes_eq, codes, Option, Some, None, option_map, option_and_then, is_none, if◌then◌else◌}
+use Rattle.std.specs.Prelude.{ℕ, ◌+◌, ◌==◌, Bool, true, false, not, ◌&&◌, ◌||◌, List, [], ◌∷◌, ◌++◌, length, flat_map, nat_lt, codes, Option, Some, None, is_none, if◌then◌else◌}
 use Rattle.std.specs.Int.Signed.{le_z}
-use Rattle.std.specs.Ordering.{int_eq}
-use Rattle.std.specs.List.{list_any, before_first, after_first}
-use Rattle.kr_classes_table.specs.Types.{JavaType, IntType, BooleanType, ClassType, ArrayType, is_same, is_reference}
-use Rattle.kr_classes_table.specs.Table.{Table, Heading, Field, Parameter, Method, own_fields, fields_of, number_of, is_assignable}
-use Rattle.kr_value.specs.declared.value.Value.{Value}
-use Rattle.kr_value.specs.declared.value.Value.TheVariants.{Int, Bool as Truth, Null, Ref as Reference}
+use Rattle.std.specs.List.{list_any}
+use Rattle.kr_classes_table.specs.Types.{JavaType, IntType, BooleanType, ClassType, is_same, is_reference}
+use Rattle.kr_classes_table.specs.Table.{Table, Heading, Parameter, Method, fields_of, number_of, is_assignable}
 use Rattle.kr_mean.specs.Collections.{is_same_value}
 use Rattle.kr_mean.specs.declared.mode.Mode.{Mode}
 use Rattle.kr_mean.specs.declared.mode.Mode.TheVariants.{List as Listing, Method as Testing}
-use Rattle.kr_mean.specs.Problem.{Problem, Choice, Domain, slots, choices_in, domain_at}
+use Rattle.kr_mean.specs.Problem.{Problem, Choice, slots, choices_in, domain_at}
 use Rattle.kr_fin.specs.declared.document.Count.{Count}
 use Rattle.kr_fin.specs.declared.document.ArrayBound.{ArrayBound}
 use Rattle.kr_fin.specs.declared.document.NamedDomain.{NamedDomain}
 use Rattle.kr_fin.specs.declared.document.Item.{Item}
 use Rattle.kr_fin.specs.declared.document.Item.TheVariants.{Number, Range, Truth as FinTruth, Name}
-use Rattle.kr_fin.specs.Shapes.{is_dot}
 use Rattle.kr_space_meaning.specs.declared.refusal.SpaceRule.TheVariants.{UnknownName, NoDomain, EmptyDomain, UnfitValue, ValueTwice, TooMany, NoPredicate, NoMethod, NoSlot}
 use Rattle.kr_space_meaning.specs.Names.{Meant, NoReference, Objects, Arrays, Unknown, array_type, meant}
-use Rattle.kr_space_meaning.specs.Bounds.{Setting, root_of, method_at, parameters_of, tested_parameters, parameter_key, given, values_of, lengths_of, field_key, elements_key, count_named, greatest}
+use Rattle.kr_space_meaning.specs.Bounds.{Setting, root_of, tested_parameters, parameter_key, given, values_of, lengths_of, field_key, elements_key, count_named, greatest}
+use Rattle.kr_space_meaning.specs.Keys.{is_elements, owner_part, field_type, method_at, parameter_type}
 use Rattle.kr_space_meaning.specs.Order.{Fault, break_if}
 
 abbrev Text : Type 0
 Text = List ℕ
-
--- ---- keys
-
--- the two parts of a domain's key
-abbrev pub owner_part : Text → Text
-owner_part key = before_first is_dot key
-
-abbrev pub name_part : Text → Text
-name_part key = after_first is_dot key
-
-abbrev pub is_elements : Text → Bool
-is_elements key = bytes_eq (name_part key) (codes "*")
-
-abbrev pub element_of : Option JavaType → Option JavaType
-element_of (Some (ArrayType t)) = Some t
-element_of t = None
-
-abbrev pub instance_type : Field → Option JavaType
-instance_type f = if f.is_static then None else Some f.type
-
--- the type of the instance field of that name that a class itself declares
-abbrev pub own_field_type : Table → Text → Option ℕ → Option JavaType
-own_field_type table name None = None
-own_field_type table name (Some c) = option_and_then instance_type (find (λ f. bytes_eq f.name name) (own_fields table c))
-
--- the type of the values that a key of `fields` asks for, if there is such a field, or if it names an array type's elements
-abbrev pub field_type : Table → Text → Option JavaType
-field_type table key =
-    if is_elements key then element_of (array_type table.headings (owner_part key))
-    else own_field_type table (name_part key) (number_of table.headings (owner_part key))
-
--- the type of the values that a key of `params` asks for, if there is such a parameter of a method of the root
-abbrev pub parameter_type : Table → Option ℕ → Text → Option JavaType
-parameter_type table root key =
-    option_map (λ p. p.type) (find (λ p. bytes_eq p.name (name_part key)) (parameters_of (method_at table root (owner_part key))))
 
 -- ---- items: a table's name with a dot, and a key of the table
 
@@ -161,9 +123,9 @@ number_faults item choices =
     ++ (break_if (has_twice choices) ValueTwice item
     ++ break_if (nat_lt 65536 (length choices)) TooMany item)
 
--- of the domains of a table
-abbrev pub numbers_of : Problem → Setting → Text → List NamedDomain → List Fault
-numbers_of problem setting table domains = flat_map (λ d. number_faults (table ++ d.key) (choices_in problem (values_of setting d.domain))) domains
+-- of the domains of a table, whose keys ask for types
+abbrev pub numbers_of : Problem → Setting → (Text → Option JavaType) → Text → List NamedDomain → List Fault
+numbers_of problem setting asked table domains = flat_map (λ d. number_faults (table ++ d.key) (choices_in problem (values_of setting (asked d.key) d.domain))) domains
 
 -- of lengths
 abbrev pub numbers_of_lengths : Problem → Setting → List ArrayBound → List Fault
@@ -172,8 +134,8 @@ numbers_of_lengths problem setting bounds = flat_map (λ b. number_faults (of_ar
 -- each domain that is given, the objects of the root, and the slots
 abbrev pub S3_S5_S6 : Problem → Setting → List Fault
 S3_S5_S6 problem setting =
-    numbers_of problem setting (codes "fields.") setting.document.fields
-    ++ (numbers_of problem setting (codes "params.") setting.document.params
+    numbers_of problem setting (field_type setting.table) (codes "fields.") setting.document.fields
+    ++ (numbers_of problem setting (parameter_type setting.table (root_of setting)) (codes "params.") setting.document.params
     ++ (numbers_of_lengths problem setting setting.document.arrays
     ++ (break_if ((domain_at problem problem.root).count == 0) EmptyDomain (codes "this")
     ++ break_if (nat_lt 4096 (length (slots problem))) TooMany (codes "slots"))))

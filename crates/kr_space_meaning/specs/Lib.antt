@@ -1,4 +1,5 @@
 pub mod Names
+pub mod Keys
 pub mod Bounds
 pub mod Order
 pub mod Faults

@@ -2,3 +2,4 @@ pub mod Classes
 pub mod Parameters
 pub mod Spans
 pub mod Entries
+pub mod Widths

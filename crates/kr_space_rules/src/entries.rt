@@ -1,17 +1,21 @@
 // The entries of domains, with what names stand for.
-ghost use Rattle.std.specs.Prelude.{◌≡◌, ◌<◌, ◌+◌, ◌^◌, All, IfOk, length, map, option_to_list};
+ghost use Rattle.std.specs.Prelude.{◌≡◌, ◌<◌, ◌+◌, ◌^◌, ◌∷◌, [], All, IfOk, length, map, option_to_list};
 ghost use Rattle.kr_ast.specs.Arena.{root};
+ghost use Rattle.kr_classes_table.specs.Operators.{number as number_of};
 ghost use Rattle.kr_classes_table.specs.Table.{headings_of};
+ghost use Rattle.kr_mean.specs.Problem.{Plain};
 ghost use Rattle.kr_classes_names.specs.Shown.{AreHeads};
 ghost use Rattle.kr_classes_types.specs.Types.{Extends};
-ghost use Rattle.kr_space_layout.specs.Items.{domain_of};
-ghost use Rattle.kr_space_meaning.specs.Bounds.{item_values, meant_values, setting_of, values_of};
+ghost use Rattle.kr_space_layout.specs.Items.{domain_of, integers};
+ghost use Rattle.kr_space_meaning.specs.Bounds.{item_values, meant_values, setting_of, values_with};
 ghost use Rattle.kr_space_meaning.specs.Names.{Meant};
 ghost use Rattle.kr_space_names.specs.Meanings.{IsMeaning};
-ghost use Rattle.kr_space_meaning.specs.Limits.{IsSmall};
+ghost use Rattle.kr_space_meaning.specs.Limits.{IsInt, IsSmall};
 ghost use Rattle.kr_space_rules.specs.Entries.{AreBounds};
+ghost use Rattle.kr_space_rules.specs.Widths.{width_shown};
 
 use crate::bounds::{Bound, array_domain_of};
+use crate::widths::Width;
 use kr_ast::Tree;
 use kr_base::{NoMemory, add_found};
 use kr_classes_names::Heads;
@@ -54,7 +58,28 @@ fn meant_entry(
     }
 }
 
-/// What an entry of a document is: nothing where its name has no objects.
+/// A number as a value of a width.
+fn number_value(width: Width, number: i64) -> Value
+    requires { IsInt number }
+    ensures { result ≡ number_of (width_shown width) number }
+{
+    match width {
+        Width::Bits32 => Value::Int(number as i32),
+    }
+}
+
+/// The numbers of a width from one to another, both included.
+fn range_entry(width: Width, from: i64, to: i64) -> DomainEntry
+    requires from { IsInt from }
+    requires to { IsInt to }
+    ensures { domain_of (result ∷ []) ≡ map (λ z. Plain (number_of (width_shown width) z)) (integers from to) }
+{
+    match width {
+        Width::Bits32 => DomainEntry::Integers(from as i32, to as i32),
+    }
+}
+
+/// What an entry of a document is, where numbers have a width: nothing where its name has no objects.
 #[tactic(auto, unfolding(kr_space_meaning::specs::Bounds::setting_of, kr_classes_table::specs::Table::table_of), using(crate::proofs::Bounded::bounds_kept))]
 fn entry_of(
     alloc: Global,
@@ -63,18 +88,19 @@ fn entry_of(
     heads: &Heads,
     document: &FinDoc,
     bounds: &[Bound],
+    width: Width,
     item: &FinItem,
 ) -> Result<Option<DomainEntry>, NoMemory>
     requires heads { AreHeads trees.now heads.now }
     requires small { IsSmall item.now }
     requires few { length (headings_of (map root trees.now)) + length bounds.now < 2 ^ 32 }
     requires bounds { AreBounds types.old document.now.arrays bounds.now (setting_of (map root trees.now) document.now).arrays }
-    ensures is { IfOk result (λ found. domain_of (option_to_list found) ≡ item_values (setting_of (map root trees.now) document.now) item.now) }
+    ensures is { IfOk result (λ found. domain_of (option_to_list found) ≡ item_values (setting_of (map root trees.now) document.now) (width_shown width) item.now) }
     ensures extends { Extends types.old types.new }
 {
     match item {
-        FinItem::Number(number) => Ok(Some(DomainEntry::Plain(Value::Int(*number as i32)))),
-        FinItem::Range(from, to) => Ok(Some(DomainEntry::Integers(*from as i32, *to as i32))),
+        FinItem::Number(number) => Ok(Some(DomainEntry::Plain(number_value(width, *number)))),
+        FinItem::Range(from, to) => Ok(Some(range_entry(width, *from, *to))),
         FinItem::Truth(truth) => Ok(Some(DomainEntry::Plain(Value::Bool(*truth)))),
         FinItem::Name(name) => {
             let meaning = meaning_of(alloc, types, heads, name.as_str().as_bytes())?;
@@ -83,7 +109,7 @@ fn entry_of(
     }
 }
 
-/// The entries of a domain: the values that the document gives it.
+/// The entries of a domain whose numbers have a width: the values that the document gives it.
 pub fn entries_of(
     alloc: Global,
     types: &mut Types,
@@ -91,18 +117,19 @@ pub fn entries_of(
     heads: &Heads,
     document: &FinDoc,
     bounds: &[Bound],
+    width: Width,
     items: &[FinItem],
 ) -> Result<Vec<DomainEntry>, NoMemory>
     requires heads { AreHeads trees.now heads.now }
     requires small { All IsSmall items.now }
     requires few { length (headings_of (map root trees.now)) + length bounds.now < 2 ^ 32 }
     requires bounds { AreBounds types.old document.now.arrays bounds.now (setting_of (map root trees.now) document.now).arrays }
-    ensures are { IfOk result (λ found. domain_of found.items ≡ values_of (setting_of (map root trees.now) document.now) items.now) }
+    ensures are { IfOk result (λ found. domain_of found.items ≡ values_with (setting_of (map root trees.now) document.now) (width_shown width) items.now) }
     ensures extends { Extends types.old types.new }
 {
     let mut found = Vec::new(alloc);
     for item in items {
-        let entry = entry_of(alloc, types, trees, heads, document, bounds, item)?;
+        let entry = entry_of(alloc, types, trees, heads, document, bounds, width, item)?;
         add_found(&mut found, entry)?;
     }
     Ok(found)

@@ -4,7 +4,7 @@ ghost use Rattle.kr_classes_table.specs.Types.{JavaType};
 ghost use Rattle.kr_classes_members.specs.Shown.{field_shown};
 ghost use Rattle.kr_classes_types.specs.Types.{Extends};
 ghost use Rattle.kr_space_names.specs.Texts.{Stands};
-ghost use Rattle.kr_space_meaning.specs.Faults as spec;
+ghost use Rattle.kr_space_meaning.specs.Keys as spec;
 ghost use Rattle.kr_space_rules.specs.Classes.{AreClasses, AreTyped, table_of};
 ghost use Rattle.kr_space_rules.specs.Parameters.{IsParameter, parameter_shown};
 

@@ -14,6 +14,7 @@ mod slots;
 mod spans;
 mod twice;
 mod unfit;
+mod widths;
 
 pub use bounds::{Bound, bounds_of};
 pub use classes::Classes;
@@ -24,3 +25,4 @@ pub use parameters::{Parameter, parameters_of};
 pub use slots::note_slots;
 pub use twice::has_twice;
 pub use unfit::note_unfit;
+pub use widths::{Keyed, Width, width_asked};

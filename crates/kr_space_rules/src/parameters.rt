@@ -4,7 +4,7 @@ ghost use Rattle.kr_ast.specs.Arena.{tree_in};
 ghost use Rattle.kr_classes_table.specs.Table.{parameter_in};
 ghost use Rattle.kr_ast.specs.Files.{file_at};
 ghost use Rattle.kr_classes_members.specs.Shown.{IsMethod, headings_in, method_shown};
-ghost use Rattle.kr_space_meaning.specs.Bounds.{method_at as method_of, parameters_of as parameters_in};
+ghost use Rattle.kr_space_meaning.specs.Keys.{method_at as method_of, parameters_of as parameters_in};
 ghost use Rattle.kr_space_rules.specs.Classes.{AreClasses, table_of};
 ghost use Rattle.kr_space_rules.specs.Parameters.{IsParameter, parameter_shown};
 

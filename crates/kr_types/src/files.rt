@@ -1,10 +1,8 @@
 // The typing rules over all files.
-ghost use Rattle.std.specs.Prelude.{◌≡◌, ◌<◌, ◌^◌, length, Some, IfOk, IfErr, slice_get};
-ghost use Rattle.kr_ast.specs.Arena.{root};
+ghost use Rattle.std.specs.Prelude.{◌≡◌, ◌<◌, ◌^◌, length, Some, IfOk, IfErr};
 ghost use Rattle.kr_classes_table.specs.Constants.{values_of};
 ghost use Rattle.kr_classes_table.specs.Rules.{least};
 ghost use Rattle.kr_classes_names.specs.Shown.{AreHeads};
-ghost use Rattle.kr_ast.specs.Files.{file_at};
 ghost use Rattle.kr_classes_members.specs.Shown.{table_in};
 ghost use Rattle.kr_classes_members.specs.Kept.{AreMembers};
 ghost use Rattle.kr_classes_roster.specs.Rosters.{IsRoster};

@@ -36,6 +36,7 @@ impl NoteList {
     }
 
     /// The note of a node.
+    #[inline(always)]
     pub fn at(&self, node: u32) -> Note
         requires { node < length self.now }
         ensures { slice_get self.now node ≡ Some result }
@@ -53,6 +54,7 @@ impl NoteList {
     }
 
     /// Adds the note of the next node.
+    #[inline(always)]
     pub fn push(&mut self, note: Note) -> Result<(), NoMemory>
         ensures { OnOk result (self.new ≡ self.old ++ note ∷ []) }
     {

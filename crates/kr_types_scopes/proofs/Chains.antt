@@ -58,7 +58,7 @@ pub chain_none : IsChain []
 chain_none k c is = absurd (omega (arith, slice_get_within [] k c is))
 
 -- a scope stays where bindings are added
-abbrev with_locals : Setting → Within → List Local → Scope
+abbrev pub with_locals : Setting → Within → List Local → Scope
 with_locals g w ls = record {
   table = g.table;
   values = g.values;

@@ -4,7 +4,7 @@ use Rattle.std.proofs.lemmas.List.{length-replicate}
 use Rattle.std.proofs.lemmas.Bool.{cases_eq}
 use Rattle.std.specs.Prelude.{slice_get}
 use Rattle.std.proofs.Math.ListN.{set, length-set}
-use Rattle.std.proofs.lemmas.Option.{slice_get_read, slice_get_within, slice_get-get_or, get_or_from_slice_get}
+use Rattle.std.proofs.lemmas.Option.{slice_get_within, slice_get-get_or}
 use Rattle.kr_ast.specs.declared.node.Entry.{Entry}
 use Rattle.kr_ast.specs.Arena.{Arena, IsArena, IsPart, tree_in}
 use Rattle.kr_classes_table.specs.Table.{Table}
@@ -141,12 +141,6 @@ done_start tree ws n chain e ne =
   where
     outside : (t : Table) (v : List Known) → scope_in (setting t v tree) [] nowhere ≡ scope_of t v 0
     outside t v = ap (λ l. let s : Scope = record (scope_of t v 0) { locals = l } in s) (locals_zero (setting t v tree) [])
-
-pub read_within : (ws : List Within) (k : ℕ) (up : Within) → k < length ws → up ≡ get_or ws k up → get_or ws k nowhere ≡ up
-read_within ws k up lt is = get_or_from_slice_get ws k up nowhere (slice_get_read ws (length ws) k up refl lt is)
-
-pub top_of : (ws : List Within) (k n : ℕ) (up : Within) → k < length ws → up ≡ get_or ws k up → ((j : ℕ) → (get_or ws j nowhere).top ≤ n) → up.top ≤ n
-top_of ws k n up lt is h = subst (λ (w : Within). w.top ≤ n) (read_within ws k up lt is) (h k)
 
 pub parent_there : (tree : Arena) → IsArena tree.text tree.entries → (i : ℕ) (e : Entry) → slice_get tree.entries i ≡ Some e → e.parent < length tree.entries
 parent_there tree a i e is = (a.forest.up i e is).1

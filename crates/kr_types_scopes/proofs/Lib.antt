@@ -4,6 +4,7 @@ pub mod Bound
 pub mod Passing
 pub mod Plain
 pub mod Handed
+pub mod Kept
 pub mod Order
 pub mod Noted
 pub mod Trees

@@ -22,44 +22,6 @@ use Rattle.kr_types_scopes.proofs.Noted.{noted_is}
 -- the parts of a node's tree are the trees of its parts
 parts_map : (text : List ℕ) (look : ℕ → Tree) (p : Place) (n : Node) → parts_of (tree_of text look p n) ≡ map look (parts n)
 parts_map text look p (nodes.Cons a b) = refl
-parts_map text look p (nodes.GenericType a b) = refl
-parts_map text look p (nodes.DiamondType a) = refl
-parts_map text look p (nodes.ArrayType a) = refl
-parts_map text look p (nodes.FieldAccess a n) = refl
-parts_map text look p (nodes.ArrayAccess a b) = refl
-parts_map text look p (nodes.Call n a) = refl
-parts_map text look p (nodes.MethodCall a n b) = refl
-parts_map text look p (nodes.SuperCall n a) = refl
-parts_map text look p (nodes.ObjectCreation a b) = refl
-parts_map text look p (nodes.ArrayCreation a b) = refl
-parts_map text look p (nodes.Unary x a) = refl
-parts_map text look p (nodes.Step x a) = refl
-parts_map text look p (nodes.Binary x a b) = refl
-parts_map text look p (nodes.InstanceOf a b) = refl
-parts_map text look p (nodes.Conditional a b c) = refl
-parts_map text look p (nodes.Cast a b) = refl
-parts_map text look p (nodes.Assignment a b) = refl
-parts_map text look p (nodes.CompoundAssignment x a b) = refl
-parts_map text look p (nodes.Old a) = refl
-parts_map text look p (nodes.Block a) = refl
-parts_map text look p (nodes.Local a b) = refl
-parts_map text look p (nodes.Declarator n a) = refl
-parts_map text look p (nodes.ExpressionStatement a) = refl
-parts_map text look p (nodes.Return a) = refl
-parts_map text look p (nodes.IfThen a b) = refl
-parts_map text look p (nodes.IfElse a b c) = refl
-parts_map text look p (nodes.While a b) = refl
-parts_map text look p (nodes.Do a b) = refl
-parts_map text look p (nodes.For a b c d) = refl
-parts_map text look p (nodes.ConstructorCall a) = refl
-parts_map text look p (nodes.Class n a b) = refl
-parts_map text look p (nodes.Field x y a b) = refl
-parts_map text look p (nodes.Method x n a b) = refl
-parts_map text look p (nodes.Signature a b c) = refl
-parts_map text look p (nodes.Parameter a n) = refl
-parts_map text look p (nodes.Constructor a b c) = refl
-parts_map text look p (nodes.Requires a) = refl
-parts_map text look p (nodes.Ensures a) = refl
 parts_map text look p _ = refl
 
 get_map : (look : ℕ → Tree) (cs : List ℕ) (j : ℕ) (u : Tree) → slice_get (map look cs) j ≡ Some u → (j < length cs) × (u ≡ look (get_or cs j 0))

@@ -9,8 +9,8 @@ use Rattle.kr_ast.specs.declared.node.UnaryOperator.{UnaryOperator}
 use Rattle.kr_ast.specs.declared.node.UnaryOperator.TheVariants as operators
 use Rattle.kr_ast.specs.Arena.{name_in, tree_in, tree_of}
 use Rattle.kr_types_meaning.specs.Typing.{operand}
-use Rattle.kr_types_meaning.specs.Scopes.{Scope, scope_of, in_class, after, in_loop, statement}
-use Rattle.kr_types_meaning.specs.Handing.{second, third, for_part}
+use Rattle.kr_types_meaning.specs.Scopes.{Scope, scope_of, in_class, after}
+use Rattle.kr_types_meaning.specs.Handing.{second, third}
 use Rattle.kr_types_meaning.specs.Handing.{handed}
 use Rattle.kr_types_scopes.specs.Changes.{first_change, operand_change, rest_change, changed}
 use Rattle.kr_types_scopes.specs.Settings.{Setting, class_number}
@@ -59,32 +59,13 @@ third_later zero s t l = absurd (omega (arith, l))
 third_later (suc zero) s t l = absurd (omega (arith, l))
 third_later (suc (suc j)) s t l = refl
 
-pub for_first : (j : ℕ) (s : Scope) → j < 2 → s ≡ for_part j s
-for_first zero s l = refl
-for_first (suc zero) s l = refl
-for_first (suc (suc j)) s l = absurd (omega (arith, l))
-
-pub for_updates : (j : ℕ) (s : Scope) → j ≡ 2 → statement s ≡ for_part j s
-for_updates zero s e = absurd (omega (arith, e))
-for_updates (suc zero) s e = absurd (omega (arith, e))
-for_updates (suc (suc zero)) s e = refl
-for_updates (suc (suc (suc j))) s e = absurd (omega (arith, e))
-
-pub for_body : (j : ℕ) (s : Scope) → 2 ≤ j → (j ≡ 2 → ⊥) → in_loop s ≡ for_part j s
-for_body zero s l n = absurd (omega (arith, l))
-for_body (suc zero) s l n = absurd (omega (arith, l))
-for_body (suc (suc zero)) s l n = absurd (n refl)
-for_body (suc (suc (suc j))) s l n = refl
-
 second_same : (j : ℕ) (s : Scope) → second j s s ≡ s
 second_same zero s = refl
 second_same (suc j) s = refl
 
 operand_is : (g : Setting) (at : ℕ) (s : Scope) (o : UnaryOperator) → changed g at s (operand_change o) ≡ operand o s
 operand_is g at s operators.Plus = refl
-operand_is g at s operators.Minus = refl
-operand_is g at s operators.Complement = refl
-operand_is g at s operators.Not = refl
+operand_is g at s _ = refl
 
 -- the changes are what the node hands
 pub plain_handed : (g : Setting) (at : ℕ) (s : Scope) (p : Place) (n : Node) (j : ℕ) → s.table ≡ g.table → tree_in g.tree at ≡ tree_of g.tree.text (tree_in g.tree) p n → IsPlain n

@@ -4,3 +4,4 @@ pub mod Tasks
 pub mod Scoped
 pub mod Noting
 pub mod Lookups
+pub mod Kept

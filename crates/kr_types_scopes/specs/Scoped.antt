@@ -1,5 +1,5 @@
 -- Between crates: the scopes of all nodes of a tree.
-use Rattle.std.specs.Prelude.{ℕ, ◌+◌, ◌≤◌, ◌<◌, ◌≡◌, List, length, slice_get, slice_index_or, false, Some, None}
+use Rattle.std.specs.Prelude.{ℕ, ◌+◌, ◌≤◌, ◌<◌, ◌≡◌, List, length, slice_get, set, slice_index_or, false, Some, None}
 use Rattle.kr_ast.specs.declared.node.Entry.{Entry}
 use Rattle.kr_ast.specs.Arena.{Arena, IsPart, tree_in}
 use Rattle.kr_classes_table.specs.Table.{Table}
@@ -49,3 +49,9 @@ AreScopes tree bs ws = (t : Table) (v : List Known) → IsScoped (setting t v tr
 abbrev pub IsHanded : Arena → List Binding → List Binding → List Within → ℕ → Within → Type 0
 IsHanded a old new ws i made =
     (e : Entry) → slice_get a.entries i ≡ Some e → IsStep a old new made (λ g. handed (scope_in g old (slice_index_or ws e.parent nowhere)) (tree_in g.tree e.parent) e.position)
+
+-- the scope of the part is that one
+pub record IsPlaced (a : Arena) (old new : List Binding) (ws more : List Within) (i : ℕ) : Type 0 where
+  pub made : Within
+  pub items : more ≡ set ws i made
+  pub handed : IsHanded a old new ws i made

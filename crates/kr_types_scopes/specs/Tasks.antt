@@ -1,6 +1,6 @@
 -- Between crates: the scope behind a node, with what is still to be passed on the way.
 use Rattle.std.specs.Prelude.{ℕ, ◌+◌, ◌*◌, ◌≤◌, ◌<◌, ◌≡◌, List, [], ◌∷◌, ◌++◌, length, Option, Some}
-use Rattle.kr_ast.specs.Tree.{size}
+use Rattle.kr_ast.specs.Tree.{Tree, size}
 use Rattle.kr_base.specs.declared.place.Place.{Place}
 use Rattle.kr_ast.specs.declared.node.Node.{Node}
 use Rattle.kr_ast.specs.declared.node.Node.TheVariants as nodes
@@ -8,6 +8,7 @@ use Rattle.kr_ast.specs.Arena.{Arena, tree_in, tree_of}
 use Rattle.kr_classes_table.specs.Table.{Table}
 use Rattle.kr_classes_table.specs.Constants.{Known}
 use Rattle.kr_types_meaning.specs.Scopes.{Scope, after}
+use Rattle.kr_types_scopes.specs.declared.within.Role.{Role}
 use Rattle.kr_types_scopes.specs.declared.within.Within.{Within}
 use Rattle.kr_types_scopes.specs.declared.within.Binding.{Binding}
 use Rattle.kr_types_scopes.specs.declared.tasks.Task.{Task}
@@ -85,3 +86,13 @@ abbrev pub HandsPlainly : Within → ℕ → Node → ℕ → Within → Type 0
 HandsPlainly up at node position made =
     (t : Table) (v : List Known) (a : Arena) (bs : List Binding) (p : Place) → tree_in a at ≡ tree_of a.text (tree_in a) p node → IsPlain node
     → scope_in (setting t v a) bs made ≡ handed (scope_in (setting t v a) bs up) (tree_of a.text (tree_in a) p node) position
+
+-- whatever the bindings, a part of a node of this kind has the node's scope, where that has the role, unless what the node declares is in scope there
+abbrev pub StaysPlainly : Node → ℕ → Role → Type 0
+StaysPlainly node position role =
+    (g : Setting) (bs : List Binding) (w : Within) (p : Place) (at : ℕ) → tree_in g.tree at ≡ tree_of g.tree.text (tree_in g.tree) p node → IsPlain node → w.role ≡ role
+    → handed (scope_in g bs w) (tree_of g.tree.text (tree_in g.tree) p node) position ≡ scope_in g bs w
+
+-- the scope behind a node of this kind is that before it
+abbrev pub Leaves : Node → Type 0
+Leaves node = (s : Scope) (text : List ℕ) (look : ℕ → Tree) (p : Place) → after s (tree_of text look p node) ≡ s

@@ -32,6 +32,7 @@ pub enum Change {
 }
 
 /// What is different for the first part of a node.
+#[inline(always)]
 pub(crate) fn first_change(node: Node) -> Change
     ensures { result ≡ first_change node }
 {
@@ -58,6 +59,7 @@ pub(crate) fn first_change(node: Node) -> Change
 }
 
 /// What is different for an operand.
+#[inline(always)]
 fn operand_change(operator: UnaryOperator) -> Change
     ensures { result ≡ operand_change operator }
 {
@@ -68,6 +70,7 @@ fn operand_change(operator: UnaryOperator) -> Change
 }
 
 /// What is different for the other parts of a node.
+#[inline(always)]
 pub(crate) fn rest_change(node: Node) -> Change
     ensures { result ≡ rest_change node }
 {

@@ -86,6 +86,7 @@ fn plainly(here: &mut Within, at: u32, node: Node, position: u8)
 }
 
 /// Makes a node's scope that of a part.
+#[inline(never)]
 pub(crate) fn hand_on(
     tree: &Tree,
     bindings: &mut Vec<Binding>,

@@ -9,10 +9,13 @@ mod hand;
 mod laws;
 mod lookup;
 mod scopes;
+mod stay;
 mod tasks;
 mod within;
+mod within_list;
 
 pub use laws::{judged_law, local_law};
 pub use lookup::{LocalFound, find_local};
 pub use scopes::Scopes;
 pub use within::{Binding, Declaring, Part, Role, Within};
+pub use within_list::WithinList;

@@ -2,14 +2,14 @@
 ghost use Rattle.std.specs.Prelude.{◌≡◌, ℕ, ◌+◌, ◌≤◌, ◌<◌, [], length, slice_get, slice_index_or, Some, IfOk, IfSome, IfNone, OnOk};
 ghost use Rattle.kr_ast.specs.Arena.{IsArena};
 ghost use Rattle.kr_types_scopes.specs.Settings.{IsChain};
-ghost use Rattle.kr_types_scopes.specs.Scoped.{nowhere, AreScopes, IsHanded};
-ghost use Rattle.kr_types_scopes.specs.Tasks.{IsStep};
+ghost use Rattle.kr_types_scopes.specs.Scoped.{nowhere, AreScopes, IsPlaced};
 ghost use Rattle.kr_types_scopes.specs.Lookups.{IsLocalAt, IsNoLocalAt};
 
 use crate::hand::hand_on;
 use crate::lookup::{LocalFound, find_local};
+use crate::stay::stays;
 use crate::tasks::Tasks;
-use crate::{Binding, Within};
+use crate::{Binding, Within, WithinList};
 use kr_ast::Tree;
 use kr_base::NoMemory;
 use std::alloc::Global;
@@ -18,30 +18,46 @@ use std::alloc::Global;
 #[derive(Drop)]
 pub struct Scopes {
     pub bindings: Vec<Binding>,
-    pub within: Vec<Within>,
+    pub within: WithinList,
 }
 
-/// The scope of a node that is a part, from that of the node above it.
-fn from_above(
+/// Gives a node that is a part its scope, from that of the node above it.
+fn add_scope(
     tree: &Tree,
-    within: &Vec<Within>,
+    within: &mut WithinList,
     bindings: &mut Vec<Binding>,
     tasks: &mut Tasks,
-    here: &mut Within,
     at: u32,
 ) -> Result<(), NoMemory>
     requires arena { IsArena tree.now.text tree.now.entries }
     requires at { at + 1 < length tree.now.entries }
-    requires long { length within.now.items ≡ length tree.now.entries }
-    requires tops { (k : ℕ) → (slice_index_or within.now.items k nowhere).top ≤ length bindings.old.items }
+    requires long { length within.old.items ≡ length tree.now.entries }
+    requires tops { (k : ℕ) → (slice_index_or within.old.items k nowhere).top ≤ length bindings.old.items }
     requires chain { IsChain bindings.old.items }
     requires none { tasks.old ≡ [] }
-    ensures made { OnOk result (IsHanded tree.now bindings.old.items bindings.new.items within.now.items at here.new) }
+    ensures placed { OnOk result (IsPlaced tree.now bindings.old.items bindings.new.items within.old.items within.new.items at) }
     ensures none { OnOk result (tasks.new ≡ []) }
 {
     let entry = tree.entry(at);
-    *here = within[entry.parent as usize];
-    hand_on(tree, bindings, tasks, here, entry.parent, entry.position)
+    if stays(
+        tree,
+        within.at(entry.parent).role,
+        entry.parent,
+        entry.position,
+    ) {
+        within.copy(at, entry.parent);
+        return Ok(());
+    }
+    let mut here = within.at(entry.parent);
+    hand_on(
+        tree,
+        bindings,
+        tasks,
+        &mut here,
+        entry.parent,
+        entry.position,
+    )?;
+    within.put(at, here)
 }
 
 impl Scopes {
@@ -50,15 +66,13 @@ impl Scopes {
         ensures { IfOk result (λ s. AreScopes tree.now s.bindings.items s.within.items) }
     {
         let nodes = tree.nodes();
-        let mut within = vec![in alloc; Within::outside(); nodes as usize]?;
-        let mut bindings = Vec::new(alloc);
+        let mut within = WithinList::outside(alloc, nodes as usize)?;
+        let mut bindings = Vec::with_capacity(alloc, nodes as usize)?;
         let mut tasks = Tasks::new(alloc);
         let mut at = nodes - 1;
         while at > 0 {
             at -= 1;
-            let mut here = Within::outside();
-            from_above(tree, &within, &mut bindings, &mut tasks, &mut here, at)?;
-            within[at as usize] = here;
+            add_scope(tree, &mut within, &mut bindings, &mut tasks, at)?;
         }
         Ok(Scopes { bindings, within })
     }
@@ -68,7 +82,7 @@ impl Scopes {
         requires { node < length self.now.within.items }
         ensures { result ≡ slice_index_or self.now.within.items node nowhere }
     {
-        self.within[node as usize]
+        self.within.at(node)
     }
 
     /// The local or parameter that a name means where a node of the tree stands.

@@ -1,6 +1,5 @@
 // Classes and constructors: what is kept of a node where the superclass's constructor is called without a word.
-ghost use Rattle.std.specs.Prelude.{◌≡◌, ℕ, Option};
-ghost use Rattle.kr_classes_table.specs.Types.{JavaType};
+ghost use Rattle.std.specs.Prelude.{◌≡◌, ℕ};
 ghost use Rattle.kr_classes_table.specs.Rules.{sooner};
 ghost use Rattle.kr_types_meaning.specs.Rules as rules;
 ghost use Rattle.kr_types_meaning.specs.Scopes.{Scope, in_class};

@@ -1,13 +1,10 @@
-use Rattle.std.proofs.Common.{◌≡◌, subst, List, Some}
-use Rattle.std.specs.Prelude.{slice_get}
-use Rattle.kr_code_members.specs.declared.nodes.MethodNode.{MethodNode}
-use Rattle.kr_space_problem.specs.Posed.{table}
+use Rattle.kr_code_members.specs.Nodes.{table}
 use Rattle.kr_classes_roster.specs.Rosters.{method_numbered}
 use Rattle.kr_code_bodies.proofs.Assembled.{bodies_are, method_later}
 use Rattle.kr_code_bodies.proofs.bodies.bodies_of.Goals as goal
 
 pub method_codes-requires-clause-nodes : goal.method_codes-requires-clause-nodes
-method_codes-requires-clause-nodes c = λ k n i. c.requires.members.methods k n (subst (λ (xs : List MethodNode). slice_get xs k ≡ Some n) c.deref.ensures.value i)
+method_codes-requires-clause-nodes c = λ k n i. c.requires.members.methods k n (rw c.deref.ensures.value at i)
 
 pub returns-clause-made : goal.returns-clause-made
 returns-clause-made c = λ arrays names final code.

@@ -1,8 +1,7 @@
 use Rattle.std.proofs.Common.{refl, ap, ◌+◌, [], ◌∷◌, length, length-append, arith}
 use Rattle.std.proofs.lemmas.Option.{slice_get_read}
 use Rattle.kr_classes_table.specs.Table.{own_fields}
-use Rattle.kr_space_problem.specs.Posed.{table}
-use Rattle.kr_code_members.specs.Nodes.{IsFieldNode}
+use Rattle.kr_code_members.specs.Nodes.{table, IsFieldNode}
 use Rattle.kr_code_members.proofs.Tables.{class_count_is, few_classes}
 use Rattle.kr_code_members.proofs.Zipped.{each_push, zip_length}
 use Rattle.kr_code_lowering.proofs.Growth.{grown_on}

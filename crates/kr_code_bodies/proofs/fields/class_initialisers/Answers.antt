@@ -1,17 +1,16 @@
-use Rattle.std.proofs.Common.{◌≡◌, ap, ◌∙◌, subst, false, ℕ, ◌+◌, ◌<◌, List, [], length, get_or, arith}
+use Rattle.std.proofs.Common.{◌≡◌, ap, ◌∙◌, false, ℕ, ◌+◌, ◌<◌, List, [], length, get_or, arith}
 use Rattle.std.specs.Prelude.{flat_map}
-use Rattle.std.specs.List.{AllZip}
 use Rattle.std.proofs.lemmas.List.{take_all}
 use Rattle.kr_classes_table.specs.Table.{Field, own_fields}
+use Rattle.kr_classes_members.proofs.Classes.{flat_flat}
 use Rattle.kr_mean.specs.Program.{instance_only}
-use Rattle.kr_space_problem.specs.Posed.{table}
-use Rattle.kr_code_members.specs.Nodes.{IsFieldNode}
+use Rattle.kr_code_members.specs.Nodes.{table, IsFieldNode}
 use Rattle.kr_code_members.proofs.Zipped.{zip_at, zip_length, zip_step}
 use Rattle.kr_code.specs.Resolved.{has_initial}
 use Rattle.kr_classes_roster.specs.Rosters.{field_numbered, no_field}
 use Rattle.kr_code_bodies.specs.Made.{IsInitial}
 use Rattle.kr_code_bodies.proofs.Assembled.{first_next, first_within}
-use Rattle.kr_code_bodies.proofs.Initial.{flat_flat, own_number}
+use Rattle.kr_code_bodies.proofs.Initial.{own_number}
 use Rattle.kr_code_bodies.proofs.fields.class_initialisers.Goals as goal
 
 pub initialiser_at-requires-clause-there : goal.initialiser_at-requires-clause-there
@@ -46,5 +45,4 @@ returns c =
     let p = c.args.program.now in
     let own = own_fields (table p) c.args.class in
     let count = zip_length (IsFieldNode p) own c.args.nodes.now c.requires.nodes in
-    subst (λ (fs : List Field). AllZip (IsInitial p) fs c.loop-node.found.items)
-    (ap (λ (xs : List Field). flat_map (λ f. flat_map has_initial (instance_only f)) xs) (take_all c.loop-node.node-index own (omega (arith, count))) ∙ flat_flat has_initial instance_only own) c.loop-node.invariant.found
+    rw (ap (λ (xs : List Field). flat_map (λ f. flat_map has_initial (instance_only f)) xs) (take_all c.loop-node.node-index own (omega (arith, count))) ∙ flat_flat has_initial instance_only own) at c.loop-node.invariant.found

@@ -3,7 +3,7 @@ use Rattle.std.specs.Prelude.{flat_map}
 use Rattle.std.specs.List.{AllZip}
 use Rattle.kr_classes_table.specs.Table.{own_fields}
 use Rattle.kr_mean.specs.Program.{instance_only}
-use Rattle.kr_space_problem.specs.Posed.{table}
+use Rattle.kr_code_members.specs.Nodes.{table}
 use Rattle.kr_code.specs.Resolved.{has_initial}
 use Rattle.kr_code_bodies.specs.Made.{IsInitial}
 use Rattle.kr_code_bodies.proofs.fields.class_initialisers.Given as goal

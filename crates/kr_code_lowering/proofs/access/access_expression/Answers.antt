@@ -1,12 +1,11 @@
-use Rattle.std.proofs.Common.{◌≡◌, sym, ap, ◌∙◌, subst, ℕ, List, Some, arith}
-use Rattle.std.specs.Prelude.{slice_get}
+use Rattle.std.proofs.Common.{sym, ap, ◌∙◌, subst, List, Some, arith}
 use Rattle.kr_ast.specs.Tree.{Tree}
 use Rattle.kr_ast.specs.Arena.{name_in}
 use Rattle.kr_ast.specs.declared.node.Node.TheVariants.{FieldAccess}
 use Rattle.kr_classes_table.specs.Table.{Table}
 use Rattle.kr_classes_table.specs.Constants.{Known, constant_of, known_value, values_of}
 use Rattle.kr_types_meaning.specs.Handing.{handed}
-use Rattle.kr_space_problem.specs.Posed.{table}
+use Rattle.kr_code_members.specs.Nodes.{table}
 use Rattle.kr_code_lowering.specs.Sites.{Resolves, arena_at, scope_at}
 use Rattle.kr_code_lowering.proofs.Parts.{part_scope, small_number, tree_is}
 use Rattle.kr_code_lowering.proofs.Naming.{class_constant_resolves, field_resolves, parts_are, scope_table, scope_values}
@@ -42,4 +41,4 @@ returns-in_ok-number-in-None-clause-resolves c = λ arrays links.
     let p = c.args.program.now in
     let s = c.args.site in
     let class = sym c.class_before.ensures ∙ c.in-None.is in
-    field_resolves p c.requires.program arrays s c.args.entry c.args.object c.args.name c.requires.here c.requires.node c.number.new.self links c.in_ok-number-in-None.number class (subst (λ (x : List ℕ). slice_get c.number.new.self c.in_ok-number-in-None.number ≡ Some x) c.text.ensures c.in_ok-number-in-None.ensures.at)
+    field_resolves p c.requires.program arrays s c.args.entry c.args.object c.args.name c.requires.here c.requires.node c.number.new.self links c.in_ok-number-in-None.number class (rw c.text.ensures at c.in_ok-number-in-None.ensures.at)

@@ -1,16 +1,16 @@
-use Rattle.std.proofs.Common.{sym, ap, ◌∙◌, subst, ℕ, ◌<◌, length}
-use Rattle.std.specs.Prelude.{Option, IfSome, option_map}
+use Rattle.std.proofs.Common.{sym, ap, ◌∙◌}
+use Rattle.std.specs.Prelude.{Option, option_map}
 use Rattle.kr_classes_table.specs.Table.{Field}
 use Rattle.kr_classes_table.specs.Constants.{known_value, values_of}
-use Rattle.kr_classes_roster.specs.Rosters.{all_fields, field_numbered}
-use Rattle.kr_space_problem.specs.Posed.{table}
+use Rattle.kr_classes_roster.specs.Rosters.{field_numbered}
+use Rattle.kr_code_members.specs.Nodes.{table}
 use Rattle.kr_code_lowering.proofs.Read.{constant_found}
 use Rattle.kr_code_lowering.proofs.access.class_constant.Goals as goal
 
 pub constant_value-requires-clause-number : goal.constant_value-requires-clause-number
 constant_value-requires-clause-number c =
     let t = table c.args.program.now in
-    subst (λ (o : Option ℕ). IfSome o (λ k. k < length (all_fields t))) c.in-Some.is (c.constant.ensures.within t c.meaning_at.ensures.within)
+    rw c.in-Some.is at (c.constant.ensures.within t c.meaning_at.ensures.within)
 
 pub returns-in-None : goal.returns-in-None
 returns-in-None c = λ class before.

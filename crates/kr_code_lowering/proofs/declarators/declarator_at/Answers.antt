@@ -1,9 +1,7 @@
-use Rattle.std.proofs.Common.{sym, ap, ◌∙◌, subst, ℕ, ◌+◌, List}
+use Rattle.std.proofs.Common.{sym, ap, ◌∙◌, ℕ, List}
 use Rattle.kr_mean.specs.Program.{default_of}
 use Rattle.kr_types_meaning.specs.Scopes.{bind_local}
-use Rattle.kr_code_lowering.specs.declared.site.Site.{Site}
-use Rattle.kr_code_lowering.specs.Sites.{scope_at, tree_at}
-use Rattle.kr_code_lowering.specs.Statements.{IsMaybe}
+use Rattle.kr_code_lowering.specs.Sites.{scope_at}
 use Rattle.kr_code_lowering.proofs.Declared.{declares, initial_scope}
 use Rattle.kr_code_lowering.proofs.declarators.declarator_at.Goals as goal
 
@@ -16,5 +14,5 @@ returns c = λ locals final.
     let scope = ap (scope_at p) c.at.ensures ∙ (inner ∙ ap (λ (y : List ℕ). bind_local y r.declared r) (sym c.text-text.ensures)) in
     let number = c.own_number-number.ensures r.declared r scope in
     let default = c.default_value.ensures ∙ ap default_of c.declared_type.ensures.type_is in
-    let maybe = subst (λ (at : Site). IsMaybe (tree_at p at) (at.first + at.node) c.maybe_part.result) c.at-2.ensures c.maybe_part.ensures in
+    let maybe = rw c.at-2.ensures at c.maybe_part.ensures in
     declares p c.requires.program s c.args.entry c.requires.here c.args.name c.args.initial c.requires.node locals c.own_number-number.result c.default_value.result c.maybe_part.result number default maybe final

@@ -1,10 +1,4 @@
-use Rattle.std.proofs.Common.{◌≡◌, sym, ap, ◌∙◌, subst, ◌+◌, ◌-◌, ◌≤◌, List, [], ◌∷◌, ◌++◌, length, take, drop, arith, append-nil}
-use Rattle.kr_ast.specs.Tree.{Tree}
-use Rattle.kr_code.specs.Resolved.{AreParts}
-use Rattle.kr_types_meaning.specs.Running.{running}
-use Rattle.kr_code_lowering.specs.declared.site.Site.{Site}
-use Rattle.kr_code_lowering.specs.Origins.{numbering_of}
-use Rattle.kr_code_lowering.specs.Sites.{IsSite, scope_at}
+use Rattle.std.proofs.Common.{◌≡◌, sym, ap, ◌∙◌, subst, ◌+◌, ◌-◌, ◌≤◌, [], ◌∷◌, ◌++◌, length, take, drop, arith, append-nil}
 use Rattle.kr_code_lowering.specs.Lists.{AreItems}
 use Rattle.kr_code_lowering.proofs.Parts.{small_number}
 use Rattle.kr_code_lowering.proofs.Growth.{drop_push, grown_length, grown_push, take_grown}
@@ -21,10 +15,10 @@ loop-item-preserved c =
     let x = at.first + c.in-Some.item in
     let l : c.len-start.result ≤ length c.loop-item.links = omega (arith, i.start, grown_length c.args.links.now c.loop-item.links i.grown) in
     record {
-      site = subst (λ (s : Site). IsSite p s) (sym c.at-at.ensures) (record { file = i.site.file; node = omega (arith, c.in-Some.ensures.behind, i.site.node); first = i.site.first });
+      site = rw c.at-at.ensures (record { file = i.site.file; node = omega (arith, c.in-Some.ensures.behind, i.site.node); first = i.site.first });
       start = i.start;
       grown = grown_push c.args.links.now c.loop-item.links c.push.new.self x i.grown c.in_ok-push.ensures.added;
-      ahead = λ more h. subst (AreItems p c.args.list) (sym (drop_push c.len-start.result c.loop-item.links c.push.new.self more x l c.in_ok-push.ensures.added)) (i.ahead (x ∷ more) (c.in-Some.ensures.none more (subst (λ (s : Site). AreItems p s more) c.at-at.ensures h)));
+      ahead = λ more h. subst (AreItems p c.args.list) (sym (drop_push c.len-start.result c.loop-item.links c.push.new.self more x l c.in_ok-push.ensures.added)) (i.ahead (x ∷ more) (c.in-Some.ensures.none more (rw c.at-at.ensures at h)));
     }
 
 pub returns-clause-linked : goal.returns-clause-linked
@@ -35,6 +29,6 @@ returns-clause-linked c = λ more g.
     let k = c.len-start.result in
     let links = c.loop-item.links in
     let l : k ≤ length links = omega (arith, i.start, grown_length c.args.links.now links i.grown) in
-    let none : AreItems p at [] = λ final. subst (λ (ts : List Tree). AreParts (numbering_of p final) (running (scope_at p at)) ts []) (sym c.in_default.ensures.none) tt in
+    let none : AreItems p at [] = λ final. rw c.in_default.ensures.none tt in
     let all : take (c.len.result - k) (drop k more) ≡ drop k links ++ [] = ap (λ n. take (n - k) (drop k more)) c.len.ensures ∙ (take_grown k links more l g ∙ sym (append-nil (drop k links))) in
     subst (AreItems p c.args.list) (sym all) (i.ahead [] none)

@@ -1,8 +1,3 @@
-use Rattle.std.proofs.Common.{subst}
-use Rattle.kr_classes_table.specs.Types.{JavaType}
-use Rattle.kr_code_lowering.specs.declared.site.Site.{Site}
-use Rattle.kr_code_lowering.specs.Lists.{AreLinked}
-use Rattle.kr_code_lowering.specs.Calls.{IsCreator}
 use Rattle.kr_code_lowering.proofs.Called.{creation_resolves}
 use Rattle.kr_code_lowering.proofs.methods.creation_expression.Goals as goal
 
@@ -11,5 +6,5 @@ returns-clause-resolves c = λ arrays names.
     let p = c.args.program.now in
     let s = c.args.site in
     let links = c.list_links.new.links in
-    let linked = subst (λ (at : Site). AreLinked p at links c.in_ok-arguments.arguments) c.at.ensures c.in_ok-arguments.ensures.linked in
-    creation_resolves p c.requires.program arrays s c.args.entry c.requires.here names links c.args.class c.args.arguments c.requires.node c.in_ok-arguments.arguments linked c.creator-callee.result (subst (λ (t : JavaType). IsCreator t c.creator-callee.result) c.named_type.ensures.type_is c.creator-callee.ensures)
+    let linked = rw c.at.ensures at c.in_ok-arguments.ensures.linked in
+    creation_resolves p c.requires.program arrays s c.args.entry c.requires.here names links c.args.class c.args.arguments c.requires.node c.in_ok-arguments.arguments linked c.creator-callee.result (rw c.named_type.ensures.type_is at c.creator-callee.ensures)

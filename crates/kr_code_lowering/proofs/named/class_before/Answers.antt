@@ -2,7 +2,7 @@ use Rattle.std.proofs.Common.{ap, ◌∙◌}
 use Rattle.kr_types_meaning.specs.Scopes.{Scope, class_before}
 use Rattle.kr_types_resolving.specs.Meanings.{class_meant, object_type}
 use Rattle.kr_types_resolving.proofs.Before.{before_meant, before_value}
-use Rattle.kr_space_problem.specs.Posed.{table}
+use Rattle.kr_code_members.specs.Nodes.{table}
 use Rattle.kr_code_lowering.specs.declared.site.Site.{Site}
 use Rattle.kr_code_lowering.specs.Origins.{node_tree}
 use Rattle.kr_code_lowering.specs.Sites.{scope_at, tree_at}

@@ -3,7 +3,7 @@ use Rattle.std.specs.Prelude.{option_and_then}
 use Rattle.kr_base.specs.declared.place.Place.{Place}
 use Rattle.kr_classes_table.specs.Table.{Field}
 use Rattle.kr_classes_table.specs.Constants.{constant_in, value_at, values_of}
-use Rattle.kr_space_problem.specs.Posed.{table}
+use Rattle.kr_code_members.specs.Nodes.{table}
 use Rattle.kr_types_resolving.proofs.Chosen.{field_there}
 use Rattle.kr_types_resolving.proofs.Rostered.{field_is}
 use Rattle.kr_code_lowering.proofs.named.constant_value.Goals as goal

@@ -1,6 +1,6 @@
 use Rattle.std.proofs.Common.{subst}
 use Rattle.kr_types_resolving.specs.Shown.{IsMeaningWithin}
-use Rattle.kr_space_problem.specs.Posed.{table}
+use Rattle.kr_code_members.specs.Nodes.{table}
 use Rattle.kr_code_lowering.proofs.Read.{constant_named, local_named, nothing_named, own_named}
 use Rattle.kr_code_lowering.proofs.named.name_at.Goals as goal
 

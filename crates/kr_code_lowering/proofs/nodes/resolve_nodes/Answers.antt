@@ -1,13 +1,13 @@
 use Rattle.std.proofs.Common.{◌≡◌, ap, sym, ◌∙◌, length, add-one, arith, codes}
 use Rattle.kr_code_lowering.specs.Origins.{first_node}
 use Rattle.kr_code_lowering.proofs.Growth.{got_grown}
-use Rattle.kr_code_lowering.proofs.Numbers.{first_of_none}
 use Rattle.kr_code_lowering.proofs.Gathered.{first_end, nodes_none}
 use Rattle.kr_code_lowering.proofs.nodes.resolve_nodes.Goals as goal
 
 pub loop-file-init : goal.loop-file-init
+unfolding first_node
 loop-file-init c = record {
-  count = ap length c.new-nodes.ensures.items ∙ sym (first_of_none c.args.program.now.trees.items);
+  count = ap length c.new-nodes.ensures.items;
   names = c.in_ok-names.ensures.first;
   nodes = nodes_none c.args.program.now c.args.arrays.now c.in_ok-names.names c.new-links.result c.new-nodes.result.items c.new-nodes.ensures.items;
 }

@@ -1,6 +1,3 @@
-use Rattle.std.proofs.Common.{subst}
-use Rattle.kr_code_lowering.specs.declared.site.Site.{Site}
-use Rattle.kr_code_lowering.specs.Lists.{AreLinked}
 use Rattle.kr_code_lowering.proofs.Performed.{block_does}
 use Rattle.kr_code_lowering.proofs.statements.block_statement.Goals as goal
 
@@ -8,5 +5,5 @@ pub returns-clause-does : goal.returns-clause-does
 returns-clause-does c = λ names.
     let p = c.args.program.now in
     let links = c.list_links.new.links in
-    let linked = subst (λ (at : Site). AreLinked p at links c.in_ok-nodes.nodes) c.at.ensures c.in_ok-nodes.ensures.linked in
+    let linked = rw c.at.ensures at c.in_ok-nodes.ensures.linked in
     block_does p c.requires.program c.args.site c.args.entry c.requires.here names links c.args.statements c.in_ok-nodes.nodes c.requires.node linked

@@ -1,9 +1,5 @@
-use Rattle.std.proofs.Common.{subst, ◌+◌, arith}
-use Rattle.kr_code_lowering.specs.declared.site.Site.{Site}
-use Rattle.kr_code_lowering.specs.Sites.{tree_at}
-use Rattle.kr_code_lowering.specs.Statements.{IsMaybe}
+use Rattle.std.proofs.Common.{arith}
 use Rattle.kr_ast.specs.declared.node.Node.TheVariants.{For}
-use Rattle.kr_code_lowering.specs.Lists.{AreLinked}
 use Rattle.kr_code_lowering.proofs.Naming.{part_small, parts_are}
 use Rattle.kr_code_lowering.proofs.Performed.{for_does, linked_on}
 use Rattle.kr_code_lowering.proofs.statements.for_statement.Goals as goal
@@ -20,7 +16,7 @@ returns-clause-does c = λ names.
     let s = c.args.site in
     let first = c.list_links.new.links in
     let second = c.list_links-2.new.links in
-    let before = linked_on p (record s { node = c.args.initial }) first second c.in_ok-before.before c.in_ok-behind.ensures.grown (subst (λ (at : Site). AreLinked p at first c.in_ok-before.before) c.at.ensures c.in_ok-before.ensures.linked) in
-    let behind = subst (λ (at : Site). AreLinked p at second c.in_ok-behind.behind) c.at-2.ensures c.in_ok-behind.ensures.linked in
-    let test = subst (λ (at : Site). IsMaybe (tree_at p at) (at.first + at.node) c.maybe_part.result) c.at-3.ensures c.maybe_part.ensures in
+    let before = linked_on p (record s { node = c.args.initial }) first second c.in_ok-before.before c.in_ok-behind.ensures.grown (rw c.at.ensures at c.in_ok-before.ensures.linked) in
+    let behind = rw c.at-2.ensures at c.in_ok-behind.ensures.linked in
+    let test = rw c.at-3.ensures at c.maybe_part.ensures in
     for_does p c.requires.program s c.args.entry c.requires.here names second c.args.initial c.args.condition c.args.updates c.args.body c.in_ok-before.before c.in_ok-behind.behind c.maybe_part.result c.requires.node before test behind

@@ -1,16 +1,13 @@
-use Rattle.std.proofs.Common.{◌≡◌, subst, ℕ, List, Some, None, arith}
-use Rattle.std.specs.Prelude.{slice_get}
+use Rattle.std.proofs.Common.{Some, None, arith}
 use Rattle.kr_ast.specs.Arena.{name_in}
 use Rattle.kr_ast.specs.declared.node.Node.TheVariants.{FieldAccess}
-use Rattle.kr_mean.specs.Meaning.{typed_field}
-use Rattle.kr_types_meaning.specs.Scopes.{Scope}
 use Rattle.kr_types_meaning.specs.Typing.{type_of}
 use Rattle.kr_classes_roster.specs.Rosters.{field_numbered}
-use Rattle.kr_space_problem.specs.Posed.{table}
+use Rattle.kr_code_members.specs.Nodes.{table}
 use Rattle.kr_code_lowering.specs.Origins.{node_tree}
 use Rattle.kr_code_lowering.specs.Sites.{arena_at, scope_at}
-use Rattle.kr_code_lowering.specs.Targets.{IsFieldFound}
 use Rattle.kr_code_lowering.proofs.Meant.{typed_so}
+use Rattle.kr_code_lowering.proofs.Read.{instance_found}
 use Rattle.kr_code_lowering.proofs.Naming.{part_small, parts_are}
 use Rattle.kr_code_lowering.proofs.Variables.{field_written, no_field_written}
 use Rattle.kr_code_lowering.proofs.targets.field_target.Goals as goal
@@ -29,7 +26,7 @@ returns-in-None-clause-target c =
     let e = c.args.entry in
     let t = node_tree p at.file c.args.object in
     let x = name_in (arena_at p at).text c.args.name in
-    let is = subst (λ (s : Scope). IsFieldFound p None (typed_field s t x)) c.requires.handed c.in-None.ensures in
+    let is = rw c.requires.handed at (instance_found p at e c.requires.here c.meaning_at.result c.meaning_at.ensures c.args.object c.args.name c.requires.node None (c.in-None.ensures.shown (table p))) in
     no_field_written p c.requires.program r at e c.args.object c.args.name c.requires.here c.requires.node c.requires.handed c.args.names.now is
 
 pub returns-in_ok-number-in-Some-clause-target : goal.returns-in_ok-number-in-Some-clause-target
@@ -40,5 +37,5 @@ returns-in_ok-number-in-Some-clause-target c =
     let e = c.args.entry in
     let t = node_tree p at.file c.args.object in
     let x = name_in (arena_at p at).text c.args.name in
-    let is = subst (λ (s : Scope). IsFieldFound p (Some c.in-Some.field) (typed_field s t x)) c.requires.handed c.in-Some.ensures in
-    field_written p c.requires.program r at e c.args.object c.args.name c.requires.here c.requires.node c.requires.handed c.number.new.self c.in-Some.field c.in_ok-number-in-Some.number is (typed_so r.table x (type_of r t) (field_numbered (table p) c.in-Some.field) is) (subst (λ (y : List ℕ). slice_get c.number.new.self c.in_ok-number-in-Some.number ≡ Some y) c.text.ensures c.in_ok-number-in-Some.ensures.at)
+    let is = rw c.requires.handed at (instance_found p at e c.requires.here c.meaning_at.result c.meaning_at.ensures c.args.object c.args.name c.requires.node (Some c.in-Some.field) (c.in-Some.ensures.shown (table p))) in
+    field_written p c.requires.program r at e c.args.object c.args.name c.requires.here c.requires.node c.requires.handed c.number.new.self c.in-Some.field c.in_ok-number-in-Some.number is (typed_so r.table x (type_of r t) (field_numbered (table p) c.in-Some.field) is) (rw c.text.ensures at c.in_ok-number-in-Some.ensures.at)

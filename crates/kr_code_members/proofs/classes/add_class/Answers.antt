@@ -1,8 +1,7 @@
-use Rattle.std.proofs.Common.{sym, ap, ◌∙◌, subst, List, ◌++◌, map, arith}
+use Rattle.std.proofs.Common.{sym, ap, ◌∙◌, ◌++◌, map, arith}
 use Rattle.std.specs.Prelude.{None, Some, option_to_list}
 use Rattle.std.specs.List.{AllZip}
-use Rattle.kr_classes_table.specs.Table.{Heading, heading_of}
-use Rattle.kr_ast.specs.declared.files.NodeId.{NodeId}
+use Rattle.kr_classes_table.specs.Table.{heading_of}
 use Rattle.kr_code_members.specs.Nodes.{node_tree}
 use Rattle.kr_code_members.specs.Walk.{HasHeading}
 use Rattle.kr_code_members.proofs.Nested.{class_added}
@@ -26,8 +25,6 @@ returns c = λ k before h.
     let heads = heading_of None t in
     let xs = c.deref-member-items.result.now in
     let first : AllZip (HasHeading p) (before ++ heads) c.add_found.new.items.items =
-    subst (λ (ns : List NodeId). AllZip (HasHeading p) (before ++ heads) ns) (sym c.in_ok-add_found.ensures)
-    (zip_append (HasHeading p) before heads c.args.classes.now.items (option_to_list c.class_node.result) h (c.class_node.ensures None)) in
+    rw c.in_ok-add_found.ensures (zip_append (HasHeading p) before heads c.args.classes.now.items (option_to_list c.class_node.result) h (c.class_node.ensures None)) in
     let shown = c.in_ok-members.ensures.shown None ∙ ap (map v) (sym c.deref-member-items.ensures.value) in
-    subst (λ (hs : List Heading). AllZip (HasHeading p) hs c.loop-member.classes.items) (class_added v k before t xs shown)
-    (zip_end (HasHeading p) (λ n. heading_of (Some k) (v n)) (before ++ heads) c.loop-member.classes.items xs c.loop-member.member-index (omega arith) (c.loop-member.invariant k (before ++ heads) first))
+    rw (← class_added v k before t xs shown) (zip_end (HasHeading p) (λ n. heading_of (Some k) (v n)) (before ++ heads) c.loop-member.classes.items xs c.loop-member.member-index (omega arith) (c.loop-member.invariant k (before ++ heads) first))

@@ -1,8 +1,6 @@
-use Rattle.std.proofs.Common.{subst, List, ◌+◌, ◌++◌, length, map, take, arith}
-use Rattle.std.specs.List.{AllZip}
-use Rattle.kr_classes_table.specs.Table.{Heading, headings_from}
+use Rattle.std.proofs.Common.{◌+◌, ◌++◌, length, map, take, arith}
+use Rattle.kr_classes_table.specs.Table.{headings_from}
 use Rattle.kr_code_members.specs.Nodes.{node_tree}
-use Rattle.kr_code_members.specs.Walk.{HasHeading}
 use Rattle.kr_code_members.proofs.Nested.{headings_more}
 use Rattle.kr_code_members.proofs.classes.add_file.Goals as goal
 
@@ -12,5 +10,4 @@ loop-top-preserved c = λ before h.
     let xs = c.deref-top-items.result.now in
     let i = c.loop-top.top-index in
     let hs = headings_from 0 (before ++ map (node_tree p c.args.file) (take i xs)) in
-    subst (λ (ks : List Heading). AllZip (HasHeading p) ks c.add_class.new.classes.items) (headings_more p c.args.file before xs i 0 (omega arith))
-    (c.in_ok-add_class.ensures (0 + length hs) hs (c.loop-top.invariant before h))
+    rw (← headings_more p c.args.file before xs i 0 (omega arith)) (c.in_ok-add_class.ensures (0 + length hs) hs (c.loop-top.invariant before h))

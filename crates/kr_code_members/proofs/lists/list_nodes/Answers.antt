@@ -1,4 +1,4 @@
-use Rattle.std.proofs.Common.{◌≡◌, sym, ap, ◌∙◌, subst, List, [], ◌∷◌, ◌++◌, map, append_assoc, append-nil}
+use Rattle.std.proofs.Common.{sym, ap, ◌∙◌, subst, List, ◌++◌, map, append-nil}
 use Rattle.std.proofs.lemmas.List.Elements.{All-push}
 use Rattle.kr_ast.specs.Tree.{Tree}
 use Rattle.kr_classes_table.specs.Table.{items}
@@ -18,7 +18,7 @@ loop-item-preserved c =
     record {
       at = both.1;
       still = (subst (AreStill s) split.shown i.still).1;
-      stand = subst (λ (xs : List _). Rattle.std.proofs.Common.All (IsIn p f s) xs) (sym c.in_ok-push.ensures.items) (All-push (IsIn p f s) c.loop-item.nodes.items c.in-Some.item i.stand both.0);
+      stand = rw c.in_ok-push.ensures.items (All-push (IsIn p f s) c.loop-item.nodes.items c.in-Some.item i.stand both.0);
       shown = list_step (node_tree p f) c.loop-item.nodes.items _ c.in-Some.item (items (node_tree p f c.in-Some.rest)) (items (node_tree p f c.loop-item.at)) (items (node_tree p f c.args.list)) c.in_ok-push.ensures.items split.shown i.shown;
     }
 

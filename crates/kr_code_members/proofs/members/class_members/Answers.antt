@@ -1,8 +1,5 @@
-use Rattle.std.proofs.Common.{subst, List, ◌++◌}
-use Rattle.std.specs.List.{AllZip}
-use Rattle.kr_classes_table.specs.Table.{Constructor, Field, Method, constructors_in, fields_in, methods_in}
-use Rattle.kr_mean.specs.Program.{first}
-use Rattle.kr_code_members.specs.Nodes.{IsFieldNode, IsMaybeConstructorNode, IsMethodNode, node_tree, table}
+use Rattle.kr_classes_table.specs.Table.{constructors_in, fields_in, methods_in}
+use Rattle.kr_code_members.specs.Nodes.{node_tree, table}
 use Rattle.kr_code_members.specs.Walk.{heading_numbered}
 use Rattle.kr_code_members.proofs.Zipped.{by_shown}
 use Rattle.kr_code_members.proofs.members.class_members.Goals as goal
@@ -11,22 +8,16 @@ pub returns-clause-methods : goal.returns-clause-methods
 returns-clause-methods c = λ before h.
     let p = c.args.program.now in
     let ms = (heading_numbered p c.args.class).members in
-    subst (λ (xs : List Method). AllZip (IsMethodNode p) (before ++ xs) c.add_methods.new.methods.items)
-    (by_shown (methods_in (table p).headings c.args.class) (node_tree p c.args.at.file) c.in_ok-members.members.items c.deref.result.now ms c.deref.ensures.value c.in_ok-members.ensures.shown)
-    (c.in_ok-add_methods.ensures before h)
+    rw (← by_shown (methods_in (table p).headings c.args.class) (node_tree p c.args.at.file) c.in_ok-members.members.items c.deref.result.now ms c.deref.ensures.value c.in_ok-members.ensures.shown) (c.in_ok-add_methods.ensures before h)
 
 pub returns-clause-fields : goal.returns-clause-fields
 returns-clause-fields c =
     let p = c.args.program.now in
     let ms = (heading_numbered p c.args.class).members in
-    subst (λ (xs : List Field). AllZip (IsFieldNode p) xs c.in_ok-fields.fields.items)
-    (by_shown (fields_in (table p).headings c.args.class) (node_tree p c.args.at.file) c.in_ok-members.members.items c.deref-2.result.now ms c.deref-2.ensures.value c.in_ok-members.ensures.shown)
-    c.in_ok-fields.ensures
+    rw (← by_shown (fields_in (table p).headings c.args.class) (node_tree p c.args.at.file) c.in_ok-members.members.items c.deref-2.result.now ms c.deref-2.ensures.value c.in_ok-members.ensures.shown) c.in_ok-fields.ensures
 
 pub returns-clause-constructor : goal.returns-clause-constructor
 returns-clause-constructor c =
     let p = c.args.program.now in
     let ms = (heading_numbered p c.args.class).members in
-    subst (λ (xs : List Constructor). IsMaybeConstructorNode p c.args.class (first xs) c.own_constructor-constructor.result)
-    (by_shown (constructors_in (table p).headings) (node_tree p c.args.at.file) c.in_ok-members.members.items c.deref-3.result.now ms c.deref-3.ensures.value c.in_ok-members.ensures.shown)
-    c.own_constructor-constructor.ensures
+    rw (← by_shown (constructors_in (table p).headings) (node_tree p c.args.at.file) c.in_ok-members.members.items c.deref-3.result.now ms c.deref-3.ensures.value c.in_ok-members.ensures.shown) c.own_constructor-constructor.ensures

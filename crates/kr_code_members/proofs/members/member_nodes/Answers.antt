@@ -1,11 +1,8 @@
-use Rattle.std.proofs.Common.{◌≡◌, sym, ap, ◌∙◌, subst, ◌<◌, List, [], ◌∷◌, length, length-append, take, arith}
+use Rattle.std.proofs.Common.{◌≡◌, sym, ap, ◌∙◌, subst, ◌<◌, [], ◌∷◌, length, length-append, take, arith}
 use Rattle.std.specs.Prelude.{flat_map}
-use Rattle.std.specs.List.{AllZip}
 use Rattle.std.proofs.lemmas.List.{take_all}
-use Rattle.kr_classes_table.specs.Table.{Constructor, Field, Method}
-use Rattle.std.specs.Prelude.{Option}
 use Rattle.kr_classes_roster.specs.Rosters.{methods_of_class, no_method}
-use Rattle.kr_code_members.specs.Nodes.{IsClassNodes, IsFieldNode, IsMaybeConstructorNode, IsMethodNode, table}
+use Rattle.kr_code_members.specs.Nodes.{IsClassNodes, IsMethodNode, table}
 use Rattle.kr_code_members.specs.Walk.{HasHeading, heading_numbered, no_heading}
 use Rattle.kr_code_members.proofs.Zipped.{each_push, zip_at, zip_length, zip_number}
 use Rattle.kr_code_members.proofs.Tables.{class_count_is, class_number, constructor_is, few_classes, fields_are, methods_more, no_class}
@@ -37,12 +34,11 @@ loop-class-preserved c =
     let made = c.in_ok-made.made in
     let inv = c.loop-class.invariant in
     let is_class : IsClassNodes p k made = record {
-      fields = subst (λ (fs : List Field). AllZip (IsFieldNode p) fs made.fields.items) (sym (fields_are p k l)) c.in_ok-made.ensures.fields;
-      constructor = subst (λ (o : Option Constructor). IsMaybeConstructorNode p k o made.constructor) (sym (constructor_is p k l)) c.in_ok-made.ensures.constructor;
+      fields = rw (fields_are p k l) c.in_ok-made.ensures.fields;
+      constructor = rw (constructor_is p k l) c.in_ok-made.ensures.constructor;
     } in
     record {
-      methods = subst (λ (ms : List Method). AllZip (IsMethodNode p) ms c.class_members.new.methods.items) (methods_more p k (no_class p) m)
-          (c.in_ok-made.ensures.methods (flat_map methods_of_class (take k (table p).classes)) inv.methods);
+      methods = rw (← methods_more p k (no_class p) m) (c.in_ok-made.ensures.methods (flat_map methods_of_class (take k (table p).classes)) inv.methods);
       count = omega (arith, inv.count, ap length c.in_ok-push.ensures.items, length-append c.loop-class.classes.items (made ∷ []));
       classes = each_push (IsClassNodes p) c.loop-class.classes.items _ made k c.in_ok-push.ensures.items inv.count is_class inv.classes;
     }
@@ -53,7 +49,7 @@ returns c =
     let count = zip_length (HasHeading p) (table p).headings c.in_ok-nodes.nodes.items c.in_ok-nodes.ensures in
     let e : c.loop-class.class ≡ length (table p).classes = omega (arith, count, class_count_is p) in
     let all = ap (flat_map methods_of_class) (take_all c.loop-class.class (table p).classes (omega (arith, e))) in
-    let zipped = subst (λ (ms : List Method). AllZip (IsMethodNode p) ms c.loop-class.methods.items) all c.loop-class.invariant.methods in
+    let zipped = rw all at c.loop-class.invariant.methods in
     record {
       method_count = zip_length (IsMethodNode p) (flat_map methods_of_class (table p).classes) c.loop-class.methods.items zipped;
       methods = zip_number (IsMethodNode p) (flat_map methods_of_class (table p).classes) c.loop-class.methods.items (no_method (table p)) zipped;

@@ -5,28 +5,16 @@ use Rattle.kr_classes_table.specs.Table.{Method}
 use Rattle.kr_types_meaning.specs.Scopes.{Scope}
 use Rattle.kr_ast.specs.declared.files.NodeId.{NodeId}
 use Rattle.kr_types_meaning.specs.Running.{running}
-use Rattle.kr_classes_members.specs.Shown.{method_shown}
+use Rattle.kr_classes_roster.specs.Rosters.{method_numbered}
 use Rattle.kr_classes_types.specs.Types.{type_at}
 use Rattle.kr_mean.specs.Code.{code_of_class, code_of_method, code_run, methods_run}
 use Rattle.kr_code_members.specs.Nodes.{node_tree, table}
 use Rattle.kr_space_problem.specs.Posed.{run_program}
 use Rattle.kr_pure_effects.specs.Nodes.{node_there}
-use Rattle.kr_pure.specs.Entries.{Enter, IsNamed}
+use Rattle.kr_pure.specs.Entries.{Enter}
 use Rattle.kr_pure.proofs.Entered.{entered_same, none_entered}
 use Rattle.kr_pure.proofs.Files.{file_there}
-use Rattle.kr_pure.proofs.Named.{run_named}
 use Rattle.kr_pure.proofs.entries.entries_run.Goals as goal
-
-pub add_bodies-requires-clause-named : goal.add_bodies-requires-clause-named
-add_bodies-requires-clause-named c =
-    let p = c.args.problem.now.program in
-    let files = p.trees.items in
-    let mean = run_program p c.args.problem.now.arrays.items in
-    let f = file_there p c.args.at.file c.requires.posed.program c.requires.node.file in
-    let n = node_there files c.args.at.file f.0 c.args.at.node in
-    let shown = (c.in_ok-runs.ensures.shown mean f.0 refl f.1.at).0 in
-    let same = ap (map (method_shown files)) c.deref.ensures.value ∙ shown in
-    subst (λ (ms : List Method). All (IsNamed (table p)) ms) (sym same) (run_named (map root files) mean refl n.scope refl n.tree)
 
 pub returns : goal.returns
 returns c =
@@ -39,11 +27,11 @@ returns c =
     let f = file_there p at.file c.requires.posed.program c.requires.node.file in
     let n = node_there files at.file f.0 at.node in
     let shown = c.in_ok-runs.ensures.shown mean f.0 refl f.1.at in
-    let ms = ap (map (method_shown files)) c.deref.ensures.value ∙ shown.0 in
+    let ms = ap (map (method_numbered (table p))) c.deref.ensures.value ∙ shown.0 in
     let cs = c.deref-2.ensures.value ∙ shown.1 in
     let start = subst (λ (es : List NodeId). Enter p [] es) (sym c.new-entries.ensures.items) (none_entered p) in
     let bodies = c.in_ok-add_bodies.ensures [] arrays start in
-    let all = c.in_ok-add_classes.ensures (flat_map (code_of_method mean) (map (method_shown files) c.deref.result.now)) arrays bodies in
+    let all = c.in_ok-add_classes.ensures (flat_map (code_of_method mean) (map (method_numbered (table p)) c.deref.result.now)) arrays bodies in
     let run = ap (λ (xs : List Method). flat_map (code_of_method mean) xs ++ flat_map (code_of_class mean) c.deref-2.result.now) ms
     ∙ ap (λ xs. flat_map (code_of_method mean) (methods_run mean n.scope n.tree) ++ flat_map (code_of_class mean) xs) cs in
     let here = ap (λ (s : Scope). code_run mean (record { scope = running s; tree = node_tree p at.file at.node })) (sym (f.1.scope at.node)) in

@@ -3,7 +3,8 @@ use Rattle.std.specs.Prelude.{flat_map}
 use Rattle.std.proofs.lemmas.Grind.{flat_map-append}
 use Rattle.std.proofs.lemmas.Result.{IfOk-weaker}
 use Rattle.kr_classes_table.specs.Table.{Method}
-use Rattle.kr_classes_members.specs.Shown.{method_shown}
+use Rattle.kr_classes_roster.specs.Rosters.{method_numbered}
+use Rattle.kr_code_members.specs.Nodes.{table}
 use Rattle.kr_classes_types.specs.Types.{type_at}
 use Rattle.kr_mean.specs.Code.{Node, code}
 use Rattle.kr_mean.specs.Runs.{ensures_of, requires_of}
@@ -22,7 +23,7 @@ returns-in_ok-add_side-in-Some c =
     let p = problem.program in
     let arrays = map (type_at p.table.types) problem.arrays.items in
     let mean = run_program p problem.arrays.items in
-    let m = method_shown p.trees.items c.in-Some.method in
+    let m = method_numbered (table p) c.in-Some.method in
     let f : Node → List Node = λ e. code e.scope e.tree in
     λ before.
     let same = two_sides f before (requires_of mean m) (ensures_of mean m) ∙ ap (λ (ms : List Method). before ++ flat_map f (flat_map (requires_of mean) ms ++ flat_map (ensures_of mean) ms)) c.in-Some.ensures.shown in

@@ -1,9 +1,10 @@
-use Rattle.std.proofs.Common.{◌≡◌, ap, ◌∙◌, ℕ, length, arith}
+use Rattle.std.proofs.Common.{◌≡◌, ap, ◌∙◌, ℕ, ◌<◌, length, arith}
 use Rattle.std.specs.Prelude.{flat_map, option_to_list}
 use Rattle.std.specs.List.{range_with_len}
 use Rattle.kr_classes_table.specs.Table.{Table}
 use Rattle.kr_value.specs.declared.object.Class.TheVariants.{Object}
-use Rattle.kr_classes_members.specs.Shown.{IsMethod, method_shown}
+use Rattle.kr_classes_members.specs.Shown.{method_shown, table_in}
+use Rattle.kr_classes_roster.specs.Rosters.{all_methods, method_numbered}
 use Rattle.kr_base.proofs.Added.{found_stands}
 use Rattle.kr_mean.specs.Program.{overriding}
 use Rattle.kr_pure_effects.proofs.Overridden.{class_more}
@@ -12,10 +13,11 @@ use Rattle.kr_pure_effects.proofs.runnable.overriders.Goals as goal
 pub loop-class-preserved : goal.loop-class-preserved
 loop-class-preserved c =
     let files = c.args.trees.now in
+    let t = table_in files in
     let kept = c.loop-class.found.items in
     record {
-      stands = found_stands (IsMethod files) kept _ c.overrider.result c.in_ok-add_found.ensures c.loop-class.invariant.stands c.overrider.ensures.stands;
-      shown = λ program e. class_more (method_shown files) (λ d. overriding program (method_shown files c.args.method) (Object d)) kept _ c.overrider.result c.loop-class.class c.in_ok-add_found.ensures
+      within = found_stands (λ k. k < length (all_methods t)) kept _ c.overrider.result c.in_ok-add_found.ensures c.loop-class.invariant.within c.overrider.ensures.within;
+      shown = λ program e. class_more (method_numbered t) (λ d. overriding program (method_shown files c.args.method) (Object d)) kept _ c.overrider.result c.loop-class.class c.in_ok-add_found.ensures
           (c.loop-class.invariant.shown program e) (c.overrider.ensures.shown program e);
     }
 

@@ -10,4 +10,4 @@ returns-in-Ok c = λ x a.
     (r.0, λ d m. gave_value c.args.code.now d c.args.stack.now c.args.world.now.reads c.collect.new.world.reads (collect (name_of c.args.call) c.args.object c.args.arguments.now (state_at c.args.world.now x)) c.in-Ok.given (state_at c.collect.new.world x) r.1)
 
 pub returns-in-Err : goal.returns-in-Err
-returns-in-Err c = value_halts c.args.code.now c.in-Err.halt c.args.stack.now c.args.stack.now c.collect.new.world c.args.world.now (λ x. collect (name_of c.args.call) c.args.object c.args.arguments.now (state_at c.args.world.now x)) c.in-Err.ensures
+returns-in-Err c = value_halts c.args.code.now c.in-Err.halt c.args.stack.now c.collect.new.world c.args.world.now (λ x. collect (name_of c.args.call) c.args.object c.args.arguments.now (state_at c.args.world.now x)) c.in-Err.ensures

@@ -17,4 +17,4 @@ returns-in-Ok c =
     c.feed.ensures
 
 pub returns-in-Err : goal.returns-in-Err
-returns-in-Err c = value_halts c.args.code.now c.in-Err.halt c.args.stack.now c.args.stack.now c.act.new.world c.args.world.now (λ x. acted c.args.code.now c.args.action (state_at c.args.world.now x)) c.in-Err.ensures
+returns-in-Err c = value_halts c.args.code.now c.in-Err.halt c.args.stack.now c.act.new.world c.args.world.now (λ x. acted c.args.code.now c.args.action (state_at c.args.world.now x)) c.in-Err.ensures

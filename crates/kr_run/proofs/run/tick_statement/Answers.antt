@@ -7,7 +7,7 @@ use Rattle.kr_run_frames.specs.Leads.{next_task}
 use Rattle.kr_run.proofs.run.tick_statement.Goals as goal
 
 pub returns-in-Err : goal.returns-in-Err
-returns-in-Err c = no_flow_tick c.args.code.now c.in-Err.halt c.args.stack.now c.args.stack.now c.tick.new.world c.args.world.now (λ (d : Doing). flow_of c.args.code.now d c.args.statement.now) c.in-Err.ensures
+returns-in-Err c = no_flow_tick c.args.code.now c.in-Err.halt c.args.stack.now c.tick.new.world c.args.world.now (λ (d : Doing). flow_of c.args.code.now d c.args.statement.now) c.in-Err.ensures
 
 pub returns-in-Ok : goal.returns-in-Ok
 returns-in-Ok c =

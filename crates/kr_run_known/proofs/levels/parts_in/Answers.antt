@@ -37,5 +37,5 @@ returns-in-Some g c =
     as_kind code w c.args.fuel c.call_with.result _ _ call.is
     (only_value code w c.args.fuel c.call_with.result (λ (d : Doing). d.value call.object) (collect (name_of call.call)) (listed code call.arguments) c.in-Some.argument c.in-Some.ensures c.call_with.ensures)
 
-pub returns-in-Same : goal.returns-in-Same
-returns-in-Same g c = as_kind c.args.code.now c.args.world.now c.args.fuel c.look.result _ _ c.in-Same.is c.look.ensures
+pub returns-in-Convert : goal.returns-in-Convert
+returns-in-Convert g c = as_kind c.args.code.now c.args.world.now c.args.fuel c.look.result _ _ c.in-Convert.is c.look.ensures

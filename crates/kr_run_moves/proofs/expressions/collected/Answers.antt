@@ -18,4 +18,4 @@ returns-in-Ok c =
     c.feed.ensures
 
 pub returns-in-Err : goal.returns-in-Err
-returns-in-Err c = value_halts c.args.code.now c.in-Err.halt c.args.stack.now c.args.stack.now c.collect.new.world c.args.world.now (λ x. collect (name_of c.args.call) c.args.object c.args.arguments.now (state_at c.args.world.now x)) c.in-Err.ensures
+returns-in-Err c = value_halts c.args.code.now c.in-Err.halt c.args.stack.now c.collect.new.world c.args.world.now (λ x. collect (name_of c.args.call) c.args.object c.args.arguments.now (state_at c.args.world.now x)) c.in-Err.ensures

@@ -17,7 +17,7 @@ returns-in-Err c =
     let w = c.args.world.now in
     leads_alike code (Err c.in-Err.halt) c.args.stack.now c.tick.new.world w (λ d x. out_value code d c.args.stack.now (d.value c.args.node (state_at w x))) (λ d x. out_value code d c.args.stack.now (bind tick (λ u. value_done code d (expression_of (node_at code c.args.node))) (state_at w x)))
     (λ x d m. ap (λ (q : Outcome Value). out_value code d c.args.stack.now q) (m.value_is c.args.node (state_at w x)))
-    (no_value_tick code c.in-Err.halt c.args.stack.now c.args.stack.now c.tick.new.world w (λ (d : Doing). value_done code d (expression_of (node_at code c.args.node))) c.in-Err.ensures)
+    (no_value_tick code c.in-Err.halt c.args.stack.now c.tick.new.world w (λ (d : Doing). value_done code d (expression_of (node_at code c.args.node))) c.in-Err.ensures)
 
 pub returns-in-Ok : goal.returns-in-Ok
 returns-in-Ok c =

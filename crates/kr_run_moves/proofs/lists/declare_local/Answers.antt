@@ -35,4 +35,4 @@ returns-in-Err c =
     let y = c.args.declarator in
     leads_alike code (Err c.in-Err.halt) fs then w (λ d x. out_flow code d fs (bind (declared d (Some y)) (λ u. all_declared code d (listed code c.args.others)) (state_at w x))) (λ d x. out_flow code d fs (bind (acted code (actions.Declare y.default)) (tested code d (tests.Declared y.local y.initial c.args.others)) (state_at w x)))
     (λ x d m. ap (out_flow code d fs) (declares code d y c.args.others (state_at w x)))
-    (no_flow code c.in-Err.halt fs fs then w (acted code (actions.Declare y.default)) (λ (d : Doing) (v : Value). tested code d (tests.Declared y.local y.initial c.args.others) v) c.in-Err.ensures)
+    (no_flow code c.in-Err.halt fs then w (acted code (actions.Declare y.default)) (λ (d : Doing) (v : Value). tested code d (tests.Declared y.local y.initial c.args.others) v) c.in-Err.ensures)

@@ -19,7 +19,7 @@ returns-in-Err c =
     let l = c.args.turn in
     leads_alike code (Err c.in-Err.halt) fs c.tick.new.world w (λ d x. out_flow code d fs (repeated code d l (state_at w x))) (λ d x. out_flow code d fs (bind tick (λ u. bind (test_of d l) (turned code d l)) (state_at w x)))
     (λ x d m. ap (λ (q : Outcome Flow). out_flow code d fs q) (rounds code d l (state_at w x) m))
-    (no_flow_tick code c.in-Err.halt fs fs c.tick.new.world w (λ (d : Doing). bind (test_of d l) (turned code d l)) c.in-Err.ensures)
+    (no_flow_tick code c.in-Err.halt fs c.tick.new.world w (λ (d : Doing). bind (test_of d l) (turned code d l)) c.in-Err.ensures)
 
 pub returns-in-Ok : goal.returns-in-Ok
 returns-in-Ok c =

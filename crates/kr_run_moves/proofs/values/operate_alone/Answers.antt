@@ -16,4 +16,4 @@ returns-in-Ok c =
     c.feed_test.ensures
 
 pub returns-in-Err : goal.returns-in-Err
-returns-in-Err c = value_halts c.args.code.now c.in-Err.halt c.args.stack.now c.args.stack.now c.args.world.now c.args.world.now (λ x. say (operated_alone c.args.operator c.args.given) (state_at c.args.world.now x)) c.in-Err.ensures
+returns-in-Err c = value_halts c.args.code.now c.in-Err.halt c.args.stack.now c.args.world.now c.args.world.now (λ x. say (operated_alone c.args.operator c.args.given) (state_at c.args.world.now x)) c.in-Err.ensures

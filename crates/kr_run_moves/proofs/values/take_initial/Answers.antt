@@ -34,4 +34,4 @@ returns-in-Err c =
     let v = c.args.given in
     leads_alike code (Err c.in-Err.halt) fs then w (λ d x. out_flow code d fs (tested code d (tests.Initial k c.args.others) v (state_at w x))) (λ d x. out_flow code d fs (bind (bind (assign k v) (λ u. give v)) (λ u. all_declared code d (listed code c.args.others)) (state_at w x)))
     (λ x d m. ap (out_flow code d fs) (initial_then code d k v c.args.others (state_at w x)))
-    (no_flow code c.in-Err.halt fs fs then w (bind (assign k v) (λ u. give v)) (λ (d : Doing) (u : Value). all_declared code d (listed code c.args.others)) c.in-Err.ensures)
+    (no_flow code c.in-Err.halt fs then w (bind (assign k v) (λ u. give v)) (λ (d : Doing) (u : Value). all_declared code d (listed code c.args.others)) c.in-Err.ensures)

@@ -25,6 +25,7 @@ note_numbers_of-requires-clause-bounded c =
     let mapped : length arrays ≡ length c.args.bounds.now = length-map c.args.bounds.now (bound_shown c.args.types.now document.arrays) in
     record {
       classes = c.requires.classes;
+      typed = c.requires.typed;
       few = omega (arith, long, mapped, c.deref.ensures.len, c.len.ensures, c.if-len-ge4294967295.false);
       bounds = c.requires.bounds;
       blocks = are_blocks (problem_of files document c.args.mode.now) c.deref.result.now c.deref-3.result.now domains (c.deref-3.ensures.value ∙ c.in_ok-blocks.ensures.are);

@@ -1,13 +1,14 @@
-use Rattle.std.proofs.Common.{◌≡◌, sym, ap, ◌∙◌, ◌+◌, ◌<◌, List, suc, length, add-one, arith}
+use Rattle.std.proofs.Common.{◌≡◌, refl, sym, ap, ◌∙◌, ◌+◌, ◌<◌, List, suc, length, add-one, arith}
 use Rattle.kr_ast.specs.Arena.{Arena}
 use Rattle.kr_ast.specs.Files.{file_at}
 use Rattle.kr_code_lowering.specs.Origins.{first_node}
 use Rattle.kr_code_lowering.proofs.Gathered.{first_small}
-use Rattle.kr_code_lowering.proofs.Numbers.{first_next, first_of_none}
+use Rattle.kr_code_lowering.proofs.Numbers.{first_next}
 use Rattle.kr_code_lowering.proofs.site.Site.of.Goals as goal
 
 pub loop-before-init : goal.loop-before-init
-loop-before-init c = sym (first_of_none c.args.program.now.trees.items)
+unfolding first_node
+loop-before-init c = refl
 
 -- with the nodes of the file
 counted : (c : goal.After-nodes-first) → c.loop-before.first + c.nodes-first.result ≡ first_node c.args.program.now.trees.items (suc c.loop-before.before)

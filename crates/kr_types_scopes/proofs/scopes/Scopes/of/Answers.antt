@@ -1,4 +1,5 @@
-use Rattle.std.proofs.Common.{◌≡◌, ◌-◌, ◌∙◌, ℕ, length, ap, subst, arith, replicate}
+use Rattle.std.proofs.Common.{◌≡◌, ◌-◌, ◌∙◌, ℕ, List, length, ap, subst, arith, replicate, sym}
+use Rattle.kr_types_scopes.specs.declared.within.Within.{Within}
 use Rattle.kr_types_scopes.specs.Scoped.{nowhere}
 use Rattle.kr_types_scopes.proofs.Chains.{chain_none}
 use Rattle.kr_types_scopes.proofs.Handed.{AreDone, scoped_of, done_step, done_start}
@@ -8,23 +9,23 @@ pub loop-at-init : goal.loop-at-init
 loop-at-init c =
     let tree = c.args.tree.now in
     let some = c.nodes-nodes.ensures.arena.some in
-    let items = c.in_ok-within.ensures.items_if_clones_equal (λ y e. e) in
-    let all : c.in_ok-within.within.items ≡ replicate (length tree.entries) nowhere =
-    items ∙ (ap (λ n. replicate n c.outside.result) c.nodes-nodes.ensures.count ∙ ap (replicate (length tree.entries)) c.outside.ensures) in
+    let all : c.in_ok-within.within.items ≡ replicate (length tree.entries) nowhere = c.in_ok-within.ensures ∙ ap (λ n. replicate n nowhere) c.nodes-nodes.ensures.count in
     record {
       bound = omega (arith, c.nodes-nodes.ensures.count, some);
       none = c.new-tasks.ensures;
-      done = rw c.new-bindings.ensures.items (done_start tree c.in_ok-within.within.items (c.nodes-nodes.result - 1) chain_none all (omega (arith, c.nodes-nodes.ensures.count, some)));
+      done = rw c.in_ok-bindings.ensures.items (done_start tree c.in_ok-within.within.items (c.nodes-nodes.result - 1) chain_none all (omega (arith, c.nodes-nodes.ensures.count, some)));
     }
 
 pub loop-at-preserved : goal.loop-at-preserved
 loop-at-preserved c =
     let inv = c.loop-at.invariant in
+    let placed = c.in_ok-add_scope.ensures.placed in
     record {
       bound = omega (arith, inv.bound);
-      none = c.in_ok-from_above.ensures.none;
-      done = done_step c.args.tree.now c.nodes-nodes.ensures.arena c.loop-at.bindings.items c.from_above.new.bindings.items c.loop-at.within.items (c.loop-at.at - 1) c.loop-at.at c.from_above.new.here inv.done
-          (omega (arith, c.loop-at-test.true)) inv.bound c.in_ok-from_above.ensures.made;
+      none = c.in_ok-add_scope.ensures.none;
+      done = subst (λ (ws : List Within). AreDone c.args.tree.now c.add_scope.new.bindings.items ws (c.loop-at.at - 1)) (sym placed.items)
+          (done_step c.args.tree.now c.nodes-nodes.ensures.arena c.loop-at.bindings.items c.add_scope.new.bindings.items c.loop-at.within.items (c.loop-at.at - 1) c.loop-at.at placed.made inv.done
+          (omega (arith, c.loop-at-test.true)) inv.bound placed.handed);
     }
 
 pub returns : goal.returns

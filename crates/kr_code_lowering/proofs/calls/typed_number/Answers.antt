@@ -1,8 +1,0 @@
-use Rattle.kr_space_problem.specs.Posed.{table}
-use Rattle.kr_code_lowering.proofs.Read.{typed_found}
-use Rattle.kr_code_lowering.proofs.calls.typed_number.Goals as goal
-
-pub returns : goal.returns
-returns c =
-    let t = table c.args.program.now in
-    typed_found c.args.program.now c.args.site c.args._entry c.requires.here c.meaning_at.result c.meaning_at.ensures c.args._object c.args._name c.args._arguments c.requires.node c.requires.object c.method.result (c.method.ensures.within t c.meaning_at.ensures.within) (c.method.ensures.shown t)
